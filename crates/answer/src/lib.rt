@@ -1,0 +1,16 @@
+// What a call answers that writes bytes into a lent output. The numbers are document 01's, "Refusal
+// numbers"; specs/Rules.antt says how the order of a call's refusals decides, and specs/Values.antt
+// which number and values each case stands for.
+
+// A refusal: its number of the list, and the offset that the list gives with it. The output is then
+// as it was lent.
+pub struct Refusal {
+    pub no: u8,
+    pub at: usize,
+}
+
+pub enum Answer {
+    // Accepted: so many bytes stand at the front of the output, and the rest of it is as before.
+    Done(usize),
+    Refused(Refusal),
+}

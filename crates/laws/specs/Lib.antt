@@ -1,0 +1,3 @@
+-- What definitions of several crates are made of.
+pub mod Pick
+pub mod Range

@@ -1,0 +1,1 @@
+// No code: the definitions and laws that every crate cites and the kit lacks.
