@@ -1,5 +1,4 @@
 -- `guide::is_in_range` meets its contract: each `return` is by the tests that led there. Assumes nothing.
-use borrow.Author.Needs.{needs}
 use borrow.Author.Tests.{lt-leb, le-leb}
 use Rattle.guide.specs.Setting.{inRange}
 use Rattle.guide.proofs.is_in_range.Statement.{statement}
