@@ -5,3 +5,4 @@ pub mod Sending
 pub mod Filling
 pub mod Laying
 pub mod Paging
+pub mod Answering

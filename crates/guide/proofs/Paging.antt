@@ -3,7 +3,7 @@
 use mathlib.Core.Path.{_≡_, _∙_, refl, sym, ap}
 use mathlib.Core.List.{List, [], _∷_, _++_, append-assoc}
 use Prim.Native.Nat.{ℕ, zero, suc, _+_, _-_, _*_, _%_, _<_, _≤_}
-use native.Mathlib.Nat.{suc-mul, le-refl}
+use native.Mathlib.Nat.{zero-mul, suc-mul, le-refl}
 use native.Mathlib.Numerals.{add-one}
 use native.Mathlib.Omega.{arith}
 use lib.ListN.{length, drop, length-append, length-map}
@@ -69,17 +69,17 @@ rowed-more {s} {k} {l} {pen} {entry} {q} {out} {at} {to} {y} r h out′ at′ e 
       same = ap length e ∙ length-sets out to (rowOf s y (restOf l at)) ∙ r .same;
       place = omega (arith, r .from-one, r .place);
       goes =
-        record {
-          rest =
-            let n : (y - 1) * perPacket + perPacket ≡ (y + 1 - 1) * perPacket = omega (arith, r .from-one) in
-            rw (← n) (g .rest ∙ ap (drop perPacket) (r .goes .rest) ∙ drop-drop perPacket ((y - 1) * perPacket) (restOf l pen));
-          stands = g .stands;
-        };
+          record {
+            rest =
+                let n : (y - 1) * perPacket + perPacket ≡ (y + 1 - 1) * perPacket = omega (arith, r .from-one) in
+                rw (← n) (g .rest ∙ ap (drop perPacket) (r .goes .rest) ∙ drop-drop perPacket ((y - 1) * perPacket) (restOf l pen));
+            stands = g .stands;
+          };
       bytes =
-        let m : suc (suc k - suc y) ≡ suc k - y = omega arith in
-        rw (add-one y, g .rest)
-        (stored-part out out′ to packetLength (rowOf s y (restOf l at)) (joined (rows s (suc k - suc y) (suc y) (drop perPacket (restOf l at)))) (row-length s y (restOf l at)) e
-        ∙ ap (λ (n : ℕ). sets out to (joined (rows s n y (restOf l at)))) m ∙ r .bytes);
+          let m : suc (suc k - suc y) ≡ suc k - y = omega arith in
+          rw (add-one y, g .rest)
+          (stored-part out out′ to packetLength (rowOf s y (restOf l at)) (joined (rows s (suc k - suc y) (suc y) (drop perPacket (restOf l at)))) (row-length s y (restOf l at)) e
+          ∙ ap (λ (n : ℕ). sets out to (joined (rows s n y (restOf l at)))) m ∙ r .bytes);
     }
 
 pub rowed-all :
@@ -120,6 +120,15 @@ pub joined-append : (ps qs : List (List ℕ)) → joined (ps ++ qs) ≡ joined p
 unfolding joined
 joined-append [] qs = refl
 joined-append (p ∷ ps) qs = rw (joined-append ps qs) (sym (append-assoc p (joined ps) (joined qs)))
+
+pub pages-length : (s : Setting) (k p index : ℕ) (ss : List Symbol) → length (joined (pages s k p index ss)) ≡ p * pageLength k
+unfolding pages joined
+pages-length s k zero index ss = sym (zero-mul (pageLength k))
+pages-length s k (suc p) index ss =
+    let others = pages s k p ((index + 1) % 16) (drop (k * perPacket) ss) in
+    ap length (joined-append (pageOf s k index ss) others)
+    ∙ length-append (joined (pageOf s k index ss)) (joined others)
+    ∙ omega (arith, page-length s k index ss, pages-length s k p ((index + 1) % 16) (drop (k * perPacket) ss), suc-mul p (pageLength k))
 
 -- so many pages are left to store, the next with the index `next` at `to`
 pub record Paged (s : Setting) (k : ℕ) (l entry whole out : List ℕ) (at : Pen) (next to left : ℕ) : Type 0 where
@@ -170,11 +179,11 @@ paged-more {s} {k} {l} {entry} {whole} {out} {at} {next} {to} {left} r h out′ 
       low = omega arith;
       stands = g .stands;
       bytes =
-        rw (g .rest)
-        (stored-part out out′ to (pageLength k) (joined (pageOf s k next (restOf l at))) (joined others) (page-length s k next (restOf l at)) e
-        ∙ ap (sets out to) (sym (joined-append (pageOf s k next (restOf l at)) others))
-        ∙ ap (λ (i : ℕ). sets out to (joined (pages s k i next (restOf l at)))) (sym m)
-        ∙ r .bytes);
+          rw (g .rest)
+          (stored-part out out′ to (pageLength k) (joined (pageOf s k next (restOf l at))) (joined others) (page-length s k next (restOf l at)) e
+          ∙ ap (sets out to) (sym (joined-append (pageOf s k next (restOf l at)) others))
+          ∙ ap (λ (i : ℕ). sets out to (joined (pages s k i next (restOf l at)))) (sym m)
+          ∙ r .bytes);
     }
   where
     others : List (List ℕ)
