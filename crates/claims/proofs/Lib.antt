@@ -1,3 +1,4 @@
 pub mod Losing
 pub mod Walking
 pub mod Carrying
+pub mod Packet
