@@ -120,12 +120,11 @@ split-heard d small m k xs ys cs es plain none-before e near-xs near-ys held =
     let f = flow-follows d small ys (subst (λ (x : Mode). Plain x ys) e (plain-right m xs ys plain)) near-ys scans in
     record {
       mode = rw (sentEnds-append m xs ys, e) (sim-between (f .mode));
-      blocks = rw (sentGives-append m xs ys, e) (came-append (out-of c) (f .blocks))
+      blocks = rw (sentGives-append m xs ys, e) (came-append (out-of c) (f .blocks));
     }
 
 module _ (d : ℕ) (small : d ≤ 2) (m k : Mode) (ss : List Symbol) (cs : List ℕ)
-  (plain : Plain m ss) (near : Near d (map byteOf ss) cs) (held : Between d m k) where
-
+    (plain : Plain m ss) (near : Near d (map byteOf ss) cs) (held : Between d m k) where
   -- with a start in the packet
   to-start :
       beforeStart ss < length ss
@@ -150,14 +149,14 @@ module _ (d : ℕ) (small : d ≤ 2) (m k : Mode) (ss : List Symbol) (cs : List 
   pub heard-row :
       length ss ≡ 39 → 3 * pointerOf ss ≡ beforeStart ss → Heard d m ss (readMode k (pointerOf ss) cs) (readBlocks k (pointerOf ss) cs)
   heard-row long aligned =
-      elim (decLt (beforeStart ss) (length ss))
-      [ yes h ↦
-        let p : pointerOf ss ≤ 12 = omega arith in
-        rw (le-leb (pointerOf ss) 12 p, aligned) (to-start h)
-      | no h ↦
-        let e : beforeStart ss ≡ length ss = omega (arith, before-le ss) in
-        let p : pointerOf ss ≡ 13 = omega arith in
-        rw p (no-start e)
+      elim (decLt (beforeStart ss) (length ss)) [
+        | yes h ↦
+            let p : pointerOf ss ≤ 12 = omega arith in
+            rw (le-leb (pointerOf ss) 12 p, aligned) (to-start h)
+        | no h ↦
+            let e : beforeStart ss ≡ length ss = omega (arith, before-le ss) in
+            let p : pointerOf ss ≡ 13 = omega arith in
+            rw p (no-start e)
       ]
 
   -- a pointer that can't be decoded
