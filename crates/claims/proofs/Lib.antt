@@ -2,3 +2,4 @@ pub mod Losing
 pub mod Walking
 pub mod Carrying
 pub mod Packet
+pub mod Hearing

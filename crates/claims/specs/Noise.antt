@@ -17,6 +17,7 @@ pub data Near (d : ℕ) : List ℕ → List ℕ → Type 0 where
 pub record Elsewhere (d : ℕ) (s : Setting) (q : List ℕ) : Type 0 where
   pub magazine : ℕ
   pub y : ℕ
+  pub number : y < 32
   pub rest : List ℕ
   pub differs : magazine % 8 ≡ s .magazine % 8 → ⊥
   pub near : Near d (address magazine y ++ rest) q
