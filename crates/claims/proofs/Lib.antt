@@ -3,3 +3,4 @@ pub mod Walking
 pub mod Carrying
 pub mod Packet
 pub mod Hearing
+pub mod Sending
