@@ -4,3 +4,4 @@ pub mod Carrying
 pub mod Packet
 pub mod Hearing
 pub mod Sending
+pub mod Carried

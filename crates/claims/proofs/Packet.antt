@@ -66,7 +66,7 @@ before-take (fill ∷ ss) = ap suc (before-take ss)
 before-take (bits n ∷ ss) = ap suc (before-take ss)
 before-take (raw b ∷ ss) = ap suc (before-take ss)
 
-before-le : (ss : List Symbol) → beforeStart ss ≤ length ss
+pub before-le : (ss : List Symbol) → beforeStart ss ≤ length ss
 unfolding beforeStart
 before-le [] = omega arith
 before-le (start ∷ ss) = omega arith
@@ -109,6 +109,10 @@ sim-between (gone x) = Carrying.gone x
 pub record Heard (d : ℕ) (m : Mode) (ss : List Symbol) (k : Mode) (out : List Block) : Type 0 where
   pub mode : Between d (sentEnds m ss) k
   pub blocks : Blocks d (sentGives m ss) out
+
+-- a pointer that can't be decoded
+pub lost-row : (d : ℕ) (m k : Mode) (ss : List Symbol) (cs : List ℕ) → 2 ≤ d → Heard d m ss (readMode k 16 cs) (readBlocks k 16 cs)
+lost-row d m k ss cs x = record { mode = Carrying.gone x; blocks = lost-all x (sentGives m ss) }
 
 -- the running block along xs, where no start is, and the flow from ys on
 split-heard :
@@ -158,7 +162,3 @@ module _ (d : ℕ) (small : d ≤ 2) (m k : Mode) (ss : List Symbol) (cs : List 
             let p : pointerOf ss ≡ 13 = omega arith in
             rw p (no-start e)
       ]
-
-  -- a pointer that can't be decoded
-  pub lost-row : 2 ≤ d → Heard d m ss (readMode k 16 cs) (readBlocks k 16 cs)
-  lost-row x = record { mode = Carrying.gone x; blocks = lost-all x (sentGives m ss) }
