@@ -1,5 +1,4 @@
 -- "The four parity checks also stand as rows of eight bits, and the fault place that they give agrees with the table".
-use mathlib.Core.Bool.{Bool, true, false}
 use mathlib.Core.List.{List, [], _∷_, map}
 use Prim.Native.Nat.{ℕ, zero, suc, _+_, _*_, _/_, _%_}
 use lib.Dec.{eqb}
@@ -36,7 +35,7 @@ column i = number (map (λ (row : List ℕ). getD row i 0) checks)
 -- the first of the k places from i on whose column is s; 16 where there is none
 unfoldable pub placeFrom : ℕ → ℕ → ℕ → ℕ
 placeFrom zero i s = 16
-placeFrom (suc k) i s = elim (eqb (column i) s) [ true ↦ i | false ↦ placeFrom k (suc i) s ]
+placeFrom (suc k) i s = pick (eqb (column i) s) i (placeFrom k (suc i) s)
 
 -- the fault place: 8 where no check fails, else the bit 0 to 7 at which a fault makes just those checks fail, or 16: it can't
 -- be mended

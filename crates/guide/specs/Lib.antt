@@ -1,0 +1,4 @@
+pub mod Setting
+pub mod Packet
+pub mod Stream
+pub mod Cutting

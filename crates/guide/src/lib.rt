@@ -1,0 +1,31 @@
+// The packets of the guide page: the setting, and the writer that cuts records into packets.
+ghost use mathlib.Core.Path.{_≡_};
+ghost use Rattle.guide.specs.Setting.{inRange};
+
+// Which page and stream carry the guide, and which application its blocks are of. In range:
+// magazine 1..8, stream 0..15, application 0..31; a page is any byte.
+pub struct Setting {
+    pub magazine: u8,
+    pub page: u8,
+    pub stream: u8,
+    pub application: u8,
+}
+
+// Whether a setting is in range.
+pub fn is_in_range(s: Setting) -> bool
+    ensures { λ r. ⌜ r ≡ inRange s ⌝ }
+{
+    if s.magazine < 1 {
+        return false;
+    }
+    if s.magazine > 8 {
+        return false;
+    }
+    if s.stream > 15 {
+        return false;
+    }
+    if s.application > 31 {
+        return false;
+    }
+    true
+}

@@ -1,0 +1,28 @@
+-- Cases A to E of document 01, from the definitions: they join the one list of all cases in crate `claims`. Assumes nothing.
+use mathlib.Core.Path.{_≡_, refl}
+use mathlib.Core.List.{List, [], _∷_}
+use Prim.Native.Nat.{ℕ}
+use Rattle.laws.specs.Range.{tabulate}
+use Rattle.octet.specs.Bits.{bits, number, differing}
+use Rattle.octet.specs.Image.{image, withParity}
+use Rattle.octet.specs.Decoding.{nib, nibbleFrom, undecodable}
+use Rattle.octet.specs.Turning.{turned}
+
+-- A 14 gives 0 (mended), B 16 is refused, C 00 gives 1, D FF gives E, E turning 15 gives A8
+abbrev pub CasesAtoE : Type 0
+CasesAtoE =
+    (nib 0x14 ≡ 0) × (nib 0x16 ≡ undecodable) × (nib 0x00 ≡ 1) × (nib 0xFF ≡ 14) × (turned 0x15 ≡ 0xA8)
+
+pub cases-a-to-e : CasesAtoE
+unfolding nib nibbleFrom image withParity differing number turned bits
+cases-a-to-e = (refl, refl, refl, refl, refl)
+
+-- "The sixteen images, 0 to F"
+abbrev pub TheImages : Type 0
+TheImages =
+    tabulate image 0 16
+    ≡ 0x15 ∷ 0x02 ∷ 0x49 ∷ 0x5E ∷ 0x64 ∷ 0x73 ∷ 0x38 ∷ 0x2F ∷ 0xD0 ∷ 0xC7 ∷ 0x8C ∷ 0x9B ∷ 0xA1 ∷ 0xB6 ∷ 0xFD ∷ 0xEA ∷ []
+
+pub the-images : TheImages
+unfolding image withParity number
+the-images = refl
