@@ -5,3 +5,4 @@ pub mod Packet
 pub mod Hearing
 pub mod Sending
 pub mod Carried
+pub mod March
