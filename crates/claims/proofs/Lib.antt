@@ -6,3 +6,4 @@ pub mod Hearing
 pub mod Sending
 pub mod Carried
 pub mod March
+pub mod Settled
