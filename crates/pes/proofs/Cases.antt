@@ -11,7 +11,7 @@ use Rattle.octet.specs.Bits.{bits, number}
 use Rattle.octet.specs.Turning.{turned}
 use Rattle.pes.specs.Header.{headerRules, packetLength}
 use Rattle.pes.specs.Units.{unitRules, textRules, recordAt}
-use Rattle.pes.specs.Reading.{placesFrom, places, readRules, recordsOf}
+use Rattle.pes.specs.Reading.{placesFrom, places, unitsRules, readRules, recordsOf}
 use Rattle.pes.specs.Writing.{recordsFit, writeRules, headerOf, unitOf, unitsOf, stuffing, packetOf}
 
 -- the answers of the two calls where the output has room
@@ -59,6 +59,7 @@ unfolding
     unitsOf
     stuffing
     readRules
+    unitsRules
     recordsOf
     flatMap
     headerRules

@@ -1,1 +1,3 @@
 pub mod Cases
+pub mod Heading
+pub mod Walk

@@ -25,7 +25,7 @@ packetLength pes = byteAt pes 4 * 256 + byteAt pes 5
 abbrev pub lengthFits : ℕ → Bool
 lengthFits l =
     let n = (l + 6) / 184 in
-    both (eqb l (n * 184 - 6)) (both (leb 1 n) (leb n 356))
+    both (leb 1 n) (both (leb n 356) (eqb l (n * 184 - 6)))
 
 -- byte 6: "its leading bits 10" and data_alignment_indicator
 abbrev pub flagsFit : ℕ → Bool

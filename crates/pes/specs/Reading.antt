@@ -21,9 +21,13 @@ placesFrom (suc f) pes at = elim (ltb at (length pes)) [ true ↦ at ∷ placesF
 unfoldable pub places : List ℕ → List ℕ
 places pes = placesFrom (length pes) pes firstUnit
 
+-- the rules of all units, "from first to last"
+unfoldable pub unitsRules : List ℕ → List Rule
+unitsRules pes = flatMap (rulesAt pes) (places pes)
+
 -- "2, 3, 4, 5, then units from first to last, each 6 (one byte left), 7, 6 (overrun), 8, 9"
 unfoldable pub readRules : List ℕ → List Rule
-readRules pes = headerRules pes ++ flatMap (rulesAt pes) (places pes)
+readRules pes = headerRules pes ++ unitsRules pes
 
 -- "for each text unit in order, a record of 44 bytes"
 unfoldable pub recordsOf : List ℕ → List ℕ

@@ -7,12 +7,15 @@
 use answer::Answer;
 use answer::Refusal;
 ghost use mathlib.Core.Path.{_≡_};
-ghost use mathlib.Core.Bool.{Bool};
-ghost use Prim.Native.Nat.{ℕ, _+_, _≤_};
+ghost use Prim.Native.Nat.{_+_, _*_, _≤_};
+ghost use lib.Dec.{leb, eqb};
 ghost use lib.ListN.{length};
+ghost use Rattle.laws.specs.Pick.{both, either};
 ghost use Rattle.answer.specs.Rules.{judged};
-ghost use Rattle.laws.specs.Pick.{either};
+ghost use Rattle.answer.specs.Values.{refused};
+ghost use Rattle.pes.specs.Header.{startsRight, lengthFits, flagsFit, ebuData};
 ghost use Rattle.pes.specs.Units.{textId, stuffingId, lineFits, nextUnit, textRules, badUnit, unitAt};
+ghost use Rattle.pes.specs.Reading.{unitsRules, readRules, recordsOf};
 
 // What the unit walk finds at a place of a packet. Offsets and places count from the packet's first
 // byte.
@@ -69,6 +72,104 @@ fn text_at(pes: &[u8], at: usize) -> DataUnit
         return DataUnit::Refused(Refusal { no: 9, at: framing });
     }
     DataUnit::Text(at + 46)
+}
+
+// Judges a whole packet, writing nothing: its refusal, or how many bytes of records it gives.
+fn judge(pes: &[u8]) -> Answer
+    ensures { λ r. ⌜ r ≡ judged refused (readRules (now (pes .entry))) (Answer.Done (length (recordsOf (now (pes .entry))))) ⌝ }
+{
+    if !starts(pes) {
+        return Answer::Refused(Refusal { no: 2, at: 0 });
+    }
+    if !length_fits(pes[4], pes[5], pes.len()) {
+        return Answer::Refused(Refusal { no: 3, at: 4 });
+    }
+    if !flags_fit(pes[6]) {
+        return Answer::Refused(Refusal { no: 4, at: 6 });
+    }
+    if pes[8] != 0x24 {
+        return Answer::Refused(Refusal { no: 4, at: 8 });
+    }
+    if !is_ebu(pes[45]) {
+        return Answer::Refused(Refusal { no: 5, at: 45 });
+    }
+    scan(pes)
+}
+
+// Judges the units from first to last: the first refusal, or how many bytes of records they give.
+fn scan(pes: &[u8]) -> Answer
+    ensures { λ r. ⌜ r ≡ judged refused (unitsRules (now (pes .entry))) (Answer.Done (length (recordsOf (now (pes .entry))))) ⌝ }
+{
+    let mut at = 46;
+    let mut given = 0;
+    loop {
+        match unit_at(pes, at) {
+            DataUnit::End => return Answer::Done(given),
+            DataUnit::Text(next) => {
+                given += 44;
+                at = next;
+            }
+            DataUnit::Stuffing(next) => {
+                at = next;
+            }
+            DataUnit::Refused(r) => return Answer::Refused(r),
+        }
+    }
+}
+
+// Whether a packet has its header's 45 bytes and begins 00 00 01 BD.
+fn starts(pes: &[u8]) -> bool
+    ensures { λ r. ⌜ r ≡ both (leb 45 (length (now (pes .entry)))) (startsRight (now (pes .entry))) ⌝ }
+{
+    if pes.len() < 45 {
+        return false;
+    }
+    if pes[0] != 0x00 {
+        return false;
+    }
+    if pes[1] != 0x00 {
+        return false;
+    }
+    if pes[2] != 0x01 {
+        return false;
+    }
+    pes[3] == 0xBD
+}
+
+// Whether PES_packet_length, by its two bytes, is N×184−6 with N from 1 to 356, and the packet is as
+// long as it says. Two bytes hold no N above 356.
+fn length_fits(high: u8, low: u8, whole: usize) -> bool
+    ensures { λ r. ⌜ r ≡ both (lengthFits (high * 256 + low)) (eqb (high * 256 + low + 6) whole) ⌝ }
+{
+    let size = (high as usize) * 256 + (low as usize);
+    let n = (size + 6) / 184;
+    if n < 1 {
+        return false;
+    }
+    if size != n * 184 - 6 {
+        return false;
+    }
+    size + 6 == whole
+}
+
+// Whether byte 6 has its leading bits 10 and the alignment bit.
+fn flags_fit(b: u8) -> bool
+    ensures { λ r. ⌜ r ≡ flagsFit b ⌝ }
+{
+    if b / 64 != 2 {
+        return false;
+    }
+    b / 4 % 2 == 1
+}
+
+// Whether a data_identifier is from 0x10 to 0x1F.
+fn is_ebu(d: u8) -> bool
+    ensures { λ r. ⌜ r ≡ ebuData d ⌝ }
+{
+    if d < 0x10 {
+        return false;
+    }
+    d <= 0x1F
 }
 
 // Whether an id is a text unit's: non-subtitle or subtitle data.
