@@ -37,6 +37,13 @@ pub every-right : (xs ys : List Rule) → Every (xs ++ ys) → Every ys
 every-right [] ys e = e
 every-right (x ∷ xs) ys e = every-right xs ys (every-tail e)
 
+-- where every rule holds, none is the first that doesn't
+pub every-first : {q : Rule} {rs : List Rule} → Every rs → First q rs → ⊥
+every-first {q} every first =
+    let other : Done 0 ≡ refused (q .number) (q .offset) = sym (passes refused (Done 0) every) ∙ refuses refused (Done 0) first in
+    let z : _≡_ {A = ℕ} 0 1 = cc in
+    omega arith
+
 -- rules behind others are judged where those hold
 pub judged-append {ℓ} :
     {A : Type ℓ} (f : ℕ → ℕ → A) (xs ys : List Rule) (a : A) → judged f (xs ++ ys) a ≡ judged f xs (judged f ys a)
@@ -89,10 +96,10 @@ settles-short rs bytes old every h =
     settles rs bytes old old (refused 1 0)
     (judged-append refused rs (room bytes old ∷ []) (Done (length bytes)) ∙ passes refused _ every ∙ rw (lt-leb _ _ h)) refl
 
--- accepted: the bytes stand in front, and the rest is as it was
+-- accepted: the n bytes stand in front, and the rest is as it was
 pub settles-done :
-    (rs : List Rule) (bytes old out : List ℕ) → Every rs → length bytes ≤ length old → out ≡ bytes ++ drop (length bytes) old
-    → (Done (length bytes) ≡ answered rs bytes old) × (out ≡ left rs bytes old)
-settles-done rs bytes old out every h o =
-    settles rs bytes old out (Done (length bytes))
-    (judged-append refused rs (room bytes old ∷ []) (Done (length bytes)) ∙ passes refused _ every ∙ rw (le-leb _ _ h)) o
+    (rs : List Rule) (bytes old out : List ℕ) (n : ℕ) → length bytes ≡ n → Every rs → length bytes ≤ length old
+    → out ≡ bytes ++ drop (length bytes) old → (Done n ≡ answered rs bytes old) × (out ≡ left rs bytes old)
+settles-done rs bytes old out n e every h o =
+    settles rs bytes old out (Done n)
+    (judged-append refused rs (room bytes old ∷ []) (Done (length bytes)) ∙ passes refused _ every ∙ rw (le-leb _ _ h) (ap Done e)) o

@@ -1,3 +1,5 @@
 pub mod Cases
+pub mod Filling
 pub mod Heading
+pub mod Runs
 pub mod Walk

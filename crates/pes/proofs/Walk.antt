@@ -18,7 +18,7 @@ use Rattle.answer.specs.declared.Answer.the-variants.{Done, Refused}
 use Rattle.answer.specs.Rules.{Rule, judged, Every, First}
 use Rattle.answer.specs.Values.{refused, refusal}
 use Rattle.answer.proofs.Judging.{passes, refuses, decided}
-use Rattle.answer.proofs.Answering.{every-head, every-tail, every-left, every-right, judged-append}
+use Rattle.answer.proofs.Answering.{every-head, every-tail, every-left, every-right, every-first, judged-append}
 use Rattle.octet.specs.Turning.{turned}
 use Rattle.pes.specs.declared.DataUnit.{DataUnit}
 use Rattle.pes.specs.Header.{byteAt}
@@ -178,3 +178,35 @@ scan-step pes at n (DataUnit.Stuffing next) m =
     scan-first pes at n (m .within) ∙ passes refused _ (m .every) ∙ rw (m .after, m .kind)
 scan-step pes at n (DataUnit.Refused r) m =
     scan-first pes at n (m .0) ∙ refuses refused _ (m .1 .1) ∙ rw (m .1 .2)
+
+-- ---- writing the records
+
+-- the records of the units from a place on
+abbrev pub rest : List ℕ → ℕ → List ℕ
+rest pes at = flatMap (givenAt pes) (from pes at)
+
+-- the units' rules from a place on
+abbrev pub lawful : List ℕ → ℕ → List Rule
+lawful pes at = flatMap (rulesAt pes) (from pes at)
+
+pub rest-end : (pes : List ℕ) (at : ℕ) → length pes ≤ at → rest pes at ≡ []
+unfolding flatMap
+rest-end pes at h = rw (from-end pes at h)
+
+pub rest-text : (pes : List ℕ) (at next : ℕ) → Whole pes at next false → rest pes at ≡ recordAt pes at ++ rest pes next
+unfolding flatMap
+rest-text pes at next w = rw (from-step pes at (w .within), w .after, w .kind)
+
+pub rest-stuffing : (pes : List ℕ) (at next : ℕ) → Whole pes at next true → rest pes at ≡ rest pes next
+unfolding flatMap
+rest-stuffing pes at next w = rw (from-step pes at (w .within), w .after, w .kind)
+
+pub lawful-next : (pes : List ℕ) (at next : ℕ) (s : Bool) → Whole pes at next s → Every (lawful pes at) → Every (lawful pes next)
+unfolding flatMap
+lawful-next pes at next s w e = rw (w .after) (every-right (rulesAt pes at) _ (rw (from-step pes at (w .within)) at e))
+
+-- where all rules hold, the walk is never refused
+pub lawful-met : (pes : List ℕ) (at : ℕ) (r : Refusal) → Met pes at (DataUnit.Refused r) → Every (lawful pes at) → ⊥
+unfolding flatMap
+lawful-met pes at r m e =
+    every-first (every-left (rulesAt pes at) _ (rw (from-step pes at (m .0)) at e)) (m .1 .1)

@@ -7,14 +7,18 @@
 use answer::Answer;
 use answer::Refusal;
 ghost use mathlib.Core.Path.{_≡_};
+ghost use mathlib.Core.List.{map};
 ghost use Prim.Native.Nat.{_+_, _*_, _≤_};
 ghost use lib.Dec.{leb, eqb};
-ghost use lib.ListN.{length};
+ghost use lib.ListN.{length, take, drop};
+ghost use lib.Seq.{sets};
 ghost use Rattle.laws.specs.Pick.{both, either};
-ghost use Rattle.answer.specs.Rules.{judged};
+ghost use Rattle.answer.specs.Rules.{judged, Every};
 ghost use Rattle.answer.specs.Values.{refused};
+ghost use Rattle.answer.specs.Writing.{answered, left};
+ghost use Rattle.octet.specs.Turning.{turned};
 ghost use Rattle.pes.specs.Header.{startsRight, lengthFits, flagsFit, ebuData};
-ghost use Rattle.pes.specs.Units.{textId, stuffingId, lineFits, nextUnit, textRules, badUnit, unitAt};
+ghost use Rattle.pes.specs.Units.{textId, stuffingId, lineFits, nextUnit, textRules, badUnit, unitAt, recordAt};
 ghost use Rattle.pes.specs.Reading.{unitsRules, readRules, recordsOf};
 
 // What the unit walk finds at a place of a packet. Offsets and places count from the packet's first
@@ -72,6 +76,70 @@ fn text_at(pes: &[u8], at: usize) -> DataUnit
         return DataUnit::Refused(Refusal { no: 9, at: framing });
     }
     DataUnit::Text(at + 46)
+}
+
+// The records of a PES packet, 44 bytes for each text unit in order, into the front of `out`. Goes
+// along the packet twice, to judge it and to write, and holds nothing but its place.
+pub fn read(pes: &[u8], out: &mut [u8]) -> Answer
+    ensures answer { λ r. ⌜ r ≡ answered (readRules (now (pes .entry))) (recordsOf (now (pes .entry))) (now (out .entry)) ⌝ }
+    ensures bytes { λ r. ⌜ now (out .exit) ≡ left (readRules (now (pes .entry))) (recordsOf (now (pes .entry))) (now (out .entry)) ⌝ }
+{
+    match judge(pes) {
+        Answer::Refused(r) => Answer::Refused(r),
+        Answer::Done(need) => {
+            if out.len() < need {
+                return Answer::Refused(Refusal { no: 1, at: 0 });
+            }
+            put_records(pes, out);
+            Answer::Done(need)
+        }
+    }
+}
+
+// Writes the records of a packet that is accepted, where they have room.
+fn put_records(pes: &[u8], out: &mut [u8])
+    requires { ⌜ Every (unitsRules (now pes)) × (length (recordsOf (now pes)) ≤ length (now out)) ⌝ }
+    ensures { λ r. ⌜ now (out .exit) ≡ sets (now (out .entry)) 0 (recordsOf (now (pes .entry))) ⌝ }
+{
+    let mut at = 46;
+    let mut to = 0;
+    loop {
+        match unit_at(pes, at) {
+            DataUnit::End => return,
+            DataUnit::Text(next) => {
+                put_record(pes, at, out, to);
+                to += 44;
+                at = next;
+            }
+            DataUnit::Stuffing(next) => {
+                at = next;
+            }
+            DataUnit::Refused(_) => return,
+        }
+    }
+}
+
+// Writes the record of the text unit at `at`: its id, its line byte as it is, and its 42 bytes turned.
+fn put_record(pes: &[u8], at: usize, out: &mut [u8], to: usize)
+    requires { ⌜ (at + 46 ≤ length (now pes)) × (to + 44 ≤ length (now out)) ⌝ }
+    ensures { λ r. ⌜ now (out .exit) ≡ sets (now (out .entry)) to (recordAt (now (pes .entry)) at) ⌝ }
+{
+    let line = pes[at + 2];
+    out[to] = pes[at];
+    out[to + 1] = line;
+    turn_run(pes, at + 4, out, to + 2);
+}
+
+// Writes 42 bytes of `src`, from `from` on, each turned.
+fn turn_run(src: &[u8], from: usize, out: &mut [u8], to: usize)
+    requires { ⌜ (from + 42 ≤ length (now src)) × (to + 42 ≤ length (now out)) ⌝ }
+    ensures { λ r. ⌜ now (out .exit) ≡ sets (now (out .entry)) to (map turned (take 42 (drop from (now (src .entry))))) ⌝ }
+{
+    let mut i = 0;
+    while i < 42 {
+        out[to + i] = octet::turn(src[from + i]);
+        i += 1;
+    }
 }
 
 // Judges a whole packet, writing nothing: its refusal, or how many bytes of records it gives.
