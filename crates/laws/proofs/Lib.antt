@@ -1,3 +1,4 @@
 pub mod Lists
+pub mod Stores
 pub mod Tests
 pub mod Whole

@@ -12,7 +12,7 @@ use Rattle.octet.specs.Turning.{turned}
 use Rattle.pes.specs.Header.{headerRules, packetLength}
 use Rattle.pes.specs.Units.{unitRules, textRules, recordAt}
 use Rattle.pes.specs.Reading.{placesFrom, places, unitsRules, readRules, recordsOf}
-use Rattle.pes.specs.Writing.{recordsFit, writeRules, headerOf, unitOf, unitsOf, stuffing, packetOf}
+use Rattle.pes.specs.Writing.{recordsFit, writeRules, headerOf, unitOf, unitsOf, stuffingUnit, stuffingUnits, packetOf}
 
 -- the answers of the two calls where the output has room
 abbrev pub readAnswer : List ℕ → Answer
@@ -27,7 +27,7 @@ CaseJ =
     (writeAnswer 0x10 [] ≡ Done 184) × (packetLength (packetOf 0x10 []) ≡ 178) × (length (places (packetOf 0x10 [])) ≡ 3)
 
 pub case-j : CaseJ
-unfolding writeRules recordsFit packetOf headerOf unitsOf stuffing places placesFrom
+unfolding writeRules recordsFit packetOf headerOf unitsOf stuffingUnit stuffingUnits places placesFrom
 case-j = (refl, refl, refl)
 
 -- a record with the line offset o in the first field, and the packet that would hold it
@@ -57,7 +57,8 @@ unfolding
     headerOf
     unitOf
     unitsOf
-    stuffing
+    stuffingUnit
+    stuffingUnits
     readRules
     unitsRules
     recordsOf

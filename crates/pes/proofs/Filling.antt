@@ -2,13 +2,13 @@
 -- Assumes nothing.
 use mathlib.Core.Path.{_≡_, _∙_, refl, sym, ap}
 use mathlib.Core.Bool.{true, false}
-use mathlib.Core.List.{List, [], _++_, flatMap}
+use mathlib.Core.List.{List}
 use Prim.Native.Nat.{ℕ, _+_, _≤_}
 use native.Mathlib.Nat.{zero-add}
 use native.Mathlib.Omega.{arith}
 use lib.ListN.{length, length-append}
-use lib.Seq.{sets, length-sets}
-use Rattle.laws.proofs.Lists.{sets-append}
+use lib.Seq.{sets}
+use Rattle.laws.proofs.Stores.{sets-next}
 use Rattle.answer.specs.Rules.{Every}
 use Rattle.pes.specs.Units.{recordAt}
 use Rattle.pes.specs.Reading.{firstUnit, places, unitsRules, recordsOf}
@@ -56,6 +56,6 @@ module _ (pes old : List ℕ) (at to : ℕ) (out : List ℕ) (f : Filled pes old
         long = k ∙ f .long;
         room = rw k (filled-room next w);
         whole =
-            rw (e, ← (record-length pes at (t .ends)))
-            (sym (sets-append out to (recordAt pes at) (rest pes next)) ∙ sym (ap (sets out to) (rest-text pes at next w)) ∙ f .whole);
+            sets-next out out′ to 44 (recordAt pes at) (rest pes next) _ (rest-text pes at next w) (record-length pes at (t .ends)) e
+            ∙ f .whole;
       }
