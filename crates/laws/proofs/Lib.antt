@@ -1,2 +1,4 @@
 pub mod Lists
+pub mod Stores
+pub mod Tests
 pub mod Whole
