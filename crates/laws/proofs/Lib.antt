@@ -1,4 +1,5 @@
 pub mod Lists
+pub mod Maps
 pub mod Stores
 pub mod Tests
 pub mod Whole
