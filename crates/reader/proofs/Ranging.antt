@@ -65,7 +65,7 @@ body-along :
 body-along h b held k true e = tt
 body-along h b held k false e = let f = leb-false (sizeOf h) (length (held ++ b ∷ [])) e in (k, omega arith)
 
-step-along : (m : Mode) (b : ℕ) → Along m → Along (step m b)
+pub step-along : (m : Mode) (b : ℕ) → Along m → Along (step m b)
 unfolding step
 step-along off b r = tt
 step-along scan b r = go (eqb (nib b) 3) (eqb (nib b) 12)
@@ -142,7 +142,7 @@ unfinished-rests (body h held) r = go (full h held)
     go true = tt
     go false = r
 
-drop-rests : (t : Bool) (m : Mode) → Rests m → Rests (dropIf t m)
+pub drop-rests : (t : Bool) (m : Mode) → Rests m → Rests (dropIf t m)
 drop-rests true m r = tt
 drop-rests false m r = r
 
@@ -164,13 +164,13 @@ pub record Sound (st : State) : Type 0 where
   pub index : st .index ≤ 15
   pub mode : Rests (st .mode)
 
--- an index is a nibble
-abbrev Lawful : Seen → Type 0
-Lawful junk = Unit {0}
-Lawful other = Unit {0}
-Lawful foreign = Unit {0}
-Lawful (ours index n) = index ≤ 15
-Lawful (row y p l) = Unit {0}
+-- what is seen of a packet q: an index is a nibble, and the bytes after the pointer are q's from the fourth on
+abbrev pub Shaped : List ℕ → Seen → Type 0
+Shaped q junk = Unit {0}
+Shaped q other = Unit {0}
+Shaped q foreign = Unit {0}
+Shaped q (ours index n) = index ≤ 15
+Shaped q (row y p l) = l ≡ drop 3 q
 
 -- each of k bytes that decode does
 decodes-at : (k : ℕ) (l : List ℕ) → decodes k l ≡ true → (i : ℕ) → i < k → nib (getD l i 0) < undecodable
@@ -181,9 +181,9 @@ decodes-at (suc k) l e (suc i) h =
     let p : getD (drop 1 l) i 0 ≡ getD l (suc i) 0 = getD-drop 1 l i 0 ∙ rw one-add in
     rw (← p) (decodes-at k (drop 1 l) (both-true (ltb (nib (getD l 0 0)) undecodable) (decodes k (drop 1 l)) e .1) i (omega arith))
 
-lawful : (s : Setting) (q : List ℕ) → Lawful (see s q)
+pub shaped : (s : Setting) (q : List ℕ) → Shaped q (see s q)
 unfolding see seeY seeZero
-lawful s q =
+shaped s q =
     go (decodes 2 q) (eqb (nib (getD q 0 0) % 8) (s .magazine % 8)) (eqb (nib (getD q 0 0) / 8 + 2 * nib (getD q 1 0)) 0)
     (leb (nib (getD q 0 0) / 8 + 2 * nib (getD q 1 0)) 25)
     (decodes 6 (drop 2 q)) refl
@@ -191,7 +191,7 @@ lawful s q =
   where
     go :
         (a b c d e : Bool) → decodes 6 (drop 2 q) ≡ e → (f : Bool)
-        → Lawful
+        → Shaped q
         (pick a
         (pick b
         (pick c
@@ -203,24 +203,24 @@ lawful s q =
         junk)
     go false b c d e p f = tt
     go true false c d e p f = tt
-    go true true false true e p f = tt
+    go true true false true e p f = refl
     go true true false false e p f = tt
     go true true true d false p f = tt
     go true true true d true p false = tt
     go true true true d true p true = omega (arith, decodes-at 6 (drop 2 q) p 2 (lit< tt))
 
-act-sound : (st : State) (x : Seen) → Lawful x → Sound st → Sound (act st x)
+act-sound : (q : List ℕ) (st : State) (x : Seen) → Shaped q x → Sound st → Sound (act st x)
 unfolding act
-act-sound st junk w r = record { page = refl; index = r .index; mode = tt }
-act-sound st other w r = r
-act-sound st foreign w r = record { page = refl; index = r .index; mode = drop-rests (incomplete (st .page)) (st .mode) (r .mode) }
-act-sound st (ours index n) w r =
+act-sound q st junk w r = record { page = refl; index = r .index; mode = tt }
+act-sound q st other w r = r
+act-sound q st foreign w r = record { page = refl; index = r .index; mode = drop-rests (incomplete (st .page)) (st .mode) (r .mode) }
+act-sound q st (ours index n) w r =
     record { page = go (leb n 25) refl; index = w; mode = drop-rests (breaks st index n) (st .mode) (r .mode) }
   where
     go : (t : Bool) → leb n 25 ≡ t → pageInRange (pick t (Open n 0) Shut) ≡ true
     go true e = rw (e, le-leb 0 n (omega arith))
     go false e = refl
-act-sound st (row y p l) w r = go (st .page) (r .page)
+act-sound q st (row y p l) w r = go (st .page) (r .page)
   where
     go : (g : Page) → pageInRange g ≡ true → Sound (openState g st y p l)
     go Shut e = r
@@ -242,7 +242,7 @@ act-sound st (row y p l) w r = go (st .page) (r .page)
 
 -- a taken packet's state is in range again
 pub sound-after : (s : Setting) (st : State) (q : List ℕ) → Sound st → Sound (act st (see s q))
-sound-after s st q r = act-sound st (see s q) (lawful s q) r
+sound-after s st q r = act-sound q st (see s q) (shaped s q) r
 
 pub sound-fresh : Sound freshState
 sound-fresh = record { page = refl; index = omega arith; mode = tt }
