@@ -7,3 +7,4 @@ pub mod Sending
 pub mod Carried
 pub mod March
 pub mod Settled
+pub mod Fed
