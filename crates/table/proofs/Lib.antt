@@ -1,3 +1,4 @@
 pub mod Laid
 pub mod Bits
+pub mod Judging
 pub mod Cases

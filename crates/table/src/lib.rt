@@ -10,7 +10,7 @@ ghost use Rattle.answer.specs.declared.Answer.the-variants.{Done};
 ghost use Rattle.octet.specs.Decoding.{nib};
 ghost use Rattle.table.specs.Fields.{field};
 ghost use Rattle.table.specs.Tables.{per, bits};
-ghost use Rattle.table.specs.Block.{compound, checksum as checksumOf};
+ghost use Rattle.table.specs.Block.{compound, headOf, checksum as checksumOf};
 ghost use Rattle.table.specs.Reading.{frameRules, frontRules, wholeRules, tableOf, sound as soundOf};
 
 use answer::Answer;
@@ -24,6 +24,69 @@ const LI: usize = 7;
 
 // The widest field, a language or a page.
 const WIDEST: usize = 24;
+
+fn refuse(no: u8, at: usize) -> Answer
+    ensures { λ r. ⌜ r ≡ refused no at ⌝ }
+{
+    Answer::Refused(Refusal { no, at })
+}
+
+// The byte i; 0 past the end.
+fn byte_at(s: &[u8], i: usize) -> usize
+    ensures { λ r. ⌜ (r ≡ getD (now (s .entry)) i 0) × (r < 256) ⌝ }
+{
+    if i < s.len() {
+        return s[i] as usize;
+    }
+    0
+}
+
+// The 16 bits of a record's head.
+fn head_of(rec: &[u8]) -> usize
+    ensures { λ r. ⌜ (r ≡ headOf (now (rec .entry))) × (r < 65536) ⌝ }
+{
+    byte_at(rec, 0) + 256 * byte_at(rec, 1)
+}
+
+// 16, 13, 12, 13: the record as it is lent. Where it is taken, the head's 16 bits.
+fn judge_frame(application: u8, rec: &[u8]) -> Answer
+    ensures
+    {
+        λ r.
+        ⌜ r
+        ≡ judged refused (frameRules application (length (now (rec .entry))) (headOf (now (rec .entry))))
+        (Done (headOf (now (rec .entry)))) ⌝
+    }
+{
+    if 32 <= application {
+        return refuse(16, 0);
+    }
+    let head = head_of(rec);
+    if rec.len() != HEAD + head / 32 {
+        return refuse(13, 0);
+    }
+    if head % 32 != application as usize {
+        return refuse(12, 0);
+    }
+    if head / 32 < 8 {
+        return refuse(13, 0);
+    }
+    Answer::Done(head)
+}
+
+// How many bytes come before the first that can't be decoded.
+fn sound(s: &[u8]) -> usize
+    ensures { λ r. ⌜ r ≡ soundOf (map nib (now (s .entry))) ⌝ }
+{
+    let mut i = 0;
+    while i < s.len() {
+        if 15 < octet::decode(s[i]) {
+            return i;
+        }
+        i += 1;
+    }
+    i
+}
 
 // The nibble i of the control data; 0 past its end.
 fn nibble_at(s: &[u8], i: usize) -> usize
