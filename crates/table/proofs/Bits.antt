@@ -22,7 +22,6 @@ getD-none (b ∷ s) zero h = absurd (not-suc-le-zero h)
 getD-none (b ∷ s) (suc i) h = getD-none s i (le-of-suc-le-suc h)
 
 pub nibble-of : (s : List ℕ) (i : ℕ) → field (i * 4) 4 (compound s) ≡ getD (map nib s) i 0 % 16
-unfolding compound
 nibble-of s i = whole-at 4 (map nib s) i
 
 -- a field put together from its nibbles, the highest first

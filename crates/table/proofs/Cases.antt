@@ -11,7 +11,7 @@ use Rattle.table.specs.Fields.{Field, width, laid, fitting, field, parts
 use Rattle.table.specs.Tables.{Descriptor, Table, TI, LI, per, loops, fields, bits, control, fill, size, entire, fits}
 use Rattle.table.specs.Form.{spelled, listed, form, wordsIn, descriptorsIn, tableIn}
 use Rattle.table.specs.Block.{header, headOf, nibblesOf, total, checksum, nibbles, checksumOf}
-use Rattle.table.specs.Reading.{descriptorsOf, tableOf, sound, frameRules, frontRules, wholeRules, readBlock, accepted}
+use Rattle.table.specs.Reading.{descriptorsOf, tableOf, sound, frameRules, frontRules, wholeRules, lengthRules, readBlock, accepted}
 use Rattle.table.specs.Writing.{recordOf, writeRules}
 
 -- TI, block_no 0, network 2, descriptor 5, "dut", page value 000888
@@ -57,7 +57,7 @@ unfolding width fields loops per fits entire fitting
 case-I = (refl, refl, refl, refl)
 
 test : readBlock 1 (recordOf 1 G) ≡ accepted G
-unfolding width fields loops per fits entire fitting nib nibbleFrom image withParity number differing laid parts whole field headOf nibblesOf total checksum nibbles checksumOf descriptorsOf tableOf sound frameRules frontRules wholeRules readBlock recordOf
+unfolding width fields loops per fits entire fitting nib nibbleFrom image withParity number differing laid parts whole field headOf nibblesOf total checksum nibbles checksumOf descriptorsOf tableOf sound frameRules frontRules wholeRules lengthRules readBlock recordOf
 test = refl
 
 test2 : tableIn (form G) ≡ G
@@ -65,5 +65,5 @@ unfolding form listed spelled tableIn descriptorsIn wordsIn per whole
 test2 = refl
 
 test3 : readBlock 1 (recordOf 1 (I 11)) ≡ accepted (I 11)
-unfolding width fields loops per fits entire fitting nib nibbleFrom image withParity number differing laid parts whole field headOf nibblesOf total checksum nibbles checksumOf descriptorsOf tableOf sound frameRules frontRules wholeRules readBlock recordOf
+unfolding width fields loops per fits entire fitting nib nibbleFrom image withParity number differing laid parts whole field headOf nibblesOf total checksum nibbles checksumOf descriptorsOf tableOf sound frameRules frontRules wholeRules lengthRules readBlock recordOf
 test3 = refl

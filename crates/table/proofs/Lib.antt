@@ -1,4 +1,5 @@
 pub mod Laid
 pub mod Bits
+pub mod Measures
 pub mod Judging
 pub mod Cases

@@ -24,7 +24,7 @@ unfoldable pub nibblesOf : List ℕ → List ℕ
 nibblesOf r = map nib (drop headSize r)
 
 -- A.3: the "large compound" that protected bytes hold, a nibble each, the lowest first
-unfoldable pub compound : List ℕ → ℕ
+abbrev pub compound : List ℕ → ℕ
 compound bytes = whole 4 (map nib bytes)
 
 unfoldable pub total : List ℕ → ℕ

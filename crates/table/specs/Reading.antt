@@ -33,7 +33,7 @@ unfoldable pub sound : List ℕ → ℕ
 sound [] = 0
 sound (n ∷ ns) = pick (ltb n 16) (suc (sound ns)) 0
 
--- ---- the order of block reading, in three parts
+-- ---- the order of block reading, in parts
 
 -- 16, 13, 12, 13: the record as it is lent, by its length and its head
 unfoldable pub frameRules : ℕ → ℕ → ℕ → List Rule
@@ -53,20 +53,23 @@ frontRules blockSize ns =
     ∷ rule (eqb (blockSize % 2) 0) 13 0
     ∷ []
 
--- 10 over the rest, 11, 14: that loops, control size and fill fit is that both sizes are those of the table read
+-- 10 over the rest, 11
 unfoldable pub wholeRules : ℕ → List ℕ → List Rule
 wholeRules head ns =
-    let n = whole 4 ns in
-    let t = tableOf n in
     rule (eqb (sound ns) (length ns)) 10 (headSize + sound ns)
-    ∷ rule (eqb (field 0 8 n) (checksum head ns)) 11 0
-    ∷ rule (both (eqb (field 8 10 n) (control t)) (eqb (head / 32) (size t))) 14 0
+    ∷ rule (eqb (field 0 8 (whole 4 ns)) (checksum head ns)) 11 0
     ∷ []
+
+-- 14: loops, control size and fill fit where both sizes are those of the table read
+unfoldable pub lengthRules : ℕ → ℕ → List Rule
+lengthRules blockSize n =
+    rule (both (eqb (field 8 10 n) (control (tableOf n))) (eqb blockSize (size (tableOf n)))) 14 0 ∷ []
 
 -- for a record of so many bytes, this head and these nibbles
 abbrev pub rulesFor : ℕ → ℕ → ℕ → List ℕ → List Rule
 rulesFor application len head ns =
-    frameRules application len head ++ (frontRules (head / 32) ns ++ wholeRules head ns)
+    frameRules application len head
+    ++ (frontRules (head / 32) ns ++ (wholeRules head ns ++ lengthRules (head / 32) (whole 4 ns)))
 
 abbrev pub readRules : ℕ → List ℕ → List Rule
 readRules application r = rulesFor application (length r) (headOf r) (nibblesOf r)

@@ -9,9 +9,10 @@ ghost use Rattle.answer.specs.Writing.{answered, left};
 ghost use Rattle.answer.specs.declared.Answer.the-variants.{Done};
 ghost use Rattle.octet.specs.Decoding.{nib};
 ghost use Rattle.table.specs.Fields.{field};
-ghost use Rattle.table.specs.Tables.{per, bits};
+ghost use Rattle.table.specs.Tables.{per, bits, known as knownKind};
+ghost use Rattle.table.specs.Form.{form};
 ghost use Rattle.table.specs.Block.{compound, headOf, checksum as checksumOf};
-ghost use Rattle.table.specs.Reading.{frameRules, frontRules, wholeRules, tableOf, sound as soundOf};
+ghost use Rattle.table.specs.Reading.{frameRules, frontRules, wholeRules, lengthRules, tableOf, sound as soundOf};
 
 use answer::Answer;
 use answer::Refusal;
@@ -88,6 +89,98 @@ fn sound(s: &[u8]) -> usize
     i
 }
 
+// 11.1.2: the checksum of a block with this head, whose first two bytes are the checksum's own.
+fn checksum(head: usize, body: &[u8]) -> usize
+    ensures { λ r. ⌜ r ≡ checksumOf head (map nib (now (body .entry))) ⌝ }
+{
+    let mut sum = head % 16 + head / 16 % 16 + head / 16 / 16 % 16 + head / 16 / 16 / 16 % 16;
+    let mut i = 2;
+    while i < body.len() {
+        sum = (sum + octet::decode(body[i]) as usize) % 256;
+        i += 1;
+    }
+    (256 - sum) % 256
+}
+
+// TI or LI.
+fn known(kind: usize) -> bool
+    ensures { λ r. ⌜ r ≡ knownKind kind ⌝ }
+{
+    if kind == TI {
+        return true;
+    }
+    kind == LI
+}
+
+// 10 over the first 8 bytes, 12, 13: what can be said of a block before it is read whole.
+fn judge_front(size: usize, body: &[u8]) -> Answer
+    requires { ⌜ 8 ≤ length (now body) ⌝ }
+    ensures { λ r. ⌜ r ≡ judged refused (frontRules size (map nib (now (body .entry)))) (Done 0) ⌝ }
+{
+    let good = sound(&body[..8]);
+    if good != 8 {
+        return refuse(10, HEAD + good);
+    }
+    let kind = field_at(body, 18, 6);
+    if !known(kind) {
+        return refuse(12, 0);
+    }
+    if field_at(body, 24, 2) != 0 {
+        return refuse(12, 0);
+    }
+    if size % 2 != 0 {
+        return refuse(13, 0);
+    }
+    Answer::Done(0)
+}
+
+// The words that so many entries of a kind have.
+fn words_of(kind: usize, entries: usize) -> usize
+    requires { ⌜ entries < 256 ⌝ }
+    ensures { λ r. ⌜ (r ≡ per kind * entries) × (r ≤ 2 * entries) ⌝ }
+{
+    if kind == TI {
+        return 2 * entries;
+    }
+    entries
+}
+
+// The bits of the table that a block holds, by its counts as they stand.
+fn measure(body: &[u8]) -> usize
+    ensures { λ r. ⌜ (r ≡ bits (tableOf (compound (now (body .entry))))) × (r ≤ 46048) ⌝ }
+{
+    let kind = field_at(body, 18, 6);
+    let mut left = field_at(body, 52, 6);
+    let mut at = 58;
+    while 0 < left {
+        let words = words_of(kind, field_at(body, at + 6, 4));
+        at += 10 + 24 * words;
+        left -= 1;
+    }
+    at
+}
+
+// 14: where loops, control size and fill fit, the bytes of the table's form.
+fn judge_lengths(size: usize, body: &[u8]) -> Answer
+    ensures
+    {
+        λ r.
+        ⌜ r
+        ≡ judged refused (lengthRules size (compound (now (body .entry))))
+        (Done (length (form (tableOf (compound (now (body .entry))))))) ⌝
+    }
+{
+    let bits = measure(body);
+    let control = (bits + 7) / 8;
+    if field_at(body, 8, 10) != control {
+        return refuse(14, 0);
+    }
+    if size != 2 * control {
+        return refuse(14, 0);
+    }
+    Answer::Done(6 + (bits - 58 + 6 * field_at(body, 52, 6)) / 8)
+}
+
 // The nibble i of the control data; 0 past its end.
 fn nibble_at(s: &[u8], i: usize) -> usize
     ensures { λ r. ⌜ r ≡ getD (map nib (now (s .entry))) i 0 % 16 ⌝ }
@@ -107,7 +200,7 @@ fn taken(w: usize) -> usize
 
 // The w bits from the place `at` on; at most 24 are taken.
 fn field_at(s: &[u8], at: usize, w: usize) -> usize
-    ensures { λ r. ⌜ r ≡ field at (min w 24) (compound (now (s .entry))) ⌝ }
+    ensures { λ r. ⌜ (r ≡ field at (min w 24) (compound (now (s .entry)))) × (r < 2 ^ min w 24) ⌝ }
 {
     let wide = taken(w);
     let first = at / 4;

@@ -65,7 +65,7 @@ loop-again : tie.Need-loop-again Inv-loop μ-loop
 loop-again c =
     let l = c .before .before .loop in
     let a = c .before .before .before .before .before .args in
-    let e : c .nibble-at .result ≡ field ((l .i - 1) * 4) 4 (compound (now (a .s))) = c .nibble-at .ensures ∙ sym (nibble-of _ _) in
+    let e : c .nibble-at .result ≡ field ((l .i - 1) * 4) 4 (compound (now (a .s))) = c .nibble-at .ensures ∙ sym (nibble-of (now (a .s)) (l .i - 1)) in
     (search needs, search needs, search needs, rw e (one-more (l .i) _ (compound (now (a .s))) (l .n) (omega arith) (omega arith) (l .inv .3)))
 
 shr-result : tie.Need-shr-result Inv-loop μ-loop
@@ -83,9 +83,10 @@ returns : tie.Need-returns Inv-loop μ-loop
 returns c =
     let l = c .before .loop in
     let a = c .before .before .before .before .args in
-    cut-out (a .at) (c .before .before .taken .result) _ (l .i) (compound (now (a .s))) (l .n) (omega arith) (omega arith) (omega arith)
-    (l .inv .3)
-    ∙ ap (λ (w : ℕ). field (a .at) w (compound (now (a .s)))) (c .before .before .taken .ensures)
+    let w = c .before .before .taken .result in
+    let e : l .n / 2 ^ (a .at % 4) % (1 * 2 ^ w % 2 ^ 64) ≡ field (a .at) w (compound (now (a .s))) =
+          cut-out (a .at) w _ (l .i) (compound (now (a .s))) (l .n) (omega arith) (omega arith) (omega arith) (l .inv .3) in
+    rw (← (c .before .before .taken .ensures)) (e, rw e (field-lt (a .at) w (compound (now (a .s)))))
 
 pub field-at-spec : {M : Type 1} → statement M
 field-at-spec =

@@ -1,0 +1,17 @@
+-- `table::known` meets its contract, kind by kind. Assumes nothing.
+use borrow.Author.Needs.{needs}
+use mathlib.Core.Path.{_≡_, refl, _∙_, sym, ap}
+use borrow.Author.Tests.{eq-eqb, ne-eqb}
+use Rattle.table.proofs.known.Statement.{statement}
+use Rattle.table.proofs.known.Tie as tie
+use Rattle.table.proofs.known.Reads as reads
+use Rattle.table.proofs.known.Lts as lts
+
+returns : tie.Need-returns
+returns c = rw (eq-eqb _ _ (c .if1 .taken)) refl
+
+returns-2 : tie.Need-returns-2
+returns-2 c = rw (ne-eqb _ _ (c .if1 .left)) refl
+
+pub known-spec : {M : Type 1} → statement M
+known-spec = tie.close (tie.spec returns returns-2)
