@@ -6,7 +6,7 @@ use Prim.Native.Nat.{ℕ, zero, suc, _+_, _-_, _*_, _/_, _%_, _^_, _≤_, _<_, z
 use native.Mathlib.Numerals.{add-one}
 use native.Mathlib.Nat.{le-refl, add-zero, add-assoc, mod-add-mod, mod-eq-of-lt}
 use native.Mathlib.Omega.{arith}
-use borrow.Author.Tests.{lt-ltb, le-ltb, le-leb, lt-leb, eq-eqb, ne-eqb}
+use borrow.Author.Tests.{lt-ltb, le-ltb, le-leb, lt-leb, eq-eqb, ne-eqb, eqb-true, leb-true}
 use lib.Dec.{ltb}
 use lib.ListN.{length, getD, take, drop, drop-of-length-le}
 use lib.Seq.{drop-cons}
@@ -15,6 +15,7 @@ use Rattle.answer.specs.Rules.{Rule, judged}
 use Rattle.answer.specs.declared.Answer.{Answer}
 use Rattle.answer.specs.declared.Answer.the-variants.{Done, Refused}
 use Rattle.answer.specs.Values.{refused}
+use Rattle.answer.proofs.Steps.{done-every, first-holds, others-hold}
 use Rattle.octet.specs.Decoding.{nib}
 use Rattle.table.specs.Fields.{field, whole, parts}
 use Rattle.table.specs.Tables.{known, control, size}
@@ -55,6 +56,16 @@ module _ (application len head : ℕ) (a : Answer) where
         frame-done h =
             rw (lt-ltb application 32 h₁, eq-eqb len (2 + head / 32) h₂, eq-eqb (head % 32) application h₃, le-leb 8 (head / 32) h)
 
+-- a frame that is taken
+pub framed :
+    (application len head n m : ℕ) → judged refused (frameRules application len head) (Done n) ≡ Done m
+    → (len ≡ 2 + head / 32) × (8 ≤ head / 32)
+unfolding frameRules
+framed application len head n m e =
+    let all = done-every (frameRules application len head) n m e in
+    (eqb-true len (2 + head / 32) (first-holds (others-hold all))
+    , leb-true 8 (head / 32) (first-holds (others-hold (others-hold (others-hold all)))))
+
 -- ---- the front, with what it is judged by: how many of the first 8 bytes decode, the kind, the access
 
 module _ (blockSize : ℕ) (ns : List ℕ) (a : Answer) where
@@ -85,6 +96,22 @@ module _ (blockSize : ℕ) (ns : List ℕ) (a : Answer) where
         unfolding frontRules
         front-done h =
             rw (eq-eqb (sound (take 8 ns)) 8 h₁, h₂, eq-eqb (field 24 2 (whole 4 ns)) 0 h₃, eq-eqb (blockSize % 2) 0 h)
+
+-- ---- the whole block
+
+module _ (head : ℕ) (ns : List ℕ) (a : Answer) where
+  pub whole-10 : (sound ns ≡ length ns → ⊥) → judged refused (wholeRules head ns) a ≡ refused 10 (2 + sound ns)
+  unfolding wholeRules
+  whole-10 h = rw (ne-eqb (sound ns) (length ns) h)
+
+  module _ (h₁ : sound ns ≡ length ns) where
+    pub whole-11 : (field 0 8 (whole 4 ns) ≡ checksum head ns → ⊥) → judged refused (wholeRules head ns) a ≡ refused 11 0
+    unfolding wholeRules
+    whole-11 h = rw (eq-eqb (sound ns) (length ns) h₁, ne-eqb (field 0 8 (whole 4 ns)) (checksum head ns) h)
+
+    pub whole-done : field 0 8 (whole 4 ns) ≡ checksum head ns → judged refused (wholeRules head ns) a ≡ a
+    unfolding wholeRules
+    whole-done h = rw (eq-eqb (sound ns) (length ns) h₁, eq-eqb (field 0 8 (whole 4 ns)) (checksum head ns) h)
 
 -- ---- the lengths
 

@@ -65,11 +65,13 @@ unfoldable pub lengthRules : ℕ → ℕ → List Rule
 lengthRules blockSize n =
     rule (both (eqb (field 8 10 n) (control (tableOf n))) (eqb blockSize (size (tableOf n)))) 14 0 ∷ []
 
+-- what follows the frame
+abbrev pub bodyRules : ℕ → List ℕ → List Rule
+bodyRules head ns = frontRules (head / 32) ns ++ (wholeRules head ns ++ lengthRules (head / 32) (whole 4 ns))
+
 -- for a record of so many bytes, this head and these nibbles
 abbrev pub rulesFor : ℕ → ℕ → ℕ → List ℕ → List Rule
-rulesFor application len head ns =
-    frameRules application len head
-    ++ (frontRules (head / 32) ns ++ (wholeRules head ns ++ lengthRules (head / 32) (whole 4 ns)))
+rulesFor application len head ns = frameRules application len head ++ bodyRules head ns
 
 abbrev pub readRules : ℕ → List ℕ → List Rule
 readRules application r = rulesFor application (length r) (headOf r) (nibblesOf r)

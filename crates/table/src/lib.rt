@@ -12,7 +12,7 @@ ghost use Rattle.table.specs.Fields.{field};
 ghost use Rattle.table.specs.Tables.{per, bits, known as knownKind};
 ghost use Rattle.table.specs.Form.{form};
 ghost use Rattle.table.specs.Block.{compound, headOf, checksum as checksumOf};
-ghost use Rattle.table.specs.Reading.{frameRules, frontRules, wholeRules, lengthRules, tableOf, sound as soundOf};
+ghost use Rattle.table.specs.Reading.{frameRules, frontRules, wholeRules, lengthRules, bodyRules, readRules, tableOf, tableRead, sound as soundOf};
 
 use answer::Answer;
 use answer::Refusal;
@@ -179,6 +179,54 @@ fn judge_lengths(size: usize, body: &[u8]) -> Answer
         return refuse(14, 0);
     }
     Answer::Done(6 + (bits - 58 + 6 * field_at(body, 52, 6)) / 8)
+}
+
+// 10 over the rest, 11.
+fn judge_whole(head: usize, body: &[u8]) -> Answer
+    ensures { λ r. ⌜ r ≡ judged refused (wholeRules head (map nib (now (body .entry)))) (Done 0) ⌝ }
+{
+    let good = sound(body);
+    if good != body.len() {
+        return refuse(10, HEAD + good);
+    }
+    if field_at(body, 0, 8) != checksum(head, body) {
+        return refuse(11, 0);
+    }
+    Answer::Done(0)
+}
+
+// The rules after those of the frame; where all hold, the bytes of the table's form.
+fn judge_body(head: usize, body: &[u8]) -> Answer
+    requires { ⌜ 8 ≤ length (now body) ⌝ }
+    ensures
+    {
+        λ r.
+        ⌜ r
+        ≡ judged refused (bodyRules head (map nib (now (body .entry))))
+        (Done (length (form (tableOf (compound (now (body .entry))))))) ⌝
+    }
+{
+    match judge_front(head / 32, body) {
+        Answer::Refused(why) => Answer::Refused(why),
+        Answer::Done(_) => match judge_whole(head, body) {
+            Answer::Refused(why) => Answer::Refused(why),
+            Answer::Done(_) => judge_lengths(head / 32, body),
+        },
+    }
+}
+
+// All rules but the room; where they hold, the bytes of the table's form.
+fn judge(application: u8, rec: &[u8]) -> Answer
+    ensures
+    {
+        λ r.
+        ⌜ r ≡ judged refused (readRules application (now (rec .entry))) (Done (length (form (tableRead (now (rec .entry)))))) ⌝
+    }
+{
+    match judge_frame(application, rec) {
+        Answer::Refused(why) => Answer::Refused(why),
+        Answer::Done(head) => judge_body(head, &rec[HEAD..]),
+    }
 }
 
 // The nibble i of the control data; 0 past its end.
