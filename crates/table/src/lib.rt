@@ -1,16 +1,17 @@
 // Subtitle and Language blocks.
 ghost use mathlib.Core.Path.{_≡_};
-ghost use mathlib.Core.List.{map};
+ghost use mathlib.Core.List.{map, _∷_, []};
 ghost use Prim.Native.Nat.{_+_, _-_, _*_, _/_, _%_, _^_, _<_, _≤_, min};
 ghost use lib.ListN.{length, getD, take, drop};
+ghost use lib.Seq.{sets};
 ghost use Rattle.answer.specs.Rules.{judged};
 ghost use Rattle.answer.specs.Values.{refused};
 ghost use Rattle.answer.specs.Writing.{answered, left};
 ghost use Rattle.answer.specs.declared.Answer.the-variants.{Done};
 ghost use Rattle.octet.specs.Decoding.{nib};
-ghost use Rattle.table.specs.Fields.{field};
+ghost use Rattle.table.specs.Fields.{field, parts};
 ghost use Rattle.table.specs.Tables.{per, bits, known as knownKind};
-ghost use Rattle.table.specs.Form.{form};
+ghost use Rattle.table.specs.Form.{form, spelled};
 ghost use Rattle.table.specs.Block.{compound, headOf, checksum as checksumOf};
 ghost use Rattle.table.specs.Reading.{frameRules, frontRules, wholeRules, lengthRules, bodyRules, readRules, tableOf, tableRead, sound as soundOf};
 
@@ -226,6 +227,40 @@ fn judge(application: u8, rec: &[u8]) -> Answer
     match judge_frame(application, rec) {
         Answer::Refused(why) => Answer::Refused(why),
         Answer::Done(head) => judge_body(head, &rec[HEAD..]),
+    }
+}
+
+// A word, high byte first.
+fn write_word(w: usize, out: &mut [u8], q: usize)
+    requires { ⌜ q + 3 ≤ length (now out) ⌝ }
+    ensures { λ _. ⌜ now (out .exit) ≡ sets (now (out .entry)) q (spelled (w ∷ [])) ⌝ }
+{
+    let high = (w / 256 / 256 % 256) as u8;
+    let middle = (w / 256 % 256) as u8;
+    let low = (w % 256) as u8;
+    out[q] = high;
+    out[q + 1] = middle;
+    out[q + 2] = low;
+}
+
+// The k words of a block from the place `from` on.
+fn write_words(body: &[u8], from: usize, k: usize, out: &mut [u8], q: usize)
+    requires { ⌜ (q + 3 * k ≤ length (now out)) × (from + 24 * k < 65536) ⌝ }
+    ensures
+    {
+        λ _.
+        ⌜ now (out .exit) ≡ sets (now (out .entry)) q (spelled (parts 24 k (compound (now (body .entry)) / 2 ^ from))) ⌝
+    }
+{
+    let mut at = from;
+    let mut p = q;
+    let mut left = k;
+    while 0 < left {
+        let w = field_at(body, at, 24);
+        write_word(w, out, p);
+        at += 24;
+        p += 3;
+        left -= 1;
     }
 }
 
