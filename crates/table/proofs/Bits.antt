@@ -38,6 +38,7 @@ one-more i end n x p l e =
   where
     at : (i - 1) * 4 + 4 ≡ i * 4
     at = omega arith
+
     wide : (end - i) * 4 + 4 ≡ (end - (i - 1)) * 4
     wide = omega arith
 

@@ -1,29 +1,29 @@
 -- Document 01's cases G (its block), H and I, computed from the definitions. Assumes nothing.
 use mathlib.Core.Path.{_≡_, refl}
-use mathlib.Core.Bool.{Bool, true, false}
-use mathlib.Core.List.{List, [], _∷_, map}
-use Prim.Native.Nat.{ℕ, zero, suc, _+_}
-use lib.ListN.{length, replicate, take, drop}
+use mathlib.Core.Bool.{true, false}
+use mathlib.Core.List.{[], _∷_, map}
+use Prim.Native.Nat.{ℕ}
+use lib.ListN.{replicate}
 use Rattle.octet.specs.Bits.{number, differing}
 use Rattle.octet.specs.Image.{image, withParity}
 use Rattle.octet.specs.Decoding.{nib, nibbleFrom}
-use Rattle.table.specs.Fields.{Field, width, laid, fitting, field, parts, whole}
-use Rattle.table.specs.Tables.{Descriptor, Table, TI, LI, per, loops, fields, bits, control, fill, size, entire, fits}
-use Rattle.table.specs.Form.{spelled, listed, form, wordsIn, descriptorsIn, tableIn}
+use Rattle.table.specs.Fields.{width, laid, fitting, field, parts, whole}
+use Rattle.table.specs.Tables.{Table, TI, per, loops, fields, bits, fill, size, entire, fits}
+use Rattle.table.specs.Form.{spelled, listed, openingOf, form, wordsIn, descriptorsIn, tableIn}
 use Rattle.table.specs.Block.{header, headOf, nibblesOf, total, checksum, nibbles, checksumOf}
 use Rattle.table.specs.Reading.{descriptorsOf, tableOf, sound, frameRules, frontRules, wholeRules, lengthRules, readBlock, accepted}
-use Rattle.table.specs.Writing.{recordOf, writeRules}
+use Rattle.table.specs.Writing.{recordOf}
 
 -- TI, block_no 0, network 2, descriptor 5, "dut", page value 000888
 abbrev pub G : Table
 G =
-    record
-      { kind = TI
-      ; copyright = 0
-      ; block = 0
-      ; network = 2
-      ; descriptors = record { id = 5; words = 0x647574 ∷ 0x000888 ∷ [] } ∷ []
-      }
+    record {
+      kind = TI;
+      copyright = 0;
+      block = 0;
+      network = 2;
+      descriptors = record { id = 5; words = 0x647574 ∷ 0x000888 ∷ [] } ∷ [];
+    }
 
 -- no descriptors
 abbrev pub H : Table
@@ -32,13 +32,13 @@ H = record { kind = TI; copyright = 0; block = 0; network = 2; descriptors = [] 
 -- so many descriptors of 15 subtitles
 abbrev pub I : ℕ → Table
 I n =
-    record
-      { kind = TI
-      ; copyright = 0
-      ; block = 0
-      ; network = 2
-      ; descriptors = replicate n (record { id = 5; words = replicate 30 0x647574 })
-      }
+    record {
+      kind = TI;
+      copyright = 0;
+      block = 0;
+      network = 2;
+      descriptors = replicate n (record { id = 5; words = replicate 30 0x647574 });
+    }
 
 pub case-G : (bits G ≡ 116) × (fill G ≡ 4) × (size G ≡ 30)
 unfolding width fields loops per
@@ -61,7 +61,7 @@ unfolding width fields loops per fits entire fitting nib nibbleFrom image withPa
 test = refl
 
 test2 : tableIn (form G) ≡ G
-unfolding form listed spelled tableIn descriptorsIn wordsIn per whole
+unfolding form openingOf listed spelled tableIn descriptorsIn wordsIn per whole
 test2 = refl
 
 test3 : readBlock 1 (recordOf 1 (I 11)) ≡ accepted (I 11)

@@ -1,8 +1,8 @@
 -- How the rules of block reading decide, a lemma for each way that the code goes. Assumes nothing.
 use mathlib.Core.Path.{_≡_, _∙_, refl, sym, ap}
 use mathlib.Core.Bool.{Bool, true, false}
-use mathlib.Core.List.{List, [], _∷_, _++_, map}
-use Prim.Native.Nat.{ℕ, zero, suc, _+_, _-_, _*_, _/_, _%_, _^_, _≤_, _<_, zero-le, suc-le-suc}
+use mathlib.Core.List.{List, [], _∷_, map}
+use Prim.Native.Nat.{ℕ, suc, _+_, _-_, _*_, _/_, _%_, _≤_, _<_, zero-le, suc-le-suc}
 use native.Mathlib.Numerals.{add-one}
 use native.Mathlib.Nat.{le-refl, add-zero, add-assoc, mod-add-mod, mod-eq-of-lt}
 use native.Mathlib.Omega.{arith}
@@ -10,17 +10,17 @@ use borrow.Author.Tests.{lt-ltb, le-ltb, le-leb, lt-leb, eq-eqb, ne-eqb, eqb-tru
 use lib.Dec.{ltb}
 use lib.ListN.{length, getD, take, drop, drop-of-length-le}
 use lib.Seq.{drop-cons}
-use Rattle.laws.specs.Pick.{pick, both}
-use Rattle.answer.specs.Rules.{Rule, judged}
+use Rattle.laws.specs.Pick.{pick}
+use Rattle.answer.specs.Rules.{judged}
 use Rattle.answer.specs.declared.Answer.{Answer}
-use Rattle.answer.specs.declared.Answer.the-variants.{Done, Refused}
+use Rattle.answer.specs.declared.Answer.the-variants.{Done}
 use Rattle.answer.specs.Values.{refused}
 use Rattle.answer.proofs.Steps.{done-every, first-holds, others-hold}
 use Rattle.octet.specs.Decoding.{nib}
 use Rattle.table.specs.Fields.{field, whole, parts}
 use Rattle.table.specs.Tables.{known, control, size}
 use Rattle.table.specs.Block.{headOf, total, checksum}
-use Rattle.table.specs.Reading.{sound, frameRules, frontRules, wholeRules, lengthRules, tableOf}
+use Rattle.table.specs.Reading.{sound, frameRules, frontRules, wholeRules, lengthRules, readRules, tableOf}
 
 -- ---- the head
 
@@ -62,9 +62,18 @@ pub framed :
     → (len ≡ 2 + head / 32) × (8 ≤ head / 32)
 unfolding frameRules
 framed application len head n m e =
-    let all = done-every (frameRules application len head) n m e in
-    (eqb-true len (2 + head / 32) (first-holds (others-hold all))
-    , leb-true 8 (head / 32) (first-holds (others-hold (others-hold (others-hold all)))))
+    let all = done-every (frameRules application len head) n m e in (
+      eqb-true len (2 + head / 32) (first-holds (others-hold all)),
+      leb-true 8 (head / 32) (first-holds (others-hold (others-hold (others-hold all)))),
+    )
+
+pub long-enough :
+    (application : ℕ) (r : List ℕ) (n m : ℕ) → judged refused (readRules application r) (Done n) ≡ Done m → 2 ≤ length r
+unfolding frameRules
+long-enough application r n m e =
+    let h : length r ≡ 2 + headOf r / 32 =
+    eqb-true (length r) (2 + headOf r / 32) (first-holds (others-hold (done-every (readRules application r) n m e))) in
+    omega arith
 
 -- ---- the front, with what it is judged by: how many of the first 8 bytes decode, the kind, the access
 

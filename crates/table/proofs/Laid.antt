@@ -1,14 +1,13 @@
 -- Laws of fields, parts and the numbers that they make, each over the width. Assumes nothing.
 use mathlib.Core.Path.{_≡_, _∙_, refl, sym, ap, ap₂, subst}
-use mathlib.Core.Bool.{Bool, true, false}
 use mathlib.Core.List.{List, [], _∷_, _++_, map}
 use Prim.Native.Nat.{ℕ, zero, suc, _+_, _-_, _*_, _/_, _%_, _^_, _≤_, _<_}
-use native.Mathlib.Nat.{add-zero, zero-add, add-comm, add-assoc, suc-mul, zero-mul, mod-lt, mod-mod, mod-eq-of-lt, div-one, zero-div, mod-one, lt-of-lt-of-le, zero-mod}
+use native.Mathlib.Nat.{add-zero, zero-add, add-comm, add-assoc, suc-mul, zero-mul, mod-lt, mod-mod, div-one, zero-div, mod-one, zero-mod}
 use native.Mathlib.Omega.{arith}
 use lib.ListN.{length, getD}
 use lib.Arith.{digits-lt}
 use lib.Pow as Pow
-use lib.Pow.{pow-add, pow-pos, pow-mono, shr-shr, high, low, mod-pow-add, mod-mod-pow}
+use lib.Pow.{pow-add, pow-pos, shr-shr, high, low, mod-pow-add, mod-mod-pow}
 use Rattle.table.specs.Fields.{Field, width, laid, field, parts, whole}
 
 -- ---- fields of a number

@@ -1,16 +1,27 @@
 -- How many bits and bytes a table takes, and how a walk along its loops counts them. Assumes nothing.
 use mathlib.Core.Path.{_≡_, _∙_, refl, sym, ap, subst}
-use mathlib.Core.List.{List, [], _∷_, _++_, map}
-use Prim.Native.Nat.{ℕ, zero, suc, _+_, _-_, _*_, _/_, _%_, _^_, _≤_, _<_}
+use mathlib.Core.List.{List, [], _∷_, map}
+use mathlib.Core.Bool.{Bool, true, false}
+use Prim.Native.Nat.{ℕ, zero, suc, _+_, _-_, _*_, _/_, _^_, _≤_, _<_}
 use native.Mathlib.Nat.{add-zero}
 use native.Mathlib.Omega.{arith}
+use lib.Dec.{eqb}
 use lib.ListN.{length, length-append}
 use lib.Pow.{shr-shr}
-use Rattle.table.specs.Fields.{Field, width, field, parts}
-use Rattle.table.specs.Tables.{Descriptor, Table, per, loops, fields, bits}
-use Rattle.table.specs.Form.{spelled, listed, form}
+use Rattle.laws.specs.Pick.{pick}
+use Rattle.table.specs.Fields.{width, field}
+use Rattle.table.specs.Tables.{Descriptor, Table, TI, per, loops, fields, bits}
+use Rattle.table.specs.Form.{spelled, listed, openingOf, form}
 use Rattle.table.specs.Reading.{descriptorsOf, tableOf}
 use Rattle.table.proofs.Laid.{width-append, length-parts, field-past}
+
+pub per-pos : (kind : ℕ) → 0 < per kind
+unfolding per
+per-pos kind = go (eqb kind TI)
+  where
+    go : (b : Bool) → 0 < pick b 2 1
+    go true = omega arith
+    go false = omega arith
 
 -- ---- bits
 
@@ -43,7 +54,7 @@ unfolding listed
 length-listed kind d ds = rw (length-append, length-spelled) (omega arith)
 
 pub length-form : (t : Table) → length (form t) ≡ 6 + length (listed (t .kind) (t .descriptors))
-unfolding form
+unfolding form openingOf
 length-form t = omega arith
 
 -- the one by the other
@@ -63,8 +74,8 @@ length-descriptors each (suc k) n = ap suc (length-descriptors each k _)
 pub walk-step :
     (kind each k n at : ℕ)
     → let words = each * field (at + 6) 4 n in
-      width (loops kind (descriptorsOf each (suc k) (n / 2 ^ at)))
-      ≡ 10 + 24 * words + width (loops kind (descriptorsOf each k (n / 2 ^ (at + (10 + 24 * words)))))
+    width (loops kind (descriptorsOf each (suc k) (n / 2 ^ at)))
+    ≡ 10 + 24 * words + width (loops kind (descriptorsOf each k (n / 2 ^ (at + (10 + 24 * words)))))
 unfolding descriptorsOf
 walk-step kind each k n at = rw (width-loops, length-parts, field-past, shr-shr)
 
@@ -76,7 +87,7 @@ pub walk-on :
 walk-on kind left n at c words whole h e₁ e₂ inv =
     let e : left ≡ suc (left - 1) = omega arith in
     let one =
-          subst (λ (k : ℕ). at + width (loops kind (descriptorsOf (per kind) k (n / 2 ^ at))) ≡ whole) e inv in
+    subst (λ (k : ℕ). at + width (loops kind (descriptorsOf (per kind) k (n / 2 ^ at))) ≡ whole) e inv in
     let two = walk-step kind (per kind) (left - 1) n at in
     rw (e₂ ∙ ap (λ (x : ℕ). per kind * x) e₁) (omega (arith, one, two))
 

@@ -1,9 +1,9 @@
 -- A block as it is sent, and the record that holds it: its head, then its bytes as they came.
 use mathlib.Core.Path.{_≡_}
-use mathlib.Core.Bool.{Bool, true, false}
-use mathlib.Core.List.{List, [], _∷_, _++_, map}
-use Prim.Native.Nat.{ℕ, _+_, _*_, _/_, _%_, _-_, _^_, _<_}
-use lib.ListN.{length, take, drop}
+use mathlib.Core.Bool.{true}
+use mathlib.Core.List.{List, [], _∷_, map}
+use Prim.Native.Nat.{ℕ, _+_, _%_, _-_, _^_, _<_}
+use lib.ListN.{take, drop}
 use Rattle.octet.specs.Decoding.{nib}
 use Rattle.table.specs.Fields.{Field, laid, parts, whole}
 use Rattle.table.specs.Tables.{Table, fields, control, fill, size, fits}

@@ -15,16 +15,17 @@ unfoldable pub listed : ℕ → List Descriptor → List ℕ
 listed kind [] = []
 listed kind (d ∷ ds) = d .id ∷ entries kind (d .words) ∷ spelled (d .words) ++ listed kind ds
 
+-- the six bytes before the descriptors
+abbrev pub opening : ℕ
+opening = 6
+
+unfoldable pub openingOf : Table → List ℕ
+openingOf t =
+    t .kind ∷ t .copyright ∷ t .block % 256 ∷ t .block / 256 ∷ t .network ∷ length (t .descriptors) ∷ []
+
 -- the table form
 unfoldable pub form : Table → List ℕ
-form t =
-    t .kind
-    ∷ t .copyright
-    ∷ t .block % 256
-    ∷ t .block / 256
-    ∷ t .network
-    ∷ length (t .descriptors)
-    ∷ listed (t .kind) (t .descriptors)
+form t = openingOf t ++ listed (t .kind) (t .descriptors)
 
 -- ---- back: the table that a form stands for. Past its end a form reads as zeros
 
@@ -39,16 +40,12 @@ descriptorsIn each (suc k) f =
     let words = each * getD f 1 0 in
     record { id = getD f 0 0; words = wordsIn words (drop 2 f) } ∷ descriptorsIn each k (drop (2 + 3 * words) f)
 
--- the six bytes before the descriptors
-abbrev pub opening : ℕ
-opening = 6
-
 unfoldable pub tableIn : List ℕ → Table
 tableIn f =
-    record
-      { kind = getD f 0 0
-      ; copyright = getD f 1 0
-      ; block = whole 8 (getD f 2 0 ∷ getD f 3 0 ∷ [])
-      ; network = getD f 4 0
-      ; descriptors = descriptorsIn (per (getD f 0 0)) (getD f 5 0) (drop opening f)
-      }
+    record {
+      kind = getD f 0 0;
+      copyright = getD f 1 0;
+      block = whole 8 (getD f 2 0 ∷ getD f 3 0 ∷ []);
+      network = getD f 4 0;
+      descriptors = descriptorsIn (per (getD f 0 0)) (getD f 5 0) (drop opening f);
+    }

@@ -1,5 +1,4 @@
 -- Block reading: its rules in document 01's order, and the table that it gives.
-use mathlib.Core.Bool.{Bool, true, false}
 use mathlib.Core.List.{List, [], _∷_, _++_}
 use Prim.Native.Nat.{ℕ, zero, suc, _+_, _*_, _/_, _%_, _^_}
 use lib.Dec.{eqb, ltb, leb}
@@ -20,13 +19,13 @@ descriptorsOf each (suc k) n =
 -- the table that control data n holds: each field at its place in tables 15 and 17
 unfoldable pub tableOf : ℕ → Table
 tableOf n =
-    record
-      { kind = field 18 6 n
-      ; copyright = field 26 1 n
-      ; block = field 28 16 n
-      ; network = field 44 8 n
-      ; descriptors = descriptorsOf (per (field 18 6 n)) (field 52 6 n) (n / 2 ^ 58)
-      }
+    record {
+      kind = field 18 6 n;
+      copyright = field 26 1 n;
+      block = field 28 16 n;
+      network = field 44 8 n;
+      descriptors = descriptorsOf (per (field 18 6 n)) (field 52 6 n) (n / 2 ^ 58);
+    }
 
 -- how many of these come before the first that can't be decoded
 unfoldable pub sound : List ℕ → ℕ

@@ -1,5 +1,5 @@
 -- A TI or LI table as a value, and the fields that tables 15 and 17 lay out for it.
-use mathlib.Core.Bool.{Bool, true, false}
+use mathlib.Core.Bool.{Bool, true}
 use mathlib.Core.List.{List, [], _∷_, _++_, map}
 use Prim.Native.Nat.{ℕ, _+_, _*_, _/_, _-_}
 use lib.Dec.{eqb}

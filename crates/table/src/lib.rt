@@ -11,10 +11,9 @@ ghost use Rattle.answer.specs.declared.Answer.the-variants.{Done};
 ghost use Rattle.octet.specs.Decoding.{nib};
 ghost use Rattle.table.specs.Fields.{field, parts};
 ghost use Rattle.table.specs.Tables.{per, bits, known as knownKind};
-ghost use Rattle.table.specs.Form.{form, spelled};
+ghost use Rattle.table.specs.Form.{form, spelled, listed, openingOf};
 ghost use Rattle.table.specs.Block.{compound, headOf, checksum as checksumOf};
 ghost use Rattle.table.specs.Reading.{frameRules, frontRules, wholeRules, lengthRules, bodyRules, readRules, tableOf, tableRead, sound as soundOf};
-
 use answer::Answer;
 use answer::Refusal;
 
@@ -22,10 +21,33 @@ use answer::Refusal;
 const HEAD: usize = 2;
 
 const TI: usize = 8;
+
 const LI: usize = 7;
 
 // The widest field, a language or a page.
 const WIDEST: usize = 24;
+
+// The table of a block of this application: its form is written to the front of `out`. Each protected
+// byte is decoded at most nine times: once or twice to see that it can be, once for the sum, twice
+// while the loops are measured and at most four times while fields are written.
+pub fn read_block(application: u8, rec: &[u8], out: &mut [u8]) -> Answer
+    ensures answer { λ r.
+        ⌜ r ≡ answered (readRules application (now (rec .entry))) (form (tableRead (now (rec .entry)))) (now (out .entry)) ⌝ }
+    ensures output { λ _.
+        ⌜ now (out .exit)
+        ≡ left (readRules application (now (rec .entry))) (form (tableRead (now (rec .entry)))) (now (out .entry)) ⌝ }
+{
+    match judge(application, rec) {
+        Answer::Refused(why) => Answer::Refused(why),
+        Answer::Done(need) => {
+            if out.len() < need {
+                return refuse(1, 0);
+            }
+            write_form(&rec[HEAD..], out);
+            Answer::Done(need)
+        }
+    }
+}
 
 fn refuse(no: u8, at: usize) -> Answer
     ensures { λ r. ⌜ r ≡ refused no at ⌝ }
@@ -52,13 +74,10 @@ fn head_of(rec: &[u8]) -> usize
 
 // 16, 13, 12, 13: the record as it is lent. Where it is taken, the head's 16 bits.
 fn judge_frame(application: u8, rec: &[u8]) -> Answer
-    ensures
-    {
-        λ r.
+    ensures { λ r.
         ⌜ r
         ≡ judged refused (frameRules application (length (now (rec .entry))) (headOf (now (rec .entry))))
-        (Done (headOf (now (rec .entry)))) ⌝
-    }
+        (Done (headOf (now (rec .entry)))) ⌝ }
 {
     if 32 <= application {
         return refuse(16, 0);
@@ -163,13 +182,10 @@ fn measure(body: &[u8]) -> usize
 
 // 14: where loops, control size and fill fit, the bytes of the table's form.
 fn judge_lengths(size: usize, body: &[u8]) -> Answer
-    ensures
-    {
-        λ r.
+    ensures { λ r.
         ⌜ r
         ≡ judged refused (lengthRules size (compound (now (body .entry))))
-        (Done (length (form (tableOf (compound (now (body .entry))))))) ⌝
-    }
+        (Done (length (form (tableOf (compound (now (body .entry))))))) ⌝ }
 {
     let bits = measure(body);
     let control = (bits + 7) / 8;
@@ -199,13 +215,10 @@ fn judge_whole(head: usize, body: &[u8]) -> Answer
 // The rules after those of the frame; where all hold, the bytes of the table's form.
 fn judge_body(head: usize, body: &[u8]) -> Answer
     requires { ⌜ 8 ≤ length (now body) ⌝ }
-    ensures
-    {
-        λ r.
+    ensures { λ r.
         ⌜ r
         ≡ judged refused (bodyRules head (map nib (now (body .entry))))
-        (Done (length (form (tableOf (compound (now (body .entry))))))) ⌝
-    }
+        (Done (length (form (tableOf (compound (now (body .entry))))))) ⌝ }
 {
     match judge_front(head / 32, body) {
         Answer::Refused(why) => Answer::Refused(why),
@@ -218,16 +231,83 @@ fn judge_body(head: usize, body: &[u8]) -> Answer
 
 // All rules but the room; where they hold, the bytes of the table's form.
 fn judge(application: u8, rec: &[u8]) -> Answer
-    ensures
-    {
-        λ r.
-        ⌜ r ≡ judged refused (readRules application (now (rec .entry))) (Done (length (form (tableRead (now (rec .entry)))))) ⌝
-    }
+    ensures { λ r.
+        ⌜ r ≡ judged refused (readRules application (now (rec .entry))) (Done (length (form (tableRead (now (rec .entry)))))) ⌝ }
 {
     match judge_frame(application, rec) {
         Answer::Refused(why) => Answer::Refused(why),
         Answer::Done(head) => judge_body(head, &rec[HEAD..]),
     }
+}
+
+// The form of the table that a block holds.
+fn write_form(body: &[u8], out: &mut [u8])
+    requires { ⌜ length (form (tableOf (compound (now body)))) ≤ length (now out) ⌝ }
+    ensures { λ _. ⌜ now (out .exit) ≡ sets (now (out .entry)) 0 (form (tableOf (compound (now (body .entry))))) ⌝ }
+{
+    write_opening(body, out);
+    write_descriptors(body, out);
+}
+
+// The six bytes before the descriptors.
+fn write_opening(body: &[u8], out: &mut [u8])
+    requires { ⌜ 6 ≤ length (now out) ⌝ }
+    ensures { λ _. ⌜ now (out .exit) ≡ sets (now (out .entry)) 0 (openingOf (tableOf (compound (now (body .entry))))) ⌝ }
+{
+    let kind = (field_at(body, 18, 6) % 256) as u8;
+    let copyright = (field_at(body, 26, 1) % 256) as u8;
+    let block = field_at(body, 28, 16);
+    let network = (field_at(body, 44, 8) % 256) as u8;
+    let count = (field_at(body, 52, 6) % 256) as u8;
+    let low = (block % 256) as u8;
+    let high = (block / 256 % 256) as u8;
+    out[0] = kind;
+    out[1] = copyright;
+    out[2] = low;
+    out[3] = high;
+    out[4] = network;
+    out[5] = count;
+}
+
+// The descriptors, behind the opening.
+fn write_descriptors(body: &[u8], out: &mut [u8])
+    requires { ⌜ length (form (tableOf (compound (now body)))) ≤ length (now out) ⌝ }
+    ensures { λ _.
+        ⌜ now (out .exit)
+        ≡ sets (now (out .entry)) 6
+        (listed (tableOf (compound (now (body .entry))) .kind) (tableOf (compound (now (body .entry))) .descriptors)) ⌝ }
+{
+    let kind = field_at(body, 18, 6);
+    let mut left = field_at(body, 52, 6);
+    let mut at = 58;
+    let mut q = 6;
+    while 0 < left {
+        let words = write_descriptor(body, kind, at, out, q);
+        at += 10 + 24 * words;
+        q += 2 + 3 * words;
+        left -= 1;
+    }
+}
+
+// The descriptor at the place `at`; how many words it has.
+fn write_descriptor(body: &[u8], kind: usize, at: usize, out: &mut [u8], q: usize) -> usize
+    requires { ⌜ (q + (2 + 3 * (per kind * field (at + 6) 4 (compound (now body)))) ≤ length (now out)) × (at < 60000) ⌝ }
+    ensures { λ r.
+        ⌜ (r ≡ per kind * field (at + 6) 4 (compound (now (body .entry))))
+        × (r ≤ 30)
+        × (now (out .exit)
+        ≡ sets (now (out .entry)) q
+        (field at 6 (compound (now (body .entry)))
+        ∷ field (at + 6) 4 (compound (now (body .entry)))
+        ∷ spelled (parts 24 r (compound (now (body .entry)) / 2 ^ (at + 10))))) ⌝ }
+{
+    let id = field_at(body, at, 6);
+    let entries = field_at(body, at + 6, 4);
+    let words = words_of(kind, entries);
+    out[q] = (id % 256) as u8;
+    out[q + 1] = (entries % 256) as u8;
+    write_words(body, at + 10, words, out, q + 2);
+    words
 }
 
 // A word, high byte first.
@@ -246,11 +326,8 @@ fn write_word(w: usize, out: &mut [u8], q: usize)
 // The k words of a block from the place `from` on.
 fn write_words(body: &[u8], from: usize, k: usize, out: &mut [u8], q: usize)
     requires { ⌜ (q + 3 * k ≤ length (now out)) × (from + 24 * k < 65536) ⌝ }
-    ensures
-    {
-        λ _.
-        ⌜ now (out .exit) ≡ sets (now (out .entry)) q (spelled (parts 24 k (compound (now (body .entry)) / 2 ^ from))) ⌝
-    }
+    ensures { λ _.
+        ⌜ now (out .exit) ≡ sets (now (out .entry)) q (spelled (parts 24 k (compound (now (body .entry)) / 2 ^ from))) ⌝ }
 {
     let mut at = from;
     let mut p = q;

@@ -1,23 +1,18 @@
 -- `table::checksum` meets its contract: the sum so far and the nibbles still to come make, modulo 256, the sum of all. The
 -- measure is what is left of the length. Assumes nothing.
 use borrow.Author.Needs.{needs}
-use mathlib.Core.Path.{_≡_, _∙_, sym, ap}
-use mathlib.Core.List.{List, map}
-use Prim.Native.Nat.{ℕ, _+_, _-_, _%_, _≤_, _<_}
-use native.Mathlib.Omega.{arith}
+use mathlib.Core.Path.{_≡_, _∙_, ap}
+use mathlib.Core.List.{map}
+use Prim.Native.Nat.{ℕ, _+_, _-_, _%_, _<_}
 use lib.ListN.{length, drop}
 use denote.Ref.{now}
 use Rattle.laws.proofs.Maps.{map-drop}
 use Rattle.octet.specs.Decoding.{nib}
-use Rattle.octet.proofs.Laws.{nib-le}
 use Rattle.table.specs.Fields.{parts}
 use Rattle.table.specs.Block.{total}
 use Rattle.table.proofs.Judging.{sum-start, sum-step, sum-end}
 use Rattle.table.proofs.checksum.Statement.{statement}
 use Rattle.table.proofs.checksum.Tie as tie
-use Rattle.table.proofs.checksum.Reads as reads
-use Rattle.table.proofs.checksum.Lts as lts
-use Rattle.octet.proofs.decode.Reads as decode-reads
 
 abbrev Inv-loop : tie.InvT-loop
 Inv-loop head body sum₀ i₀ sum i =
@@ -62,11 +57,12 @@ loop-less c = search needs
 loop-again : tie.Need-loop-again Inv-loop μ-loop
 loop-again c =
     let l = c .before .before .before .loop in
-    let a = c .before .before .before .before .before .args in
-    (search needs
-    , ap (λ (x : ℕ). ((l .sum + x) % 256 + total (map nib (drop (l .i + 1) (now (a .body))))) % 256) (c .decode .ensures)
-    ∙ sum-step (now (a .body)) (l .i) (l .sum) (search needs)
-    ∙ l .inv .1)
+    let a = c .before .before .before .before .before .args in (
+      search needs,
+      ap (λ (x : ℕ). ((l .sum + x) % 256 + total (map nib (drop (l .i + 1) (now (a .body))))) % 256) (c .decode .ensures)
+          ∙ sum-step (now (a .body)) (l .i) (l .sum) (search needs)
+          ∙ l .inv .1,
+    )
 
 sub-result : tie.Need-sub-result Inv-loop μ-loop
 sub-result c = search needs

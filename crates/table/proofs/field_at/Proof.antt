@@ -1,10 +1,10 @@
 -- `table::field_at` meets its contract. The loop's invariant: n is the field from nibble i up to the last one that holds a bit
 -- of what is asked. The measure is i. Assumes nothing.
 use borrow.Author.Needs.{needs}
-use mathlib.Core.Path.{_≡_, _∙_, refl, sym, ap}
-use Prim.Native.Nat.{ℕ, _+_, _-_, _*_, _/_, _%_, _^_, _≤_, _<_}
+use mathlib.Core.Path.{_≡_, _∙_, sym}
+use Prim.Native.Nat.{_+_, _-_, _*_, _/_, _%_, _^_, _≤_, _<_}
 use native.Mathlib.Omega.{arith}
-use lib.Pow.{pow-pos, pow-mono}
+use lib.Pow.{pow-pos}
 use denote.Ref.{now}
 use Rattle.table.specs.Fields.{field}
 use Rattle.table.specs.Block.{compound}
@@ -12,10 +12,6 @@ use Rattle.table.proofs.Laid.{field-lt}
 use Rattle.table.proofs.Bits.{nibble-of, none-yet, one-more, cut-out, small, power}
 use Rattle.table.proofs.field_at.Statement.{statement}
 use Rattle.table.proofs.field_at.Tie as tie
-use Rattle.table.proofs.field_at.Reads as reads
-use Rattle.table.proofs.field_at.Lts as lts
-use Rattle.table.proofs.nibble_at.Reads as nibble-at-reads
-use Rattle.table.proofs.taken.Reads as taken-reads
 
 abbrev Inv-loop : tie.InvT-loop
 Inv-loop s at w wide first end i₀ n₀ i n =
@@ -85,7 +81,7 @@ returns c =
     let a = c .before .before .before .before .args in
     let w = c .before .before .taken .result in
     let e : l .n / 2 ^ (a .at % 4) % (1 * 2 ^ w % 2 ^ 64) ≡ field (a .at) w (compound (now (a .s))) =
-          cut-out (a .at) w _ (l .i) (compound (now (a .s))) (l .n) (omega arith) (omega arith) (omega arith) (l .inv .3) in
+    cut-out (a .at) w _ (l .i) (compound (now (a .s))) (l .n) (omega arith) (omega arith) (omega arith) (l .inv .3) in
     rw (← (c .before .before .taken .ensures)) (e, rw e (field-lt (a .at) w (compound (now (a .s)))))
 
 pub field-at-spec : {M : Type 1} → statement M

@@ -1,6 +1,6 @@
 -- `table::head_of` meets its contract: the head's two bytes make its 16 bits. Assumes nothing.
 use borrow.Author.Needs.{needs}
-use mathlib.Core.Path.{_≡_, _∙_}
+use mathlib.Core.Path.{_≡_}
 use native.Mathlib.Omega.{arith}
 use denote.Ref.{now}
 use Rattle.table.proofs.Judging.{head-bytes}
@@ -9,9 +9,6 @@ use Prim.Native.Nat.{ℕ}
 use lib.ListN.{getD}
 use Rattle.table.proofs.head_of.Statement.{statement}
 use Rattle.table.proofs.head_of.Tie as tie
-use Rattle.table.proofs.head_of.Reads as reads
-use Rattle.table.proofs.head_of.Lts as lts
-use Rattle.table.proofs.byte_at.Reads as byte-at-reads
 
 byte-at-requires : tie.Need-byte-at-requires
 byte-at-requires c κs = search needs

@@ -2,14 +2,13 @@
 -- nothing.
 use borrow.Author.Needs.{needs}
 use mathlib.Core.Path.{_≡_, _∙_, sym, ap₂}
-use mathlib.Core.List.{List, map, _++_}
+use mathlib.Core.List.{List, map}
 use Prim.Native.Nat.{ℕ, _+_, _/_, _≤_}
 use native.Mathlib.Omega.{arith}
-use lib.ListN.{length, take, drop, length-drop}
+use lib.ListN.{length, length-drop}
 use denote.Ref.{now}
 use Rattle.answer.specs.Rules.{judged}
 use Rattle.answer.specs.Values.{refused}
-use Rattle.answer.specs.declared.Answer.{Answer}
 use Rattle.answer.specs.declared.Answer.the-variants.{Done}
 use Rattle.answer.proofs.Steps.{ends, goes-on, done-value}
 use Rattle.laws.proofs.Lists.{part-rest}
@@ -21,10 +20,6 @@ use Rattle.table.specs.Reading.{frameRules, bodyRules, tableOf}
 use Rattle.table.proofs.Judging.{framed}
 use Rattle.table.proofs.judge.Statement.{statement}
 use Rattle.table.proofs.judge.Tie as tie
-use Rattle.table.proofs.judge.Reads as reads
-use Rattle.table.proofs.judge.Lts as lts
-use Rattle.table.proofs.judge_body.Reads as judge-body-reads
-use Rattle.table.proofs.judge_frame.Reads as judge-frame-reads
 
 judge-frame-requires : tie.Need-judge-frame-requires
 judge-frame-requires c κs = search needs
@@ -39,7 +34,7 @@ enum-known-head c = search needs
 taken :
     (c : tie.After-known-told2)
     → let r = now (c .before .before .before .before .before .args .rec) in
-      (length r ≡ 2 + headOf r / 32) × (8 ≤ headOf r / 32)
+    (length r ≡ 2 + headOf r / 32) × (8 ≤ headOf r / 32)
 taken c =
     let a = c .before .before .before .before .before .args in
     framed (a .application) (length (now (a .rec))) (headOf (now (a .rec))) _ _

@@ -1,8 +1,8 @@
 -- `table::judge_body` meets its contract: the three parts are judged one after the other. Assumes nothing.
 use borrow.Author.Needs.{needs}
-use mathlib.Core.Path.{_≡_, _∙_, sym, ap}
-use mathlib.Core.List.{List, map, _++_}
-use Prim.Native.Nat.{ℕ, _/_}
+use mathlib.Core.Path.{_∙_}
+use mathlib.Core.List.{map, _++_}
+use Prim.Native.Nat.{_/_}
 use denote.Ref.{now}
 use Rattle.answer.proofs.Steps.{ends, goes-on}
 use Rattle.octet.specs.Decoding.{nib}
@@ -10,11 +10,6 @@ use Rattle.table.specs.Fields.{whole}
 use Rattle.table.specs.Reading.{frontRules, wholeRules, lengthRules}
 use Rattle.table.proofs.judge_body.Statement.{statement}
 use Rattle.table.proofs.judge_body.Tie as tie
-use Rattle.table.proofs.judge_body.Reads as reads
-use Rattle.table.proofs.judge_body.Lts as lts
-use Rattle.table.proofs.judge_front.Reads as judge-front-reads
-use Rattle.table.proofs.judge_lengths.Reads as judge-lengths-reads
-use Rattle.table.proofs.judge_whole.Reads as judge-whole-reads
 
 judge-front-requires : tie.Need-judge-front-requires
 judge-front-requires c κs = search needs

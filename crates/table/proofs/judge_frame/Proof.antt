@@ -1,16 +1,10 @@
 -- `table::judge_frame` meets its contract: each `return` is the first rule that doesn't hold, and the last is all of them.
 -- Assumes nothing.
 use borrow.Author.Needs.{needs}
-use mathlib.Core.Path.{_≡_, _∙_, sym}
-use native.Mathlib.Omega.{arith}
-use denote.Ref.{now}
+use mathlib.Core.Path.{_∙_, sym}
 use Rattle.table.proofs.Judging.{frame-16, frame-13, frame-12, frame-13′, frame-done}
 use Rattle.table.proofs.judge_frame.Statement.{statement}
 use Rattle.table.proofs.judge_frame.Tie as tie
-use Rattle.table.proofs.judge_frame.Reads as reads
-use Rattle.table.proofs.judge_frame.Lts as lts
-use Rattle.table.proofs.head_of.Reads as head-of-reads
-use Rattle.table.proofs.refuse.Reads as refuse-reads
 
 refuse-requires : tie.Need-refuse-requires
 refuse-requires c κs = search needs

@@ -2,29 +2,20 @@
 -- Assumes nothing.
 use borrow.Author.Needs.{needs}
 use mathlib.Core.Path.{_≡_, _∙_, sym, ap}
-use mathlib.Core.Bool.{true}
 use mathlib.Core.List.{List, map}
-use Prim.Native.Nat.{ℕ, _+_, _≤_, _<_}
+use Prim.Native.Nat.{ℕ}
 use native.Mathlib.Omega.{arith}
-use lib.ListN.{take}
+use lib.ListN.{take, length-map}
 use lib.Seq.{length-take-le}
 use denote.Ref.{now}
 use Rattle.laws.proofs.Maps.{map-take}
 use Rattle.octet.specs.Decoding.{nib}
-use Rattle.table.specs.Block.{compound}
 use Rattle.table.specs.Reading.{sound}
 use Rattle.table.proofs.Judging.{front-10, front-12, front-12′, front-13, front-done, sound-le}
-use lib.ListN.{length-map}
 use Rattle.table.specs.Tables.{known}
 use borrow.Author.Tests.{not-true, not-false}
 use Rattle.table.proofs.judge_front.Statement.{statement}
 use Rattle.table.proofs.judge_front.Tie as tie
-use Rattle.table.proofs.judge_front.Reads as reads
-use Rattle.table.proofs.judge_front.Lts as lts
-use Rattle.table.proofs.field_at.Reads as field-at-reads
-use Rattle.table.proofs.known.Reads as known-reads
-use Rattle.table.proofs.refuse.Reads as refuse-reads
-use Rattle.table.proofs.sound.Reads as sound-reads
 
 slice-aggregate-sound : tie.Need-slice-aggregate-sound
 slice-aggregate-sound c = sym (length-take-le 8 (now (c .before .before .args .body)) (c .before .before .pre))

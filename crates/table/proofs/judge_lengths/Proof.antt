@@ -1,23 +1,16 @@
 -- `table::judge_lengths` meets its contract: each `return` is the first test that fails, and the last is both passed, with the
 -- form's bytes by the table's bits. Assumes nothing.
 use borrow.Author.Needs.{needs}
-use mathlib.Core.Path.{_≡_, _∙_, sym, ap}
-use Prim.Native.Nat.{ℕ, _+_, _*_, _/_}
+use mathlib.Core.Path.{_∙_, sym, ap}
 use native.Mathlib.Omega.{arith}
 use denote.Ref.{now}
 use Rattle.answer.specs.declared.Answer.the-variants.{Done}
-use Rattle.table.specs.Tables.{bits}
 use Rattle.table.specs.Block.{compound}
 use Rattle.table.specs.Reading.{tableOf}
 use Rattle.table.proofs.Judging.{lengths-14, lengths-14′, lengths-done}
 use Rattle.table.proofs.Measures.{bits-of, form-need}
 use Rattle.table.proofs.judge_lengths.Statement.{statement}
 use Rattle.table.proofs.judge_lengths.Tie as tie
-use Rattle.table.proofs.judge_lengths.Reads as reads
-use Rattle.table.proofs.judge_lengths.Lts as lts
-use Rattle.table.proofs.field_at.Reads as field-at-reads
-use Rattle.table.proofs.measure.Reads as measure-reads
-use Rattle.table.proofs.refuse.Reads as refuse-reads
 
 measure-requires : tie.Need-measure-requires
 measure-requires c κs = search needs

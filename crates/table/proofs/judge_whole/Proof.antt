@@ -1,23 +1,17 @@
 -- `table::judge_whole` meets its contract: each `return` is the first rule that doesn't hold, and the last is both passed.
 -- Assumes nothing.
 use borrow.Author.Needs.{needs}
-use mathlib.Core.Path.{_≡_, _∙_, sym, ap}
+use mathlib.Core.Path.{_∙_, sym}
 use mathlib.Core.List.{List, map}
 use Prim.Native.Nat.{ℕ}
 use native.Mathlib.Omega.{arith}
-use lib.ListN.{length, length-map}
+use lib.ListN.{length-map}
 use denote.Ref.{now}
 use Rattle.octet.specs.Decoding.{nib}
 use Rattle.table.specs.Reading.{sound}
 use Rattle.table.proofs.Judging.{whole-10, whole-11, whole-done, sound-le}
 use Rattle.table.proofs.judge_whole.Statement.{statement}
 use Rattle.table.proofs.judge_whole.Tie as tie
-use Rattle.table.proofs.judge_whole.Reads as reads
-use Rattle.table.proofs.judge_whole.Lts as lts
-use Rattle.table.proofs.checksum.Reads as checksum-reads
-use Rattle.table.proofs.field_at.Reads as field-at-reads
-use Rattle.table.proofs.refuse.Reads as refuse-reads
-use Rattle.table.proofs.sound.Reads as sound-reads
 
 sound-requires : tie.Need-sound-requires
 sound-requires c κs = search needs

@@ -1,11 +1,8 @@
 -- `table::known` meets its contract, kind by kind. Assumes nothing.
-use borrow.Author.Needs.{needs}
-use mathlib.Core.Path.{_≡_, refl, _∙_, sym, ap}
+use mathlib.Core.Path.{refl}
 use borrow.Author.Tests.{eq-eqb, ne-eqb}
 use Rattle.table.proofs.known.Statement.{statement}
 use Rattle.table.proofs.known.Tie as tie
-use Rattle.table.proofs.known.Reads as reads
-use Rattle.table.proofs.known.Lts as lts
 
 returns : tie.Need-returns
 returns c = rw (eq-eqb _ _ (c .if1 .taken)) refl

@@ -1,24 +1,17 @@
 -- `table::measure` meets its contract: the bits passed and those of the descriptors left make the table's bits. The measure is
 -- the descriptors left. Assumes nothing.
 use borrow.Author.Needs.{needs}
-use mathlib.Core.Path.{_≡_, _∙_, sym, ap}
-use mathlib.Core.List.{List}
-use Prim.Native.Nat.{ℕ, suc, _+_, _-_, _*_, _/_, _^_, _≤_, _<_}
-use native.Mathlib.Nat.{add-zero}
+use mathlib.Core.Path.{_≡_, sym}
+use Prim.Native.Nat.{_+_, _*_, _/_, _^_, _≤_}
 use native.Mathlib.Omega.{arith}
 use denote.Ref.{now}
-use Rattle.table.specs.Fields.{field, width}
+use Rattle.table.specs.Fields.{width}
 use Rattle.table.specs.Tables.{bits, per, loops}
 use Rattle.table.specs.Block.{compound}
 use Rattle.table.specs.Reading.{tableOf, descriptorsOf}
-use Rattle.table.proofs.Laid.{field-lt}
 use Rattle.table.proofs.Measures.{bits-of, walk-on, walk-end}
 use Rattle.table.proofs.measure.Statement.{statement}
 use Rattle.table.proofs.measure.Tie as tie
-use Rattle.table.proofs.measure.Reads as reads
-use Rattle.table.proofs.measure.Lts as lts
-use Rattle.table.proofs.field_at.Reads as field-at-reads
-use Rattle.table.proofs.words_of.Reads as words-of-reads
 
 abbrev Inv-loop : tie.InvT-loop
 Inv-loop body kind left₀ at₀ left at =
@@ -36,9 +29,10 @@ field-at-requires-2 c κs = search needs
 
 loop-holds : tie.Need-loop-holds Inv-loop μ-loop
 loop-holds c =
-    let n = compound (now (c .before .before .before .args .body)) in
-    (omega (arith, c .field-at2 .ensures .1)
-    , rw (c .before .field-at .ensures .0, c .field-at2 .ensures .0) (unfold tableOf in sym (bits-of (tableOf n))))
+    let n = compound (now (c .before .before .before .args .body)) in (
+      omega (arith, c .field-at2 .ensures .1),
+      rw (c .before .field-at .ensures .0, c .field-at2 .ensures .0) (unfold tableOf in sym (bits-of (tableOf n))),
+    )
 
 add-field-at : tie.Need-add-field-at Inv-loop μ-loop
 add-field-at c = search needs
@@ -67,17 +61,19 @@ loop-less c = search needs
 loop-again : tie.Need-loop-again Inv-loop μ-loop
 loop-again c =
     let l = c .before .before .before .loop in
-    let n = compound (now (c .before .before .before .before .before .before .before .args .body)) in
-    (omega (arith, c .words-of .ensures .1, c .before .field-at3 .ensures .1)
-    , walk-on (c .before .before .before .before .before .field-at .result) (l .left) n (l .at) (c .before .field-at3 .result)
-    (c .words-of .result) (bits (tableOf n)) (search needs) (c .before .field-at3 .ensures .0) (c .words-of .ensures .0) (l .inv .1))
+    let n = compound (now (c .before .before .before .before .before .before .before .args .body)) in (
+      omega (arith, c .words-of .ensures .1, c .before .field-at3 .ensures .1),
+      walk-on (c .before .before .before .before .before .field-at .result) (l .left) n (l .at) (c .before .field-at3 .result)
+          (c .words-of .result) (bits (tableOf n)) (search needs) (c .before .field-at3 .ensures .0) (c .words-of .ensures .0) (l .inv .1),
+    )
 
 returns : tie.Need-returns Inv-loop μ-loop
 returns c =
     let l = c .before .loop in
-    let n = compound (now (c .before .before .before .before .before .args .body)) in
-    (walk-end (c .before .before .before .field-at .result) (l .left) n (l .at) (bits (tableOf n)) (search needs) (l .inv .1)
-    , search needs)
+    let n = compound (now (c .before .before .before .before .before .args .body)) in (
+      walk-end (c .before .before .before .field-at .result) (l .left) n (l .at) (bits (tableOf n)) (search needs) (l .inv .1),
+      search needs,
+    )
 
 pub measure-spec : {M : Type 1} → statement M
 measure-spec =

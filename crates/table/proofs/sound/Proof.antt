@@ -1,9 +1,9 @@
 -- `table::sound` meets its contract: the bytes passed and those still to come before the first that can't be decoded are as
 -- many as at the start. The measure is what is left of the length. Assumes nothing.
 use borrow.Author.Needs.{needs}
-use mathlib.Core.Path.{_≡_, _∙_, sym}
-use mathlib.Core.List.{map}
-use Prim.Native.Nat.{ℕ, _+_, _-_, _≤_, _<_}
+use mathlib.Core.Path.{_≡_, _∙_}
+use mathlib.Core.List.{map, List}
+use Prim.Native.Nat.{ℕ, _+_, _-_, _≤_}
 use native.Mathlib.Nat.{zero-add}
 use native.Mathlib.Omega.{arith}
 use lib.ListN.{length, drop}
@@ -11,12 +11,8 @@ use denote.Ref.{now}
 use Rattle.octet.specs.Decoding.{nib}
 use Rattle.table.specs.Reading.{sound}
 use Rattle.table.proofs.Judging.{sound-step, sound-stop, sound-end}
-use mathlib.Core.List.{List}
 use Rattle.table.proofs.sound.Statement.{statement}
 use Rattle.table.proofs.sound.Tie as tie
-use Rattle.table.proofs.sound.Reads as reads
-use Rattle.table.proofs.sound.Lts as lts
-use Rattle.octet.proofs.decode.Reads as decode-reads
 
 abbrev Inv-loop : tie.InvT-loop
 Inv-loop s i₀ i = (i ≤ length s) × (i + sound (map nib (drop i s)) ≡ sound (map nib s))

@@ -1,14 +1,11 @@
 -- `table::words_of` meets its contract, kind by kind. Assumes nothing.
 use borrow.Author.Needs.{needs}
-use Prim.Native.Nat.{ℕ, _*_}
 use native.Mathlib.Nat.{one-mul}
 use borrow.Author.Tests.{eq-eqb, ne-eqb}
 use Rattle.table.specs.Tables.{per}
-use mathlib.Core.Path.{_≡_, refl, _∙_, sym, ap}
+use mathlib.Core.Path.{refl, sym}
 use Rattle.table.proofs.words_of.Statement.{statement}
 use Rattle.table.proofs.words_of.Tie as tie
-use Rattle.table.proofs.words_of.Reads as reads
-use Rattle.table.proofs.words_of.Lts as lts
 
 mul-result : tie.Need-mul-result
 mul-result c = search needs

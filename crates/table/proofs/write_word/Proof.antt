@@ -7,8 +7,6 @@ use lib.ListN.{length-set}
 use Rattle.table.specs.Form.{spelled}
 use Rattle.table.proofs.write_word.Statement.{statement}
 use Rattle.table.proofs.write_word.Tie as tie
-use Rattle.table.proofs.write_word.Reads as reads
-use Rattle.table.proofs.write_word.Lts as lts
 
 cast-high : tie.Need-cast-high
 cast-high c = search needs

@@ -1,9 +1,8 @@
 -- `table::write_words` meets its contract: what is left to be stored from here makes what was to be stored. The measure is the
 -- words left. Assumes nothing.
 use borrow.Author.Needs.{needs}
-use mathlib.Core.Path.{_≡_, _∙_, refl, sym}
-use mathlib.Core.List.{List}
-use Prim.Native.Nat.{ℕ, _+_, _-_, _*_, _/_, _^_, _≤_, _<_}
+use mathlib.Core.Path.{_≡_, _∙_, refl}
+use Prim.Native.Nat.{_+_, _*_, _/_, _^_, _≤_, _<_}
 use native.Mathlib.Omega.{arith}
 use lib.ListN.{length}
 use lib.Seq.{sets}
@@ -14,10 +13,6 @@ use Rattle.table.specs.Block.{compound}
 use Rattle.table.proofs.Written.{word-on, words-end}
 use Rattle.table.proofs.write_words.Statement.{statement}
 use Rattle.table.proofs.write_words.Tie as tie
-use Rattle.table.proofs.write_words.Reads as reads
-use Rattle.table.proofs.write_words.Lts as lts
-use Rattle.table.proofs.field_at.Reads as field-at-reads
-use Rattle.table.proofs.write_word.Reads as write-word-reads
 
 abbrev Inv-loop : tie.InvT-loop
 Inv-loop body from k out₀ q at₀ p₀ left₀ out at p left =
@@ -53,12 +48,13 @@ loop-again c =
     let l = c .before .before .before .before .before .before .loop in
     let k = c .before .before .write-word .kept .1 .0 in
     let a = c .before .before .before .before .before .before .before .before .before .args in
-    let f = c .before .before .before .before .field-at in
-    (k ∙ l .inv .0
-    , omega (arith, k)
-    , search needs
-    , word-on (l .left) (compound (now (a .body))) (l .at) (l .p) (f .result) (l .out) (c .before .before .write-word .last .1 .0) _ (search needs)
-    (f .ensures .0) (c .before .before .write-word .ensures) (l .inv .3))
+    let f = c .before .before .before .before .field-at in (
+      k ∙ l .inv .0,
+      omega (arith, k),
+      search needs,
+      word-on (l .left) (compound (now (a .body))) (l .at) (l .p) (f .result) (l .out) (c .before .before .write-word .last .1 .0) _ (search needs)
+          (f .ensures .0) (c .before .before .write-word .ensures) (l .inv .3),
+    )
 
 same-length : tie.Need-same-length Inv-loop μ-loop
 same-length c = search needs
