@@ -7,7 +7,7 @@ use lib.ListN.{replicate}
 use Rattle.octet.specs.Bits.{number, differing}
 use Rattle.octet.specs.Image.{image, withParity}
 use Rattle.octet.specs.Decoding.{nib, nibbleFrom}
-use Rattle.table.specs.Fields.{width, laid, fitting, field, parts, whole}
+use Rattle.fields.specs.Fields.{width, laid, fitting, field, parts, whole}
 use Rattle.table.specs.Tables.{Table, TI, per, loops, fields, bits, fill, size, entire, fits}
 use Rattle.table.specs.Form.{spelled, listed, openingOf, form, wordsIn, descriptorsIn, tableIn}
 use Rattle.table.specs.Block.{header, headOf, nibblesOf, total, checksum, nibbles, checksumOf}

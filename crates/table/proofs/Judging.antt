@@ -17,7 +17,7 @@ use Rattle.answer.specs.declared.Answer.the-variants.{Done}
 use Rattle.answer.specs.Values.{refused}
 use Rattle.answer.proofs.Steps.{done-every, first-holds, others-hold}
 use Rattle.octet.specs.Decoding.{nib}
-use Rattle.table.specs.Fields.{field, whole, parts}
+use Rattle.fields.specs.Fields.{field, whole, parts}
 use Rattle.table.specs.Tables.{known, control, size}
 use Rattle.table.specs.Block.{headOf, total, checksum}
 use Rattle.table.specs.Reading.{sound, frameRules, frontRules, wholeRules, lengthRules, readRules, tableOf}

@@ -1,5 +1,3 @@
-pub mod Laid
-pub mod Bits
 pub mod Measures
 pub mod Judging
 pub mod Written

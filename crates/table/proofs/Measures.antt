@@ -9,11 +9,11 @@ use lib.Dec.{eqb}
 use lib.ListN.{length, length-append}
 use lib.Pow.{shr-shr}
 use Rattle.laws.specs.Pick.{pick}
-use Rattle.table.specs.Fields.{width, field}
+use Rattle.fields.specs.Fields.{width, field}
 use Rattle.table.specs.Tables.{Descriptor, Table, TI, per, loops, fields, bits}
 use Rattle.table.specs.Form.{spelled, listed, openingOf, form}
 use Rattle.table.specs.Reading.{descriptorsOf, tableOf}
-use Rattle.table.proofs.Laid.{width-append, length-parts, field-past}
+use Rattle.fields.proofs.Laid.{width-append, length-parts, field-past}
 
 pub per-pos : (kind : ℕ) → 0 < per kind
 unfolding per

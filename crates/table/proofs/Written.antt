@@ -10,11 +10,11 @@ use lib.ListN.{length, set, length-append}
 use lib.Pow.{shr-shr}
 use lib.Seq.{sets}
 use Rattle.laws.proofs.Lists.{sets-append}
-use Rattle.table.specs.Fields.{field, parts}
+use Rattle.fields.specs.Fields.{field, parts}
 use Rattle.table.specs.Tables.{Table, per}
 use Rattle.table.specs.Form.{spelled, listed, openingOf, form}
 use Rattle.table.specs.Reading.{descriptorsOf, tableOf}
-use Rattle.table.proofs.Laid.{field-past, length-parts}
+use Rattle.fields.proofs.Laid.{field-past, length-parts}
 use Rattle.table.proofs.Measures.{length-descriptors, length-spelled, per-pos}
 
 pub word-on :

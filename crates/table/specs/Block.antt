@@ -5,7 +5,7 @@ use mathlib.Core.List.{List, [], _∷_, map}
 use Prim.Native.Nat.{ℕ, _+_, _%_, _-_, _^_, _<_}
 use lib.ListN.{take, drop}
 use Rattle.octet.specs.Decoding.{nib}
-use Rattle.table.specs.Fields.{Field, laid, parts, whole}
+use Rattle.fields.specs.Fields.{Field, laid, parts, whole}
 use Rattle.table.specs.Tables.{Table, fields, control, fill, size, fits}
 
 -- table 5, the Overall Data Header
@@ -22,10 +22,6 @@ headOf r = whole 8 (take headSize r)
 -- what the protected bytes behind it decode to
 unfoldable pub nibblesOf : List ℕ → List ℕ
 nibblesOf r = map nib (drop headSize r)
-
--- A.3: the "large compound" that protected bytes hold, a nibble each, the lowest first
-abbrev pub compound : List ℕ → ℕ
-compound bytes = whole 4 (map nib bytes)
 
 unfoldable pub total : List ℕ → ℕ
 total [] = 0

@@ -1,5 +1,4 @@
 -- Subtitle (TI) and Language (LI) blocks: EN 300 707, tables 15 and 17, with document 01, "The tables".
-pub mod Fields
 pub mod Tables
 pub mod Form
 pub mod Block

@@ -5,7 +5,7 @@ use lib.Dec.{eqb, ltb, leb}
 use lib.ListN.{length, take}
 use Rattle.laws.specs.Pick.{pick, both}
 use Rattle.answer.specs.Rules.{Rule, rule, judged}
-use Rattle.table.specs.Fields.{field, parts, whole}
+use Rattle.fields.specs.Fields.{field, parts, whole}
 use Rattle.table.specs.Tables.{Descriptor, Table, known, per, control, size}
 use Rattle.table.specs.Block.{headSize, headOf, nibblesOf, checksum}
 

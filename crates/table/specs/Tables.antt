@@ -5,7 +5,7 @@ use Prim.Native.Nat.{ℕ, _+_, _*_, _/_, _-_}
 use lib.Dec.{eqb}
 use lib.ListN.{length}
 use Rattle.laws.specs.Pick.{pick, both, either}
-use Rattle.table.specs.Fields.{Field, width, fitting}
+use Rattle.fields.specs.Fields.{Field, width, fitting}
 
 -- a set of languages, or of languages with a page each: its descriptor_id, and its words of 24 bits: language, page, language,
 -- page .. in TI, languages in LI

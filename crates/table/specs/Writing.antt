@@ -5,7 +5,7 @@ use lib.Dec.{eqb, ltb, leb}
 use lib.ListN.{length, getD}
 use Rattle.answer.specs.Rules.{Rule, rule}
 use Rattle.octet.specs.Image.{image}
-use Rattle.table.specs.Fields.{laid, parts}
+use Rattle.fields.specs.Fields.{laid, parts}
 use Rattle.table.specs.Tables.{Table, known, size, fits}
 use Rattle.table.specs.Form.{form, opening, tableIn}
 use Rattle.table.specs.Block.{header, headSize, nibbles, checksumOf}

@@ -9,10 +9,11 @@ ghost use Rattle.answer.specs.Values.{refused};
 ghost use Rattle.answer.specs.Writing.{answered, left};
 ghost use Rattle.answer.specs.declared.Answer.the-variants.{Done};
 ghost use Rattle.octet.specs.Decoding.{nib};
-ghost use Rattle.table.specs.Fields.{field, parts};
+ghost use Rattle.fields.specs.Fields.{field, parts};
 ghost use Rattle.table.specs.Tables.{per, bits, known as knownKind};
 ghost use Rattle.table.specs.Form.{form, spelled, listed, openingOf};
-ghost use Rattle.table.specs.Block.{compound, headOf, checksum as checksumOf};
+ghost use Rattle.fields.specs.Compound.{compound};
+ghost use Rattle.table.specs.Block.{headOf, checksum as checksumOf};
 ghost use Rattle.table.specs.Reading.{frameRules, frontRules, wholeRules, lengthRules, bodyRules, readRules, tableOf, tableRead, sound as soundOf};
 use answer::Answer;
 use answer::Refusal;
@@ -23,9 +24,6 @@ const HEAD: usize = 2;
 const TI: usize = 8;
 
 const LI: usize = 7;
-
-// The widest field, a language or a page.
-const WIDEST: usize = 24;
 
 // The table of a block of this application: its form is written to the front of `out`. Each protected
 // byte is decoded at most nine times: once or twice to see that it can be, once for the sum, twice
@@ -141,11 +139,11 @@ fn judge_front(size: usize, body: &[u8]) -> Answer
     if good != 8 {
         return refuse(10, HEAD + good);
     }
-    let kind = field_at(body, 18, 6);
+    let kind = fields::field_at(body, 18, 6);
     if !known(kind) {
         return refuse(12, 0);
     }
-    if field_at(body, 24, 2) != 0 {
+    if fields::field_at(body, 24, 2) != 0 {
         return refuse(12, 0);
     }
     if size % 2 != 0 {
@@ -169,11 +167,11 @@ fn words_of(kind: usize, entries: usize) -> usize
 fn measure(body: &[u8]) -> usize
     ensures { λ r. ⌜ (r ≡ bits (tableOf (compound (now (body .entry))))) × (r ≤ 46048) ⌝ }
 {
-    let kind = field_at(body, 18, 6);
-    let mut left = field_at(body, 52, 6);
+    let kind = fields::field_at(body, 18, 6);
+    let mut left = fields::field_at(body, 52, 6);
     let mut at = 58;
     while 0 < left {
-        let words = words_of(kind, field_at(body, at + 6, 4));
+        let words = words_of(kind, fields::field_at(body, at + 6, 4));
         at += 10 + 24 * words;
         left -= 1;
     }
@@ -189,13 +187,13 @@ fn judge_lengths(size: usize, body: &[u8]) -> Answer
 {
     let bits = measure(body);
     let control = (bits + 7) / 8;
-    if field_at(body, 8, 10) != control {
+    if fields::field_at(body, 8, 10) != control {
         return refuse(14, 0);
     }
     if size != 2 * control {
         return refuse(14, 0);
     }
-    Answer::Done(6 + (bits - 58 + 6 * field_at(body, 52, 6)) / 8)
+    Answer::Done(6 + (bits - 58 + 6 * fields::field_at(body, 52, 6)) / 8)
 }
 
 // 10 over the rest, 11.
@@ -206,7 +204,7 @@ fn judge_whole(head: usize, body: &[u8]) -> Answer
     if good != body.len() {
         return refuse(10, HEAD + good);
     }
-    if field_at(body, 0, 8) != checksum(head, body) {
+    if fields::field_at(body, 0, 8) != checksum(head, body) {
         return refuse(11, 0);
     }
     Answer::Done(0)
@@ -254,11 +252,11 @@ fn write_opening(body: &[u8], out: &mut [u8])
     requires { ⌜ 6 ≤ length (now out) ⌝ }
     ensures { λ _. ⌜ now (out .exit) ≡ sets (now (out .entry)) 0 (openingOf (tableOf (compound (now (body .entry))))) ⌝ }
 {
-    let kind = (field_at(body, 18, 6) % 256) as u8;
-    let copyright = (field_at(body, 26, 1) % 256) as u8;
-    let block = field_at(body, 28, 16);
-    let network = (field_at(body, 44, 8) % 256) as u8;
-    let count = (field_at(body, 52, 6) % 256) as u8;
+    let kind = (fields::field_at(body, 18, 6) % 256) as u8;
+    let copyright = (fields::field_at(body, 26, 1) % 256) as u8;
+    let block = fields::field_at(body, 28, 16);
+    let network = (fields::field_at(body, 44, 8) % 256) as u8;
+    let count = (fields::field_at(body, 52, 6) % 256) as u8;
     let low = (block % 256) as u8;
     let high = (block / 256 % 256) as u8;
     out[0] = kind;
@@ -277,8 +275,8 @@ fn write_descriptors(body: &[u8], out: &mut [u8])
         ≡ sets (now (out .entry)) 6
         (listed (tableOf (compound (now (body .entry))) .kind) (tableOf (compound (now (body .entry))) .descriptors)) ⌝ }
 {
-    let kind = field_at(body, 18, 6);
-    let mut left = field_at(body, 52, 6);
+    let kind = fields::field_at(body, 18, 6);
+    let mut left = fields::field_at(body, 52, 6);
     let mut at = 58;
     let mut q = 6;
     while 0 < left {
@@ -301,8 +299,8 @@ fn write_descriptor(body: &[u8], kind: usize, at: usize, out: &mut [u8], q: usiz
         ∷ field (at + 6) 4 (compound (now (body .entry)))
         ∷ spelled (parts 24 r (compound (now (body .entry)) / 2 ^ (at + 10))))) ⌝ }
 {
-    let id = field_at(body, at, 6);
-    let entries = field_at(body, at + 6, 4);
+    let id = fields::field_at(body, at, 6);
+    let entries = fields::field_at(body, at + 6, 4);
     let words = words_of(kind, entries);
     out[q] = (id % 256) as u8;
     out[q + 1] = (entries % 256) as u8;
@@ -333,43 +331,10 @@ fn write_words(body: &[u8], from: usize, k: usize, out: &mut [u8], q: usize)
     let mut p = q;
     let mut left = k;
     while 0 < left {
-        let w = field_at(body, at, 24);
+        let w = fields::field_at(body, at, 24);
         write_word(w, out, p);
         at += 24;
         p += 3;
         left -= 1;
     }
-}
-
-// The nibble i of the control data; 0 past its end.
-fn nibble_at(s: &[u8], i: usize) -> usize
-    ensures { λ r. ⌜ r ≡ getD (map nib (now (s .entry))) i 0 % 16 ⌝ }
-{
-    if i < s.len() {
-        return (octet::decode(s[i]) % 16) as usize;
-    }
-    0
-}
-
-// The bits that are taken where w are asked.
-fn taken(w: usize) -> usize
-    ensures { λ r. ⌜ r ≡ min w 24 ⌝ }
-{
-    if WIDEST < w { WIDEST } else { w }
-}
-
-// The w bits from the place `at` on; at most 24 are taken.
-fn field_at(s: &[u8], at: usize, w: usize) -> usize
-    ensures { λ r. ⌜ (r ≡ field at (min w 24) (compound (now (s .entry)))) × (r < 2 ^ min w 24) ⌝ }
-{
-    let wide = taken(w);
-    let first = at / 4;
-    let end = first + (at % 4 + wide + 3) / 4;
-    let mut i = end;
-    let mut n: usize = 0;
-    while first < i {
-        i -= 1;
-        n = n * 16 + nibble_at(s, i);
-    }
-    (n >> (at % 4)) % (1 << wide)
 }

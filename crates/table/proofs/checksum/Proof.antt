@@ -8,7 +8,7 @@ use lib.ListN.{length, drop}
 use denote.Ref.{now}
 use Rattle.laws.proofs.Maps.{map-drop}
 use Rattle.octet.specs.Decoding.{nib}
-use Rattle.table.specs.Fields.{parts}
+use Rattle.fields.specs.Fields.{parts}
 use Rattle.table.specs.Block.{total}
 use Rattle.table.proofs.Judging.{sum-start, sum-step, sum-end}
 use Rattle.table.proofs.checksum.Statement.{statement}

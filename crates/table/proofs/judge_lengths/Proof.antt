@@ -5,7 +5,7 @@ use mathlib.Core.Path.{_∙_, sym, ap}
 use native.Mathlib.Omega.{arith}
 use denote.Ref.{now}
 use Rattle.answer.specs.declared.Answer.the-variants.{Done}
-use Rattle.table.specs.Block.{compound}
+use Rattle.fields.specs.Compound.{compound}
 use Rattle.table.specs.Reading.{tableOf}
 use Rattle.table.proofs.Judging.{lengths-14, lengths-14′, lengths-done}
 use Rattle.table.proofs.Measures.{bits-of, form-need}

@@ -5,9 +5,9 @@ use mathlib.Core.Path.{_≡_, sym}
 use Prim.Native.Nat.{_+_, _*_, _/_, _^_, _≤_}
 use native.Mathlib.Omega.{arith}
 use denote.Ref.{now}
-use Rattle.table.specs.Fields.{width}
+use Rattle.fields.specs.Fields.{width}
 use Rattle.table.specs.Tables.{bits, per, loops}
-use Rattle.table.specs.Block.{compound}
+use Rattle.fields.specs.Compound.{compound}
 use Rattle.table.specs.Reading.{tableOf, descriptorsOf}
 use Rattle.table.proofs.Measures.{bits-of, walk-on, walk-end}
 use Rattle.table.proofs.measure.Statement.{statement}

@@ -10,7 +10,7 @@ use denote.Ref.{now}
 use Rattle.laws.proofs.Lists.{part-rest}
 use Rattle.answer.proofs.Lent.{lent-refused, lent-need, lent-short, lent-done}
 use Rattle.octet.specs.Decoding.{nib}
-use Rattle.table.specs.Fields.{whole}
+use Rattle.fields.specs.Fields.{whole}
 use Rattle.table.specs.Form.{form}
 use Rattle.table.specs.Block.{nibblesOf}
 use Rattle.table.specs.Reading.{readRules, tableOf, tableRead}

@@ -5,8 +5,8 @@ use Prim.Native.Nat.{ℕ, _*_, _+_, _%_, _/_, _^_}
 use native.Mathlib.Omega.{arith}
 use lib.ListN.{length-set}
 use denote.Ref.{now}
-use Rattle.table.specs.Block.{compound}
-use Rattle.table.specs.Fields.{field, parts}
+use Rattle.fields.specs.Compound.{compound}
+use Rattle.fields.specs.Fields.{field, parts}
 use Rattle.table.specs.Tables.{per}
 use Rattle.table.proofs.Written.{two-stores}
 use Rattle.table.specs.Form.{spelled}

@@ -7,10 +7,10 @@ use native.Mathlib.Omega.{arith}
 use lib.ListN.{length}
 use lib.Seq.{sets}
 use denote.Ref.{now}
-use Rattle.table.specs.Fields.{field}
+use Rattle.fields.specs.Fields.{field}
 use Rattle.table.specs.Tables.{per}
 use Rattle.table.specs.Form.{listed}
-use Rattle.table.specs.Block.{compound}
+use Rattle.fields.specs.Compound.{compound}
 use Rattle.table.specs.Reading.{descriptorsOf, tableOf}
 use Rattle.table.proofs.Measures.{length-form}
 use Rattle.table.proofs.Written.{listed-long, descriptor-on, descriptors-end}

@@ -2,7 +2,7 @@
 use borrow.Author.Needs.{needs}
 use native.Mathlib.Omega.{arith}
 use denote.Ref.{now}
-use Rattle.table.specs.Block.{compound}
+use Rattle.fields.specs.Compound.{compound}
 use Rattle.table.specs.Reading.{tableOf}
 use Rattle.table.proofs.Measures.{length-form}
 use Rattle.table.proofs.Written.{form-stored}

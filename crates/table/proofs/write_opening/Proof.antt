@@ -5,7 +5,7 @@ use native.Mathlib.Omega.{arith}
 use lib.ListN.{length-set}
 use lib.Seq.{sets}
 use denote.Ref.{now}
-use Rattle.table.specs.Block.{compound}
+use Rattle.fields.specs.Compound.{compound}
 use Rattle.table.proofs.Written.{opened}
 use Rattle.table.proofs.write_opening.Statement.{statement}
 use Rattle.table.proofs.write_opening.Tie as tie

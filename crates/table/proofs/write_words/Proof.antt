@@ -7,9 +7,9 @@ use native.Mathlib.Omega.{arith}
 use lib.ListN.{length}
 use lib.Seq.{sets}
 use denote.Ref.{now}
-use Rattle.table.specs.Fields.{parts}
+use Rattle.fields.specs.Fields.{parts}
 use Rattle.table.specs.Form.{spelled}
-use Rattle.table.specs.Block.{compound}
+use Rattle.fields.specs.Compound.{compound}
 use Rattle.table.proofs.Written.{word-on, words-end}
 use Rattle.table.proofs.write_words.Statement.{statement}
 use Rattle.table.proofs.write_words.Tie as tie

@@ -1,4 +1,4 @@
--- `table::field_at` meets its contract. The loop's invariant: n is the field from nibble i up to the last one that holds a bit
+-- `fields::field_at` meets its contract. The loop's invariant: n is the field from nibble i up to the last one that holds a bit
 -- of what is asked. The measure is i. Assumes nothing.
 use borrow.Author.Needs.{needs}
 use mathlib.Core.Path.{_≡_, _∙_, sym}
@@ -6,12 +6,12 @@ use Prim.Native.Nat.{_+_, _-_, _*_, _/_, _%_, _^_, _≤_, _<_}
 use native.Mathlib.Omega.{arith}
 use lib.Pow.{pow-pos}
 use denote.Ref.{now}
-use Rattle.table.specs.Fields.{field}
-use Rattle.table.specs.Block.{compound}
-use Rattle.table.proofs.Laid.{field-lt}
-use Rattle.table.proofs.Bits.{nibble-of, none-yet, one-more, cut-out, small, power}
-use Rattle.table.proofs.field_at.Statement.{statement}
-use Rattle.table.proofs.field_at.Tie as tie
+use Rattle.fields.specs.Fields.{field}
+use Rattle.fields.specs.Compound.{compound}
+use Rattle.fields.proofs.Laid.{field-lt}
+use Rattle.fields.proofs.Bits.{nibble-of, none-yet, one-more, cut-out, small, power}
+use Rattle.fields.proofs.field_at.Statement.{statement}
+use Rattle.fields.proofs.field_at.Tie as tie
 
 abbrev Inv-loop : tie.InvT-loop
 Inv-loop s at w wide first end i₀ n₀ i n =

@@ -1,11 +1,11 @@
--- `table::nibble_at` meets its contract: within the bytes it is what the byte decodes to, past them 0. Assumes nothing.
+-- `fields::nibble_at` meets its contract: within the bytes it is what the byte decodes to, past them 0. Assumes nothing.
 use borrow.Author.Needs.{needs}
 use mathlib.Core.Path.{_∙_, sym, ap}
 use Prim.Native.Nat.{ℕ, _%_}
 use denote.Ref.{now}
-use Rattle.table.proofs.Bits.{getD-nib, getD-none}
-use Rattle.table.proofs.nibble_at.Statement.{statement}
-use Rattle.table.proofs.nibble_at.Tie as tie
+use Rattle.fields.proofs.Bits.{getD-nib, getD-none}
+use Rattle.fields.proofs.nibble_at.Statement.{statement}
+use Rattle.fields.proofs.nibble_at.Tie as tie
 
 shared-slice-read-decode : tie.Need-shared-slice-read-decode
 shared-slice-read-decode c = search needs

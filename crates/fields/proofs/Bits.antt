@@ -7,9 +7,9 @@ use native.Mathlib.Omega.{arith}
 use lib.Pow.{pow-mono, pow-lt}
 use lib.ListN.{length, getD}
 use Rattle.octet.specs.Decoding.{nib}
-use Rattle.table.specs.Fields.{field}
-use Rattle.table.specs.Block.{compound}
-use Rattle.table.proofs.Laid.{field-lt, field-past, field-join, field-in, whole-at}
+use Rattle.fields.specs.Fields.{field}
+use Rattle.fields.specs.Compound.{compound}
+use Rattle.fields.proofs.Laid.{field-lt, field-past, field-join, field-in, whole-at}
 
 pub getD-nib : (s : List ℕ) (i : ℕ) → i < length s → getD (map nib s) i 0 ≡ nib (getD s i 0)
 getD-nib [] i h = absurd (not-suc-le-zero h)

@@ -8,7 +8,7 @@ use lib.ListN.{length, getD}
 use lib.Arith.{digits-lt}
 use lib.Pow as Pow
 use lib.Pow.{pow-add, pow-pos, shr-shr, high, low, mod-pow-add, mod-mod-pow}
-use Rattle.table.specs.Fields.{Field, width, laid, field, parts, whole}
+use Rattle.fields.specs.Fields.{Field, width, laid, field, parts, whole}
 
 -- ---- fields of a number
 
