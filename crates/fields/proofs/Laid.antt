@@ -1,14 +1,19 @@
 -- Laws of fields, parts and the numbers that they make, each over the width. Assumes nothing.
 use mathlib.Core.Path.{_≡_, _∙_, refl, sym, ap, ap₂, subst}
+use mathlib.Core.Bool.{Bool, true, false}
 use mathlib.Core.List.{List, [], _∷_, _++_, map}
 use Prim.Native.Nat.{ℕ, zero, suc, _+_, _-_, _*_, _/_, _%_, _^_, _≤_, _<_}
-use native.Mathlib.Nat.{add-zero, zero-add, add-comm, add-assoc, suc-mul, zero-mul, mod-lt, mod-mod, div-one, zero-div, mod-one, zero-mod}
+use native.Mathlib.Nat.{add-zero, zero-add, add-comm, add-assoc, suc-mul, zero-mul, mod-lt, mod-mod, mod-eq-of-lt, div-one, zero-div, mod-one, zero-mod}
 use native.Mathlib.Omega.{arith}
+use borrow.Author.Tests.{ltb-true, lt-ltb}
+use lib.Dec.{ltb}
 use lib.ListN.{length, getD}
 use lib.Arith.{digits-lt}
 use lib.Pow as Pow
-use lib.Pow.{pow-add, pow-pos, shr-shr, high, low, mod-pow-add, mod-mod-pow}
-use Rattle.fields.specs.Fields.{Field, width, laid, field, parts, whole}
+use lib.Pow.{pow-add, pow-pos, shr-shr, split, high, low, mod-pow-add, mod-mod-pow}
+use Rattle.laws.specs.Pick.{both}
+use Rattle.laws.proofs.Tests.{both-true, both-assoc}
+use Rattle.fields.specs.Fields.{Field, row, width, laid, fitting, field, parts, whole}
 
 -- ---- fields of a number
 
@@ -124,3 +129,50 @@ parts-whole w [] = refl
 parts-whole w (x ∷ xs) =
     ap₂ (λ (y : ℕ) (ys : List ℕ). y ∷ ys) (whole-first w x xs)
     (ap (λ (y : ℕ). parts w (length xs) y) (whole-next w x xs) ∙ parts-whole w xs)
+
+-- a number laid out again by its own fields: the field at a place, then what is above it
+pub lay :
+    (at w n : ℕ) (fs : List Field) (rest : ℕ) → n / 2 ^ (at + w) ≡ laid fs rest
+    → n / 2 ^ at ≡ laid ((w, field at w n) ∷ fs) rest
+unfolding laid field
+lay at w n fs rest e =
+    sym (split (n / 2 ^ at) w) ∙ (rw (shr-shr, e, mod-mod))
+
+-- a run of parts in the same way
+pub lay-parts :
+    (w k n : ℕ) (fs : List Field) (rest : ℕ) → n / 2 ^ (k * w) ≡ laid fs rest
+    → n ≡ laid (row w (parts w k n) ++ fs) rest
+unfolding laid parts row
+lay-parts w zero n fs rest e = sym (div-one n) ∙ (rw zero-mul at e)
+lay-parts w (suc k) n fs rest e =
+    let up : n / 2 ^ w / 2 ^ (k * w) ≡ laid fs rest = shr-shr n w (k * w) ∙ ap (λ (x : ℕ). n / 2 ^ x) (add-comm w (k * w) ∙ sym (suc-mul k w)) ∙ e in
+    sym (split n w) ∙ (rw (← (lay-parts w k (n / 2 ^ w) fs rest up), mod-mod))
+
+-- parts of what is laid in parts are those, and the rest follows
+pub parts-laid :
+    (w : ℕ) (xs : List ℕ) (rest : ℕ) → fitting (row w xs) ≡ true
+    → parts w (length xs) (laid (row w xs) rest) ≡ xs
+unfolding parts fitting row
+parts-laid w [] rest h = refl
+parts-laid w (x ∷ xs) rest h =
+    let p = both-true (ltb x (2 ^ w)) (fitting (row w xs)) h in
+    let fs : List Field = row w xs in
+    ap₂ (λ (y : ℕ) (ys : List ℕ). y ∷ ys) (laid-first (w, x) fs rest ∙ mod-eq-of-lt (ltb-true x (2 ^ w) (p .0)))
+    (ap (parts w (length xs)) (laid-next (w, x) fs rest) ∙ parts-laid w xs rest (p .1))
+
+pub width-row : (w : ℕ) (xs : List ℕ) → width (row w xs) ≡ length xs * w
+unfolding width row
+width-row w [] = sym (zero-mul w)
+width-row w (x ∷ xs) = rw (width-row w xs, suc-mul) (add-comm w (length xs * w))
+
+-- ---- values that fit
+
+pub fitting-append : (fs gs : List Field) → fitting (fs ++ gs) ≡ both (fitting fs) (fitting gs)
+unfolding fitting
+fitting-append [] gs = refl
+fitting-append (f ∷ fs) gs = rw (fitting-append fs gs) (both-assoc (ltb (f .1) (2 ^ f .0)) (fitting fs) (fitting gs))
+
+pub fitting-parts : (w k n : ℕ) → fitting (row w (parts w k n)) ≡ true
+unfolding fitting parts row
+fitting-parts w zero n = refl
+fitting-parts w (suc k) n = rw (lt-ltb (n % 2 ^ w) (2 ^ w) (mod-lt n (pow-pos w))) (fitting-parts w k (n / 2 ^ w))

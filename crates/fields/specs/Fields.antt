@@ -10,6 +10,11 @@ use Rattle.laws.specs.Pick.{both}
 abbrev pub Field : Type 0
 Field = ℕ × ℕ
 
+-- values in a row, of w bits each
+unfoldable pub row : ℕ → List ℕ → List Field
+row w [] = []
+row w (x ∷ xs) = (w, x) ∷ row w xs
+
 -- the number of bits of fields in a row
 unfoldable pub width : List Field → ℕ
 width [] = 0

@@ -13,7 +13,7 @@ use Rattle.fields.specs.Fields.{width, field}
 use Rattle.table.specs.Tables.{Descriptor, Table, TI, per, loops, fields, bits}
 use Rattle.table.specs.Form.{spelled, listed, openingOf, form}
 use Rattle.table.specs.Reading.{descriptorsOf, tableOf}
-use Rattle.fields.proofs.Laid.{width-append, length-parts, field-past}
+use Rattle.fields.proofs.Laid.{width-append, width-row, length-parts, field-past}
 
 pub per-pos : (kind : ℕ) → 0 < per kind
 unfolding per
@@ -25,16 +25,11 @@ per-pos kind = go (eqb kind TI)
 
 -- ---- bits
 
-pub width-words : (ws : List ℕ) → width (map (λ (w : ℕ). (24, w)) ws) ≡ 24 * length ws
-unfolding width
-width-words [] = refl
-width-words (w ∷ ws) = omega (arith, width-words ws)
-
 pub width-loops :
     (kind : ℕ) (d : Descriptor) (ds : List Descriptor)
     → width (loops kind (d ∷ ds)) ≡ 10 + 24 * length (d .words) + width (loops kind ds)
 unfolding width loops
-width-loops kind d ds = rw (width-append, width-words) (omega arith)
+width-loops kind d ds = rw (width-append, width-row) (omega arith)
 
 pub bits-of : (t : Table) → bits t ≡ 58 + width (loops (t .kind) (t .descriptors))
 unfolding width fields

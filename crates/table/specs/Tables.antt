@@ -1,11 +1,11 @@
 -- A TI or LI table as a value, and the fields that tables 15 and 17 lay out for it.
 use mathlib.Core.Bool.{Bool, true}
-use mathlib.Core.List.{List, [], _∷_, _++_, map}
+use mathlib.Core.List.{List, [], _∷_, _++_}
 use Prim.Native.Nat.{ℕ, _+_, _*_, _/_, _-_}
 use lib.Dec.{eqb}
 use lib.ListN.{length}
 use Rattle.laws.specs.Pick.{pick, both, either}
-use Rattle.fields.specs.Fields.{Field, width, fitting}
+use Rattle.fields.specs.Fields.{Field, row, width, fitting}
 
 -- a set of languages, or of languages with a page each: its descriptor_id, and its words of 24 bits: language, page, language,
 -- page .. in TI, languages in LI
@@ -42,7 +42,7 @@ entries kind words = length words / per kind
 unfoldable pub loops : ℕ → List Descriptor → List Field
 loops kind [] = []
 loops kind (d ∷ ds) =
-    (6, d .id) ∷ (4, entries kind (d .words)) ∷ map (λ (w : ℕ). (24, w)) (d .words) ++ loops kind ds
+    (6, d .id) ∷ (4, entries kind (d .words)) ∷ row 24 (d .words) ++ loops kind ds
 
 -- tables 15 and 17 from checksum on, with what isn't the table's own: checksum, control_block_size and reserved_for_future_use.
 -- CA_mode is 0, "Access is free to everyone" (11.1.3)
