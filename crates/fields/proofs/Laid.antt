@@ -71,12 +71,15 @@ unfolding width
 laid-past [] rest = unfold laid in div-one rest
 laid-past (f ∷ fs) rest = sym (shr-shr (laid (f ∷ fs) rest) (f .0) (width fs)) ∙ rw laid-next (laid-past fs rest)
 
+pub laid-drop : (fs gs : List Field) (rest : ℕ) → laid (fs ++ gs) rest / 2 ^ width fs ≡ laid gs rest
+laid-drop fs gs rest = rw laid-append (laid-past fs (laid gs rest))
+
 -- the field behind others is its value, as far as it fits
 pub laid-at :
     (fs : List Field) (w v : ℕ) (gs : List Field) (rest : ℕ)
     → field (width fs) w (laid (fs ++ (w, v) ∷ gs) rest) ≡ v % 2 ^ w
 unfolding field
-laid-at fs w v gs rest = rw (laid-append, laid-past) (laid-first (w, v) gs rest)
+laid-at fs w v gs rest = rw laid-drop (laid-first (w, v) gs rest)
 
 pub laid-lt : (fs : List Field) (rest v : ℕ) → rest < 2 ^ v → laid fs rest < 2 ^ (v + width fs)
 unfolding laid width
