@@ -11,6 +11,10 @@ both-true false b e = (e, sym (false-both b e))
     false-both true e = refl
     false-both false e = sym e
 
+pub both-holds : (a b : Bool) → a ≡ true → b ≡ true → both a b ≡ true
+both-holds true b e f = f
+both-holds false b e f = e
+
 pub both-assoc : (a b c : Bool) → both a (both b c) ≡ both (both a b) c
 both-assoc true b c = refl
 both-assoc false b c = refl
