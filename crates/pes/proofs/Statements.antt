@@ -1,6 +1,6 @@
 -- What the two calls owe each other, from their definitions: what is written reads back as the same records, a written packet has
 -- the shape that document 01 gives it, and reading gives no record that writing would refuse. Assumes nothing.
-use mathlib.Core.Path.{_≡_, _∙_, refl, sym, ap, subst₂}
+use mathlib.Core.Path.{_≡_, _∙_, refl, sym, ap, subst, subst₂}
 use mathlib.Core.Bool.{true}
 use mathlib.Core.List.{List, [], _∷_, _++_, flatMap}
 use Prim.Native.Nat.{ℕ, _+_, _-_, _*_, _/_, _%_, _≤_}
@@ -8,18 +8,19 @@ use native.Mathlib.Omega.{arith}
 use lib.Dec.{leb, eqb}
 use lib.ListN.{length, take, drop}
 use lib.Seq.{drop-at, take-all}
-use borrow.Author.Tests.{le-leb, eqb-true}
+use borrow.Author.Tests.{le-leb, eq-eqb, eqb-true}
 use Rattle.laws.specs.Pick.{both}
 use Rattle.laws.proofs.Tests.{both-second, both-holds}
 use Rattle.answer.specs.declared.Answer.the-variants.{Done}
 use Rattle.answer.specs.Rules.{Every, none, more}
 use Rattle.answer.specs.Writing.{answered, left}
-use Rattle.answer.proofs.Answering.{every-head, every-tail, every-join, settles-done}
-use Rattle.pes.specs.Header.{packetLength, lengthFits, headerRules}
-use Rattle.pes.specs.Reading.{places, unitsRules, readRules, recordsOf}
+use Rattle.answer.proofs.Answering.{every-head, every-tail, every-join, every-right, settles-done}
+use Rattle.pes.specs.Header.{byteAt, packetLength, lengthFits, headerRules}
+use Rattle.pes.specs.Reading.{firstUnit, places, unitsRules, readRules, recordsOf}
 use Rattle.pes.specs.Writing.{unitCount, packetSize, recordsFit, writeRules, headerOf, unitsOf, stuffingUnits, packetOf}
-use Rattle.pes.proofs.Heading.{sized-holds}
+use Rattle.pes.proofs.Heading.{sized, sized-holds}
 use Rattle.pes.proofs.Making.{header-length, packet-length, fits-packet}
+use Rattle.pes.proofs.Given.{given}
 use Rattle.pes.proofs.Back.{Bytes, Walked, back-units}
 
 -- ---- a written packet
@@ -101,3 +102,21 @@ shaped d rs e b =
       holds = omega arith;
       least = λ n h k. omega arith;
     }
+
+-- ---- a packet that is read
+
+-- "reading never gives a record that writing would refuse", under the packet's own data_identifier
+pub reads-writable : (pes : List ℕ) → Every (readRules pes) → Every (writeRules (byteAt pes 45) (recordsOf pes))
+unfolding readRules unitsRules headerRules recordsOf places writeRules
+reads-writable pes e =
+    let s = sized (packetLength pes) (length pes) (every-head (every-tail e)) in
+    let g = given (length pes) pes firstUnit (omega arith) (omega arith) (every-right (headerRules pes) (unitsRules pes) e) in
+    let l : length (recordsOf pes) ≡ 44 * g .count = g .long in
+    let u : unitCount (recordsOf pes) ≡ g .count = omega arith in
+    let z : length (recordsOf pes) % 44 ≡ 0 = omega arith in
+    let c : unitCount (recordsOf pes) ≤ 1423 = omega (arith, g .few) in
+    more (every-head (every-tail (every-tail (every-tail (every-tail e)))))
+    (more (eq-eqb (length (recordsOf pes) % 44) 0 z)
+    (more
+    (both-holds (leb (unitCount (recordsOf pes)) 1423) _ (le-leb (unitCount (recordsOf pes)) 1423 c)
+    (subst (λ (n : ℕ). recordsFit n (recordsOf pes) 0 ≡ true) (sym u) (g .fit))) none))
