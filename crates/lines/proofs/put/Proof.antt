@@ -1,12 +1,12 @@
--- `vectors::line::put` meets its contract: the place stays within the text. The measure is what is left of the word.
+-- `lines::put` meets its contract: the place stays within the text. The measure is what is left of the word.
 -- Assumes nothing.
-use Prim.Native.Nat.{_-_, _≤_}
 use mathlib.Core.Path.{_≡_}
+use Prim.Native.Nat.{_-_, _≤_}
 use lib.ListN.{length, length-set}
 use Rattle.io.proofs.Counting.{counts}
 use borrow.Author.Needs.{needs}
-use Rattle.vectors.proofs.line.put.Statement.{statement}
-use Rattle.vectors.proofs.line.put.Tie as tie
+use Rattle.lines.proofs.put.Statement.{statement}
+use Rattle.lines.proofs.put.Tie as tie
 
 abbrev Inv-loop : tie.InvT-loop
 Inv-loop text₀ at word to₀ i₀ text to i = (length text ≡ length text₀) × (to ≤ length text)
@@ -14,8 +14,8 @@ Inv-loop text₀ at word to₀ i₀ text to i = (length text ≡ length text₀)
 abbrev μ-loop : tie.MeasureT-loop
 μ-loop text₀ at word to₀ i₀ text to i = length word - i
 
-least-requires : tie.Need-least-requires Inv-loop μ-loop
-least-requires c κs = search needs
+returns : tie.Need-returns Inv-loop μ-loop
+returns c = counts _ _ (search needs)
 
 loop-holds : tie.Need-loop-holds Inv-loop μ-loop
 loop-holds c = search needs
@@ -23,8 +23,8 @@ loop-holds c = search needs
 same-length : tie.Need-same-length Inv-loop μ-loop
 same-length c = search needs
 
-returns : tie.Need-returns Inv-loop μ-loop
-returns c = counts _ _ (search needs)
+returns-2 : tie.Need-returns-2 Inv-loop μ-loop
+returns-2 c = counts _ _ (search needs)
 
 shared-slice-read-text : tie.Need-shared-slice-read-text Inv-loop μ-loop
 shared-slice-read-text c = search needs
@@ -47,8 +47,8 @@ loop-again c = (simp length-set (search needs), simp length-set (search needs))
 same-length-2 : tie.Need-same-length-2 Inv-loop μ-loop
 same-length-2 c = search needs
 
-returns-2 : tie.Need-returns-2 Inv-loop μ-loop
-returns-2 c = counts _ _ (search needs)
+returns-3 : tie.Need-returns-3 Inv-loop μ-loop
+returns-3 c = counts _ _ (search needs)
 
 pub put-spec : {M : Type 1} → statement M
 put-spec =
@@ -56,10 +56,10 @@ put-spec =
     (tie.spec
     Inv-loop
     μ-loop
-    least-requires
+    returns
     loop-holds
     same-length
-    returns
+    returns-2
     shared-slice-read-text
     slice-write-text
     add-to
@@ -67,4 +67,4 @@ put-spec =
     loop-less
     loop-again
     same-length-2
-    returns-2)
+    returns-3)

@@ -1,44 +1,12 @@
-// The output that a program lends, and the line that it prints. A line is put together in lent space
-// and written by one call.
-ghost use mathlib.Core.Path.{_≡_};
-ghost use Prim.Native.Nat.{min};
-ghost use lib.ListN.{length, replicate};
+// The line that a program try_NAME prints for a case: `op=N no=N at=N out=HEX kept=yes`, or `op=N unknown`;
+// for a case that the end of input cuts short it is `short=N`, with the number of bytes left over.
+//
+// A line is put together in lent space and written to standard output by one call. 131,200 bytes hold the
+// longest: 131,072 digits of 65,536 bytes, and what stands before and after them. What doesn't fit is left
+// out. No contract can say what is written; each function answers how many bytes of the space its line took.
 ghost use Rattle.io.specs.Counts.{Counts};
-ghost use Rattle.vectors.specs.Lent.{filler, keptFrom};
-use crate::least;
 use answer::Answer;
 use libc::STDOUT_FILENO;
-
-// What the lent output is filled with before a call.
-const FILLER: u8 = 0xA5;
-
-// The first `room` bytes of out, or all where it has fewer, filled: what the call is lent.
-pub fn lend(out: &mut [u8], room: usize) -> &mut [u8]
-    ensures { λ r. ⌜ now r ≡ replicate (min room (length (now (out .entry)))) filler ⌝ }
-{
-    let n = least(room, out.len());
-    let lent = &mut out[..n];
-    cover(lent);
-    lent
-}
-
-// Whether every byte of the lent output past those written is as it was filled; false where more
-// bytes are said to be written than were lent.
-pub fn kept(out: &[u8], written: usize) -> bool
-    ensures { λ r. ⌜ r ≡ keptFrom (now (out .entry)) written ⌝ }
-{
-    if out.len() < written {
-        return false;
-    }
-    let mut i = written;
-    while i < out.len() {
-        if out[i] != FILLER {
-            return false;
-        }
-        i += 1;
-    }
-    true
-}
 
 // Writes the line of a call: its number and offset, the bytes that it reports as written at the front
 // of the lent output, and whether the rest is as before. Answers how long the line is.
@@ -73,10 +41,8 @@ pub fn report_fed(
     ensures { λ r. ⌜ Counts r (now (text .exit)) ⌝ }
 {
     let n = call(op, no, at, out, written, text);
-    let n = put(text, n, b" blocks=");
-    let n = put_number(text, n, blocks as u64);
-    let n = put(text, n, b" dropped=");
-    let n = put_yes(text, n, dropped);
+    let n = put_number(text, n, b" blocks=", blocks as u64);
+    let n = put_yes(text, n, b" dropped=", dropped);
     shown(text, n)
 }
 
@@ -84,8 +50,7 @@ pub fn report_fed(
 pub fn unknown(op: u8, text: &mut [u8]) -> usize
     ensures { λ r. ⌜ Counts r (now (text .exit)) ⌝ }
 {
-    let n = put(text, 0, b"op=");
-    let n = put_number(text, n, op as u64);
+    let n = put_number(text, 0, b"op=", op as u64);
     let n = put(text, n, b" unknown");
     shown(text, n)
 }
@@ -97,9 +62,20 @@ pub fn ended(left: usize, text: &mut [u8]) -> usize
     if left == 0 {
         return 0;
     }
-    let n = put(text, 0, b"short=");
-    let n = put_number(text, n, left as u64);
+    let n = put_number(text, 0, b"short=", left as u64);
     shown(text, n)
+}
+
+// The line of a call, up to `kept=yes`.
+fn call(op: u8, no: u8, at: usize, out: &[u8], written: usize, text: &mut [u8]) -> usize
+    ensures { λ r. ⌜ Counts r (now (text .exit)) ⌝ }
+{
+    let n = put_number(text, 0, b"op=", op as u64);
+    let n = put_number(text, n, b" no=", no as u64);
+    let n = put_number(text, n, b" at=", at as u64);
+    let n = put(text, n, b" out=");
+    let n = put_hex(text, n, out, written);
+    put_yes(text, n, b" kept=", vectors::kept(out, written))
 }
 
 // Ends the line with the first n bytes of text, and writes it.
@@ -111,52 +87,34 @@ fn shown(text: &mut [u8], n: usize) -> usize
     n
 }
 
-// The line of a call, up to `kept=yes`.
-fn call(op: u8, no: u8, at: usize, out: &[u8], written: usize, text: &mut [u8]) -> usize
+fn put_yes(text: &mut [u8], at: usize, name: &[u8], yes: bool) -> usize
     ensures { λ r. ⌜ Counts r (now (text .exit)) ⌝ }
 {
-    let n = judged(op, no, at, text);
-    let n = put(text, n, b" out=");
-    let n = put_hex(text, n, out, written);
-    let n = put(text, n, b" kept=");
-    put_yes(text, n, kept(out, written))
-}
-
-// The front of that: op, number and offset.
-fn judged(op: u8, no: u8, at: usize, text: &mut [u8]) -> usize
-    ensures { λ r. ⌜ Counts r (now (text .exit)) ⌝ }
-{
-    let n = put(text, 0, b"op=");
-    let n = put_number(text, n, op as u64);
-    let n = put(text, n, b" no=");
-    let n = put_number(text, n, no as u64);
-    let n = put(text, n, b" at=");
-    put_number(text, n, at as u64)
-}
-
-fn put_yes(text: &mut [u8], at: usize, yes: bool) -> usize
-    ensures { λ r. ⌜ Counts r (now (text .exit)) ⌝ }
-{
+    let n = put(text, at, name);
     if yes {
-        put(text, at, b"yes")
+        put(text, n, b"yes")
     } else {
-        put(text, at, b"no")
+        put(text, n, b"no")
     }
 }
 
-fn put_number(text: &mut [u8], at: usize, number: u64) -> usize
+fn put_number(text: &mut [u8], at: usize, name: &[u8], number: u64) -> usize
     ensures { λ r. ⌜ Counts r (now (text .exit)) ⌝ }
 {
+    let n = put(text, at, name);
     let mut digits = [0u8; 20];
     let k = io::decimal(number, &mut digits);
-    put(text, at, &digits[..k])
+    put(text, n, &digits[..k])
 }
 
 // Puts a word into text at a place, and answers the place after it; what doesn't fit is left out.
 fn put(text: &mut [u8], at: usize, word: &[u8]) -> usize
     ensures { λ r. ⌜ Counts r (now (text .exit)) ⌝ }
 {
-    let mut to = least(at, text.len());
+    if text.len() < at {
+        return text.len();
+    }
+    let mut to = at;
     let mut i = 0;
     while i < word.len() {
         if text.len() <= to {
@@ -173,7 +131,10 @@ fn put(text: &mut [u8], at: usize, word: &[u8]) -> usize
 fn put_hex(text: &mut [u8], at: usize, bytes: &[u8], n: usize) -> usize
     ensures { λ r. ⌜ Counts r (now (text .exit)) ⌝ }
 {
-    let mut to = least(at, text.len());
+    if text.len() < at {
+        return text.len();
+    }
+    let mut to = at;
     let mut i = 0;
     while i < bytes.len() {
         if n <= i {
@@ -194,15 +155,4 @@ fn put_hex(text: &mut [u8], at: usize, bytes: &[u8], n: usize) -> usize
 fn digit(d: u8) -> u8 {
     let n = d % 16;
     if n < 10 { 48 + n } else { 87 + n }
-}
-
-// Fills all of out.
-fn cover(out: &mut [u8])
-    ensures { λ _. ⌜ now (out .exit) ≡ replicate (length (now (out .entry))) filler ⌝ }
-{
-    let mut i = 0;
-    while i < out.len() {
-        out[i] = FILLER;
-        i += 1;
-    }
 }

@@ -1,12 +1,12 @@
--- `vectors::line::put_hex` meets its contract: the place stays within the text. The measure is what is left of the bytes.
+-- `lines::put_hex` meets its contract: the place stays within the text. The measure is what is left of the bytes.
 -- Assumes nothing.
-use Prim.Native.Nat.{_-_, _≤_}
 use mathlib.Core.Path.{_≡_}
+use Prim.Native.Nat.{_-_, _≤_}
 use lib.ListN.{length, length-set}
 use Rattle.io.proofs.Counting.{counts}
 use borrow.Author.Needs.{needs}
-use Rattle.vectors.proofs.line.put_hex.Statement.{statement}
-use Rattle.vectors.proofs.line.put_hex.Tie as tie
+use Rattle.lines.proofs.put_hex.Statement.{statement}
+use Rattle.lines.proofs.put_hex.Tie as tie
 
 abbrev Inv-loop : tie.InvT-loop
 Inv-loop text₀ at bytes n to₀ i₀ text to i = (length text ≡ length text₀) × (to ≤ length text)
@@ -14,8 +14,8 @@ Inv-loop text₀ at bytes n to₀ i₀ text to i = (length text ≡ length text�
 abbrev μ-loop : tie.MeasureT-loop
 μ-loop text₀ at bytes n to₀ i₀ text to i = length bytes - i
 
-least-requires : tie.Need-least-requires Inv-loop μ-loop
-least-requires c κs = search needs
+returns : tie.Need-returns Inv-loop μ-loop
+returns c = counts _ _ (search needs)
 
 loop-holds : tie.Need-loop-holds Inv-loop μ-loop
 loop-holds c = search needs
@@ -23,17 +23,17 @@ loop-holds c = search needs
 same-length : tie.Need-same-length Inv-loop μ-loop
 same-length c = search needs
 
-returns : tie.Need-returns Inv-loop μ-loop
-returns c = counts _ _ (search needs)
+returns-2 : tie.Need-returns-2 Inv-loop μ-loop
+returns-2 c = counts _ _ (search needs)
 
-sub-if2 : tie.Need-sub-if2 Inv-loop μ-loop
-sub-if2 c = search needs
+sub-if3 : tie.Need-sub-if3 Inv-loop μ-loop
+sub-if3 c = search needs
 
 same-length-2 : tie.Need-same-length-2 Inv-loop μ-loop
 same-length-2 c = search needs
 
-returns-2 : tie.Need-returns-2 Inv-loop μ-loop
-returns-2 c = counts _ _ (search needs)
+returns-3 : tie.Need-returns-3 Inv-loop μ-loop
+returns-3 c = counts _ _ (search needs)
 
 shared-slice-read-b : tie.Need-shared-slice-read-b Inv-loop μ-loop
 shared-slice-read-b c = search needs
@@ -68,8 +68,8 @@ loop-again c = (simp length-set (search needs), simp length-set (search needs))
 same-length-3 : tie.Need-same-length-3 Inv-loop μ-loop
 same-length-3 c = search needs
 
-returns-3 : tie.Need-returns-3 Inv-loop μ-loop
-returns-3 c = counts _ _ (search needs)
+returns-4 : tie.Need-returns-4 Inv-loop μ-loop
+returns-4 c = counts _ _ (search needs)
 
 pub put-hex-spec : {M : Type 1} → statement M
 put-hex-spec =
@@ -77,13 +77,13 @@ put-hex-spec =
     (tie.spec
     Inv-loop
     μ-loop
-    least-requires
+    returns
     loop-holds
     same-length
-    returns
-    sub-if2
-    same-length-2
     returns-2
+    sub-if3
+    same-length-2
+    returns-3
     shared-slice-read-b
     digit-requires
     slice-write-text
@@ -95,4 +95,4 @@ put-hex-spec =
     loop-less
     loop-again
     same-length-3
-    returns-3)
+    returns-4)
