@@ -3,3 +3,4 @@ pub mod Maps
 pub mod Stores
 pub mod Tests
 pub mod Whole
+pub mod Runs
