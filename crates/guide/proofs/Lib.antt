@@ -6,3 +6,6 @@ pub mod Filling
 pub mod Laying
 pub mod Paging
 pub mod Answering
+pub mod Numbering
+pub mod Pointing
+pub mod Cases
