@@ -3,4 +3,5 @@ pub mod Judging
 pub mod Written
 pub mod Inverse
 pub mod Exact
+pub mod Forms
 pub mod Cases
