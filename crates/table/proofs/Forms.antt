@@ -40,17 +40,17 @@ descriptors-back kind (d ∷ ds) h k =
     let k₁ = both-true (ltb (d .id) (2 ^ 6)) _ k in
     let k₂ = both-true (ltb c (2 ^ 4)) _ (k₁ .1) in
     let k₃ =
-          both-true (fitting (row 24 (d .words))) (fitting (loops kind ds))
-          (sym (fitting-append (row 24 (d .words)) (loops kind ds)) ∙ k₂ .1) in
+    both-true (fitting (row 24 (d .words))) (fitting (loops kind ds))
+    (sym (fitting-append (row 24 (d .words)) (loops kind ds)) ∙ k₂ .1) in
     let count : per kind * c ≡ length (d .words) =
-          entries-whole kind (d .words) (eqb-true (c * per kind) (length (d .words)) (e .0)) in
+    entries-whole kind (d .words) (eqb-true (c * per kind) (length (d .words)) (e .0)) in
     let words : wordsIn (per kind * c) (spelled (d .words) ++ listed kind ds) ≡ d .words =
-          ap (λ (x : ℕ). wordsIn x (spelled (d .words) ++ listed kind ds)) count ∙ words-back (d .words) (listed kind ds) (k₃ .0) in
+    ap (λ (x : ℕ). wordsIn x (spelled (d .words) ++ listed kind ds)) count ∙ words-back (d .words) (listed kind ds) (k₃ .0) in
     let rest : drop (2 + 3 * (per kind * c)) f ≡ listed kind ds =
-          sym (drop-drop (3 * (per kind * c)) 2 f)
-          ∙ drop-at (spelled (d .words)) (listed kind ds) (3 * (per kind * c)) (length-spelled (d .words) ∙ ap (λ (x : ℕ). 3 * x) (sym count)) in
+    sym (drop-drop (3 * (per kind * c)) 2 f)
+    ∙ drop-at (spelled (d .words)) (listed kind ds) (3 * (per kind * c)) (length-spelled (d .words) ∙ ap (λ (x : ℕ). 3 * x) (sym count)) in
     let one : _≡_ {A = Descriptor} (record { id = d .id; words = wordsIn (per kind * c) (spelled (d .words) ++ listed kind ds) }) d =
-          ap (λ (ws : List ℕ). record { id = d .id; words = ws }) words in
+    ap (λ (ws : List ℕ). record { id = d .id; words = ws }) words in
     ap₂ (λ (x : Descriptor) (xs : List Descriptor). x ∷ xs) one
     (ap (descriptorsIn (per kind) (length ds)) rest ∙ descriptors-back kind ds (e .1) (k₃ .1))
 
@@ -59,13 +59,13 @@ unfolding tableIn form openingOf whole
 form-in t s =
     let b : (0 * 2 ^ 8 + t .block / 256 % 2 ^ 8) * 2 ^ 8 + t .block % 256 % 2 ^ 8 ≡ t .block = omega (arith, s .block-fits) in
     λ i.
-      record
-        { kind = t .kind
-        ; copyright = t .copyright
-        ; block = b i
-        ; network = t .network
-        ; descriptors = descriptors-back (t .kind) (t .descriptors) (s .entire-all) (s .loops-fit) i
-        }
+    record {
+      kind = t .kind;
+      copyright = t .copyright;
+      block = b i;
+      network = t .network;
+      descriptors = descriptors-back (t .kind) (t .descriptors) (s .entire-all) (s .loops-fit) i;
+    }
 
 -- ---- the form out of its table
 
@@ -94,24 +94,25 @@ spelled-back (suc k) (x ∷ []) b h = absurd (omega arith)
 spelled-back (suc k) (x ∷ y ∷ []) b h = absurd (omega arith)
 spelled-back (suc k) (x ∷ y ∷ z ∷ f) b h =
     let e : 3 * suc k ≡ suc (suc (suc (3 * k))) = omega arith in
-    rw
-    (e
-    , whole-next 8 z (y ∷ x ∷ [])
-    , whole-next 8 y (x ∷ [])
-    , whole-first 8 x []
-    , whole-first 8 y (x ∷ [])
-    , whole-first 8 z (y ∷ x ∷ [])
-    , mod-eq-of-lt (b 0)
-    , mod-eq-of-lt (b 1)
-    , mod-eq-of-lt (b 2)
-    , spelled-back k f (λ i. b (suc (suc (suc i)))) (omega arith))
+    rw (
+      e,
+      whole-next 8 z (y ∷ x ∷ []),
+      whole-next 8 y (x ∷ []),
+      whole-first 8 x [],
+      whole-first 8 y (x ∷ []),
+      whole-first 8 z (y ∷ x ∷ []),
+      mod-eq-of-lt (b 0),
+      mod-eq-of-lt (b 1),
+      mod-eq-of-lt (b 2),
+      spelled-back k f (λ i. b (suc (suc (suc i)))) (omega arith),
+    )
 
 -- one descriptor on, as the form's length goes
 pub listed-step :
     (kind each k : ℕ) (f : List ℕ)
     → let words = each * getD f 1 0 in
-      length (listed kind (descriptorsIn each (suc k) f))
-      ≡ 2 + 3 * words + length (listed kind (descriptorsIn each k (drop (2 + 3 * words) f)))
+    length (listed kind (descriptorsIn each (suc k) f))
+    ≡ 2 + 3 * words + length (listed kind (descriptorsIn each k (drop (2 + 3 * words) f)))
 unfolding descriptorsIn
 listed-step kind each k f = rw (length-listed, length-words)
 
@@ -128,15 +129,15 @@ listed-back kind (suc k) (x ∷ c ∷ f) b h =
     let rest = drop (3 * words) f in
     let same : drop (2 + 3 * words) (x ∷ c ∷ f) ≡ rest = sym (drop-drop (3 * words) 2 (x ∷ c ∷ f)) in
     let step =
-          listed-step kind (per kind) k (x ∷ c ∷ f)
-          ∙ ap (λ (l : List ℕ). 2 + 3 * words + length (listed kind (descriptorsIn (per kind) k l))) same in
+    listed-step kind (per kind) k (x ∷ c ∷ f)
+    ∙ ap (λ (l : List ℕ). 2 + 3 * words + length (listed kind (descriptorsIn (per kind) k l))) same in
     let long : length f ≡ 3 * words + length (listed kind (descriptorsIn (per kind) k rest)) = omega (arith, h, step) in
     let count : entries kind (wordsIn words f) ≡ c =
-          ap (λ (n : ℕ). n / per kind) (length-words words f) ∙ mul-div-cancel-left c (per-pos kind) in
+    ap (λ (n : ℕ). n / per kind) (length-words words f) ∙ mul-div-cancel-left c (per-pos kind) in
     let spelt = spelled-back words f (bytes-drop 2 (x ∷ c ∷ f) b) (omega arith) in
     let more =
-          ap (λ (l : List ℕ). listed kind (descriptorsIn (per kind) k l)) same
-          ∙ listed-back kind k rest (bytes-drop (3 * words) f (bytes-drop 2 (x ∷ c ∷ f) b)) (length-drop (3 * words) f ∙ omega arith) in
+    ap (λ (l : List ℕ). listed kind (descriptorsIn (per kind) k l)) same
+    ∙ listed-back kind k rest (bytes-drop (3 * words) f (bytes-drop 2 (x ∷ c ∷ f) b)) (length-drop (3 * words) f ∙ omega arith) in
     ap₂ (λ (n : ℕ) (l : List ℕ). x ∷ n ∷ l) count
     (ap₂ (λ (l m : List ℕ). l ++ m) spelt more ∙ take-append-drop (3 * words) f)
 
@@ -163,8 +164,8 @@ in-form f b h =
     let long : length f ≡ 6 + length (listed kind ds) = h ∙ length-form (tableIn f) in
     let count : length ds ≡ k = length-in (per kind) k more in
     let low : whole 8 (getD f 2 0 ∷ getD f 3 0 ∷ []) % 256 ≡ getD f 2 0 =
-          whole-first 8 (getD f 2 0) (getD f 3 0 ∷ []) ∙ mod-eq-of-lt (b 2) in
+    whole-first 8 (getD f 2 0) (getD f 3 0 ∷ []) ∙ mod-eq-of-lt (b 2) in
     let high : whole 8 (getD f 2 0 ∷ getD f 3 0 ∷ []) / 256 ≡ getD f 3 0 =
-          whole-next 8 (getD f 2 0) (getD f 3 0 ∷ []) ∙ one-byte (getD f 3 0) (b 3) in
+    whole-next 8 (getD f 2 0) (getD f 3 0 ∷ []) ∙ one-byte (getD f 3 0) (b 3) in
     let rest : listed kind ds ≡ more = listed-back kind k more (bytes-drop 6 f b) (length-drop 6 f ∙ omega arith) in
     rw (low, high, count, rest) (six f (omega arith))
