@@ -8,3 +8,4 @@ pub mod Carried
 pub mod March
 pub mod Settled
 pub mod Fed
+pub mod Tables
