@@ -9,3 +9,4 @@ pub mod March
 pub mod Settled
 pub mod Fed
 pub mod Tables
+pub mod Demands

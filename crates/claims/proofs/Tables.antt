@@ -54,9 +54,9 @@ table-fits application t f =
     record {
       head = head-small application (size t);
       size =
-        length-map (nibblesFor application t) image
-        ∙ nibbles-length application t
-        ∙ sym (head-size application (size t) (omega arith))
+          length-map (nibblesFor application t) image
+          ∙ nibbles-length application t
+          ∙ sym (head-size application (size t) (omega arith));
     }
 
 block-record : (application : ℕ) (t : Table) → recordOf application t ≡ Block·recordOf (tableBlock application t)
