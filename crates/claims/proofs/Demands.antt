@@ -1,31 +1,30 @@
 -- The third demand. "A list of tables cut by our writer, all packets fed in order to one fresh reader, other magazines between: at most
 -- one flipped bit in each byte: exactly that list; up to two: only tables that were sent, in order, each at most once." One theorem over
 -- the number of flips, and its two corollaries. Assumes nothing.
-use mathlib.Core.Path.{_≡_, _∙_, refl, sym, ap, subst}
+use mathlib.Core.Path.{_≡_, _∙_, sym, ap, subst}
 use mathlib.Core.Bool.{Bool, true}
-use mathlib.Core.List.{List, [], _∷_, _++_, map}
-use Prim.Native.Nat.{ℕ, zero, suc, _+_, _%_, _≤_, _<_}
+use mathlib.Core.List.{List, map}
+use Prim.Native.Nat.{ℕ, _≤_, _<_}
 use native.Mathlib.Omega.{arith}
 use lib.Dec.{leb}
-use lib.ListN.{length, length-append, length-map}
+use lib.ListN.{length}
 use borrow.Author.Tests.{leb-true}
-use Rattle.laws.specs.Pick.{both}
 use Rattle.laws.proofs.Tests.{both-true}
-use Rattle.blocks.specs.Block.{Block, blocks}
+use Rattle.blocks.specs.Block.{Block}
 use Rattle.guide.specs.declared.Setting.{Setting}
 use Rattle.guide.specs.Setting.{inRange}
-use Rattle.guide.specs.Packet.{packetZero, packetOf}
-use Rattle.guide.specs.Stream.{Symbol, byteOf, perPacket, streamOf, grab}
-use Rattle.guide.specs.Cutting.{rows, pages, afterRows, pagesFor, packets}
+use Rattle.guide.proofs.Numbering.{FortyTwo, more, packets-forty}
+use Rattle.guide.specs.Stream.{streamOf}
+use Rattle.guide.specs.Cutting.{pages, pagesFor, packets}
 use Rattle.reader.specs.State.{freshState}
 use Rattle.reader.proofs.Ranging.{sound-fresh}
 use Rattle.table.specs.Tables.{Table, fits}
-use Rattle.claims.specs.Noise.{Near, Aired, ended, sent as Aired·sent, between, Came, Each, nil, and}
+use Rattle.claims.specs.Noise.{Aired, ended, sent as Aired·sent, between, Came, Each}
 use Rattle.claims.specs.Lists.{Among}
 use Rattle.claims.specs.Feeding.{Call, packetsOf}
-use Rattle.claims.specs.Tables.{recordsOf, sent, received, tablesOf}
+use Rattle.claims.specs.Tables.{recordsOf, sent, received}
 use Rattle.claims.proofs.Losing.{near-length, came-exactly, came-among}
-use Rattle.claims.proofs.Carried.{grab-length, sentBlocks, carried-blocks}
+use Rattle.claims.proofs.Carried.{sentBlocks, carried-blocks}
 use Rattle.claims.proofs.Fed.{fed-blocks}
 use Rattle.claims.proofs.Tables.{tableBlock, all-fit, blocks-written, tables-came}
 
@@ -49,38 +48,12 @@ range s e =
       application = omega (arith, leb-true (s .application) 31 (d .1));
     }
 
--- ---- every packet is 42 bytes long
+-- ---- every packet that arrives is 42 bytes long
 
-abbrev Long : List (List ℕ) → Type 0
-Long = Each (λ p. length p ≡ 42)
-
-long-append : {ps qs : List (List ℕ)} → Long ps → Long qs → Long (ps ++ qs)
-long-append nil r = r
-long-append (and h t) r = and h (long-append t r)
-
-zero-long : (s : Setting) (index n : ℕ) → length (packetZero s index n) ≡ 42
-unfolding packetZero
-zero-long s index n = refl
-
-row-long : (s : Setting) (y p : ℕ) (l : List ℕ) → length l ≡ 39 → length (packetOf s y p l) ≡ 42
-unfolding packetOf
-row-long s y p l e = omega arith
-
-rows-long : (s : Setting) (w y : ℕ) (ss : List Symbol) → Long (rows s w y ss)
-unfolding rows
-rows-long s zero y ss = nil
-rows-long s (suc w) y ss =
-    and (row-long s y _ _ (length-map (grab perPacket ss) byteOf ∙ grab-length perPacket ss)) (rows-long s w (suc y) _)
-
-pages-long : (s : Setting) (k p index : ℕ) (ss : List Symbol) → Long (pages s k p index ss)
-unfolding pages
-pages-long s k zero index ss = nil
-pages-long s k (suc p) index ss = and (zero-long s index k) (long-append (rows-long s k 1 ss) (pages-long s k p _ _))
-
-aired-long : {d : ℕ} {s : Setting} {ps qs : List (List ℕ)} → Long ps → Aired d s ps qs → Long qs
-aired-long nil ended = nil
-aired-long (and h t) (Aired·sent n a) = and (sym (near-length n) ∙ h) (aired-long t a)
-aired-long r (between e a) = and (sym (near-length (e .near)) ∙ omega (arith, e .long)) (aired-long r a)
+aired-long : {d : ℕ} {s : Setting} {ps qs : List (List ℕ)} → FortyTwo ps → Aired d s ps qs → FortyTwo qs
+aired-long r ended = r
+aired-long (more h t) (Aired·sent n a) = more (sym (near-length n) ∙ h) (aired-long t a)
+aired-long r (between e a) = more (sym (near-length (e .near)) ∙ omega (arith, e .long)) (aired-long r a)
 
 -- ---- the demand
 
@@ -97,7 +70,7 @@ module _ (d : ℕ) (small : d ≤ 2) (s : Setting) (within : inRange s ≡ true)
       let r = range s within in
       let a : Aired d s (sentBlocks s index k (map (tableBlock (s .application)) ts)) (packetsOf calls) =
       subst (λ (ps : List (List ℕ)). Aired d s ps (packetsOf calls)) sent-blocks aired in
-      let long : Long (packetsOf calls) = aired-long (pages-long s k _ index _) a in
+      let long = aired-long (packets-forty s index k (recordsOf (s .application) ts)) aired in
       rw (fed-blocks s within freshState sound-fresh calls long)
       (tables-came d small (s .application) (r .application) ts fit
       (carried-blocks d small s (r .page) (r .stream) index k low least most (all-fit (s .application) fit) a))
