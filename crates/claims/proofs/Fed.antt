@@ -14,6 +14,7 @@ use Rattle.blocks.specs.Block.{Block, blocks, recordsOf}
 use Rattle.blocks.proofs.Round.{blocks-records}
 use Rattle.guide.specs.declared.Setting.{Setting}
 use Rattle.guide.specs.Setting.{inRange}
+use Rattle.guide.proofs.Numbering.{FortyTwo, more}
 use Rattle.reader.specs.declared.Reader.{Reader}
 use Rattle.reader.specs.Seen.{see}
 use Rattle.reader.specs.Acting.{State, act, handed}
@@ -21,7 +22,6 @@ use Rattle.reader.specs.State.{stateOf, readerOf, readerInRange}
 use Rattle.reader.specs.Feeding.{feedHeard, feedReader, feedOut, handedBytes}
 use Rattle.reader.proofs.Ranging.{Sound, sound-after, state-held, reader-in-range}
 use Rattle.reader.proofs.Sizing.{handed-sized}
-use Rattle.claims.specs.Noise.{Each, nil, and}
 use Rattle.claims.specs.Carrying.{heardBlocks}
 use Rattle.claims.specs.Feeding.{Call, packetsOf, writtenOf, comesOut}
 
@@ -37,11 +37,11 @@ module _ (s : Setting) (r : Reader) (p old : List ℕ) (a : inRange s ≡ true) 
   taken-out = rw (a, b, eq-eqb (length p) 42 c, le-leb 2112 (length old) d)
 
 pub fed-blocks :
-    (s : Setting) → inRange s ≡ true → (st : State) → Sound st → (cs : List Call) → Each (λ p. length p ≡ 42) (packetsOf cs)
+    (s : Setting) → inRange s ≡ true → (st : State) → Sound st → (cs : List Call) → FortyTwo (packetsOf cs)
     → comesOut s (readerOf st) cs ≡ heardBlocks s st (packetsOf cs)
 unfolding packetsOf comesOut heardBlocks
 fed-blocks s a st r [] e = refl
-fed-blocks s a st r (c ∷ cs) (and l e) =
+fed-blocks s a st r (c ∷ cs) (more l e) =
     ap₂ (λ (x y : List Block). x ++ y) one
     (ap (λ (x : Reader). comesOut s x cs) next ∙ fed-blocks s a (act st (see s (c .packet))) (sound-after s st (c .packet) r) cs e)
   where
