@@ -2,3 +2,4 @@ pub mod Setting
 pub mod Packet
 pub mod Stream
 pub mod Cutting
+pub mod Pen

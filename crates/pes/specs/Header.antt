@@ -1,0 +1,46 @@
+-- The PES packet header, "always 45 bytes; its optional fields aren't read", and the data_identifier: EN 300 472, 4.2 and 4.4.
+use mathlib.Core.Bool.{Bool}
+use mathlib.Core.List.{List, [], _∷_}
+use Prim.Native.Nat.{ℕ, _+_, _-_, _*_, _/_, _%_}
+use lib.Dec.{eqb, leb}
+use lib.ListN.{length, getD}
+use Rattle.laws.specs.Pick.{both}
+use Rattle.answer.specs.Rules.{Rule, rule}
+
+-- the packet's byte at a place
+abbrev pub byteAt : List ℕ → ℕ → ℕ
+byteAt pes at = getD pes at 0
+
+-- "00 00 01 BD at the front": packet_start_code_prefix, and the stream_id "private stream 1"
+abbrev pub startsRight : List ℕ → Bool
+startsRight pes =
+    both (eqb (byteAt pes 0) 0x00)
+    (both (eqb (byteAt pes 1) 0x00) (both (eqb (byteAt pes 2) 0x01) (eqb (byteAt pes 3) 0xBD)))
+
+-- PES_packet_length
+abbrev pub packetLength : List ℕ → ℕ
+packetLength pes = byteAt pes 4 * 256 + byteAt pes 5
+
+-- "N×184−6 with N from 1 to 356"
+abbrev pub lengthFits : ℕ → Bool
+lengthFits l =
+    let n = (l + 6) / 184 in
+    both (leb 1 n) (both (leb n 356) (eqb l (n * 184 - 6)))
+
+-- byte 6: "its leading bits 10" and data_alignment_indicator
+abbrev pub flagsFit : ℕ → Bool
+flagsFit b = both (eqb (b / 64) 2) (eqb (b / 4 % 2) 1)
+
+-- table 3: 0x10 to 0x1F is EBU data
+abbrev pub ebuData : ℕ → Bool
+ebuData d = both (leb 0x10 d) (leb d 0x1F)
+
+-- refusals 2 to 5, in order
+unfoldable pub headerRules : List ℕ → List Rule
+headerRules pes =
+    rule (both (leb 45 (length pes)) (startsRight pes)) 2 0
+    ∷ rule (both (lengthFits (packetLength pes)) (eqb (packetLength pes + 6) (length pes))) 3 4
+    ∷ rule (flagsFit (byteAt pes 6)) 4 6
+    ∷ rule (eqb (byteAt pes 8) 0x24) 4 8
+    ∷ rule (ebuData (byteAt pes 45)) 5 45
+    ∷ []

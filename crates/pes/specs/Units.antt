@@ -1,0 +1,73 @@
+-- A data unit, "id, length, that many bytes", and the data field of a text unit: EN 300 472, tables 1, 2, 4 and 5.
+use mathlib.Core.Bool.{Bool}
+use mathlib.Core.List.{List, [], _∷_, _++_, map}
+use Prim.Native.Nat.{ℕ, _+_, _%_}
+use lib.Dec.{eqb, leb, ltb}
+use lib.ListN.{length, take, drop}
+use Rattle.laws.specs.Pick.{pick, both, either}
+use Rattle.answer.specs.Rules.{Rule, rule, judged}
+use Rattle.answer.specs.Values.{refusal}
+use Rattle.octet.specs.Turning.{turned}
+use Rattle.pes.specs.declared.DataUnit.{DataUnit}
+use Rattle.pes.specs.Header.{byteAt}
+
+-- table 4: EBU Teletext non-subtitle data, EBU Teletext subtitle data
+abbrev pub textId : ℕ → Bool
+textId i = either (eqb i 0x02) (eqb i 0x03)
+
+-- table 4: data_unit for stuffing
+abbrev pub stuffingId : ℕ → Bool
+stuffingId i = eqb i 0xFF
+
+-- the line byte: "two reserved bits, field parity, five bits of line offset", whose offset is "0 or 0x07..0x16" (table 5)
+abbrev pub lineFits : ℕ → Bool
+lineFits b = either (eqb (b % 32) 0x00) (both (leb 0x07 (b % 32)) (leb (b % 32) 0x16))
+
+-- the bytes after the length of a text unit: the line byte, the framing byte, 42 bytes
+abbrev pub textLength : ℕ
+textLength = 0x2C
+
+-- the framing byte as it stands: 27 turned
+abbrev pub framing : ℕ
+framing = 0xE4
+
+-- the place after the unit at a place
+abbrev pub nextUnit : List ℕ → ℕ → ℕ
+nextUnit pes at = at + 2 + byteAt pes (at + 1)
+
+-- "6 (one byte left), 7, 6 (overrun)" of the unit at a place
+unfoldable pub unitRules : List ℕ → ℕ → List Rule
+unitRules pes at =
+    rule (leb (at + 2) (length pes)) 6 at
+    ∷ rule (either (textId (byteAt pes at)) (stuffingId (byteAt pes at))) 7 at
+    ∷ rule (leb (nextUnit pes at) (length pes)) 6 at
+    ∷ []
+
+-- "8, 9" of a text unit: "for 9 the line byte or else the framing byte"
+unfoldable pub textRules : List ℕ → ℕ → List Rule
+textRules pes at =
+    rule (eqb (byteAt pes (at + 1)) textLength) 8 at
+    ∷ rule (lineFits (byteAt pes (at + 2))) 9 (at + 2)
+    ∷ rule (eqb (byteAt pes (at + 3)) framing) 9 (at + 3)
+    ∷ []
+
+-- all rules of the unit at a place, in order
+abbrev pub rulesAt : List ℕ → ℕ → List Rule
+rulesAt pes at = unitRules pes at ++ pick (stuffingId (byteAt pes at)) [] (textRules pes at)
+
+abbrev pub badUnit : ℕ → ℕ → DataUnit
+badUnit n o = DataUnit.Refused (refusal n o)
+
+-- what stands at a place: no byte, or the unit that begins there with the place after it, or its refusal
+unfoldable pub unitAt : List ℕ → ℕ → DataUnit
+unitAt pes at =
+    let found = pick (stuffingId (byteAt pes at)) (DataUnit.Stuffing (nextUnit pes at)) (DataUnit.Text (nextUnit pes at)) in
+    pick (ltb at (length pes)) (judged badUnit (rulesAt pes at) found) DataUnit.End
+
+-- "a record of 44 bytes: unit id, line byte, the 42 turned bytes"
+unfoldable pub recordAt : List ℕ → ℕ → List ℕ
+recordAt pes at = byteAt pes at ∷ byteAt pes (at + 2) ∷ map turned (take 42 (drop (at + 4) pes))
+
+-- what the unit at a place gives: "stuffing gives nothing"
+abbrev pub givenAt : List ℕ → ℕ → List ℕ
+givenAt pes at = pick (stuffingId (byteAt pes at)) [] (recordAt pes at)
