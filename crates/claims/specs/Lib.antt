@@ -1,0 +1,4 @@
+pub mod Noise
+pub mod Carrying
+pub mod Feeding
+pub mod Lists

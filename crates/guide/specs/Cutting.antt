@@ -1,0 +1,62 @@
+-- The writer: records to packets, in pages of k packets.
+use mathlib.Core.Bool.{Bool}
+use mathlib.Core.List.{List, [], _∷_, _++_, map}
+use Prim.Native.Nat.{ℕ, zero, suc, _+_, _-_, _*_, _/_, _%_}
+use lib.Dec.{leb}
+use lib.ListN.{length, drop}
+use Rattle.laws.specs.Pick.{both}
+use Rattle.answer.specs.Rules.{Rule, rule}
+use Rattle.blocks.specs.Block.{whole, blocks}
+use Rattle.guide.specs.declared.Setting.{Setting}
+use Rattle.guide.specs.Setting.{inRange}
+use Rattle.guide.specs.Packet.{packetZero, packetOf}
+use Rattle.guide.specs.Stream.{Symbol, byteOf, perPacket, streamOf, grab, pointerOf}
+
+-- packet y with the next symbols
+abbrev pub rowOf : Setting → ℕ → List Symbol → List ℕ
+rowOf s y ss = packetOf s y (pointerOf (grab perPacket ss)) (map byteOf (grab perPacket ss))
+
+-- the w packets from y on of a page
+unfoldable pub rows : Setting → ℕ → ℕ → List Symbol → List (List ℕ)
+rows s zero y ss = []
+rows s (suc w) y ss = rowOf s y ss ∷ rows s w (suc y) (drop perPacket ss)
+
+-- what is left of the stream after w packets
+abbrev pub afterRows : ℕ → List Symbol → List Symbol
+afterRows w ss = drop (w * perPacket) ss
+
+-- so many pages of k packets: a packet 0 with n = k and the index, the k packets, and the next page with the next index
+unfoldable pub pages : Setting → ℕ → ℕ → ℕ → List Symbol → List (List ℕ)
+pages s k zero index ss = []
+pages s k (suc p) index ss = packetZero s index k ∷ (rows s k 1 ss ++ pages s k p ((index + 1) % 16) (afterRows k ss))
+
+-- how many packets, besides packets 0, so many symbols need
+abbrev pub rowsFor : ℕ → ℕ
+rowsFor n = (n + (perPacket - 1)) / perPacket
+
+-- how many pages of k packets they need: the last page is filled with filler
+abbrev pub pagesFor : ℕ → ℕ → ℕ
+pagesFor k n = (rowsFor n + (k - 1)) / k
+
+-- the packets of a list of records, the first index given. "An empty list gives no packet."
+unfoldable pub packets : Setting → ℕ → ℕ → List ℕ → List (List ℕ)
+packets s index k records =
+    let ss = streamOf (blocks records) in
+    pages s k (pagesFor k (length ss)) index ss
+
+-- packets one after the other
+unfoldable pub joined : List (List ℕ) → List ℕ
+joined [] = []
+joined (p ∷ ps) = p ++ joined ps
+
+abbrev pub cutBytes : Setting → ℕ → ℕ → List ℕ → List ℕ
+cutBytes s index k records = joined (packets s index k records)
+
+-- "Unless told otherwise it fills pages of 25 packets; it takes 1 to 25."
+abbrev pub usualPage : ℕ
+usualPage = 25
+
+-- the writer's refusals, in order: 16 for the setting, the index or the page's length, 13 for a list that isn't whole records
+abbrev pub cutRules : Setting → ℕ → ℕ → List ℕ → List Rule
+cutRules s index k records =
+    rule (both (inRange s) (both (leb index 15) (both (leb 1 k) (leb k 25)))) 16 0 ∷ rule (whole records) 13 0 ∷ []

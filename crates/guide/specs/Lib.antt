@@ -1,0 +1,5 @@
+pub mod Setting
+pub mod Packet
+pub mod Stream
+pub mod Cutting
+pub mod Pen

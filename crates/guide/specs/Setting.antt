@@ -1,0 +1,11 @@
+-- "set to magazine 1..8, page 0..255, stream 0..15, application 0..31"
+use mathlib.Core.Bool.{Bool}
+use lib.Dec.{leb}
+use Rattle.laws.specs.Pick.{both}
+use Rattle.guide.specs.declared.Setting.{Setting}
+
+-- a setting is in range
+unfoldable pub inRange : Setting → Bool
+inRange s =
+    both (leb 1 (s .magazine))
+    (both (leb (s .magazine) 8) (both (leb (s .page) 255) (both (leb (s .stream) 15) (leb (s .application) 31))))

@@ -1,0 +1,104 @@
+-- The calls: one packet, and a row of packets.
+use mathlib.Core.Bool.{Bool, false}
+use mathlib.Core.List.{List, [], _∷_, _++_}
+use Prim.Native.Nat.{ℕ, zero, suc, _+_, _-_, _%_, _/_}
+use lib.Dec.{eqb, leb}
+use lib.ListN.{length, take, drop}
+use Rattle.laws.specs.Pick.{pick, both, either}
+use Rattle.answer.specs.Rules.{Rule, rule, judged}
+use Rattle.answer.specs.Values.{refusal}
+use Rattle.blocks.specs.Block.{Block, recordsOf}
+use Rattle.guide.specs.declared.Setting.{Setting}
+use Rattle.guide.specs.Setting.{inRange}
+use Rattle.guide.specs.Packet.{packetLength}
+use Rattle.reader.specs.declared.Reader.{Reader}
+use Rattle.reader.specs.declared.Heard.{Heard}
+use Rattle.reader.specs.declared.Heard.the-variants.{Took, Refused}
+use Rattle.reader.specs.declared.HeardAll.{HeardAll}
+use Rattle.reader.specs.declared.HeardAll.the-variants.{TookAll, RefusedAll}
+use Rattle.reader.specs.Seen.{see}
+use Rattle.reader.specs.Acting.{State, act, handed, dropped as Acting·dropped}
+use Rattle.reader.specs.State.{stateOf, readerOf, readerInRange}
+
+-- "1 (under 2,112 bytes of output)"
+abbrev pub room : ℕ
+room = 2112
+
+-- "Reader: 16, then 1"
+abbrev pub feedRules : Setting → Reader → List ℕ → List ℕ → List Rule
+feedRules s r p old =
+    rule (both (inRange s) (both (readerInRange r) (eqb (length p) packetLength))) 16 0 ∷ rule (leb room (length old)) 1 0 ∷ []
+
+abbrev pub refusedHeard : ℕ → ℕ → Heard
+refusedHeard number offset = Refused (refusal number offset)
+
+-- the records of the blocks that a packet finishes
+abbrev pub handedBytes : Setting → State → List ℕ → List ℕ
+handedBytes s st p = recordsOf (handed st (see s p))
+
+-- the answer: how many blocks, how many bytes, whether one was dropped
+abbrev pub feedHeard : Setting → Reader → List ℕ → List ℕ → Heard
+feedHeard s r p old =
+    judged refusedHeard (feedRules s r p old)
+    (Took (length (handed (stateOf r) (see s p))) (length (handedBytes s (stateOf r) p)) (Acting·dropped (stateOf r) (see s p)))
+
+-- the reader handed back: a refusal's is equal to the one handed in
+abbrev pub feedReader : Setting → Reader → List ℕ → List ℕ → Reader
+feedReader s r p old = judged (λ number offset. r) (feedRules s r p old) (readerOf (act (stateOf r) (see s p)))
+
+-- the output afterwards
+abbrev pub feedOut : Setting → Reader → List ℕ → List ℕ → List ℕ
+feedOut s r p old =
+    judged (λ number offset. old) (feedRules s r p old)
+    (handedBytes s (stateOf r) p ++ drop (length (handedBytes s (stateOf r) p)) old)
+
+-- ---- a row of packets: each is taken as by the call for one, while the room left is enough for one
+
+-- what packets taken one after the other have come to
+pub record Ran : Type 0 where
+  pub packets : ℕ
+  pub state : State
+  pub blocks : List Block
+  pub dropped : Bool
+
+abbrev pub begun : State → Ran
+begun st = record { packets = 0; state = st; blocks = []; dropped = false }
+
+-- one packet more
+abbrev pub ranOn : Setting → Ran → List ℕ → Ran
+ranOn s a p =
+    record {
+      packets = suc (a .packets);
+      state = act (a .state) (see s p);
+      blocks = a .blocks ++ handed (a .state) (see s p);
+      dropped = either (a .dropped) (Acting·dropped (a .state) (see s p));
+    }
+
+-- at most n packets from the front of l, into an output so long
+unfoldable pub run : Setting → ℕ → ℕ → Ran → List ℕ → Ran
+run s long zero a l = a
+run s long (suc n) a l =
+    pick (leb (length (recordsOf (a .blocks)) + room) long) (run s long n (ranOn s a (take packetLength l)) (drop packetLength l)) a
+
+abbrev pub ranAll : Setting → Reader → List ℕ → List ℕ → Ran
+ranAll s r l old = run s (length old) (length l / packetLength) (begun (stateOf r)) l
+
+abbrev pub feedAllRules : Setting → Reader → List ℕ → List Rule
+feedAllRules s r l = rule (both (inRange s) (both (readerInRange r) (eqb (length l % packetLength) 0))) 16 0 ∷ []
+
+abbrev pub refusedAll : ℕ → ℕ → HeardAll
+refusedAll number offset = RefusedAll (refusal number offset)
+
+abbrev pub feedAllHeard : Setting → Reader → List ℕ → List ℕ → HeardAll
+feedAllHeard s r l old =
+    let a = ranAll s r l old in
+    judged refusedAll (feedAllRules s r l)
+    (TookAll (a .packets) (length (a .blocks)) (length (recordsOf (a .blocks))) (a .dropped))
+
+abbrev pub feedAllReader : Setting → Reader → List ℕ → List ℕ → Reader
+feedAllReader s r l old = judged (λ number offset. r) (feedAllRules s r l) (readerOf (ranAll s r l old .state))
+
+abbrev pub feedAllOut : Setting → Reader → List ℕ → List ℕ → List ℕ
+feedAllOut s r l old =
+    let bytes = recordsOf (ranAll s r l old .blocks) in
+    judged (λ number offset. old) (feedAllRules s r l) (bytes ++ drop (length bytes) old)

@@ -1,0 +1,123 @@
+-- Reading along the bytes of a packet, one byte a step.
+use mathlib.Core.Bool.{Bool, true, false}
+use mathlib.Core.List.{List, [], _∷_, _++_}
+use Prim.Native.Nat.{ℕ, zero, suc, _+_, _*_, _/_}
+use lib.Dec.{eqb, leb, ltb}
+use lib.ListN.{length}
+use Rattle.laws.specs.Pick.{pick, either}
+use Rattle.octet.specs.Decoding.{nib, undecodable}
+use Rattle.blocks.specs.Block.{Block, sizeOf}
+
+-- how far reading is
+pub data Mode : Type 0 where
+  -- nothing is running, and the rest of the packet isn't read
+  off : Mode
+  -- nothing is running: filler is skipped to the next start
+  scan : Mode
+  -- a start came, and so many nibbles of its 16 bits
+  heading : ℕ → ℕ → Mode
+  -- the 16 bits and the raw bytes so far
+  body : ℕ → List ℕ → Mode
+
+-- a block is running
+abbrev pub running : Mode → Bool
+running off = false
+running scan = false
+running (heading g v) = true
+running (body h held) = true
+
+abbrev pub filler : ℕ → Bool
+filler b = eqb (nib b) 3
+
+-- the 16 bits come lowest nibble first: each shifts those before it down
+abbrev pub shifted : ℕ → ℕ → ℕ
+shifted v b = v / 16 + nib b * 4096
+
+-- all bytes of the block have come
+abbrev pub full : ℕ → List ℕ → Bool
+full h held = leb (sizeOf h) (length held)
+
+-- ---- from the pointed byte on: "filler is skipped to the next start or the end; another nibble, or a byte that can't be decoded,
+-- ends the packet"
+
+-- past a start's fourth nibble a block of size 0 is finished at once
+abbrev pub headed : ℕ → ℕ → Mode
+headed g v = pick (ltb g 3) (heading (suc g) v) (pick (full v []) scan (body v []))
+
+-- "If one of a start's four bytes can't be decoded, that block is dropped at once and the rest of the packet skipped"
+unfoldable pub step : Mode → ℕ → Mode
+step off b = off
+step scan b = pick (filler b) scan (pick (eqb (nib b) 12) (heading 0 0) off)
+step (heading g v) b = pick (eqb (nib b) undecodable) off (headed g (shifted v b))
+step (body h held) b = pick (full h (held ++ b ∷ [])) scan (body h (held ++ b ∷ []))
+
+-- the block that is finished by the byte, if one is
+unfoldable pub emitted : Mode → ℕ → List Block
+emitted off b = []
+emitted scan b = []
+emitted (heading g v) b =
+    pick (eqb (nib b) undecodable) []
+    (pick (ltb g 3) [] (pick (full (shifted v b) []) (record { head = shifted v b; raw = [] } ∷ []) []))
+emitted (body h held) b = pick (full h (held ++ b ∷ [])) (record { head = h; raw = held ++ b ∷ [] } ∷ []) []
+
+-- the byte drops the block whose header it is of
+unfoldable pub spoiled : Mode → ℕ → Bool
+spoiled off b = false
+spoiled scan b = false
+spoiled (heading g v) b = eqb (nib b) undecodable
+spoiled (body h held) b = false
+
+-- where reading is after these bytes, the blocks that they finish, and whether they drop one
+unfoldable pub ends : Mode → List ℕ → Mode
+ends m [] = m
+ends m (b ∷ bs) = ends (step m b) bs
+
+unfoldable pub gives : Mode → List ℕ → List Block
+gives m [] = []
+gives m (b ∷ bs) = emitted m b ++ gives (step m b) bs
+
+unfoldable pub spoils : Mode → List ℕ → Bool
+spoils m [] = false
+spoils m (b ∷ bs) = either (spoiled m b) (spoils (step m b) bs)
+
+-- ---- up to the pointed byte: "A running block takes bytes from 1. It must be finished by the pointed byte with only filler between
+-- (nibble 3), else it is dropped". A block that is full stays until the pointed byte is reached.
+
+-- where a start is pointed at, a full block bears only filler; where none is, "bytes after a finished running block aren't read"
+abbrev pub behind : Bool → ℕ → List ℕ → ℕ → Mode
+behind true h held b = pick (filler b) (body h held) off
+behind false h held b = body h held
+
+abbrev pub carriedHead : ℕ → ℕ → Mode
+carriedHead g v = pick (ltb g 3) (heading (suc g) v) (body v [])
+
+unfoldable pub carry : Bool → Mode → ℕ → Mode
+carry pointed off b = off
+carry pointed scan b = off
+carry pointed (heading g v) b = pick (eqb (nib b) undecodable) off (carriedHead g (shifted v b))
+carry pointed (body h held) b = pick (full h held) (behind pointed h held b) (body h (held ++ b ∷ []))
+
+unfoldable pub carries : Bool → Mode → List ℕ → Mode
+carries pointed m [] = m
+carries pointed m (b ∷ bs) = carries pointed (carry pointed m b) bs
+
+-- a block is held whole
+abbrev pub isFull : Mode → Bool
+isFull off = false
+isFull scan = false
+isFull (heading g v) = false
+isFull (body h held) = full h held
+
+-- the block that is held whole, if one is
+abbrev pub finished : Mode → List Block
+finished off = []
+finished scan = []
+finished (heading g v) = []
+finished (body h held) = pick (full h held) (record { head = h; raw = held } ∷ []) []
+
+-- what goes on running: nothing, where the block is finished
+abbrev pub unfinished : Mode → Mode
+unfinished off = off
+unfinished scan = off
+unfinished (heading g v) = heading g v
+unfinished (body h held) = pick (full h held) off (body h held)

@@ -1,0 +1,45 @@
+-- What a packet is to a reader of a setting.
+use mathlib.Core.Bool.{Bool, true}
+use mathlib.Core.List.{List}
+use Prim.Native.Nat.{ℕ, zero, suc, _+_, _*_, _/_, _%_}
+use lib.Dec.{eqb, leb, ltb}
+use lib.ListN.{getD, drop}
+use Rattle.laws.specs.Pick.{pick, both}
+use Rattle.octet.specs.Decoding.{nib, undecodable}
+use Rattle.guide.specs.declared.Setting.{Setting}
+
+pub data Seen : Type 0 where
+  -- an address, or one of the six bytes of our magazine's packet 0, that can't be decoded
+  junk : Seen
+  -- another magazine, or Y 26..31
+  other : Seen
+  -- packet 0 of another page or stream of our magazine
+  foreign : Seen
+  -- packet 0 of our page and stream: its index and its count n
+  ours : ℕ → ℕ → Seen
+  -- packet Y of our magazine, 1..25: Y, its pointer (16: can't be decoded) and the 39 bytes after it
+  row : ℕ → ℕ → List ℕ → Seen
+
+-- the first k bytes of l can be decoded
+unfoldable pub decodes : ℕ → List ℕ → Bool
+decodes zero l = true
+decodes (suc k) l = both (ltb (nib (getD l 0 0)) undecodable) (decodes k (drop 1 l))
+
+-- packet 0, from the byte after its address on: page units, page tens, S1, S2, S3, S4
+unfoldable pub seeZero : Setting → List ℕ → Seen
+seeZero s l =
+    pick (decodes 6 l)
+    (pick (both (eqb (nib (getD l 0 0) + 16 * nib (getD l 1 0)) (s .page)) (eqb (nib (getD l 4 0)) (s .stream)))
+    (ours (nib (getD l 2 0)) (nib (getD l 3 0) % 8 + 8 * (nib (getD l 5 0) % 4)))
+    foreign)
+    junk
+
+-- a packet of our magazine, by its number Y
+unfoldable pub seeY : Setting → ℕ → List ℕ → Seen
+seeY s y p = pick (eqb y 0) (seeZero s (drop 2 p)) (pick (leb y 25) (row y (nib (getD p 2 0)) (drop 3 p)) other)
+
+unfoldable pub see : Setting → List ℕ → Seen
+see s p =
+    let one = nib (getD p 0 0) in
+    let two = nib (getD p 1 0) in
+    pick (decodes 2 p) (pick (eqb (one % 8) (s .magazine % 8)) (seeY s (one / 8 + 2 * two) p) other) junk

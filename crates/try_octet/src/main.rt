@@ -1,0 +1,58 @@
+// Runs cases of one byte: op 1 decodes it, 2 gives its image, 3 turns it, 4 finds its fault place.
+use vectors::Found;
+use vectors::Input;
+
+fn main() {
+    let mut space = [0u8; 131200];
+    let mut text = [0u8; 131200];
+    let mut input = vectors::start();
+    let mut turns = u64::MAX;
+    while turns > 0 {
+        turns -= 1;
+        let found = step(input, &mut space, &mut text);
+        match found {
+            Found::Whole(case) => {
+                input = case.rest;
+            }
+            Found::Ended(_) => {
+                return;
+            }
+        }
+    }
+}
+
+// One turn: the next case is read and run, or the end is told.
+fn step(input: Input, space: &mut [u8; 131200], text: &mut [u8; 131200]) -> Found {
+    let read = vectors::fill(input, space);
+    let found = vectors::next(read, space);
+    match found {
+        Found::Whole(case) => call(case.op, vectors::payload(case, space), text),
+        Found::Ended(left) => {
+            lines::ended(left, text);
+        }
+    }
+    found
+}
+
+// The call that op names. These calls give a byte, and are lent no output.
+fn call(op: u8, payload: &[u8], text: &mut [u8]) {
+    if payload.len() < 1 {
+        lines::unknown(op, text);
+        return;
+    }
+    let b = payload[0];
+    match op {
+        1 => show(op, octet::decode(b), text),
+        2 => show(op, octet::image(b), text),
+        3 => show(op, octet::turn(b), text),
+        4 => show(op, octet::fault_place(b), text),
+        _ => {
+            lines::unknown(op, text);
+        }
+    }
+}
+
+fn show(op: u8, b: u8, text: &mut [u8]) {
+    let out = [b];
+    lines::report(op, 0, 0, &out, 1, text);
+}

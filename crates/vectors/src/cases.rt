@@ -1,0 +1,154 @@
+// Cases from standard input, in large pieces.
+ghost use mathlib.Core.Path.{_≡_};
+ghost use Prim.Native.Nat.{_+_, _*_, _≤_};
+ghost use lib.ListN.{length};
+ghost use Rattle.vectors.specs.Cases.{Within, nextIn, part};
+ghost use Rattle.vectors.specs.Cases.{capped as Cases·capped};
+use crate::least;
+use libc::STDIN_FILENO;
+
+// The most bytes of a payload, and of a lent output.
+const MOST: usize = 65536;
+
+// op, room and length.
+const HEAD: usize = 9;
+
+// The bytes of the lent space that are read and not yet handed out stand from `from` up to, not
+// including, `to`; `ended` is whether no more are to come.
+pub struct Input {
+    pub from: usize,
+    pub to: usize,
+    pub ended: bool,
+}
+
+// A case: its payload stands in the lent space from `from` up to, not including, `to`; `rest` is what
+// is unread after it.
+pub struct Case {
+    pub op: u8,
+    pub room: usize,
+    pub from: usize,
+    pub to: usize,
+    pub rest: Input,
+}
+
+pub enum Found {
+    Whole(Case),
+    // No whole case is left, but so many bytes.
+    Ended(usize),
+}
+
+// Nothing is read yet.
+pub fn start() -> Input
+    ensures { λ r. ⌜ (r .from ≡ 0) × (r .to ≡ 0) ⌝ }
+{
+    Input {
+        from: 0,
+        to: 0,
+        ended: false,
+    }
+}
+
+// Reads on where a case might not stand whole in the space: the unread bytes go to its front, and
+// standard input fills it up. What is unread then lies within the space.
+pub fn fill(input: Input, space: &mut [u8]) -> Input
+    ensures { λ r. ⌜ Within r (now (space .exit)) ⌝ }
+{
+    let from = input.from;
+    let to = input.to;
+    if to < from {
+        return start();
+    }
+    if space.len() < to {
+        return start();
+    }
+    let held = to - from;
+    if input.ended {
+        return input;
+    }
+    if HEAD + MOST <= held {
+        return input;
+    }
+    move_down(space, from, held);
+    let got = io::read_full(STDIN_FILENO, &mut space[held..]);
+    Input {
+        from: 0,
+        to: held + got,
+        ended: held + got < space.len(),
+    }
+}
+
+// The case that the unread bytes begin with.
+pub fn next(input: Input, space: &[u8]) -> Found
+    ensures { λ r. ⌜ r ≡ nextIn (now (space .entry)) input ⌝ }
+{
+    let from = input.from;
+    let to = input.to;
+    if to < from {
+        return Found::Ended(0);
+    }
+    let left = to - from;
+    if left < HEAD {
+        return Found::Ended(left);
+    }
+    if space.len() < to {
+        return Found::Ended(left);
+    }
+    let begin = from + HEAD;
+    let size = capped(space, from + 5);
+    if left - HEAD < size {
+        return Found::Ended(left);
+    }
+    let end = begin + size;
+    let rest = Input {
+        from: end,
+        to,
+        ended: input.ended,
+    };
+    Found::Whole(Case {
+        op: space[from],
+        room: capped(space, from + 1),
+        from: begin,
+        to: end,
+        rest,
+    })
+}
+
+// The payload of a case in the space that it was read to; nothing where it isn't a part of it.
+pub fn payload(case: Case, space: &[u8]) -> &[u8]
+    ensures { λ r. ⌜ now r ≡ part (now (space .entry)) (case .from) (case .to) ⌝ }
+{
+    let from = case.from;
+    let to = case.to;
+    if to < from {
+        return &space[0..0];
+    }
+    if space.len() < to {
+        return &space[0..0];
+    }
+    &space[from..to]
+}
+
+// The number in four bytes, low byte first, or 65,536 where it is more.
+fn capped(s: &[u8], at: usize) -> usize
+    requires { ⌜ at + 4 ≤ length (now s) ⌝ }
+    ensures { λ r. ⌜ r ≡ Cases·capped (now (s .entry)) at ⌝ }
+{
+    least(word(s[at], s[at + 1], s[at + 2], s[at + 3]), MOST)
+}
+
+fn word(a: u8, b: u8, c: u8, d: u8) -> usize
+    ensures { λ r. ⌜ r ≡ a + 256 * (b + 256 * (c + 256 * d)) ⌝ }
+{
+    (a as usize) + 256 * ((b as usize) + 256 * ((c as usize) + 256 * (d as usize)))
+}
+
+// Moves n bytes from `from` on to the front.
+fn move_down(s: &mut [u8], from: usize, n: usize)
+    requires { ⌜ from + n ≤ length (now s) ⌝ }
+{
+    let mut i = 0;
+    while i < n {
+        s[i] = s[from + i];
+        i += 1;
+    }
+}

@@ -1,0 +1,42 @@
+"""Table forms as the desk's lines."""
+
+from model import listing, table
+from model.table import Table
+
+from .form import Script, line, room_tried, with_bytes
+from .table import CASE_G, extreme_tables, limits, shaped, some_table
+
+
+def script_of(dice, size):
+    script = Script({40: (0, lambda payload, room: line(listing.list_table, payload, room))})
+    show = lambda form, room=65536: script.case(40, room, form)
+    for t in (CASE_G, *(some_table(dice) for _ in range(40 * size))):
+        room_tried(script, 40, table.form_of(t), listing.list_table)
+    for t in extreme_tables():
+        show(table.form_of(t))
+    for within, over in limits():
+        text = len(listing.list_table(table.form_of(within)))
+        show(table.form_of(within), text), show(table.form_of(within), text - 1), show(table.form_of(over))
+    for kind in (table.TI, table.LI):                   # a language is three of a..z
+        for at in range(3):
+            for letter in (0x00, 0x20, 0x41, 0x60, 0x61, 0x62, 0x79, 0x7A, 0x7B, 0xE1, 0xFF):
+                word = int.from_bytes(with_bytes(b"max", (at, letter)), "big")
+                page = [dice.below(1 << 24)] if kind == table.TI else []
+                show(table.form_of(Table(kind, 1, dice.below(10), dice.below(10), [(at, [word] + page)])))
+    for number in (0, 9, 10, 99, 100, 255):             # decimals of each length
+        for block_no in (number, 999, 1000, 9999, 10000, 65535):
+            show(table.form_of(Table(table.LI, 0, block_no, number, [(number % 64, [])])))
+    form = table.form_of(some_table(dice, table.TI, 2, 2)._replace(descriptors=[(9, [1, 2]), (3, [4, 5, 6, 7])]))
+    for length in range(len(form)):
+        show(form[:length]), show(form[:length], 0)
+    show(form + b"\x00")
+    for at, value in ((0, 0), (0, 6), (0, 9), (0, 255), (1, 2), (1, 255), (5, 1), (5, 3), (5, 64), (6, 64),
+                      (14, 255), (7, 16), (7, 0)):
+        show(with_bytes(form, (at, value))), show(with_bytes(form, (at, value)), 0), show(with_bytes(form, (at, value))[:-1])
+    for kind in (table.TI, table.LI):
+        for counts in ([15], [16], [0] * 63, [0] * 64, [255]):
+            show(table.form_of(shaped(kind, counts)))
+    for op in (0, 39, 41, 255):
+        script.case(op, 99, form)
+    script.cut_short(b"\x28\x40\x00\x00\x00\x08\x00\x00\x00" + form[:7])
+    return script

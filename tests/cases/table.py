@@ -1,0 +1,223 @@
+"""TI and LI blocks both ways, and what is wrong with them."""
+
+from model import guide, octet, table
+from model.table import Table
+
+from .form import LOST, Script, line, room_tried, with_bytes
+
+
+CASE_G = Table(table.TI, 0, 0, 2, [(5, [0x647574, 0x000888])])
+
+
+def some_table(dice, kind=None, descriptors=None, most=6):
+    kind = kind or dice.pick([table.TI, table.LI])
+    count = dice.below(5) if descriptors is None else descriptors
+    loop = [(dice.below(64), [some_word(dice) for _ in range(table.WORDS[kind] * dice.below(most + 1))]) for _ in range(count)]
+    return Table(kind, dice.below(2), dice.below(65536), dice.below(256), loop)
+
+
+def some_word(dice):
+    letters = bytes(dice.between(0x61, 0x7A) for _ in range(3))
+    return int.from_bytes(letters if dice.chance(2) else dice.bytes(3), "big")
+
+
+def shaped(kind, counts, word=0x616263):
+    """A table of descriptors with so many entries each."""
+    return Table(kind, 0, 0, 0, [(i % 64, [word] * (table.WORDS[kind] * c)) for i, c in enumerate(counts)])
+
+
+def spread(entries, descriptors):
+    """So many entries over so many descriptors, at most 15 each."""
+    counts = []
+    for _ in range(descriptors):
+        counts.append(min(entries, 15))
+        entries -= counts[-1]
+    return counts
+
+
+def nibbles_in(record):
+    return [octet.decode(b) for b in record[2:]]
+
+
+def with_field(nibbles, name, value):
+    """The control data with another value in one of the fields before the loop."""
+    at = 0
+    for field, width in table.FRONT:
+        if field == name:
+            break
+        at += width
+    number = sum(n << 4 * i for i, n in enumerate(nibbles))
+    number += (value - (number >> at) % (1 << width)) << at
+    return [number >> 4 * i & 15 for i in range(len(nibbles))]
+
+
+def extreme_tables():
+    """Every field at its least and most; tables at the limit of 8,184 bits."""
+    for kind in (table.TI, table.LI):
+        for copyright, block_no, network in ((0, 0, 0), (1, 65535, 255), (0, 0x8000, 1), (1, 1, 0x80),
+                                             (0, 0x00FF, 0), (1, 0xFF00, 127)):
+            yield Table(kind, copyright, block_no, network, [])
+            for id, word in ((0, 0), (63, 0xFFFFFF), (5, 0x000001), (32, 0x800000), (1, 0x123456)):
+                yield Table(kind, copyright, block_no, network, [(id, [word] * table.WORDS[kind])])
+        for counts in ([0], [15], [0] * 63, [1] * 8, [0, 15, 0, 7], [2, 3]):
+            yield shaped(kind, counts)
+
+
+def limits():
+    """Tables just within and just over 8,184 bits."""
+    yield shaped(table.TI, [15] * 11), shaped(table.TI, [15] * 12)                     # case I
+    yield shaped(table.TI, spread(162, 35)), shaped(table.TI, spread(162, 36))
+    yield shaped(table.LI, spread(324, 35)), shaped(table.LI, spread(324, 36))
+    yield shaped(table.LI, spread(329, 23)), shaped(table.LI, spread(330, 23))
+    yield shaped(table.TI, spread(165, 16)), shaped(table.TI, spread(166, 16))          # 8,186
+    yield shaped(table.LI, spread(326, 28)), shaped(table.LI, spread(327, 28))
+
+
+# Annex L.1's block as printed: header, then control data without its checksum, then strings.
+L1_PRINTED = bytes.fromhex(
+    "02FDC715 1564D0151549021515026415 9B151515C7155EC78C73155EC7151564 8C15B664D0154915EA64B6A1"
+    "2F1515151515731515158C15151515151515 54E9F4ECE5D368EFF2F42049 6EE6EF".replace(" ", ""))
+L1_SUM = 0x2E
+
+
+def l1_records():
+    """As printed; with its checksum put in; with its sizes mended."""
+    head = sum(octet.decode(b) << 4 * i for i, b in enumerate(L1_PRINTED[:4]))
+    printed = guide.record_of(head, L1_PRINTED[4:])
+    whole = octet.images([L1_SUM % 16, L1_SUM // 16]) + L1_PRINTED[4:]
+    mended = guide.record_of(guide.head_of(1, len(whole)), whole)
+    control = nibbles_in(mended[:2 + 60])           # control_block_size 0x1E: 60 nibbles
+    sizes = with_field(control, "control_block_size", 0x1E)
+    return printed, guide.record_of(head, whole), mended, mended[:2] + octet.images(sizes) + mended[62:]
+
+
+def script_of(dice, size):
+    script = Script({
+        30: (1, lambda payload, room: line(table.read_block, payload[0], payload[1:], room)),
+        31: (1, lambda payload, room: line(table.write_block, payload[0], payload[1:], room)),
+    })
+    read = lambda record, application=1, room=4096: script.case(30, room, bytes([application]) + record)
+    write = lambda form, application=1, room=4096: script.case(31, room, bytes([application]) + form)
+    read_call = lambda payload: table.read_block(payload[0], payload[1:])
+    write_call = lambda payload: table.write_block(payload[0], payload[1:])
+
+    def both(t, application):
+        form = table.form_of(t)
+        room_tried(script, 31, bytes([application]) + form, write_call)
+        room_tried(script, 30, bytes([application]) + table.write_block(application, form), read_call)
+
+    for t in (CASE_G, shaped(table.TI, []), shaped(table.LI, []), *(some_table(dice) for _ in range(20 * size))):
+        both(t, dice.below(32))
+    for t in extreme_tables():
+        write(table.form_of(t), 31), read(table.write_block(0, table.form_of(t)), 0)
+    for within, over in limits():
+        form = table.form_of(within)
+        record = table.write_block(1, form)
+        write(form, room=len(record)), read(record, room=len(form)), write(table.form_of(over)), write(form, room=len(record) - 1)
+    # reading: 16, 13, 12, 13, 10, 12, 13, 10, 11, 14, 1
+    good = table.write_block(1, table.form_of(CASE_G))
+    for application in (0, 1, 2, 30, 31, 32, 33, 255):
+        read(good, application)
+        read(good[:-1], application)
+    for length in range(len(good)):
+        read(good[:length])
+    read(good + b"\x15"), read(b""), read(b"\x01"), read(b"\x01\x00"), read(b"\x02\x00")
+    read(b"\x00\x00", 0), read(b"\xe1\xff" + bytes(2047))
+    for length in range(21):                            # sizes 0 to 20
+        head = guide.head_of(1, length)
+        for raw in (bytes([LOST]) * length, bytes([0x15]) * length, dice.bytes(length),
+                    (good[2:] + good[2:])[:length], table.write_block(1, table.form_of(shaped(table.LI, [])))[2:][:length]):
+            read(guide.record_of(head, raw))
+            read(guide.record_of(head, raw), 2)
+        if length >= 8:
+            blank = with_field([0] * length, "datatype_id", dice.pick([7, 8]))
+            read(table.summed(1, with_field(blank, "control_block_size", length // 2)))
+            read(with_bytes(table.summed(1, blank), (length + 1, LOST)))
+    for t in (CASE_G, some_table(dice, descriptors=2, most=2)):
+        record = table.write_block(1, table.form_of(t))
+        nibbles = nibbles_in(record)
+        for at in range(2, len(record)):                # damaged bytes at each place
+            read(with_bytes(record, (at, record[at] ^ 1 << dice.below(8))))
+            bits = dice.below(8)
+            read(with_bytes(record, (at, record[at] ^ 1 << bits ^ 1 << (bits + dice.between(1, 7)) % 8)))
+            read(with_bytes(record, (at, octet.image(octet.decode(record[at]) ^ 1 << dice.below(4)))))
+        for first in (3, 9, 10, len(record) - 1):       # the first such byte
+            read(with_bytes(record, (first, LOST), (len(record) - 1, LOST)))
+        for kind in (0, 1, 2, 3, 4, 5, 6, 7, 8, 9, 10, 0x3E, 0x3F):
+            for access in (0, 1, 2, 3):
+                other = with_field(with_field(nibbles, "datatype_id", kind), "CA_mode", access)
+                read(table.summed(1, other))
+                if kind in (2, 8) and access < 2:       # 10 in front, 12, odd size, 10 behind, 11
+                    odd = table.summed(1, other + [0])
+                    read(odd), read(with_bytes(odd, (4, LOST))), read(with_bytes(odd, (12, LOST)))
+                    read(with_bytes(odd, (2, odd[2] ^ 0xFF)))
+                    read(with_bytes(table.summed(1, other), (12, LOST)))
+        half = len(nibbles) // 2
+        for control in (0, 1, half - 1, half + 1, 2 * half, half ^ 512, 1023):      # control size off
+            read(table.summed(1, with_field(nibbles, "control_block_size", control)))
+        for more in (2, 4, 6, 8):                       # too much fill
+            grown = with_field(nibbles + [dice.below(16)] * more, "control_block_size", half + more // 2)
+            read(table.summed(1, grown)), read(table.summed(1, nibbles + [0] * more))
+        for less in (2, 4):                             # loops run past the end
+            shrunk = with_field(nibbles[:-less], "control_block_size", half - less // 2)
+            read(table.summed(1, shrunk))
+        for count in (0, 1, 2, 3, 62, 63):
+            read(table.summed(1, with_field(nibbles, "descr_no", count)))
+        for off in (1, 15, 16, 128, 255):               # the sum off, and off where lengths don't fit either
+            for control in (half, half + 1):
+                record = table.summed(1, with_field(nibbles, "control_block_size", control))
+                sum_ = (octet.decode(record[2]) + 16 * octet.decode(record[3]) + off) % 256
+                read(with_bytes(record, (2, octet.image(sum_ % 16)), (3, octet.image(sum_ // 16))), room=0)
+        read(table.summed(1, with_field(nibbles, "control_block_size", half + 1)), room=0)
+    for descriptors in range(9):                        # reserved and fill bits set
+        t = some_table(dice, descriptors=descriptors, most=2)
+        record = table.write_block(1, table.form_of(t))
+        fill = 4 * (len(record) - 2) - table.width(t)
+        half = len(record) // 2 - 1
+        grown = with_field(nibbles_in(record) + [0, 0], "control_block_size", half + 1)
+        read(table.summed(1, grown))                    # fill of eight more
+        for filled in sorted({0, 1, (1 << fill) - 1, dice.below(1 << fill)}):
+            nibbles = with_field(nibbles_in(record), "reserved", dice.below(2))
+            nibbles[-2] |= (filled << (8 - fill)) % 16 if fill else 0
+            nibbles[-1] |= (filled << (8 - fill)) >> 4 if fill else 0
+            read(table.summed(1, nibbles))
+    most = table.write_block(1, table.form_of(shaped(table.TI, spread(162, 35))))
+    for at in (9, 10, 1000, len(most) - 1):
+        read(with_bytes(most, (at, LOST)))
+    for record in l1_records():
+        read(record)
+    # writing: 16, 13, 15, 1
+    form = table.form_of(some_table(dice, table.TI, 2, 2)._replace(descriptors=[(9, [1, 2]), (3, [4, 5, 6, 7])]))
+    for application in (0, 31, 32, 255):
+        write(form, application), write(form[:-1], application, 0), write(b"", application)
+    for length in range(len(form)):
+        write(form[:length]), write(with_bytes(form, (0, 7))[:length])
+    write(form + b"\x00"), write(form + form[6:]), write(b"\x08\x00\x00\x00\x00\x01"), write(b"\x08\x00\x00\x00\x00\x00")
+    for kind in (0, 6, 9, 0x47, 0x48, 255):
+        write(with_bytes(form, (0, kind))), write(with_bytes(form, (0, kind))[:6]), write(with_bytes(form, (0, kind))[:5])
+    for copyright in (2, 3, 128, 255):
+        write(with_bytes(form, (1, copyright))), write(with_bytes(form, (1, copyright))[:-1])
+        write(with_bytes(form, (1, copyright)) + b"\x00")
+    for at in (6, 14):
+        for id in (63, 64, 128, 255):
+            write(with_bytes(form, (at, id))), write(with_bytes(form, (at, id)) + b"\x00", room=0)
+    for kind in (table.TI, table.LI):
+        for count in (15, 16, 17, 255):
+            long = shaped(kind, [count, 1])
+            write(table.form_of(long)), write(table.form_of(long)[:-1])
+        for descriptors in (63, 64, 255):
+            long = shaped(kind, [0] * descriptors)
+            write(table.form_of(long)), write(table.form_of(long)[:-1])
+    write(with_bytes(form, (1, 2)), room=0), write(form, room=0)
+    for _ in range(60 * size):                          # forms and records with anything changed
+        t = some_table(dice, most=3)
+        form = table.form_of(t)
+        write(with_bytes(form, (dice.below(len(form)), dice.pick([0, 1, 7, 8, 63, 64, 255, dice.below(256)]))))
+        nibbles = nibbles_in(table.write_block(1, form))
+        nibbles[dice.between(2, len(nibbles) - 1)] = dice.below(16)
+        read(table.summed(1, nibbles))
+    for op in (0, 29, 32, 40):
+        script.case(op, 99, good)
+    script.case(30, 99, b""), script.case(31, 99, b"")
+    script.cut_short(b"\x1e\x40\x00\x00")
+    return script

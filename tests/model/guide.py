@@ -1,0 +1,264 @@
+"""Packets of the guide page (document 01, its sentences as comments)."""
+
+from typing import NamedTuple
+
+from . import need
+from .octet import UNDECODABLE, decode, images
+
+PACKET, DATA = 42, 40           # an address, then 40 bytes
+CELL, CELLS = 3, 13             # block starts stand at bytes 1+3p, p 0..12
+NONE = 13                       # the pointer where no block starts
+FILLER, START = 0x3, 0xC
+MOST_ROWS = 25
+LAST_Y = 25                     # Y 26..31 are no concern of ours
+ROOM = 2112                     # what the reader must be lent
+
+
+class Setting(NamedTuple):
+    magazine: int
+    page: int
+    stream: int
+    application: int = 0        # only block reading uses it
+
+    def in_range(self):
+        """Magazine 1..8, page 0..255, stream 0..15, application 0..31."""
+        return (1 <= self.magazine <= 8 and self.page <= 255
+                and self.stream <= 15 and self.application <= 31)
+
+
+# --- records: 16 bits, low byte first, then the block's raw bytes --------------
+
+def head_of(application, size):
+    """application_id low 5 bits, block_size high 11."""
+    return application + 32 * size
+
+
+def size_of(head):
+    return head >> 5
+
+
+def record_of(head, raw):
+    return head.to_bytes(2, "little") + bytes(raw)
+
+
+def records_in(data):
+    """The whole records of a list; 13 where it isn't one."""
+    records, at = [], 0
+    while at < len(data):
+        need(len(data) - at >= 2, 13)
+        end = at + 2 + size_of(int.from_bytes(data[at:at + 2], "little"))
+        need(end <= len(data), 13)
+        records.append(data[at:end])
+        at = end
+    return records
+
+
+def nibbles_of(head):
+    """Lowest nibble first."""
+    return [head >> 4 * i & 15 for i in range(4)]
+
+
+# --- the writer ----------------------------------------------------------------
+
+def address(magazine, y):
+    """Magazine (0 means 8) plus 8 times the lowest bit of Y; then Y div 2."""
+    return images([magazine % 8 + 8 * (y % 2), y // 2])
+
+
+def packet_0(setting, index, n):
+    """Page units, page tens, S1, S2, S3, S4, two control bytes, 32 characters."""
+    six = [setting.page % 16, setting.page // 16, index, n % 8, setting.stream, n // 8]
+    return address(setting.magazine, 0) + images(six + [0, 0]) + b"\x20" * 32
+
+
+def cells_of(record):
+    """A block's bytes, filled up to whole cells: the next start is a byte 1+3p."""
+    head = int.from_bytes(record[:2], "little")
+    block = images([START] + nibbles_of(head)) + record[2:]
+    block += images([FILLER]) * (-len(block) % CELL)
+    return [block[i:i + CELL] for i in range(0, len(block), CELL)]
+
+
+def row(setting, y, cells):
+    """Every packet's pointer names the first start in it, or is 13."""
+    pointer = next((p for p, (_, starts) in enumerate(cells) if starts), NONE)
+    data = b"".join(cell for cell, _ in cells)
+    return address(setting.magazine, y) + images([pointer]) + data
+
+
+def cut(setting, first_index, k, records, room=2 ** 32):
+    """The packets of a list of records, in pages of k packets (0: 25)."""
+    k = k or MOST_ROWS          # Unless told otherwise it fills pages of 25
+    need(setting.in_range() and first_index <= 15 and 1 <= k <= MOST_ROWS, 16)
+    cells = []                  # each with whether a block starts in it
+    for record in records_in(records):
+        cells += [(cell, i == 0) for i, cell in enumerate(cells_of(record))]
+    cells += [(images([FILLER]) * CELL, False)] * (-len(cells) % (CELLS * k))
+    rows = [cells[i:i + CELLS] for i in range(0, len(cells), CELLS)]
+    packets = b""
+    for i, cells_of_row in enumerate(rows):
+        if i % k == 0:          # later indices rise modulo 16
+            packets += packet_0(setting, (first_index + i // k) % 16, k)
+        packets += row(setting, 1 + i % k, cells_of_row)
+    need(len(packets) <= room, 1)
+    return packets
+
+
+# --- the reader ----------------------------------------------------------------
+
+class Block:
+    """A block that has started: its header's nibbles, then its raw bytes."""
+
+    def __init__(self):
+        self.nibbles, self.raw = [], bytearray()
+
+    def head(self):
+        return sum(n << 4 * i for i, n in enumerate(self.nibbles))
+
+    def finished(self):
+        return len(self.nibbles) == 4 and len(self.raw) == size_of(self.head())
+
+    def take(self, byte):
+        """False where one of a start's four bytes can't be decoded."""
+        if len(self.nibbles) == 4:
+            self.raw.append(byte)
+            return True
+        self.nibbles.append(decode(byte))
+        return self.nibbles[-1] != UNDECODABLE
+
+
+class Page(NamedTuple):
+    """Our open page: the count of packets that follow, the last Y."""
+    n: int
+    last: int
+
+
+class Heard(NamedTuple):
+    records: bytes
+    blocks: int
+    dropped: bool
+
+
+class Reader:
+    """The state, fresh at first: no page, no running block."""
+
+    def __init__(self, setting):
+        self.setting, self.page, self.index, self.running = setting, None, 15, None
+
+    def feed(self, packet, room=ROOM):
+        need(self.setting.in_range() and len(packet) == PACKET, 16)
+        need(room >= ROOM, 1)
+        self.finished, self.dropped = [], False
+        self.packet(packet[:2], packet[2:])
+        return Heard(b"".join(self.finished), len(self.finished), self.dropped)
+
+    def drop(self):
+        if self.running:
+            self.running, self.dropped = None, True
+
+    def hand_out(self):
+        """As its 16 bits, low byte first, and its raw bytes."""
+        self.finished.append(record_of(self.running.head(), self.running.raw))
+        self.running = None
+
+    def packet(self, address, data):
+        one, two = (decode(byte) for byte in address)
+        if UNDECODABLE in (one, two):
+            self.unreadable()
+            return
+        magazine, y = one % 8 or 8, one // 8 + 2 * two
+        if magazine != self.setting.magazine or y > LAST_Y:
+            return                      # nothing changes
+        if y == 0:
+            self.packet_0(data)
+        elif self.page:                 # with no page of ours open: nothing
+            self.row(y, data)
+
+    def unreadable(self):
+        """Address undecodable: running block dropped, our page closed."""
+        self.drop()
+        self.page = None
+
+    def packet_0(self, data):
+        # A page of ours not yet complete drops the running block.
+        if self.page and self.page.last < self.page.n:
+            self.drop()
+        self.page = None
+        # If one of its six bytes is undecodable ..
+        six = [decode(byte) for byte in data[:6]]
+        if UNDECODABLE in six:
+            self.drop()
+            return
+        units, tens, s1, s2, s3, s4 = six
+        if (units + 16 * tens, s3) != (self.setting.page, self.setting.stream):
+            return
+        # .. or n exceeds 25 or the index isn't one above our last (modulo 16)
+        n = s2 % 8 + 8 * (s4 % 4)       # C4, C5, C6 stand above them
+        if n > MOST_ROWS or s1 != (self.index + 1) % 16:
+            self.drop()
+        self.index = s1                 # n over 25 sets it too
+        if n <= MOST_ROWS:
+            self.page = Page(n, last=0)
+
+    def row(self, y, data):
+        n, last = self.page
+        if y != last + 1 or y > n:      # a wrong Y drops the running block
+            self.drop()
+        if y <= n:                      # above n it is skipped
+            self.page = Page(n, last=y)
+            self.data(data)
+
+    def data(self, data):
+        pointer = decode(data[0])
+        if pointer > NONE:              # undecodable, 14 or 15
+            self.drop()
+            return
+        pointed = 1 + CELL * pointer    # for 13 the packet's end
+        if self.running:
+            self.go_on(data, pointed, pointer == NONE)
+        if pointer != NONE:
+            self.starts(data, pointed)
+
+    def go_on(self, data, pointed, none):
+        """A running block takes bytes from 1, up to the pointed byte."""
+        at = self.fill(data, 1, pointed)
+        if self.running is None:        # a header byte: resume at the pointed byte
+            return
+        # It must be finished by the pointed byte with only filler between.
+        filler = all(decode(byte) == FILLER for byte in data[at:pointed])
+        if self.running.finished() and (filler or none):
+            self.hand_out()             # after 13, bytes behind it aren't read
+        elif not none:
+            self.drop()
+
+    def starts(self, data, at):
+        while True:
+            # Filler is skipped to the next start or the end.
+            while at < DATA and decode(data[at]) == FILLER:
+                at += 1
+            # Another nibble, or a byte that can't be decoded, ends the packet.
+            if at == DATA or decode(data[at]) != START:
+                return
+            self.running = Block()
+            at = self.fill(data, at + 1, DATA)
+            # A header byte that can't be decoded skips the rest of the packet.
+            if self.running is None or not self.running.finished():
+                return
+            self.hand_out()
+
+    def fill(self, data, at, end):
+        """The running block takes what it needs; the place after it."""
+        while at < end and not self.running.finished():
+            if not self.running.take(data[at]):
+                self.drop()
+                return at
+            at += 1
+        return at
+
+
+def read_all(setting, packets):
+    """Every record that a fresh reader hands out for packets in a row."""
+    reader = Reader(setting)
+    whole = len(packets) - len(packets) % PACKET
+    return [record for at in range(0, whole, PACKET)
+            for record in records_in(reader.feed(packets[at:at + PACKET]).records)]

@@ -1,0 +1,48 @@
+"""The desk program's list (document 01)."""
+
+from . import Refused, need
+from .guide import PACKET, Setting, read_all
+from .table import LI, TI, WORDS, read_block, table_of
+
+DESK = Setting(magazine=1, page=0xDF, stream=1, application=1)
+NAMES = {LI: "LI", TI: "TI"}
+
+
+def language(word):
+    """A language not three of a..z is printed as six hex digits."""
+    letters = word.to_bytes(3, "big")
+    if all(0x61 <= letter <= 0x7A for letter in letters):
+        return letters.decode("ascii")
+    return f"{word:06x}"
+
+
+def lines(table):
+    yield f"kind={NAMES[table.kind]}"
+    yield f"block={table.block_no}"
+    yield f"network={table.network}"
+    for id, words in table.descriptors:
+        yield f"descriptor={id}"
+        for at in range(0, len(words), WORDS[table.kind]):
+            yield f"language={language(words[at])}"
+            if table.kind == TI:        # LI has no page lines
+                yield f"page={words[at + 1]:06x}"
+
+
+def list_table(form, room=2 ** 32):
+    """The lines of one table form; 13 and 15 as in writing."""
+    text = "".join(line + "\n" for line in lines(table_of(form))).encode()
+    need(len(text) <= room, 1)
+    return text
+
+
+def desk(data, setting=DESK):
+    """All that the desk prints for a file: a file gets a fresh reader."""
+    out, accepted, refused = b"", 0, 0
+    for record in read_all(setting, data):
+        try:
+            out += list_table(read_block(setting.application, record))
+            accepted += 1
+        except Refused:
+            refused += 1
+    # accepted blocks, refused blocks, trailing bytes not fed
+    return out + f"blocks={accepted} refused={refused} short={len(data) % PACKET}\n".encode()

@@ -1,0 +1,175 @@
+"""Subtitle (TI) and Language (LI) blocks (EN 300 707, tables 15 and 17)."""
+
+from typing import NamedTuple
+
+from . import need
+from .guide import head_of, nibbles_of, record_of, size_of
+from .octet import UNDECODABLE, decode, images
+
+LI, TI = 7, 8                       # datatype_id, clause 11.12.3
+WORDS = {LI: 1, TI: 2}              # an entry: language; language and page
+MOST_BITS = 8184                    # control_block_size has ten bits
+
+
+class Table(NamedTuple):
+    kind: int
+    copyright: int
+    block_no: int
+    network: int
+    descriptors: list               # (id, words of 24 bits)
+
+
+# The fields before the loop and their widths, in the standard's order.
+FRONT = (("checksum", 8), ("control_block_size", 10), ("datatype_id", 6), ("CA_mode", 2),
+         ("copyright", 1), ("reserved", 1), ("block_no", 16), ("netwop_no", 8), ("descr_no", 6))
+LOOP = (("descriptor_id", 6), ("entry_no", 4))
+WORD = 24
+FIRST = 8                           # the bytes that say datatype and access
+
+
+def width(table):
+    """The number of control bits, without fill."""
+    loops = sum(sum(w for _, w in LOOP) + WORD * len(words) for _, words in table.descriptors)
+    return sum(w for _, w in FRONT) + loops
+
+
+def control_size(table):
+    """Unit of measurement is (no. of control bits)/8, fill included."""
+    return (width(table) + 7) // 8
+
+
+def checksum(head, nibbles):
+    """Clause 11.1.2: over header and control data, except itself (the first two)."""
+    return -(sum(nibbles_of(head)) + sum(nibbles[2:])) % 256
+
+
+# --- the table form: a table in lent bytes ------------------------------------------
+
+def form_of(table):
+    form = bytes([table.kind, table.copyright]) + table.block_no.to_bytes(2, "little")
+    form += bytes([table.network, len(table.descriptors)])
+    for id, words in table.descriptors:
+        form += bytes([id, len(words) // WORDS[table.kind]])
+        form += b"".join(word.to_bytes(3, "big") for word in words)
+    return form
+
+
+def table_of(form):
+    """A table form's table: 13 (its length isn't that of its counts), then 15."""
+    need(len(form) >= 6, 13)
+    kind, copyright, low, high, network, count = form[:6]
+    need(kind in WORDS, 15)         # its entries can't be measured
+    descriptors, at = [], 6
+    for _ in range(count):
+        need(at + 2 <= len(form), 13)
+        id, end = form[at], at + 2 + 3 * WORDS[kind] * form[at + 1]
+        need(end <= len(form), 13)
+        words = [int.from_bytes(form[i:i + 3], "big") for i in range(at + 2, end, 3)]
+        descriptors.append((id, words))
+        at = end
+    need(at == len(form), 13)
+    table = Table(kind, copyright, low + 256 * high, network, descriptors)
+    need(copyright <= 1 and count <= 63, 15)
+    need(all(id <= 63 and len(words) <= 15 * WORDS[kind] for id, words in descriptors), 15)
+    need(width(table) <= MOST_BITS, 15)
+    return table
+
+
+# --- reading ------------------------------------------------------------------------
+
+class Bits:
+    """Fields are laid lowest bit first; past the end a number reads as zeros."""
+
+    def __init__(self, nibbles):
+        self.number = sum(n << 4 * i for i, n in enumerate(nibbles))
+
+    def take(self, width):
+        value = self.number & (1 << width) - 1
+        self.number >>= width
+        return value
+
+    def fields(self, fields):
+        return {name: self.take(width) for name, width in fields}
+
+
+def decoded(record, places):
+    """The nibbles at these places; 10 at the first that can't be decoded."""
+    nibbles = []
+    for at in places:
+        need(decode(record[at]) != UNDECODABLE, 10, at)
+        nibbles.append(decode(record[at]))
+    return nibbles
+
+
+def read_block(application, record, room=65536):
+    """The table form of a record: two bytes of header, low byte first, and a block."""
+    need(application <= 31, 16)
+    head = int.from_bytes(record[:2], "little")
+    size = size_of(head)
+    need(len(record) >= 2 and len(record) == 2 + size, 13)
+    need(head == head_of(application, size), 12)
+    need(size >= FIRST, 13)
+    nibbles = decoded(record, range(2, 2 + FIRST))
+    front = Bits(nibbles).fields(FRONT)
+    need(front["datatype_id"] in WORDS and front["CA_mode"] == 0, 12)
+    need(size % 2 == 0, 13)
+    nibbles += decoded(record, range(2 + FIRST, 2 + size))
+    table, front = table_in(nibbles)
+    need(front["checksum"] == checksum(head, nibbles), 11)
+    need(front["control_block_size"] * 2 == size, 14)
+    need(0 <= 4 * size - width(table) <= 7, 14)        # loops, then fill 0..7
+    form = form_of(table)
+    need(len(form) <= room, 1)
+    return form
+
+
+def table_in(nibbles):
+    """The table that control data says, and the fields before its loop."""
+    bits = Bits(nibbles)
+    front = bits.fields(FRONT)
+    kind, descriptors = front["datatype_id"], []
+    for _ in range(front["descr_no"]):
+        loop = bits.fields(LOOP)
+        words = [bits.take(WORD) for _ in range(WORDS[kind] * loop["entry_no"])]
+        descriptors.append((loop["descriptor_id"], words))
+    return Table(kind, front["copyright"], front["block_no"], front["netwop_no"], descriptors), front
+
+
+# --- writing ------------------------------------------------------------------------
+
+def laid(fields):
+    """The number whose lowest bits are the first field, then the next."""
+    number, at = 0, 0
+    for width, value in fields:
+        number |= value << at
+        at += width
+    return number
+
+
+def control_fields(table):
+    """Tables 15 and 17 as (width, value); the checksum comes last, reserved is 0."""
+    values = (0, control_size(table), table.kind, 0, table.copyright, 0,
+              table.block_no, table.network, len(table.descriptors))
+    fields = [(width, value) for (_, width), value in zip(FRONT, values)]
+    for id, words in table.descriptors:
+        counts = (id, len(words) // WORDS[table.kind])
+        fields += [(width, value) for (_, width), value in zip(LOOP, counts)]
+        fields += [(WORD, word) for word in words]
+    return fields
+
+
+def summed(application, nibbles):
+    """The record of control data whose first two nibbles become its checksum."""
+    head = head_of(application, len(nibbles))
+    sum_ = checksum(head, nibbles)
+    return record_of(head, images([sum_ % 16, sum_ // 16] + nibbles[2:]))
+
+
+def write_block(application, form, room=65536):
+    """The record of a table form; fill is 0."""
+    need(application <= 31, 16)
+    table = table_of(form)
+    number = laid(control_fields(table))
+    record = summed(application, [number >> 4 * i & 15 for i in range(2 * control_size(table))])
+    need(len(record) <= room, 1)
+    return record

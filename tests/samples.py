@@ -1,0 +1,149 @@
+"""Small captures for the desk, and what it prints for each (magazine 1, page DF,
+stream 1, application 1). Made by the model's writer; nothing is off the air."""
+
+from cases.form import LOST, Dice, with_bytes
+from cases.reader import Air
+from model import Refused, guide, listing, pes, table, unpes
+from model.listing import DESK
+from model.table import LI, TI, Table
+
+LANGUAGES = [int.from_bytes(name, "big") for name in (b"dut", b"eng", b"fre", b"ger", b"ita", b"spa", b"swe", b"tur")]
+
+
+def some_page(dice):
+    return 0x000800 + dice.below(256)
+
+
+def record(t):
+    return table.write_block(DESK.application, table.form_of(t))
+
+
+def packets_in(data):
+    return [data[i:i + guide.PACKET] for i in range(0, len(data), guide.PACKET)]
+
+
+def night_list(dice, networks):
+    """A TI and an LI table for each network, and blocks of other kinds between."""
+    records = []
+    for network in range(networks):
+        for kind in (TI, LI):
+            descriptors = []
+            for id in range(dice.between(1, 5)):
+                words = []
+                for _ in range(dice.between(1, 4)):
+                    words += [dice.pick(LANGUAGES), some_page(dice)][:table.WORDS[kind]]
+                descriptors.append((id, words))
+            records.append(record(Table(kind, dice.below(2), dice.pick([0, 0x8000]), network, descriptors)))
+        if dice.chance(3):      # a block of another application
+            size = dice.between(10, 60)
+            records.append(guide.record_of(guide.head_of(dice.pick([0, 2]), size), dice.bytes(size)))
+    return records
+
+
+def aired(dice, records, k=25):
+    """The pages of the list, with other streams between pages and other magazines anywhere."""
+    air, other, packets = Air(dice, DESK), Air(dice, DESK._replace(stream=2)), []
+    for packet in packets_in(guide.cut(DESK, 0, k, b"".join(records))):
+        if packet[:2] == guide.address(DESK.magazine, 0) and dice.chance(2):
+            packets += other.stream(3, [50, 30], dice.below(16))
+        if dice.chance(6):
+            packets.append(air.elsewhere("magazine"))
+        packets.append(packet)
+    return packets
+
+
+def roughened(dice, packets):
+    """Most packets with one flip in bytes, some with two, some lost."""
+    air, arrived = Air(dice, DESK), []
+    for packet in packets:
+        fate = dice.below(60)
+        if fate == 0:
+            continue
+        arrived.append(air.noised(packet, 2 if fate < 3 else 1 if fate < 40 else 0))
+    return arrived
+
+
+# --- the march of sixteen pages ----------------------------------------------------
+
+class Heedless(guide.Reader):
+    """A reader that passes over packets whose address can't be read."""
+
+    def unreadable(self):
+        pass
+
+
+def march_table(dice, network, counts=(2,) * 11, pages=None):
+    """A table whose block fills whole packets: eight, or five for 5, 5 and 4 entries."""
+    pages = iter(pages or [some_page(dice) for _ in range(sum(counts))])
+    language = LANGUAGES[network % 8]
+    return Table(TI, 0, 0, network, [
+        (id, [word for _ in range(count) for word in (language, next(pages))]) for id, count in enumerate(counts)])
+
+
+def march(dice):
+    """Half a table, sixteen pages that can't be read, half of another table.
+
+    Sixteen pages bring the running number round to where it was, and the second
+    halves have the same nibbles in another order, so the checksum agrees."""
+    pages = [some_page(dice) for _ in range(22)]
+    half = march_table(dice, 0, pages=pages)
+    other = march_table(dice, 0, pages=[some_page(dice) for _ in range(10)] + [swapped(page) for page in pages[10:]])
+    five = [march_table(dice, network, (5, 5, 4)) for network in (1, 2)]
+    eight = [march_table(dice, network) for network in range(3, 54)]
+    sent = [record(t) for t in (five[0], *eight[:2], half, *eight[2:], other, five[1])]
+    packets = packets_in(guide.cut(DESK, 0, 25, b"".join(sent)))
+    lost = range(26, 17 * 26)                               # pages 1 to 16 of 0 to 17
+    arrived = [with_bytes(p, (i % 2, LOST)) if i in lost else p for i, p in enumerate(packets)]
+    joined = [r for r in handed_out(Heedless(DESK), arrived) if r not in sent]
+    assert len(joined) == 1 and form(joined[0]), "a heedless reader takes the joined table"
+    assert all(r in sent for r in handed_out(guide.Reader(DESK), arrived)), "ours doesn't"
+    return arrived
+
+
+def swapped(page):
+    """The same nibbles, the two lowest exchanged."""
+    return page & ~0xFF | page % 16 << 4 | page >> 4 & 15
+
+
+def handed_out(reader, packets):
+    return [r for p in packets for r in guide.records_in(reader.feed(p).records)]
+
+
+def form(r):
+    """A record's table form; nothing where it is refused."""
+    try:
+        return table.read_block(DESK.application, r)
+    except Refused:
+        return None
+
+
+# --- PES ------------------------------------------------------------------------------
+
+def night_pes(packets):
+    """Fifteen packets to a PES packet, on rising lines; one framing byte is damaged."""
+    out = []
+    for i in range(0, len(packets), 15):
+        parity = 0xE0 if len(out) % 2 else 0xC0
+        out.append(pes.write(0x10, b"".join(
+            bytes([0x02, parity | 7 + line]) + packet for line, packet in enumerate(packets[i:i + 15]))))
+    damaged = len(out) // 2
+    out[damaged] = with_bytes(out[damaged], (45 + 1 + 4 * 46 + 3, 0x27))
+    return b"".join(out)
+
+
+def make():
+    """Each file of samples/ and its bytes."""
+    dice = Dice(7)
+    night = night_list(dice, 40)
+    clean = aired(dice, night)
+    rough = b"".join(roughened(dice, aired(dice, night * 2))) + dice.bytes(17)
+    came = handed_out(guide.Reader(DESK), packets_in(rough)[:-1])
+    assert {form(r) for r in came} < {form(r) for r in night}, "a missing table, never a wrong one"
+    carried = night_pes(clean)
+    packets, said = unpes.run(carried)
+    captures = {"clean.t42": b"".join(clean), "rough.t42": rough, "march.t42": b"".join(march(dice)), "night.pes": carried}
+    fed = {**captures, "night.pes": packets}
+    for name in captures:
+        yield name, captures[name]
+        yield name[:-4] + ".txt", listing.desk(fed[name])
+    yield "night.err", said.encode()        # what unpes says last on standard error
