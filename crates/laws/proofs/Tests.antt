@@ -1,20 +1,28 @@
--- Tests that are made of tests, as equations. Assumes nothing.
-use mathlib.Core.Path.{_≡_, refl, sym}
+-- What tests made of tests tell, as equations. Assumes nothing.
+use mathlib.Core.Path.{_≡_, _∙_, refl, sym}
 use mathlib.Core.Bool.{Bool, true, false}
 use Rattle.laws.specs.Pick.{both, either}
 
+pub both-first : (a b : Bool) → both a b ≡ true → a ≡ true
+both-first true b h = refl
+both-first false b h = h
+
+pub both-second : (a b : Bool) → both a b ≡ true → b ≡ true
+both-second true b h = h
+both-second false true h = refl
+both-second false false h = h
+
 pub both-true : (a b : Bool) → both a b ≡ true → (a ≡ true) × (b ≡ true)
-both-true true b e = (refl, e)
-both-true false b e = (e, sym (false-both b e))
-  where
-    false-both : (b : Bool) → false ≡ true → true ≡ b
-    false-both true e = refl
-    false-both false e = sym e
+both-true a b h = (both-first a b h, both-second a b h)
 
 pub both-holds : (a b : Bool) → a ≡ true → b ≡ true → both a b ≡ true
-both-holds true b e f = f
-both-holds false b e f = e
+both-holds true b g h = h
+both-holds false b g h = g
 
 pub both-assoc : (a b c : Bool) → both a (both b c) ≡ both (both a b) c
 both-assoc true b c = refl
 both-assoc false b c = refl
+
+pub either-first : (a b : Bool) → either a b ≡ true → b ≡ false → a ≡ true
+either-first true b h e = refl
+either-first false b h e = sym e ∙ h

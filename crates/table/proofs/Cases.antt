@@ -12,7 +12,7 @@ use Rattle.table.specs.Tables.{Table, TI, per, loops, fields, bits, fill
 use Rattle.table.specs.Form.{spelled, listed, openingOf, form, wordsIn, descriptorsIn, tableIn}
 use Rattle.table.specs.Block.{header, headOf, nibblesOf, total, checksum, nibbles, checksumOf}
 use Rattle.table.specs.Reading.{descriptorsOf, tableOf, sound, frameRules, frontRules, wholeRules, lengthRules, readBlock, accepted}
-use Rattle.table.specs.Writing.{recordOf}
+use Rattle.table.specs.Writing.{recordOf, recordWith}
 
 -- TI, block_no 0, network 2, descriptor 5, "dut", page value 000888
 abbrev pub G : Table
@@ -57,7 +57,7 @@ unfolding row width fields loops per fits entire fitting
 case-I = (refl, refl, refl, refl)
 
 test : readBlock 1 (recordOf 1 G) ≡ accepted G
-unfolding row width fields loops per fits entire fitting nib nibbleFrom image withParity number differing laid parts whole field headOf nibblesOf total checksum nibbles checksumOf descriptorsOf tableOf sound frameRules frontRules wholeRules lengthRules readBlock recordOf
+unfolding row width fields loops per fits entire fitting nib nibbleFrom image withParity number differing laid parts whole field headOf nibblesOf total checksum nibbles checksumOf descriptorsOf tableOf sound frameRules frontRules wholeRules lengthRules readBlock recordWith
 test = refl
 
 test2 : tableIn (form G) ≡ G
@@ -65,5 +65,5 @@ unfolding form openingOf listed spelled tableIn descriptorsIn wordsIn per whole
 test2 = refl
 
 test3 : readBlock 1 (recordOf 1 (I 11)) ≡ accepted (I 11)
-unfolding row width fields loops per fits entire fitting nib nibbleFrom image withParity number differing laid parts whole field headOf nibblesOf total checksum nibbles checksumOf descriptorsOf tableOf sound frameRules frontRules wholeRules lengthRules readBlock recordOf
+unfolding row width fields loops per fits entire fitting nib nibbleFrom image withParity number differing laid parts whole field headOf nibblesOf total checksum nibbles checksumOf descriptorsOf tableOf sound frameRules frontRules wholeRules lengthRules readBlock recordWith
 test3 = refl

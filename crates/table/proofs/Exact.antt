@@ -9,7 +9,7 @@ use native.Mathlib.Nat.{mod-eq-of-lt, le-of-suc-le-suc, not-suc-le-zero}
 use native.Mathlib.Omega.{arith}
 use borrow.Author.Tests.{ltb-true, lt-ltb, leb-true, le-leb, eqb-true, eq-eqb}
 use lib.Dec.{ltb, eqb, leb}
-use lib.ListN.{length, take, drop, length-map, length-drop}
+use lib.ListN.{length, getD, take, drop, length-map, length-drop}
 use lib.Pow.{shr-lt, shr-shr}
 use Rattle.laws.specs.Pick.{pick, both}
 use Rattle.laws.proofs.Tests.{both-true, both-holds}
@@ -64,6 +64,21 @@ sound-take (suc k) (n ∷ ns) h l = go (ltb n 16) refl h (sound-take k ns)
         → pick (ltb n 16) (suc (sound (take k ns))) 0 ≡ suc k
     go true e h′ ih = rw e (ap suc (ih (omega arith) (le-of-suc-le-suc l)))
     go false e h′ ih = absurd (omega arith)
+
+-- and each by itself
+pub sound-at : (ns : List ℕ) (k : ℕ) → sound ns ≡ length ns → k < length ns → getD ns k 0 < 16
+unfolding sound
+sound-at [] k h l = absurd (not-suc-le-zero l)
+sound-at (n ∷ ns) k h l = go k (ltb n 16) refl h l (λ (j : ℕ). sound-at ns j)
+  where
+    go :
+        (k : ℕ) (b : Bool) → ltb n 16 ≡ b → pick b (suc (sound ns)) 0 ≡ suc (length ns) → k < suc (length ns)
+        → ((j : ℕ) → sound ns ≡ length ns → j < length ns → getD ns j 0 < 16)
+        → getD (n ∷ ns) k 0 < 16
+    go zero true e h′ l′ ih = ltb-true n 16 e
+    go (suc j) true e h′ l′ ih = ih j (omega arith) (le-of-suc-le-suc l′)
+    go zero false e h′ l′ ih = absurd (omega arith)
+    go (suc j) false e h′ l′ ih = absurd (omega arith)
 
 -- ---- the checksum leaves itself out
 
@@ -313,3 +328,10 @@ reads-exactly application r t = (to, from)
     from s =
         passes refused (accepted (tableRead r)) (every application r (said application r t s))
         ∙ ap accepted (table-said application r t s)
+
+-- in particular each of its bytes decodes
+pub decodes-all :
+    (application : ℕ) (r : List ℕ) (t : Table) → readBlock application r ≡ accepted t → sound (nibblesOf r) ≡ length (nibblesOf r)
+unfolding readBlock
+decodes-all application r t e =
+    taken application r (accepts (readRules application r) (tableRead r) t e .0) .decodes

@@ -71,7 +71,7 @@ sends t s =
 -- ---- what is read, laid again
 
 -- as many entries as the count says
-entries-read : (kind c n : ℕ) → entries kind (parts 24 (per kind * c) n) ≡ c
+pub entries-read : (kind c n : ℕ) → entries kind (parts 24 (per kind * c) n) ≡ c
 entries-read kind c n = rw length-parts (mul-div-cancel-left c (per-pos kind))
 
 relaid-loops :
@@ -181,7 +181,7 @@ read-sendable n k e =
 -- ---- what is laid, read again
 
 -- the count is that of the entries, and their words are whole
-entries-whole : (kind : ℕ) (ws : List ℕ) → entries kind ws * per kind ≡ length ws → per kind * entries kind ws ≡ length ws
+pub entries-whole : (kind : ℕ) (ws : List ℕ) → entries kind ws * per kind ≡ length ws → per kind * entries kind ws ≡ length ws
 entries-whole kind ws e = mul-comm (per kind) (entries kind ws) ∙ e
 
 reread-loops :

@@ -62,7 +62,7 @@ pub listed-first :
     ++ listed kind (descriptorsOf (per kind) left (n / 2 ^ (at + (10 + 24 * words))))
 unfolding listed descriptorsOf
 listed-first kind left n at words e =
-    rw (e, field-past, field-past, add-zero, shr-shr, shr-shr, length-parts, mul-div-cancel-left, per-pos kind)
+    rw (e, field-past 0 6 at n, field-past 6 4 at n, add-zero at, shr-shr n at 10, shr-shr n at _, length-parts, mul-div-cancel-left, per-pos kind)
 
 -- its two stores, and then its words
 pub two-stores :

@@ -10,10 +10,15 @@ use Rattle.table.specs.Tables.{Table, known, size, fits}
 use Rattle.table.specs.Form.{form, opening, tableIn}
 use Rattle.table.specs.Block.{header, headSize, nibbles, checksumOf}
 
--- the record of a table: "Written fill and reserved bits are 0"
-unfoldable pub recordOf : ℕ → Table → List ℕ
-recordOf application t =
-    parts 8 headSize (laid (header application (size t)) 0) ++ map image (nibbles (checksumOf application 0 0 t) 0 0 t)
+-- a record of a table, with any reserved bit and fill
+unfoldable pub recordWith : ℕ → ℕ → ℕ → Table → List ℕ
+recordWith application reserved filling t =
+    parts 8 headSize (laid (header application (size t)) 0)
+    ++ map image (nibbles (checksumOf application reserved filling t) reserved filling t)
+
+-- the record that is written: "Written fill and reserved bits are 0"
+abbrev pub recordOf : ℕ → Table → List ℕ
+recordOf application t = recordWith application 0 0 t
 
 -- the order of writers: 16, 13, 15. A form of another kind can't be measured past its opening
 unfoldable pub writeRules : ℕ → List ℕ → List Rule
