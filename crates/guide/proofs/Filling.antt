@@ -78,9 +78,9 @@ stored-more {l} {pen} {entry} {q} {n} {out} {at} {before} {i} s h r t b e =
       goes = record { rest = t .goes .rest ∙ ap (drop 1) (s .goes .rest) ∙ drop-drop 1 i (restOf l pen); stands = t .goes .stands };
       bytes = rw (f, t .its-byte) (ap (λ (ss : List Symbol). sets out (q + i) (map byteOf ss)) (sym ahead) ∙ s .bytes);
       found =
-        rw (e, t .its-start)
-        (first-step (getD (restOf l at) 0 fill) (grab (n - (i + 1)) (restOf l (r .pen))) before i
-        ∙ ap (λ (ss : List Symbol). min before (i + beforeStart ss)) (sym ahead) ∙ s .found);
+          rw (e, t .its-start)
+          (first-step (getD (restOf l at) 0 fill) (grab (n - (i + 1)) (restOf l (r .pen))) before i
+          ∙ ap (λ (ss : List Symbol). min before (i + beforeStart ss)) (sym ahead) ∙ s .found);
       small = rw e (first-small (r .starts) before i n (s .small));
     }
   where

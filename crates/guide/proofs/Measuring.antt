@@ -46,8 +46,8 @@ pub measure-step :
     → measureFrom (cells + more) (drop next l) ≡ measureFrom cells (drop p l)
 measure-step {l} {p} {next = next} s cells more e =
     let n : length (streamOf (blocks (drop p l))) / cell ≡ more + length (streamOf (blocks (drop next l))) / cell
-            = ap (λ (bs : List Block). length (streamOf bs) / cell) (blocks-at s)
-              ∙ stream-length (blockOf (drop p l)) (blocks (drop next l)) ∙ omega (arith, raw-length s) in
+    = ap (λ (bs : List Block). length (streamOf bs) / cell) (blocks-at s)
+    ∙ stream-length (blockOf (drop p l)) (blocks (drop next l)) ∙ omega (arith, raw-length s) in
     rw (whole-at s, n, add-assoc)
 
 pub measure-end : (l : List ℕ) (p cells : ℕ) → p ≡ length l → Cells cells ≡ measureFrom cells (drop p l)

@@ -69,17 +69,17 @@ rowed-more {s} {k} {l} {pen} {entry} {q} {out} {at} {to} {y} r h out′ at′ e 
       same = ap length e ∙ length-sets out to (rowOf s y (restOf l at)) ∙ r .same;
       place = omega (arith, r .from-one, r .place);
       goes =
-        record {
-          rest =
-            let n : (y - 1) * perPacket + perPacket ≡ (y + 1 - 1) * perPacket = omega (arith, r .from-one) in
-            rw (← n) (g .rest ∙ ap (drop perPacket) (r .goes .rest) ∙ drop-drop perPacket ((y - 1) * perPacket) (restOf l pen));
-          stands = g .stands;
-        };
+          record {
+            rest =
+                let n : (y - 1) * perPacket + perPacket ≡ (y + 1 - 1) * perPacket = omega (arith, r .from-one) in
+                rw (← n) (g .rest ∙ ap (drop perPacket) (r .goes .rest) ∙ drop-drop perPacket ((y - 1) * perPacket) (restOf l pen));
+            stands = g .stands;
+          };
       bytes =
-        let m : suc (suc k - suc y) ≡ suc k - y = omega arith in
-        rw (add-one y, g .rest)
-        (stored-part out out′ to packetLength (rowOf s y (restOf l at)) (joined (rows s (suc k - suc y) (suc y) (drop perPacket (restOf l at)))) (row-length s y (restOf l at)) e
-        ∙ ap (λ (n : ℕ). sets out to (joined (rows s n y (restOf l at)))) m ∙ r .bytes);
+          let m : suc (suc k - suc y) ≡ suc k - y = omega arith in
+          rw (add-one y, g .rest)
+          (stored-part out out′ to packetLength (rowOf s y (restOf l at)) (joined (rows s (suc k - suc y) (suc y) (drop perPacket (restOf l at)))) (row-length s y (restOf l at)) e
+          ∙ ap (λ (n : ℕ). sets out to (joined (rows s n y (restOf l at)))) m ∙ r .bytes);
     }
 
 pub rowed-all :
@@ -170,11 +170,11 @@ paged-more {s} {k} {l} {entry} {whole} {out} {at} {next} {to} {left} r h out′ 
       low = omega arith;
       stands = g .stands;
       bytes =
-        rw (g .rest)
-        (stored-part out out′ to (pageLength k) (joined (pageOf s k next (restOf l at))) (joined others) (page-length s k next (restOf l at)) e
-        ∙ ap (sets out to) (sym (joined-append (pageOf s k next (restOf l at)) others))
-        ∙ ap (λ (i : ℕ). sets out to (joined (pages s k i next (restOf l at)))) (sym m)
-        ∙ r .bytes);
+          rw (g .rest)
+          (stored-part out out′ to (pageLength k) (joined (pageOf s k next (restOf l at))) (joined others) (page-length s k next (restOf l at)) e
+          ∙ ap (sets out to) (sym (joined-append (pageOf s k next (restOf l at)) others))
+          ∙ ap (λ (i : ℕ). sets out to (joined (pages s k i next (restOf l at)))) (sym m)
+          ∙ r .bytes);
     }
   where
     others : List (List ℕ)

@@ -164,17 +164,18 @@ module _ (l : List ℕ) (pen : Pen) (head from next : ℕ) (s : Standing l (pen 
       let e : length (cellsOf block) ≡ pen .sent + 1 = omega (arith, lasts, unsent) in
       record {
         rest =
-          sym
-          (ap (drop 1) (rest-at s (pen .sent)) ∙ drop-drop 1 (pen .sent) (cellsOf block ++ following)
-          ∙ drop-at (cellsOf block) following (pen .sent + 1) e);
+            sym
+            (ap (drop 1) (rest-at s (pen .sent)) ∙ drop-drop 1 (pen .sent) (cellsOf block ++ following)
+            ∙ drop-at (cellsOf block) following (pen .sent + 1) e);
         stands = record { among = λ t. some-cells (blockOf (drop next l)) };
       }
 
   moves : Goes l pen 1 (movedOf pen (next - from) next)
   moves =
-      elim (decLt (pen .sent + 1) ((next - from + 7) / 3 * 3))
-      [ yes h ↦ rw (lt-ltb (pen .sent + 1) ((next - from + 7) / 3 * 3) h) (moves-on h)
-      | no n ↦ let h : (next - from + 7) / 3 * 3 ≤ pen .sent + 1 = omega arith in rw (le-ltb (pen .sent + 1) ((next - from + 7) / 3 * 3) h) (moves-over h) ]
+      elim (decLt (pen .sent + 1) ((next - from + 7) / 3 * 3)) [
+        | yes h ↦ rw (lt-ltb (pen .sent + 1) ((next - from + 7) / 3 * 3) h) (moves-on h)
+        | no n ↦ let h : (next - from + 7) / 3 * 3 ≤ pen .sent + 1 = omega arith in rw (le-ltb (pen .sent + 1) ((next - from + 7) / 3 * 3) h) (moves-over h)
+      ]
 
   -- from a record
   pub sends-symbol :
@@ -198,8 +199,8 @@ sends-filler l pen b r e =
       its-byte = rw (rest-none l pen b);
       its-start = rw (rest-none l pen b);
       goes =
-        record {
-          rest = rw (rest-none l pen b);
-          stands = record { among = λ t. let z : _≡_ {A = ℕ} 0 1 = cc in absurd (omega arith) };
-        };
+          record {
+            rest = rw (rest-none l pen b);
+            stands = record { among = λ t. let z : _≡_ {A = ℕ} 0 1 = cc in absurd (omega arith) };
+          };
     })

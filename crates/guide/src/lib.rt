@@ -32,10 +32,13 @@ pub struct Setting {
 const PACKET: usize = 42;
 // The bytes after a packet's pointer.
 const PER_PACKET: usize = 39;
+
 const CELL: usize = 3;
 // A block's start and the four nibbles of its 16 bits.
 const LEAD: usize = 5;
+
 const START: u8 = 12;
+
 const FILLER: u8 = 3;
 
 // Where the writer stands: at which record, and how many of its symbols are sent.
@@ -277,7 +280,15 @@ fn write_blanks(out: &mut [u8], q: usize)
 }
 
 // Writes a page of k packets and its packet 0 at q.
-fn write_page(s: Setting, index: u8, k: u8, records: &[u8], pen: Pen, out: &mut [u8], q: usize) -> Pen
+fn write_page(
+    s: Setting,
+    index: u8,
+    k: u8,
+    records: &[u8],
+    pen: Pen,
+    out: &mut [u8],
+    q: usize,
+) -> Pen
     requires { ⌜ (k ≤ 25) × (q + pageLength k ≤ length (now out)) × Within (now records) pen ⌝ }
     ensures { λ r. ⌜ now (out .exit) ≡ sets (now (out .entry)) q (joined (pageOf s k index (restOf (now (records .entry)) pen))) ⌝ }
     ensures { λ r. ⌜ Goes (now (records .entry)) pen (k * perPacket) r ⌝ }

@@ -32,17 +32,20 @@ fn step(
     let read = vectors::fill(input, space);
     let found = vectors::next(read, space);
     match found {
-        Found::Whole(case) => call(
-            case.op,
-            vectors::payload(case, space),
-            vectors::lend(out, case.room),
-            text,
-        ),
+        Found::Whole(case) => {
+            let payload = vectors::payload(case, space);
+            run(case.op, case.room, payload, out, text);
+        }
         Found::Ended(left) => {
             lines::ended(left, text);
         }
     }
     found
+}
+
+// A case: the call is lent as much output as it has room.
+fn run(op: u8, room: usize, payload: &[u8], out: &mut [u8], text: &mut [u8]) {
+    call(op, payload, vectors::lend(out, room), text);
 }
 
 // The call that op names.

@@ -59,10 +59,9 @@ returns : tie.Need-returns Inv-loop μ-loop
 returns c =
     let z = c .before .before .before .before in
     let a = z .before .before .before .before .args in
-    let e = rowed-all (c .before .loop .inv) (c .loop-test .left) in
-    (
+    let e = rowed-all (c .before .loop .inv) (c .loop-test .left) in (
       page-laid (a .s) (a .k) (a .index) (restOf (a .records .now) (a .pen)) (a .out .now) (z .write-zero .last .1 .1 .1 .0) (c .before .loop .out)
-      (a .q) (z .write-zero .ensures) (e .0),
+          (a .q) (z .write-zero .ensures) (e .0),
       e .1,
     )
 

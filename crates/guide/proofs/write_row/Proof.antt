@@ -58,10 +58,9 @@ returns : tie.Need-returns
 returns c =
     let w = c .before .before .before .before .before in
     let v = w .before .before .before .before in
-    let a = v .before .before .before .before .args in
-    (
+    let a = v .before .before .before .before .args in (
       row-laid (a .s) (a .y) (restOf (a .records .now) (a .pen)) (a .out .now) (v .write-address .last .1 .1 .0) (w .write-symbols .last .1 .1 .0) (a .q) (w .write-symbols .result .before) (c .before .image .result) (v .write-address .ensures)
-      (w .write-symbols .ensures .0) (w .write-symbols .ensures .1 .0) (c .before .image .ensures),
+          (w .write-symbols .ensures .0) (w .write-symbols .ensures .1 .0) (c .before .image .ensures),
       w .write-symbols .ensures .1 .1,
     )
 
