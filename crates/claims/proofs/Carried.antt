@@ -36,7 +36,7 @@ use Rattle.claims.proofs.Packet.{before-le, Heard, heard-row, lost-row}
 use Rattle.claims.proofs.Hearing.{elsewhere-heard, zero-heard, row-heard, RowHeard, read, skipped, unread}
 use Rattle.claims.proofs.Sending.{Sends, stream-sends, Grabbed, grabbed}
 
-grab-length : (n : ℕ) (ss : List Symbol) → length (grab n ss) ≡ n
+pub grab-length : (n : ℕ) (ss : List Symbol) → length (grab n ss) ≡ n
 unfolding grab
 grab-length zero ss = refl
 grab-length (suc n) [] = ap suc (grab-length n [])

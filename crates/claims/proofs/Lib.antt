@@ -8,3 +8,5 @@ pub mod Carried
 pub mod March
 pub mod Settled
 pub mod Fed
+pub mod Tables
+pub mod Demands

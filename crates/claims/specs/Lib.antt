@@ -2,3 +2,4 @@ pub mod Noise
 pub mod Carrying
 pub mod Feeding
 pub mod Lists
+pub mod Tables

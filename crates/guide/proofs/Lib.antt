@@ -5,3 +5,7 @@ pub mod Sending
 pub mod Filling
 pub mod Laying
 pub mod Paging
+pub mod Answering
+pub mod Numbering
+pub mod Pointing
+pub mod Cases

@@ -3,7 +3,7 @@
 use mathlib.Core.Path.{_≡_, _∙_, refl, sym, ap}
 use mathlib.Core.List.{List, [], _∷_, _++_, append-assoc}
 use Prim.Native.Nat.{ℕ, zero, suc, _+_, _-_, _*_, _%_, _<_, _≤_}
-use native.Mathlib.Nat.{suc-mul, le-refl}
+use native.Mathlib.Nat.{zero-mul, suc-mul, le-refl}
 use native.Mathlib.Numerals.{add-one}
 use native.Mathlib.Omega.{arith}
 use lib.ListN.{length, drop, length-append, length-map}
@@ -120,6 +120,15 @@ pub joined-append : (ps qs : List (List ℕ)) → joined (ps ++ qs) ≡ joined p
 unfolding joined
 joined-append [] qs = refl
 joined-append (p ∷ ps) qs = rw (joined-append ps qs) (sym (append-assoc p (joined ps) (joined qs)))
+
+pub pages-length : (s : Setting) (k p index : ℕ) (ss : List Symbol) → length (joined (pages s k p index ss)) ≡ p * pageLength k
+unfolding pages joined
+pages-length s k zero index ss = sym (zero-mul (pageLength k))
+pages-length s k (suc p) index ss =
+    let others = pages s k p ((index + 1) % 16) (drop (k * perPacket) ss) in
+    ap length (joined-append (pageOf s k index ss) others)
+    ∙ length-append (joined (pageOf s k index ss)) (joined others)
+    ∙ omega (arith, page-length s k index ss, pages-length s k p ((index + 1) % 16) (drop (k * perPacket) ss), suc-mul p (pageLength k))
 
 -- so many pages are left to store, the next with the index `next` at `to`
 pub record Paged (s : Setting) (k : ℕ) (l entry whole out : List ℕ) (at : Pen) (next to left : ℕ) : Type 0 where

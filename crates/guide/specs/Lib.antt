@@ -3,3 +3,4 @@ pub mod Packet
 pub mod Stream
 pub mod Cutting
 pub mod Pen
+pub mod Order

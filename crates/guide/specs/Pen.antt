@@ -3,18 +3,19 @@ use mathlib.Core.Path.{_≡_}
 use mathlib.Core.Bool.{Bool, true, false}
 use mathlib.Core.List.{List, _∷_}
 use Prim.Native.Nat.{ℕ, zero, suc, _+_, _-_, _*_, _/_, _%_, _<_, min}
-use lib.Dec.{ltb}
+use lib.Dec.{leb, ltb}
 use lib.ListN.{length, getD, take, drop}
-use Rattle.laws.specs.Pick.{pick}
+use Rattle.laws.specs.Pick.{pick, both}
 use Rattle.blocks.specs.Block.{Block, begins, blockOf, whole, blocks}
 use Rattle.guide.specs.declared.Pen.{Pen}
 use Rattle.guide.specs.declared.Sent.{Sent}
 use Rattle.guide.specs.declared.Measured.{Measured}
 use Rattle.guide.specs.declared.Measured.the-variants.{Cells, Broken}
 use Rattle.guide.specs.declared.Setting.{Setting}
+use Rattle.guide.specs.Setting.{inRange}
 use Rattle.guide.specs.Packet.{packetLength, packetZero}
 use Rattle.guide.specs.Stream.{Symbol, start, fill, bits, raw, byteOf, cell, cellsOf, streamOf}
-use Rattle.guide.specs.Cutting.{rows}
+use Rattle.guide.specs.Cutting.{rows, pages, joined}
 
 -- a list of whole records in cells; or that it isn't one
 abbrev pub measureOf : List ℕ → Measured
@@ -73,3 +74,11 @@ pageOf s k index ss = packetZero s index k ∷ rows s k 1 ss
 -- how many bytes it has
 abbrev pub pageLength : ℕ → ℕ
 pageLength k = packetLength * (k + 1)
+
+-- the bytes of so many pages from the first record on
+abbrev pub pagesBytes : Setting → ℕ → ℕ → ℕ → List ℕ → List ℕ
+pagesBytes s index k count l = joined (pages s k count index (streamOf (blocks l)))
+
+-- "setting or state out of range"
+abbrev pub takesOf : Setting → ℕ → ℕ → Bool
+takesOf s index k = both (inRange s) (both (leb index 15) (both (leb 1 k) (leb k 25)))

@@ -7,18 +7,19 @@ use answer::Answer;
 use answer::Refusal;
 use blocks::Found;
 ghost use mathlib.Core.Path.{_≡_};
-ghost use mathlib.Core.List.{map};
+ghost use mathlib.Core.List.{[], map};
 ghost use Prim.Native.Nat.{_+_, _-_, _*_, _/_, _^_, _≤_, _<_, min};
 ghost use lib.Dec.{leb};
 ghost use lib.ListN.{length, getD, take, drop, replicate};
 ghost use lib.Seq.{sets};
 ghost use Rattle.laws.specs.Pick.{pick, both};
+ghost use Rattle.answer.specs.Writing.{answered, left};
 ghost use Rattle.blocks.specs.Block.{blocks as Block·blocks};
 ghost use Rattle.guide.specs.Setting.{inRange};
 ghost use Rattle.guide.specs.Packet.{packetLength, address, packetZero};
-ghost use Rattle.guide.specs.Stream.{fill, byteOf, perPacket, cellsOf, streamOf, grab, beforeStart};
-ghost use Rattle.guide.specs.Cutting.{rowOf, pages, joined};
-ghost use Rattle.guide.specs.Pen.{measureOf, nibbleOf, blockAt, movedOf, fillerAt, restOf, Within, Goes, Sends, firstOf, pageLength, pageOf};
+ghost use Rattle.guide.specs.Stream.{fill, byteOf, cell, perPacket, cellsOf, streamOf, grab, beforeStart};
+ghost use Rattle.guide.specs.Cutting.{rowOf, pages, pagesFor, joined, cutBytes, usualPage, cutRules};
+ghost use Rattle.guide.specs.Pen.{measureOf, nibbleOf, blockAt, movedOf, fillerAt, restOf, Within, Goes, Sends, firstOf, pageLength, pageOf, pagesBytes, takesOf};
 
 // Which page and stream carry the guide, and which application its blocks are of. In range:
 // magazine 1..8, page 0..255 (any byte), stream 0..15, application 0..31.
@@ -28,6 +29,9 @@ pub struct Setting {
     pub stream: u8,
     pub application: u8,
 }
+
+// How many packets a page has unless told otherwise.
+const USUAL_PAGE: u8 = 25;
 
 const PACKET: usize = 42;
 // The bytes after a packet's pointer.
@@ -84,6 +88,69 @@ pub fn is_in_range(s: Setting) -> bool
         return false;
     }
     true
+}
+
+// Cuts a list of records into packets, in pages of 25 packets, the first with the given index: an
+// empty list gives no packet. The packets stand one after the other at the front of `out`.
+pub fn cut(s: Setting, index: u8, records: &[u8], out: &mut [u8]) -> Answer
+    ensures answer { λ r. ⌜ r ≡ answered (cutRules s index usualPage (now (records .entry))) (cutBytes s index usualPage (now (records .entry))) (now (out .entry)) ⌝ }
+    ensures bytes { λ r. ⌜ now (out .exit) ≡ left (cutRules s index usualPage (now (records .entry))) (cutBytes s index usualPage (now (records .entry))) (now (out .entry)) ⌝ }
+{
+    cut_pages(s, index, USUAL_PAGE, records, out)
+}
+
+// The same in pages of k packets, 1 to 25.
+pub fn cut_pages(s: Setting, index: u8, k: u8, records: &[u8], out: &mut [u8]) -> Answer
+    ensures answer { λ r. ⌜ r ≡ answered (cutRules s index k (now (records .entry))) (cutBytes s index k (now (records .entry))) (now (out .entry)) ⌝ }
+    ensures bytes { λ r. ⌜ now (out .exit) ≡ left (cutRules s index k (now (records .entry))) (cutBytes s index k (now (records .entry))) (now (out .entry)) ⌝ }
+{
+    if !takes(s, index, k) {
+        return Answer::Refused(Refusal { no: 16, at: 0 });
+    }
+    match measure(records) {
+        Measured::Broken => Answer::Refused(Refusal { no: 13, at: 0 }),
+        Measured::Cells(cells) => write_all(s, index, k, pages_for(cells, k), records, out),
+    }
+}
+
+// Whether the setting, the index and the page's length are in range.
+fn takes(s: Setting, index: u8, k: u8) -> bool
+    ensures { λ r. ⌜ r ≡ takesOf s index k ⌝ }
+{
+    if !is_in_range(s) {
+        return false;
+    }
+    if index > 15 {
+        return false;
+    }
+    if k < 1 {
+        return false;
+    }
+    k <= 25
+}
+
+// How many pages of k packets so many cells need.
+fn pages_for(cells: usize, k: u8) -> usize
+    requires { ⌜ (1 ≤ k) × (cells < 2 ^ 63) ⌝ }
+    ensures { λ r. ⌜ r ≡ pagesFor k (cells * cell) ⌝ }
+{
+    let rows = (cells + 12) / 13;
+    let per_page = k as usize;
+    (rows + (per_page - 1)) / per_page
+}
+
+// Writes so many pages, where they have room.
+fn write_all(s: Setting, index: u8, k: u8, count: usize, records: &[u8], out: &mut [u8]) -> Answer
+    requires { ⌜ (k ≤ 25) × (index < 16) ⌝ }
+    ensures { λ r. ⌜ r ≡ answered [] (pagesBytes s index k count (now (records .entry))) (now (out .entry)) ⌝ }
+    ensures { λ r. ⌜ now (out .exit) ≡ left [] (pagesBytes s index k count (now (records .entry))) (now (out .entry)) ⌝ }
+{
+    let size = PACKET * (k as usize + 1);
+    if out.len() / size < count {
+        return Answer::Refused(Refusal { no: 1, at: 0 });
+    }
+    write_pages(s, index, k, count, records, out);
+    Answer::Done(count * size)
 }
 
 // How many cells the blocks of a list of records take.

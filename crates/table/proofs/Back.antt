@@ -28,7 +28,7 @@ use Rattle.table.proofs.Exact.{reads-exactly}
 use Rattle.table.proofs.Forms.{Bytes, form-in, in-form}
 
 -- images of nibbles decode to them
-nibbles-back : (k n : ℕ) → map nib (map image (parts 4 k n)) ≡ parts 4 k n
+pub nibbles-back : (k n : ℕ) → map nib (map image (parts 4 k n)) ≡ parts 4 k n
 unfolding parts
 nibbles-back zero n = refl
 nibbles-back (suc k) n = ap₂ (λ (x : ℕ) (xs : List ℕ). x ∷ xs) (nib-image (n % 16) ∙ mod-mod n 16) (nibbles-back k (n / 16))

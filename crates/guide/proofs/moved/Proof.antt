@@ -1,29 +1,22 @@
+-- `guide::moved` meets its contract: each `return` is by the test that led there. Assumes nothing.
 use borrow.Author.Needs.{needs}
-use Prim.Native.Nat.{_+_, _*_, _/_, _≤_, _<_}
+use Prim.Native.Nat.{_+_, _*_, _/_, _<_, _≤_}
 use borrow.Author.Tests.{lt-ltb, le-ltb}
 use Rattle.guide.proofs.moved.Statement.{statement}
 use Rattle.guide.proofs.moved.Tie as tie
-use Rattle.guide.proofs.moved.Reads as reads
-use Rattle.guide.proofs.moved.Lts as lts
-use Rattle.guide.proofs.cells_of.Reads as cells-of-reads
 
--- src/lib.rt:163:16
 add-sent : tie.Need-add-sent
 add-sent c = search needs
 
--- src/lib.rt:164:15
 cells-of-requires : tie.Need-cells-of-requires
 cells-of-requires c κs = search needs
 
--- src/lib.rt:164:15
 mul-if1 : tie.Need-mul-if1
 mul-if1 c = search needs
 
--- src/lib.rt:165:9
 returns : tie.Need-returns
-returns c = let h : _<_ (c .before .before .before .args .pen .sent + 1) ((c .before .before .before .args .size + 7) / 3 * 3) = search needs in rw (lt-ltb _ _ h)
+returns c = let h : c .before .before .before .args .pen .sent + 1 < (c .before .before .before .args .size + 7) / 3 * 3 = search needs in rw (lt-ltb _ _ h)
 
--- src/lib.rt:159:1
 returns-2 : tie.Need-returns-2
 returns-2 c = let h : (c .before .before .before .args .size + 7) / 3 * 3 ≤ c .before .before .before .args .pen .sent + 1 = search needs in rw (le-ltb _ _ h)
 

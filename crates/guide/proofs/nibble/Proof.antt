@@ -1,43 +1,34 @@
+-- `guide::nibble` meets its contract: a nibble of a number is that of its sixteenth, one place lower. Assumes nothing.
 use borrow.Author.Needs.{needs}
 use mathlib.Core.Path.{_≡_}
 use Rattle.guide.specs.Pen.{nibbleOf}
 use Rattle.guide.proofs.nibble.Statement.{statement}
 use Rattle.guide.proofs.nibble.Tie as tie
-use Rattle.guide.proofs.nibble.Reads as reads
-use Rattle.guide.proofs.nibble.Lts as lts
 
--- src/lib.rt:109:16
 cast-result : tie.Need-cast-result
 cast-result c = search needs
 
--- src/lib.rt:109:9
 returns : tie.Need-returns
 unfolding nibbleOf
 returns c = rw (c .if1 .taken)
 
--- src/lib.rt:112:16
 cast-result-2 : tie.Need-cast-result-2
 cast-result-2 c = search needs
 
--- src/lib.rt:112:9
 returns-2 : tie.Need-returns-2
 unfolding nibbleOf
 returns-2 c = rw (c .if2 .taken)
 
--- src/lib.rt:115:16
 cast-result-3 : tie.Need-cast-result-3
 cast-result-3 c = search needs
 
--- src/lib.rt:115:9
 returns-3 : tie.Need-returns-3
 unfolding nibbleOf
 returns-3 c = rw (c .if3 .taken)
 
--- src/lib.rt:117:5
 cast-result-4 : tie.Need-cast-result-4
 cast-result-4 c = search needs
 
--- src/lib.rt:104:1
 returns-4 : tie.Need-returns-4
 unfolding nibbleOf
 returns-4 c = let e : c .before .before .before .args .i ≡ 3 = search needs in rw e

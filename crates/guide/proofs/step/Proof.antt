@@ -1,3 +1,4 @@
+-- `guide::step` meets its contract: where a record stands its next symbol is sent, and filler where none does. Assumes nothing.
 use borrow.Author.Needs.{needs}
 use mathlib.Core.Path.{_∙_, sym}
 use native.Mathlib.Omega.{arith}
@@ -5,18 +6,10 @@ use Rattle.blocks.proofs.Walking.{Standing, standing, ended, broken}
 use Rattle.guide.proofs.Sending.{end-not, unsent, sends-symbol, sends-filler}
 use Rattle.guide.proofs.step.Statement.{statement}
 use Rattle.guide.proofs.step.Tie as tie
-use Rattle.guide.proofs.step.Reads as reads
-use Rattle.guide.proofs.step.Lts as lts
-use Rattle.blocks.proofs.record_at.Reads as record-at-reads
-use Rattle.guide.proofs.byte_at.Reads as byte-at-reads
-use Rattle.guide.proofs.filler.Reads as filler-reads
-use Rattle.guide.proofs.moved.Reads as moved-reads
 
--- src/lib.rt:126:11
 record-at-requires : tie.Need-record-at-requires
 record-at-requires c κs = search needs
 
--- src/lib.rt:127:25
 enum-known-head : tie.Need-enum-known-head
 enum-known-head c = search needs
 
@@ -27,45 +20,35 @@ stands :
     (c .before .head .given .0 .0) (c .before .head .given .0 .1 .0) (c .before .head .given .0 .1 .1 .0)
 stands c = standing _ _ _ _ _ (sym (c .before .before .before .record-at .ensures) ∙ c .before .head .given .1)
 
--- src/lib.rt:128:19
 byte-at-requires : tie.Need-byte-at-requires
 byte-at-requires c κs = let s = stands c in omega arith
 
--- src/lib.rt:130:29
 sub-moved : tie.Need-sub-moved
 sub-moved c = let s = stands (c .before) in omega arith
 
--- src/lib.rt:130:18
 moved-requires : tie.Need-moved-requires
 moved-requires c κs =
     let s = stands (c .before) in
     (omega arith, unsent _ _ _ _ _ s (c .before .before .before .before .before .before .pre))
 
--- src/lib.rt:132:23
 enum-told : tie.Need-enum-told
 enum-told c = search needs
 
--- src/lib.rt:132:23
 filler-requires : tie.Need-filler-requires
 filler-requires c κs = search needs
 
--- src/lib.rt:133:26
 enum-told-2 : tie.Need-enum-told-2
 enum-told-2 c = search needs
 
--- src/lib.rt:133:26
 filler-requires-2 : tie.Need-filler-requires-2
 filler-requires-2 c κs = search needs
 
--- src/lib.rt:121:1
 returns : tie.Need-returns
 returns c = sends-symbol _ _ _ _ _ (stands (c .before .before)) (c .before .before .before .before .before .before .before .pre) (c .before .byte-at .result) (c .moved .result) (c .before .byte-at .ensures) (c .moved .ensures)
 
--- src/lib.rt:121:1
 returns-2 : tie.Need-returns-2
 returns-2 c = sends-filler _ _ (end-not _ _ (ended _ _ (sym (c .before .before .before .record-at .ensures) ∙ c .before .enum-told .given .1))) (c .filler .result) (c .filler .ensures)
 
--- src/lib.rt:121:1
 returns-3 : tie.Need-returns-3
 returns-3 c = sends-filler _ _ (broken _ _ (sym (c .before .before .before .record-at .ensures) ∙ c .before .enum-told2 .given .1) .1) (c .filler2 .result) (c .filler2 .ensures)
 

@@ -1,46 +1,35 @@
+-- `guide::write_address` meets its contract: its two stores are the address. Assumes nothing.
 use borrow.Author.Needs.{needs}
 use native.Mathlib.Omega.{arith}
 use lib.ListN.{length-set}
 use Rattle.guide.proofs.Laying.{address-laid}
 use Rattle.guide.proofs.write_address.Statement.{statement}
 use Rattle.guide.proofs.write_address.Tie as tie
-use Rattle.guide.proofs.write_address.Reads as reads
-use Rattle.guide.proofs.write_address.Lts as lts
-use Rattle.octet.proofs.image.Reads as image-reads
 
--- src/lib.rt:260:43
 mul-image : tie.Need-mul-image
 mul-image c = search needs
 
--- src/lib.rt:260:28
 add-image : tie.Need-add-image
 add-image c = search needs
 
--- src/lib.rt:260:9
 image-requires : tie.Need-image-requires
 image-requires c κs = search needs
 
--- src/lib.rt:261:9
 image-requires-2 : tie.Need-image-requires-2
 image-requires-2 c κs = search needs
 
--- src/lib.rt:262:5
 slice-write-out : tie.Need-slice-write-out
 slice-write-out c = search needs
 
--- src/lib.rt:263:9
 add-out : tie.Need-add-out
 add-out c = search needs
 
--- src/lib.rt:263:5
 slice-write-out-2 : tie.Need-slice-write-out-2
 slice-write-out-2 c = simp length-set (omega arith)
 
--- src/lib.rt:256:1
 same-length : tie.Need-same-length
 same-length c = search needs
 
--- src/lib.rt:256:1
 returns : tie.Need-returns
 returns c =
     let a = c .before .before .before .args in

@@ -1,3 +1,4 @@
+-- `guide::write_blanks` meets its contract. The loop's invariant: the blanks stored, with those still to be stored, are the whole. Assumes nothing.
 use mathlib.Core.Path.{_≡_, _∙_, refl}
 use Prim.Native.Nat.{_+_, _-_, _≤_}
 use native.Mathlib.Nat.{add-zero}
@@ -7,8 +8,6 @@ use lib.Seq.{sets}
 use Rattle.laws.proofs.Runs.{sets-run}
 use Rattle.guide.proofs.write_blanks.Statement.{statement}
 use Rattle.guide.proofs.write_blanks.Tie as tie
-use Rattle.guide.proofs.write_blanks.Reads as reads
-use Rattle.guide.proofs.write_blanks.Lts as lts
 
 abbrev Inv-loop : tie.InvT-loop
 Inv-loop out₀ q i₀ out i = (i ≤ 32) × (length out ≡ length out₀) × (sets out (q + i) (replicate (32 - i) 0x20) ≡ sets out₀ q (replicate 32 0x20))
@@ -16,38 +15,30 @@ Inv-loop out₀ q i₀ out i = (i ≤ 32) × (length out ≡ length out₀) × (
 abbrev μ-loop : tie.MeasureT-loop
 μ-loop out₀ q i₀ out i = 32 - i
 
--- src/lib.rt:272:5
 loop-holds : tie.Need-loop-holds Inv-loop μ-loop
 loop-holds c = (search needs, refl, rw add-zero)
 
--- src/lib.rt:273:13
 add-out : tie.Need-add-out Inv-loop μ-loop
 add-out c = search needs
 
--- src/lib.rt:273:9
 slice-write-out : tie.Need-slice-write-out Inv-loop μ-loop
 slice-write-out c = search needs
 
--- src/lib.rt:274:9
 add-i : tie.Need-add-i Inv-loop μ-loop
 add-i c = search needs
 
--- src/lib.rt:272:5
 loop-less : tie.Need-loop-less Inv-loop μ-loop
 loop-less c = search needs
 
--- src/lib.rt:272:5
 loop-again : tie.Need-loop-again Inv-loop μ-loop
 loop-again c =
     let l = c .before .loop in
     let a = c .before .before .args in
     (search needs, length-set (l .out) (a .q + l .i) 0x20 ∙ l .inv .1, sets-run (l .out) (a .q) (l .i) 32 0x20 (c .loop-test .taken) ∙ l .inv .2)
 
--- src/lib.rt:267:1
 same-length : tie.Need-same-length Inv-loop μ-loop
 same-length c = search needs
 
--- src/lib.rt:267:1
 returns : tie.Need-returns Inv-loop μ-loop
 returns c =
     let z : 32 - c .before .loop .i ≡ 0 = search needs in

@@ -1,3 +1,4 @@
+-- `guide::write_pages` meets its contract. The loop's invariant: the pages stored, with those still to be stored, are the whole. Assumes nothing.
 use borrow.Author.Needs.{needs}
 use Rattle.blocks.specs.Block.{blocks}
 use Rattle.guide.specs.Stream.{streamOf}
@@ -5,9 +6,6 @@ use Rattle.guide.specs.Cutting.{pages, joined}
 use Rattle.guide.proofs.Paging.{Paged, paged-none, page-room, paged-more, paged-all}
 use Rattle.guide.proofs.write_pages.Statement.{statement}
 use Rattle.guide.proofs.write_pages.Tie as tie
-use Rattle.guide.proofs.write_pages.Reads as reads
-use Rattle.guide.proofs.write_pages.Lts as lts
-use Rattle.guide.proofs.write_page.Reads as write-page-reads
 
 abbrev Inv-loop : tie.InvT-loop
 Inv-loop s index k count records out₀ size at₀ next₀ to₀ left₀ out at next to left = Paged s k records out₀ (joined (pages s k count index (streamOf (blocks records)))) out at next to left
@@ -15,52 +13,41 @@ Inv-loop s index k count records out₀ size at₀ next₀ to₀ left₀ out at 
 abbrev μ-loop : tie.MeasureT-loop
 μ-loop s index k count records out₀ size at₀ next₀ to₀ left₀ out at next to left = left
 
--- src/lib.rt:302:26
 add-size : tie.Need-add-size Inv-loop μ-loop
 add-size c = search needs
 
--- src/lib.rt:302:16
 mul-size : tie.Need-mul-size Inv-loop μ-loop
 mul-size c = search needs
 
--- src/lib.rt:307:5
 loop-holds : tie.Need-loop-holds Inv-loop μ-loop
 loop-holds c = paged-none _ _ _ _ _ _ (search needs) (search needs)
 
--- src/lib.rt:308:9
 write-page-requires : tie.Need-write-page-requires Inv-loop μ-loop
 write-page-requires c κs =
     let p = c .before .before .loop .inv in
     (search needs, page-room p (c .before .loop-test .taken), p .stands)
 
--- src/lib.rt:309:17
 add-next : tie.Need-add-next Inv-loop μ-loop
 add-next c = search needs
 
--- src/lib.rt:310:9
 add-to : tie.Need-add-to Inv-loop μ-loop
 add-to c = search needs
 
--- src/lib.rt:311:9
 sub-left : tie.Need-sub-left Inv-loop μ-loop
 sub-left c = search needs
 
--- src/lib.rt:307:5
 loop-less : tie.Need-loop-less Inv-loop μ-loop
 loop-less c = search needs
 
--- src/lib.rt:307:5
 loop-again : tie.Need-loop-again Inv-loop μ-loop
 loop-again c =
     let w = c .before .before .write-page in
     paged-more (c .before .before .before .before .before .loop .inv) (c .before .before .before .before .loop-test .taken)
     (w .last .1 .1 .1 .1 .1 .0) (w .result) (w .ensures .0) (w .ensures .1)
 
--- src/lib.rt:298:1
 same-length : tie.Need-same-length Inv-loop μ-loop
 same-length c = search needs
 
--- src/lib.rt:298:1
 returns : tie.Need-returns Inv-loop μ-loop
 returns c = paged-all (c .before .loop .inv) (search needs)
 

@@ -1,3 +1,4 @@
+-- `guide::write_row` meets its contract: the address, the pointer, though it is stored last, and the symbols are the packet's bytes. Assumes nothing.
 use borrow.Author.Needs.{needs}
 use mathlib.Core.Path.{_∙_}
 use native.Mathlib.Omega.{arith}
@@ -8,25 +9,16 @@ use Rattle.guide.proofs.Filling.{length-grab, before-le}
 use Rattle.guide.proofs.Laying.{row-laid}
 use Rattle.guide.proofs.write_row.Statement.{statement}
 use Rattle.guide.proofs.write_row.Tie as tie
-use Rattle.guide.proofs.write_row.Reads as reads
-use Rattle.guide.proofs.write_row.Lts as lts
-use Rattle.guide.proofs.write_address.Reads as write-address-reads
-use Rattle.guide.proofs.write_symbols.Reads as write-symbols-reads
-use Rattle.octet.proofs.image.Reads as image-reads
 
--- src/lib.rt:225:5
 write-address-requires : tie.Need-write-address-requires
 write-address-requires c κs = search needs
 
--- src/lib.rt:226:48
 add-write-symbols : tie.Need-add-write-symbols
 add-write-symbols c = search needs
 
--- src/lib.rt:226:9
 write-symbols-requires : tie.Need-write-symbols-requires
 write-symbols-requires c κs = search needs
 
--- src/lib.rt:227:31
 cast-image : tie.Need-cast-image
 cast-image c =
     let w = c .before .before .before in
@@ -34,26 +26,21 @@ cast-image c =
     let ss = grab perPacket (restOf (a .records .now) (a .pen)) in
     omega (arith, w .write-symbols .ensures .1 .0, before-le ss, length-grab perPacket (restOf (a .records .now) (a .pen)))
 
--- src/lib.rt:227:18
 image-requires : tie.Need-image-requires
 image-requires c κs = search needs
 
--- src/lib.rt:227:9
 add-out : tie.Need-add-out
 add-out c = search needs
 
--- src/lib.rt:227:5
 slice-write-out : tie.Need-slice-write-out
 slice-write-out c = search needs
 
--- src/lib.rt:220:1
 same-length : tie.Need-same-length
 same-length c =
     simp length-set
     (c .before .before .before .before .before .write-symbols .kept .1 .1 .0
     ∙ c .before .before .before .before .before .before .before .before .before .write-address .kept .1 .1 .0)
 
--- src/lib.rt:220:1
 returns : tie.Need-returns
 returns c =
     let w = c .before .before .before .before .before in

@@ -1,13 +1,11 @@
+-- `guide::write_symbols` meets its contract. The loop's invariant: the bytes stored, with those still to be stored, are the whole, and
+-- so is the place of the first start. Assumes nothing.
 use borrow.Author.Needs.{needs}
 use Prim.Native.Nat.{_-_}
 use Rattle.guide.specs.Stream.{perPacket}
 use Rattle.guide.proofs.Filling.{Stored, stored-none, stored-more, stored-all}
 use Rattle.guide.proofs.write_symbols.Statement.{statement}
 use Rattle.guide.proofs.write_symbols.Tie as tie
-use Rattle.guide.proofs.write_symbols.Reads as reads
-use Rattle.guide.proofs.write_symbols.Lts as lts
-use Rattle.guide.proofs.first.Reads as first-reads
-use Rattle.guide.proofs.step.Reads as step-reads
 
 abbrev Inv-loop : tie.InvT-loop
 Inv-loop records out₀ q at₀ before₀ i₀ out at before i = Stored records at₀ out₀ q perPacket out at before i
@@ -15,46 +13,36 @@ Inv-loop records out₀ q at₀ before₀ i₀ out at before i = Stored records 
 abbrev μ-loop : tie.MeasureT-loop
 μ-loop records out₀ q at₀ before₀ i₀ out at before i = perPacket - i
 
--- src/lib.rt:196:5
 loop-holds : tie.Need-loop-holds Inv-loop μ-loop
 loop-holds c = stored-none _ _ _ _ _ (search needs)
 
--- src/lib.rt:197:13
 step-requires : tie.Need-step-requires Inv-loop μ-loop
 step-requires c κs = search needs
 
--- src/lib.rt:198:13
 add-out : tie.Need-add-out Inv-loop μ-loop
 add-out c = search needs
 
--- src/lib.rt:198:9
 slice-write-out : tie.Need-slice-write-out Inv-loop μ-loop
 slice-write-out c = search needs
 
--- src/lib.rt:199:9
 first-requires : tie.Need-first-requires Inv-loop μ-loop
 first-requires c κs = search needs
 
--- src/lib.rt:201:9
 add-i : tie.Need-add-i Inv-loop μ-loop
 add-i c = search needs
 
--- src/lib.rt:196:5
 loop-less : tie.Need-loop-less Inv-loop μ-loop
 loop-less c = search needs
 
--- src/lib.rt:196:5
 loop-again : tie.Need-loop-again Inv-loop μ-loop
 loop-again c =
     let s = c .before .before .step in
     stored-more (c .before .before .before .before .loop .inv) (c .before .before .before .loop-test .taken) (s .result) (s .ensures)
     (c .before .first .result) (c .before .first .ensures)
 
--- src/lib.rt:187:1
 same-length : tie.Need-same-length Inv-loop μ-loop
 same-length c = search needs
 
--- src/lib.rt:187:1
 returns : tie.Need-returns Inv-loop μ-loop
 returns c = stored-all (c .before .loop .inv) (c .loop-test .left)
 

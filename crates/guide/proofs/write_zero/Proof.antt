@@ -1,3 +1,4 @@
+-- `guide::write_zero` meets its contract: its stores are packet 0's bytes in order. Assumes nothing.
 use borrow.Author.Needs.{needs}
 use mathlib.Core.Path.{_∙_}
 use native.Mathlib.Omega.{arith}
@@ -5,121 +6,88 @@ use lib.ListN.{length-set}
 use Rattle.guide.proofs.Laying.{zero-laid}
 use Rattle.guide.proofs.write_zero.Statement.{statement}
 use Rattle.guide.proofs.write_zero.Tie as tie
-use Rattle.guide.proofs.write_zero.Reads as reads
-use Rattle.guide.proofs.write_zero.Lts as lts
-use Rattle.guide.proofs.write_address.Reads as write-address-reads
-use Rattle.guide.proofs.write_blanks.Reads as write-blanks-reads
-use Rattle.octet.proofs.image.Reads as image-reads
 
--- src/lib.rt:236:9
 image-requires : tie.Need-image-requires
 image-requires c κs = search needs
 
--- src/lib.rt:237:9
 image-requires-2 : tie.Need-image-requires-2
 image-requires-2 c κs = search needs
 
--- src/lib.rt:238:9
 image-requires-3 : tie.Need-image-requires-3
 image-requires-3 c κs = search needs
 
--- src/lib.rt:239:9
 image-requires-4 : tie.Need-image-requires-4
 image-requires-4 c κs = search needs
 
--- src/lib.rt:240:9
 image-requires-5 : tie.Need-image-requires-5
 image-requires-5 c κs = search needs
 
--- src/lib.rt:241:9
 image-requires-6 : tie.Need-image-requires-6
 image-requires-6 c κs = search needs
 
--- src/lib.rt:242:9
 image-requires-7 : tie.Need-image-requires-7
 image-requires-7 c κs = search needs
 
--- src/lib.rt:243:5
 write-address-requires : tie.Need-write-address-requires
 write-address-requires c κs = search needs
 
--- src/lib.rt:244:9
 add-out : tie.Need-add-out
 add-out c = search needs
 
--- src/lib.rt:244:5
 slice-write-out : tie.Need-slice-write-out
 slice-write-out c = search needs
 
--- src/lib.rt:245:9
 add-out-2 : tie.Need-add-out-2
 add-out-2 c = search needs
 
--- src/lib.rt:245:5
 slice-write-out-2 : tie.Need-slice-write-out-2
 slice-write-out-2 c = simp length-set (omega arith)
 
--- src/lib.rt:246:9
 add-out-3 : tie.Need-add-out-3
 add-out-3 c = search needs
 
--- src/lib.rt:246:5
 slice-write-out-3 : tie.Need-slice-write-out-3
 slice-write-out-3 c = simp length-set (omega arith)
 
--- src/lib.rt:247:9
 add-out-4 : tie.Need-add-out-4
 add-out-4 c = search needs
 
--- src/lib.rt:247:5
 slice-write-out-4 : tie.Need-slice-write-out-4
 slice-write-out-4 c = simp length-set (omega arith)
 
--- src/lib.rt:248:9
 add-out-5 : tie.Need-add-out-5
 add-out-5 c = search needs
 
--- src/lib.rt:248:5
 slice-write-out-5 : tie.Need-slice-write-out-5
 slice-write-out-5 c = simp length-set (omega arith)
 
--- src/lib.rt:249:9
 add-out-6 : tie.Need-add-out-6
 add-out-6 c = search needs
 
--- src/lib.rt:249:5
 slice-write-out-6 : tie.Need-slice-write-out-6
 slice-write-out-6 c = simp length-set (omega arith)
 
--- src/lib.rt:250:9
 add-out-7 : tie.Need-add-out-7
 add-out-7 c = search needs
 
--- src/lib.rt:250:5
 slice-write-out-7 : tie.Need-slice-write-out-7
 slice-write-out-7 c = simp length-set (omega arith)
 
--- src/lib.rt:251:9
 add-out-8 : tie.Need-add-out-8
 add-out-8 c = search needs
 
--- src/lib.rt:251:5
 slice-write-out-8 : tie.Need-slice-write-out-8
 slice-write-out-8 c = simp length-set (omega arith)
 
--- src/lib.rt:252:23
 add-write-blanks : tie.Need-add-write-blanks
 add-write-blanks c = search needs
 
--- src/lib.rt:252:5
 write-blanks-requires : tie.Need-write-blanks-requires
 write-blanks-requires c κs = simp length-set (omega arith)
 
--- src/lib.rt:232:1
 same-length : tie.Need-same-length
 same-length c = c .before .before .write-blanks .kept .0 ∙ simp length-set (c .before .before .before .before .before .before .write-address .kept .1 .1 .0)
 
--- src/lib.rt:232:1
 returns : tie.Need-returns
 returns c =
     let w = c .before .before in
