@@ -4,11 +4,12 @@
 // The definitions are in specs/Units.antt. What a unit that is met tells is in proofs/Meets.antt.
 use answer::Refusal;
 ghost use mathlib.Core.Path.{_≡_};
-ghost use Prim.Native.Nat.{_≤_};
+ghost use Prim.Native.Nat.{_+_, _*_, _%_, _^_, _≤_};
 ghost use lib.ListN.{length};
 ghost use Rattle.laws.specs.Pick.{either};
 ghost use Rattle.answer.specs.Rules.{judged};
 ghost use Rattle.units.specs.Units.{textId, stuffingId, lineFits, nextUnit, textRules, badUnit, unitAt};
+ghost use Rattle.units.specs.Values.{packed};
 
 // What the unit walk finds at a place of a packet. Offsets and places count from the packet's first
 // byte.
@@ -45,6 +46,24 @@ pub fn unit_at(pes: &[u8], at: usize) -> DataUnit
         return DataUnit::Stuffing(next);
     }
     text_at(pes, at)
+}
+
+// What the walk finds as one number, for C: specs/Values.antt has its layout.
+pub fn pack(unit: DataUnit) -> u64
+    ensures { λ r. ⌜ r ≡ packed unit ⌝ }
+{
+    match unit {
+        DataUnit::End => 0,
+        DataUnit::Text(next) => joined(254, next),
+        DataUnit::Stuffing(next) => joined(255, next),
+        DataUnit::Refused(r) => joined(r.no, r.at),
+    }
+}
+
+fn joined(code: u8, place: usize) -> u64
+    ensures { λ r. ⌜ r ≡ code + 256 * (place % 2 ^ 56) ⌝ }
+{
+    (code as u64) + 256 * ((place as u64) % 0x0100_0000_0000_0000)
 }
 
 // The text unit at `at`, which doesn't run past the end.
