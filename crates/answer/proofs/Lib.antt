@@ -1,2 +1,4 @@
 pub mod Answering
 pub mod Judging
+pub mod Steps
+pub mod Lent

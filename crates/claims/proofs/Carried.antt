@@ -21,6 +21,7 @@ use Rattle.guide.specs.Stream.{Symbol, byteOf, perPacket, streamOf, grab, point
 use Rattle.guide.specs.Cutting.{rowOf, rows, afterRows, pages, pagesFor}
 use Rattle.guide.proofs.Aligned.{Celled, stream-celled, after-celled, celled-aligned}
 use Rattle.guide.proofs.Counting.{covered}
+use Rattle.guide.proofs.Filling.{length-grab}
 use Rattle.reader.specs.declared.Page.{Page}
 use Rattle.reader.specs.declared.Page.the-variants.{Shut, Open}
 use Rattle.reader.specs.Mode.{Mode, off, scan, gives}
@@ -35,12 +36,6 @@ use Rattle.claims.proofs.Carrying.{Between, idle, gone}
 use Rattle.claims.proofs.Packet.{before-le, Heard, heard-row, lost-row}
 use Rattle.claims.proofs.Hearing.{elsewhere-heard, zero-heard, row-heard, RowHeard, read, skipped, unread}
 use Rattle.claims.proofs.Sending.{Sends, stream-sends, Grabbed, grabbed}
-
-grab-length : (n : ℕ) (ss : List Symbol) → length (grab n ss) ≡ n
-unfolding grab
-grab-length zero ss = refl
-grab-length (suc n) [] = ap suc (grab-length n [])
-grab-length (suc n) (s ∷ ss) = ap suc (grab-length n ss)
 
 -- ---- where the reader stands
 
@@ -176,7 +171,7 @@ module _ (d : ℕ) (small : d ≤ 2) (s : Setting) where
         → Plain m (grab perPacket ss) → Inside d k m index last st → Near d (rowOf s (suc last) ss) q
         → Took d (Inside d k (sentEnds m (grab perPacket ss)) index (suc last)) (sentGives m (grab perPacket ss)) st (see s q)
     row-takes m index last ss st {q} h celled plain r n =
-        let p : pointerOf (grab perPacket ss) < 16 = omega (arith, before-le (grab perPacket ss), grab-length perPacket ss) in
+        let p : pointerOf (grab perPacket ss) < 16 = omega (arith, before-le (grab perPacket ss), length-grab perPacket ss) in
         go r (row-heard d small s (suc last) (pointerOf (grab perPacket ss)) _ (omega arith) (omega arith) p n)
       where
         sy : List Symbol
@@ -211,7 +206,7 @@ module _ (d : ℕ) (small : d ≤ 2) (s : Setting) where
             → RowHeard d s (suc last) (pointerOf sy) (map byteOf sy) q → Goal
         go (opened z i b) (read {cs} near e) =
             taken (pointerOf sy) cs z i
-            (heard-row d small m (st .mode) sy cs plain near b (grab-length perPacket ss) (celled-aligned celled)) e
+            (heard-row d small m (st .mode) sy cs plain near b (length-grab perPacket ss) (celled-aligned celled)) e
         go (opened z i b) (skipped {cs} x e) = taken undecodable cs z i (lost-row d m (st .mode) sy cs x) e
         go (opened z i b) (unread x e) = lost-it x e
         go (shut x z o) (read {cs} near e) = dropped (pointerOf sy) cs x z o e

@@ -7,3 +7,6 @@ pub mod Sending
 pub mod Carried
 pub mod March
 pub mod Settled
+pub mod Fed
+pub mod Tables
+pub mod Demands

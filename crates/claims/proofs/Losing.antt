@@ -1,10 +1,12 @@
 -- Laws of nearness and of what may be lost. Assumes nothing.
-use mathlib.Core.Path.{_≡_, refl, ap}
+use mathlib.Core.Path.{_≡_, refl, sym, ap, ap₂, subst}
 use mathlib.Core.List.{List, [], _∷_, _++_}
 use Prim.Native.Nat.{ℕ, zero, suc, _≤_}
 use lib.ListN.{length, take, drop}
 use Rattle.octet.specs.Bits.{flips}
 use Rattle.claims.specs.Noise.{Near, none, more, Came, over, kept, lost}
+use Rattle.claims.specs.Lists.{Among}
+use Rattle.claims.specs.Lists
 
 pub near-length : {d : ℕ} {l m : List ℕ} → Near d l m → length l ≡ length m
 near-length none = refl
@@ -37,3 +39,18 @@ module _ {ℓ} {A B : Type ℓ} {L : Type 0} {R : A → B → Type 0} where
   came-append over n = n
   came-append (kept r k) n = kept r (came-append k n)
   came-append (lost x k) n = lost x (came-append k n)
+
+-- ---- in the customer's words, where what is kept is the very thing that was sent
+
+module _ {ℓ} {A : Type ℓ} {L : Type 0} {R : A → A → Type 0} (equal : (a b : A) → R a b → a ≡ b) where
+  -- where nothing may be lost, what comes is what was sent
+  pub came-exactly : (L → ⊥) → {l m : List A} → Came L R l m → m ≡ l
+  came-exactly never over = refl
+  came-exactly never (kept {a} {b} r k) = ap₂ (λ (x : A) (xs : List A). x ∷ xs) (sym (equal a b r)) (came-exactly never k)
+  came-exactly never (lost x k) = absurd (never x)
+
+  -- else what comes is among what was sent
+  pub came-among : {l m : List A} → Came L R l m → Among m l
+  came-among over = Lists.none
+  came-among (kept {a} {b} {l} {m} r k) = subst (λ (x : A). Among (x ∷ m) (a ∷ l)) (equal a b r) (Lists.taken (came-among k))
+  came-among (lost x k) = Lists.passed (came-among k)

@@ -9,7 +9,7 @@ use native.Mathlib.Omega.{arith}
 use lib.Dec.{eqb, leb}
 use lib.ListN.{length, take, drop, take-append-drop}
 use borrow.Author.Tests.{le-leb, lt-leb, eq-eqb}
-use Rattle.laws.specs.Pick.{pick}
+use Rattle.laws.proofs.Maps.{map-take, map-drop}
 use Rattle.blocks.specs.Block.{Block}
 use Rattle.guide.specs.Stream.{Symbol, start, fill, bits, raw, byteOf, beforeStart, pointerOf}
 use Rattle.reader.specs.Mode.{Mode, off, scan, step, emitted, ends, gives, carries, finished, unfinished}
@@ -86,16 +86,6 @@ at-start m (fill ∷ ss) t h = at-start (step m (byteOf fill)) ss (t .1) (omega 
 at-start m (bits n ∷ ss) t h = at-start (step m (byteOf (bits n))) ss (t .1) (omega arith)
 at-start m (raw b ∷ ss) t h = at-start (step m b) ss (t .1) (omega arith)
 
-map-take : (n : ℕ) (ss : List Symbol) → map byteOf (take n ss) ≡ take n (map byteOf ss)
-map-take zero ss = refl
-map-take (suc n) [] = refl
-map-take (suc n) (s ∷ ss) = ap (λ (l : List ℕ). byteOf s ∷ l) (map-take n ss)
-
-map-drop : (n : ℕ) (ss : List Symbol) → map byteOf (drop n ss) ≡ drop n (map byteOf ss)
-map-drop zero ss = refl
-map-drop (suc n) [] = refl
-map-drop (suc n) (s ∷ ss) = map-drop n ss
-
 -- what the flow leaves at the packet's end goes on running
 sim-between : {d : ℕ} {m k : Mode} → Sim d m k → Between d m (unfinished k)
 sim-between scans = Carrying.idle
@@ -142,7 +132,7 @@ module _ (d : ℕ) (small : d ≤ 2) (m k : Mode) (ss : List Symbol) (cs : List 
       (take-append-drop n ss)
       (split-heard d small m k (take n ss) (drop n ss) (take n cs) (drop n cs)
       (rw take-append-drop plain) (before-take ss) (at-start m ss plain h)
-      (rw map-take (near-take n near)) (rw map-drop (near-drop n near)) held)
+      (rw (map-take byteOf) (near-take n near)) (rw (map-drop byteOf) (near-drop n near)) held)
 
   -- with none
   no-start : beforeStart ss ≡ length ss → Heard d m ss (unfinished (carries false k cs)) (finished (carries false k cs))

@@ -1,2 +1,5 @@
 pub mod Noise
 pub mod Carrying
+pub mod Feeding
+pub mod Lists
+pub mod Tables

@@ -13,12 +13,13 @@ pub data Near (d : ℕ) : List ℕ → List ℕ → Type 0 where
   none : Near d [] []
   more : {a b : ℕ} {l m : List ℕ} → flips a b ≤ d → Near d l m → Near d (a ∷ l) (b ∷ m)
 
--- a packet rightly addressed to another magazine, with noise
+-- a packet of 42 bytes, rightly addressed to another magazine, with noise
 pub record Elsewhere (d : ℕ) (s : Setting) (q : List ℕ) : Type 0 where
   pub magazine : ℕ
   pub y : ℕ
   pub number : y < 32
   pub rest : List ℕ
+  pub long : length rest ≡ 40
   pub differs : magazine % 8 ≡ s .magazine % 8 → ⊥
   pub near : Near d (address magazine y ++ rest) q
 

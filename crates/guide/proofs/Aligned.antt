@@ -2,7 +2,7 @@
 -- takes thirteen cells. Assumes nothing.
 use mathlib.Core.Path.{_≡_, _∙_, refl, ap}
 use mathlib.Core.List.{List, [], _∷_, _++_, map, append-assoc}
-use Prim.Native.Nat.{ℕ, zero, suc, _+_, _*_, _%_}
+use Prim.Native.Nat.{ℕ, zero, suc, _+_, _*_, _/_, _%_}
 use native.Mathlib.Omega.{arith}
 use lib.ListN.{length, getD, drop}
 use lib.Seq.{drop-drop}
@@ -105,6 +105,14 @@ start-at (three b c h) zero e = refl
 start-at (three b c h) (suc zero) e = absurd (plain-no-start b e)
 start-at (three b c h) (suc (suc zero)) e = absurd (plain-no-start c e)
 start-at (three b c h) (suc (suc (suc i))) e = omega (arith, start-at h i e)
+
+-- a stream is whole cells
+cells-length : {ss : List Symbol} → Celled ss → length ss % 3 ≡ 0
+cells-length end = refl
+cells-length (three {ss = ss} b c h) = omega (arith, cells-length h)
+
+pub stream-cells : (bs : List Block) → length (streamOf bs) / cell * cell ≡ length (streamOf bs)
+stream-cells bs = omega (arith, cells-length (stream-celled bs))
 
 -- ---- the stream from any packet on
 

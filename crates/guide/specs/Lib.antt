@@ -2,3 +2,5 @@ pub mod Setting
 pub mod Packet
 pub mod Stream
 pub mod Cutting
+pub mod Pen
+pub mod Order

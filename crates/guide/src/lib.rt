@@ -1,6 +1,25 @@
 // The packets of the guide page: the setting, and the writer that cuts records into packets.
+//
+// The writer's 39 bytes after a packet's pointer are thirteen cells of three. A block goes in whole
+// cells: its start, its 16 bits in four nibbles, its raw bytes, then filler. So every start stands at
+// a byte 1+3p, and the pointer is the cell of a packet's first start.
+use answer::Answer;
+use answer::Refusal;
+use blocks::Found;
 ghost use mathlib.Core.Path.{_≡_};
+ghost use mathlib.Core.List.{[], map};
+ghost use Prim.Native.Nat.{_+_, _-_, _*_, _/_, _^_, _≤_, _<_, min};
+ghost use lib.Dec.{leb};
+ghost use lib.ListN.{length, getD, take, drop, replicate};
+ghost use lib.Seq.{sets};
+ghost use Rattle.laws.specs.Pick.{pick, both};
+ghost use Rattle.answer.specs.Writing.{answered, left};
+ghost use Rattle.blocks.specs.Block.{blocks as Block·blocks};
 ghost use Rattle.guide.specs.Setting.{inRange};
+ghost use Rattle.guide.specs.Packet.{packetLength, address, packetZero};
+ghost use Rattle.guide.specs.Stream.{fill, byteOf, cell, perPacket, cellsOf, streamOf, grab, beforeStart};
+ghost use Rattle.guide.specs.Cutting.{rowOf, pages, pagesFor, joined, cutBytes, usualPage, cutRules};
+ghost use Rattle.guide.specs.Pen.{measureOf, nibbleOf, blockAt, movedOf, fillerAt, restOf, Within, Goes, Sends, firstOf, pageLength, pageOf, pagesBytes, takesOf};
 
 // Which page and stream carry the guide, and which application its blocks are of. In range:
 // magazine 1..8, page 0..255 (any byte), stream 0..15, application 0..31.
@@ -9,6 +28,47 @@ pub struct Setting {
     pub page: u8,
     pub stream: u8,
     pub application: u8,
+}
+
+// How many packets a page has unless told otherwise.
+const USUAL_PAGE: u8 = 25;
+
+const PACKET: usize = 42;
+// The bytes after a packet's pointer.
+const PER_PACKET: usize = 39;
+
+const CELL: usize = 3;
+// A block's start and the four nibbles of its 16 bits.
+const LEAD: usize = 5;
+
+const START: u8 = 12;
+
+const FILLER: u8 = 3;
+
+// Where the writer stands: at which record, and how many of its symbols are sent.
+struct Pen {
+    at: usize,
+    sent: usize,
+}
+
+// A symbol as it is sent: its byte, whether it is a block's start, and where the writer stands then.
+struct Sent {
+    byte: u8,
+    starts: bool,
+    pen: Pen,
+}
+
+// The symbols of one packet as they were sent: how many stand before the first start, and where the
+// writer stands then.
+struct Row {
+    before: usize,
+    pen: Pen,
+}
+
+// A list of records, measured.
+enum Measured {
+    Cells(usize),
+    Broken,
 }
 
 // Whether a setting is in range.
@@ -28,4 +88,304 @@ pub fn is_in_range(s: Setting) -> bool
         return false;
     }
     true
+}
+
+// Cuts a list of records into packets, in pages of 25 packets, the first with the given index: an
+// empty list gives no packet. The packets stand one after the other at the front of `out`.
+pub fn cut(s: Setting, index: u8, records: &[u8], out: &mut [u8]) -> Answer
+    ensures answer { λ r. ⌜ r ≡ answered (cutRules s index usualPage (now (records .entry))) (cutBytes s index usualPage (now (records .entry))) (now (out .entry)) ⌝ }
+    ensures bytes { λ r. ⌜ now (out .exit) ≡ left (cutRules s index usualPage (now (records .entry))) (cutBytes s index usualPage (now (records .entry))) (now (out .entry)) ⌝ }
+{
+    cut_pages(s, index, USUAL_PAGE, records, out)
+}
+
+// The same in pages of k packets, 1 to 25.
+pub fn cut_pages(s: Setting, index: u8, k: u8, records: &[u8], out: &mut [u8]) -> Answer
+    ensures answer { λ r. ⌜ r ≡ answered (cutRules s index k (now (records .entry))) (cutBytes s index k (now (records .entry))) (now (out .entry)) ⌝ }
+    ensures bytes { λ r. ⌜ now (out .exit) ≡ left (cutRules s index k (now (records .entry))) (cutBytes s index k (now (records .entry))) (now (out .entry)) ⌝ }
+{
+    if !takes(s, index, k) {
+        return Answer::Refused(Refusal { no: 16, at: 0 });
+    }
+    match measure(records) {
+        Measured::Broken => Answer::Refused(Refusal { no: 13, at: 0 }),
+        Measured::Cells(cells) => write_all(s, index, k, pages_for(cells, k), records, out),
+    }
+}
+
+// Whether the setting, the index and the page's length are in range.
+fn takes(s: Setting, index: u8, k: u8) -> bool
+    ensures { λ r. ⌜ r ≡ takesOf s index k ⌝ }
+{
+    if !is_in_range(s) {
+        return false;
+    }
+    if index > 15 {
+        return false;
+    }
+    if k < 1 {
+        return false;
+    }
+    k <= 25
+}
+
+// How many pages of k packets so many cells need.
+fn pages_for(cells: usize, k: u8) -> usize
+    requires { ⌜ (1 ≤ k) × (cells < 2 ^ 63) ⌝ }
+    ensures { λ r. ⌜ r ≡ pagesFor k (cells * cell) ⌝ }
+{
+    let rows = (cells + 12) / 13;
+    let per_page = k as usize;
+    (rows + (per_page - 1)) / per_page
+}
+
+// Writes so many pages, where they have room.
+fn write_all(s: Setting, index: u8, k: u8, count: usize, records: &[u8], out: &mut [u8]) -> Answer
+    requires { ⌜ (k ≤ 25) × (index < 16) ⌝ }
+    ensures { λ r. ⌜ r ≡ answered [] (pagesBytes s index k count (now (records .entry))) (now (out .entry)) ⌝ }
+    ensures { λ r. ⌜ now (out .exit) ≡ left [] (pagesBytes s index k count (now (records .entry))) (now (out .entry)) ⌝ }
+{
+    let size = PACKET * (k as usize + 1);
+    if out.len() / size < count {
+        return Answer::Refused(Refusal { no: 1, at: 0 });
+    }
+    write_pages(s, index, k, count, records, out);
+    Answer::Done(count * size)
+}
+
+// How many cells the blocks of a list of records take.
+fn measure(records: &[u8]) -> Measured
+    ensures { λ r. ⌜ r ≡ measureOf (now (records .entry)) ⌝ }
+{
+    let mut at = 0;
+    let mut cells = 0;
+    loop {
+        match blocks::record_at(records, at) {
+            Found::End => return Measured::Cells(cells),
+            Found::Broken => return Measured::Broken,
+            Found::Record { head: _, raw, next } => {
+                cells += cells_of(next - raw);
+                at = next;
+            }
+        }
+    }
+}
+
+// How many cells a block of so many raw bytes takes.
+fn cells_of(size: usize) -> usize
+    requires { ⌜ size < 2 ^ 63 ⌝ }
+    ensures { λ r. ⌜ r ≡ (size + 7) / 3 ⌝ }
+{
+    (size + LEAD + CELL - 1) / CELL
+}
+
+// Nibble i of a block's 16 bits, the lowest first.
+fn nibble(head: u16, i: usize) -> u8
+    requires { ⌜ i < 4 ⌝ }
+    ensures { λ r. ⌜ r ≡ nibbleOf i head ⌝ }
+{
+    if i == 0 {
+        return (head % 16) as u8;
+    }
+    if i == 1 {
+        return (head / 16 % 16) as u8;
+    }
+    if i == 2 {
+        return (head / 16 / 16 % 16) as u8;
+    }
+    (head / 16 / 16 / 16 % 16) as u8
+}
+
+// The symbol that stands at the pen, and the pen behind it: filler where there is no record.
+fn step(records: &[u8], pen: Pen) -> Sent
+    requires { ⌜ Within (now records) pen ⌝ }
+    ensures { λ r. ⌜ Sends (now (records .entry)) pen r ⌝ }
+{
+    let sent = pen.sent;
+    match blocks::record_at(records, pen.at) {
+        Found::Record { head, raw, next } => Sent {
+            byte: byte_at(records, head, raw, next, sent),
+            starts: sent == 0,
+            pen: moved(pen, next - raw, next),
+        },
+        Found::End => filler(pen),
+        Found::Broken => filler(pen),
+    }
+}
+
+// Filler, with the pen where it is.
+fn filler(pen: Pen) -> Sent
+    ensures { λ r. ⌜ r ≡ fillerAt pen ⌝ }
+{
+    Sent {
+        byte: octet::image(FILLER),
+        starts: false,
+        pen,
+    }
+}
+
+// The byte of a block's symbol i: its start, its 16 bits, its raw bytes, then filler.
+fn byte_at(records: &[u8], head: u16, raw: usize, next: usize, i: usize) -> u8
+    requires { ⌜ (raw ≤ next) × (next ≤ length (now records)) ⌝ }
+    ensures { λ r. ⌜ r ≡ byteOf (getD (cellsOf (blockAt (now (records .entry)) head raw next)) i fill) ⌝ }
+{
+    if i == 0 {
+        return octet::image(START);
+    }
+    if i < LEAD {
+        return octet::image(nibble(head, i - 1));
+    }
+    let at = i - LEAD;
+    if at < next - raw {
+        return records[raw + at];
+    }
+    octet::image(FILLER)
+}
+
+// The pen behind one more symbol of a block of so many raw bytes, whose next record is at next.
+fn moved(pen: Pen, size: usize, next: usize) -> Pen
+    requires { ⌜ (size < 2 ^ 63) × (pen .sent < (size + 7) / 3 * 3) ⌝ }
+    ensures { λ r. ⌜ r ≡ movedOf pen size next ⌝ }
+{
+    let sent = pen.sent + 1;
+    if sent < cells_of(size) * CELL {
+        return Pen { at: pen.at, sent };
+    }
+    Pen { at: next, sent: 0 }
+}
+
+// Writes the 39 bytes that follow a packet's pointer, at q.
+fn write_symbols(records: &[u8], pen: Pen, out: &mut [u8], q: usize) -> Row
+    requires { ⌜ (q + perPacket ≤ length (now out)) × Within (now records) pen ⌝ }
+    ensures { λ r. ⌜ now (out .exit) ≡ sets (now (out .entry)) q (map byteOf (grab perPacket (restOf (now (records .entry)) pen))) ⌝ }
+    ensures { λ r. ⌜ r .before ≡ beforeStart (grab perPacket (restOf (now (records .entry)) pen)) ⌝ }
+    ensures { λ r. ⌜ Goes (now (records .entry)) pen perPacket (r .pen) ⌝ }
+{
+    let mut at = pen;
+    let mut before = PER_PACKET;
+    let mut i = 0;
+    while i < PER_PACKET {
+        let sent = step(records, at);
+        out[q + i] = sent.byte;
+        before = first(before, sent.starts, i);
+        at = sent.pen;
+        i += 1;
+    }
+    Row { before, pen: at }
+}
+
+// The place of the first start up to place i.
+fn first(before: usize, starts: bool, i: usize) -> usize
+    ensures { λ r. ⌜ r ≡ firstOf before starts i ⌝ }
+{
+    if !starts {
+        return before;
+    }
+    if i < before {
+        return i;
+    }
+    before
+}
+
+// Writes packet y at q: its address, its pointer and its 39 bytes.
+fn write_row(s: Setting, y: u8, records: &[u8], pen: Pen, out: &mut [u8], q: usize) -> Pen
+    requires { ⌜ (q + packetLength ≤ length (now out)) × Within (now records) pen ⌝ }
+    ensures { λ r. ⌜ now (out .exit) ≡ sets (now (out .entry)) q (rowOf s y (restOf (now (records .entry)) pen)) ⌝ }
+    ensures { λ r. ⌜ Goes (now (records .entry)) pen perPacket r ⌝ }
+{
+    write_address(s.magazine, y, out, q);
+    let row = write_symbols(records, pen, out, q + 3);
+    out[q + 2] = octet::image((row.before / CELL) as u8);
+    row.pen
+}
+
+// Writes packet 0 of a page of n packets at q.
+fn write_zero(s: Setting, index: u8, n: u8, out: &mut [u8], q: usize)
+    requires { ⌜ q + packetLength ≤ length (now out) ⌝ }
+    ensures { λ r. ⌜ now (out .exit) ≡ sets (now (out .entry)) q (packetZero s index n) ⌝ }
+{
+    let units = octet::image(s.page % 16);
+    let tens = octet::image(s.page / 16);
+    let s1 = octet::image(index);
+    let s2 = octet::image(n % 8);
+    let s3 = octet::image(s.stream);
+    let s4 = octet::image(n / 8);
+    let control = octet::image(0);
+    write_address(s.magazine, 0, out, q);
+    out[q + 2] = units;
+    out[q + 3] = tens;
+    out[q + 4] = s1;
+    out[q + 5] = s2;
+    out[q + 6] = s3;
+    out[q + 7] = s4;
+    out[q + 8] = control;
+    out[q + 9] = control;
+    write_blanks(out, q + 10);
+}
+
+// Writes the address of packet y at q.
+fn write_address(magazine: u8, y: u8, out: &mut [u8], q: usize)
+    requires { ⌜ q + 2 ≤ length (now out) ⌝ }
+    ensures { λ r. ⌜ now (out .exit) ≡ sets (now (out .entry)) q (address magazine y) ⌝ }
+{
+    let one = octet::image(magazine % 8 + 8 * (y % 2));
+    let two = octet::image(y / 2);
+    out[q] = one;
+    out[q + 1] = two;
+}
+
+// Writes packet 0's 32 characters at q, all blank.
+fn write_blanks(out: &mut [u8], q: usize)
+    requires { ⌜ q + 32 ≤ length (now out) ⌝ }
+    ensures { λ r. ⌜ now (out .exit) ≡ sets (now (out .entry)) q (replicate 32 0x20) ⌝ }
+{
+    let mut i = 0;
+    while i < 32 {
+        out[q + i] = 0x20;
+        i += 1;
+    }
+}
+
+// Writes a page of k packets and its packet 0 at q.
+fn write_page(
+    s: Setting,
+    index: u8,
+    k: u8,
+    records: &[u8],
+    pen: Pen,
+    out: &mut [u8],
+    q: usize,
+) -> Pen
+    requires { ⌜ (k ≤ 25) × (q + pageLength k ≤ length (now out)) × Within (now records) pen ⌝ }
+    ensures { λ r. ⌜ now (out .exit) ≡ sets (now (out .entry)) q (joined (pageOf s k index (restOf (now (records .entry)) pen))) ⌝ }
+    ensures { λ r. ⌜ Goes (now (records .entry)) pen (k * perPacket) r ⌝ }
+{
+    write_zero(s, index, k, out, q);
+    let mut at = pen;
+    let mut to = q + PACKET;
+    let mut y = 1;
+    while y <= k {
+        at = write_row(s, y, records, at, out, to);
+        to += PACKET;
+        y += 1;
+    }
+    at
+}
+
+// Writes so many pages of k packets at the front, from the first record on.
+fn write_pages(s: Setting, index: u8, k: u8, count: usize, records: &[u8], out: &mut [u8])
+    requires { ⌜ (k ≤ 25) × (index < 16) × (count * pageLength k ≤ length (now out)) ⌝ }
+    ensures { λ r. ⌜ now (out .exit) ≡ sets (now (out .entry)) 0 (joined (pages s k count index (streamOf (Block·blocks (now (records .entry)))))) ⌝ }
+{
+    let size = PACKET * (k as usize + 1);
+    let mut at = Pen { at: 0, sent: 0 };
+    let mut next = index;
+    let mut to = 0;
+    let mut left = count;
+    while left > 0 {
+        at = write_page(s, next, k, records, at, out, to);
+        next = (next + 1) % 16;
+        to += size;
+        left -= 1;
+    }
 }

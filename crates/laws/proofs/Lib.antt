@@ -1,4 +1,6 @@
 pub mod Lists
+pub mod Maps
 pub mod Stores
 pub mod Tests
 pub mod Whole
+pub mod Runs

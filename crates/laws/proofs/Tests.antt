@@ -1,4 +1,4 @@
--- What tests made of tests tell. Assumes nothing.
+-- What tests made of tests tell, as equations. Assumes nothing.
 use mathlib.Core.Path.{_≡_, _∙_, refl, sym}
 use mathlib.Core.Bool.{Bool, true, false}
 use Rattle.laws.specs.Pick.{both, either}
@@ -12,9 +12,16 @@ both-second true b h = h
 both-second false true h = refl
 both-second false false h = h
 
+pub both-true : (a b : Bool) → both a b ≡ true → (a ≡ true) × (b ≡ true)
+both-true a b h = (both-first a b h, both-second a b h)
+
 pub both-holds : (a b : Bool) → a ≡ true → b ≡ true → both a b ≡ true
 both-holds true b g h = h
 both-holds false b g h = g
+
+pub both-assoc : (a b c : Bool) → both a (both b c) ≡ both (both a b) c
+both-assoc true b c = refl
+both-assoc false b c = refl
 
 pub either-first : (a b : Bool) → either a b ≡ true → b ≡ false → a ≡ true
 either-first true b h e = refl

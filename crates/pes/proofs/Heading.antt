@@ -1,12 +1,12 @@
 -- What a header tells that passes its rules: how long the packet is. Assumes nothing.
-use mathlib.Core.Path.{_≡_}
+use mathlib.Core.Path.{_≡_, refl}
 use mathlib.Core.Bool.{true}
 use mathlib.Core.List.{List}
 use Prim.Native.Nat.{ℕ, _+_, _-_, _*_, _/_, _%_, _≤_}
 use native.Mathlib.Omega.{arith}
 use lib.Dec.{eqb, leb}
 use lib.ListN.{length}
-use borrow.Author.Tests.{leb-true, eqb-true}
+use borrow.Author.Tests.{le-leb, leb-true, eq-eqb, eqb-true}
 use Rattle.laws.specs.Pick.{both}
 use Rattle.laws.proofs.Tests.{both-first, both-second}
 use Rattle.pes.specs.Header.{startsRight, lengthFits}
@@ -30,3 +30,9 @@ sized l whole h =
     let b : n ≤ 356 = leb-true n 356 (both-first (leb n 356) _ g) in
     let e : l ≡ n * 184 - 6 = eqb-true l (n * 184 - 6) (both-second (leb n 356) _ g) in
     record { least = omega arith; most = omega arith; packets = omega arith }
+
+-- and the other way round, as a writer sets it
+pub sized-holds : (n whole : ℕ) → 1 ≤ n → n ≤ 356 → whole ≡ n * 184 → both (lengthFits (n * 184 - 6)) (eqb (n * 184 - 6 + 6) whole) ≡ true
+sized-holds n whole a b e =
+    let k : (n * 184 - 6 + 6) / 184 ≡ n = omega arith in
+    rw (k, le-leb 1 n a, le-leb n 356 b, eq-eqb (n * 184 - 6) (n * 184 - 6) refl, eq-eqb (n * 184 - 6 + 6) whole (omega arith))

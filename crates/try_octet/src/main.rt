@@ -3,8 +3,8 @@ use vectors::Found;
 use vectors::Input;
 
 fn main() {
-    let mut space = vectors::space();
-    let mut text = vectors::space();
+    let mut space = [0u8; 131200];
+    let mut text = [0u8; 131200];
     let mut input = vectors::start();
     let mut turns = u64::MAX;
     while turns > 0 {
@@ -22,13 +22,13 @@ fn main() {
 }
 
 // One turn: the next case is read and run, or the end is told.
-fn step(input: Input, space: &mut [u8; 262144], text: &mut [u8; 262144]) -> Found {
+fn step(input: Input, space: &mut [u8; 131200], text: &mut [u8; 131200]) -> Found {
     let read = vectors::fill(input, space);
     let found = vectors::next(read, space);
     match found {
         Found::Whole(case) => call(case.op, vectors::payload(case, space), text),
         Found::Ended(left) => {
-            vectors::ended(left, text);
+            lines::ended(left, text);
         }
     }
     found
@@ -37,7 +37,7 @@ fn step(input: Input, space: &mut [u8; 262144], text: &mut [u8; 262144]) -> Foun
 // The call that op names. These calls give a byte, and are lent no output.
 fn call(op: u8, payload: &[u8], text: &mut [u8]) {
     if payload.len() < 1 {
-        vectors::unknown(op, text);
+        lines::unknown(op, text);
         return;
     }
     let b = payload[0];
@@ -47,12 +47,12 @@ fn call(op: u8, payload: &[u8], text: &mut [u8]) {
         3 => show(op, octet::turn(b), text),
         4 => show(op, octet::fault_place(b), text),
         _ => {
-            vectors::unknown(op, text);
+            lines::unknown(op, text);
         }
     }
 }
 
 fn show(op: u8, b: u8, text: &mut [u8]) {
     let out = [b];
-    vectors::report(op, 0, 0, &out, 1, text);
+    lines::report(op, 0, 0, &out, 1, text);
 }

@@ -1,5 +1,6 @@
 -- `try_octet::main` is safe and ends. The measure is the number of turns that are left; nothing has to hold from turn to turn.
 -- Assumes nothing.
+use native.Mathlib.Omega.{arith}
 use borrow.Author.Needs.{needs}
 use Rattle.try_octet.proofs.main.Statement.{statement}
 use Rattle.try_octet.proofs.main.Tie as tie
@@ -10,41 +11,35 @@ Inv-loop space₀ text₀ input₀ turns₀ space text input turns = Unit {0}
 abbrev μ-loop : tie.MeasureT-loop
 μ-loop space₀ text₀ input₀ turns₀ space text input turns = turns
 
-space-requires : tie.Need-space-requires Inv-loop μ-loop
-space-requires c κs = search needs
-
-space-requires-2 : tie.Need-space-requires-2 Inv-loop μ-loop
-space-requires-2 c κs = search needs
-
 start-requires : tie.Need-start-requires Inv-loop μ-loop
-start-requires c κs = search needs
+start-requires c κs = tt
 
 loop-holds : tie.Need-loop-holds Inv-loop μ-loop
-loop-holds c = search needs
+loop-holds c = tt
 
 sub-turns : tie.Need-sub-turns Inv-loop μ-loop
-sub-turns c = search needs
+sub-turns c = omega arith
 
 step-requires : tie.Need-step-requires Inv-loop μ-loop
-step-requires c κs = search needs
+step-requires c κs = tt
 
 enum-known-found : tie.Need-enum-known-found Inv-loop μ-loop
 enum-known-found c = search needs
 
 loop-less : tie.Need-loop-less Inv-loop μ-loop
-loop-less c = search needs
+loop-less c = omega arith
 
 loop-again : tie.Need-loop-again Inv-loop μ-loop
-loop-again c = search needs
+loop-again c = tt
 
 enum-told : tie.Need-enum-told Inv-loop μ-loop
 enum-told c = search needs
 
 returns : tie.Need-returns Inv-loop μ-loop
-returns c = search needs
+returns c = tt
 
 returns-2 : tie.Need-returns-2 Inv-loop μ-loop
-returns-2 c = search needs
+returns-2 c = tt
 
 pub main-spec : {M : Type 1} → statement M
 main-spec =
@@ -52,8 +47,6 @@ main-spec =
     (tie.spec
     Inv-loop
     μ-loop
-    space-requires
-    space-requires-2
     start-requires
     loop-holds
     sub-turns

@@ -1,0 +1,84 @@
+-- What the writer's own functions promise one another: where the writer stands in the stream, and what it sends from there.
+use mathlib.Core.Path.{_≡_}
+use mathlib.Core.Bool.{Bool, true, false}
+use mathlib.Core.List.{List, _∷_}
+use Prim.Native.Nat.{ℕ, zero, suc, _+_, _-_, _*_, _/_, _%_, _<_, min}
+use lib.Dec.{leb, ltb}
+use lib.ListN.{length, getD, take, drop}
+use Rattle.laws.specs.Pick.{pick, both}
+use Rattle.blocks.specs.Block.{Block, begins, blockOf, whole, blocks}
+use Rattle.guide.specs.declared.Pen.{Pen}
+use Rattle.guide.specs.declared.Sent.{Sent}
+use Rattle.guide.specs.declared.Measured.{Measured}
+use Rattle.guide.specs.declared.Measured.the-variants.{Cells, Broken}
+use Rattle.guide.specs.declared.Setting.{Setting}
+use Rattle.guide.specs.Setting.{inRange}
+use Rattle.guide.specs.Packet.{packetLength, packetZero}
+use Rattle.guide.specs.Stream.{Symbol, start, fill, bits, raw, byteOf, cell, cellsOf, streamOf}
+use Rattle.guide.specs.Cutting.{rows, pages, joined}
+
+-- a list of whole records in cells; or that it isn't one
+abbrev pub measureOf : List ℕ → Measured
+measureOf l = pick (whole l) (Cells (length (streamOf (blocks l)) / cell)) Broken
+
+-- part i of the 16 bits, the lowest nibble first
+unfoldable pub nibbleOf : ℕ → ℕ → ℕ
+nibbleOf zero head = head % 16
+nibbleOf (suc i) head = nibbleOf i (head / 16)
+
+abbrev pub isStart : Symbol → Bool
+isStart start = true
+isStart fill = false
+isStart (bits n) = false
+isStart (raw b) = false
+
+-- what is left of the stream of the records l where the writer stands
+unfoldable pub restOf : List ℕ → Pen → List Symbol
+restOf l pen = drop (pen .sent) (streamOf (blocks (drop (pen .at) l)))
+
+-- the block of a record whose raw bytes are those from one place up to another
+abbrev pub blockAt : List ℕ → ℕ → ℕ → ℕ → Block
+blockAt l head from next = record { head = head; raw = take (next - from) (drop from l) }
+
+-- one symbol on: at the next of the block's symbols, or at the next record
+abbrev pub movedOf : Pen → ℕ → ℕ → Pen
+movedOf pen size next =
+    pick (ltb (pen .sent + 1) ((size + 7) / 3 * 3)) (record { at = pen .at; sent = pen .sent + 1 }) (record { at = next; sent = 0 })
+
+abbrev pub fillerAt : Pen → Sent
+fillerAt pen = record { byte = byteOf fill; starts = false; pen = pen }
+
+-- the writer stands before one of its record's symbols, where there is a record
+pub record Within (l : List ℕ) (pen : Pen) : Type 0 where
+  pub among : begins (drop (pen .at) l) ≡ true → pen .sent < length (cellsOf (blockOf (drop (pen .at) l)))
+
+-- from one pen to another n symbols are sent
+pub record Goes (l : List ℕ) (pen : Pen) (n : ℕ) (after : Pen) : Type 0 where
+  pub rest : restOf l after ≡ drop n (restOf l pen)
+  pub stands : Within l after
+
+-- one symbol is sent: its byte, whether it is a start, and where the writer stands then
+pub record Sends (l : List ℕ) (pen : Pen) (r : Sent) : Type 0 where
+  pub its-byte : r .byte ≡ byteOf (getD (restOf l pen) 0 fill)
+  pub its-start : r .starts ≡ isStart (getD (restOf l pen) 0 fill)
+  pub goes : Goes l pen 1 (r .pen)
+
+-- the place of the first start so far, taking in whether one stands at i
+abbrev pub firstOf : ℕ → Bool → ℕ → ℕ
+firstOf before starts i = pick starts (min i before) before
+
+-- a page of k packets and its packet 0
+abbrev pub pageOf : Setting → ℕ → ℕ → List Symbol → List (List ℕ)
+pageOf s k index ss = packetZero s index k ∷ rows s k 1 ss
+
+-- how many bytes it has
+abbrev pub pageLength : ℕ → ℕ
+pageLength k = packetLength * (k + 1)
+
+-- the bytes of so many pages from the first record on
+abbrev pub pagesBytes : Setting → ℕ → ℕ → ℕ → List ℕ → List ℕ
+pagesBytes s index k count l = joined (pages s k count index (streamOf (blocks l)))
+
+-- "setting or state out of range"
+abbrev pub takesOf : Setting → ℕ → ℕ → Bool
+takesOf s index k = both (inRange s) (both (leb index 15) (both (leb 1 k) (leb k 25)))

@@ -1,0 +1,3 @@
+pub mod Ranging
+pub mod Bounding
+pub mod Sizing

@@ -1,0 +1,116 @@
+-- What is written reads back as the same table, and what is read can be written. Assumes nothing.
+use mathlib.Core.Path.{_≡_, _∙_, refl, sym, ap, ap₂, subst}
+use mathlib.Core.Bool.{Bool, true, false}
+use mathlib.Core.List.{List, [], _∷_, _++_, map, map-map}
+use Prim.Native.Nat.{ℕ, zero, suc, _+_, _-_, _*_, _/_, _%_, _^_, _≤_, _<_}
+use native.Mathlib.Nat.{mod-eq-of-lt, mod-mod, le-refl}
+use native.Mathlib.Omega.{arith}
+use borrow.Author.Tests.{ltb-true, lt-ltb, leb-true, le-leb, eqb-true, eq-eqb}
+use lib.Dec.{ltb, eqb, leb}
+use lib.ListN.{length, getD, take, drop, length-map}
+use lib.Pow.{pow-pos}
+use lib.Seq.{take-at, drop-at}
+use Rattle.answer.specs.Rules.{Rule, Every, none, more}
+use Rattle.answer.proofs.Steps.{first-holds, others-hold}
+use Rattle.octet.specs.Image.{image}
+use Rattle.octet.specs.Decoding.{nib}
+use Rattle.octet.proofs.Laws.{nib-image}
+use Rattle.fields.specs.Fields.{laid, parts, whole}
+use Rattle.fields.proofs.Laid.{length-parts, whole-parts}
+use Rattle.table.specs.Tables.{Table, known, bits, control, fill, size, fits}
+use Rattle.table.specs.Form.{form, openingOf, tableIn}
+use Rattle.table.specs.Block.{header, headOf, nibblesOf, nibbles, checksumOf, Says}
+use Rattle.table.specs.Reading.{accepted, readBlock}
+use Rattle.table.specs.Writing.{recordWith, recordOf, writeRules}
+use Rattle.table.proofs.Inverse.{Sendable, sendable, sends}
+use Rattle.table.proofs.Measures.{length-form}
+use Rattle.table.proofs.Exact.{reads-exactly}
+use Rattle.table.proofs.Forms.{Bytes, form-in, in-form}
+
+-- images of nibbles decode to them
+pub nibbles-back : (k n : ℕ) → map nib (map image (parts 4 k n)) ≡ parts 4 k n
+unfolding parts
+nibbles-back zero n = refl
+nibbles-back (suc k) n = ap₂ (λ (x : ℕ) (xs : List ℕ). x ∷ xs) (nib-image (n % 16) ∙ mod-mod n 16) (nibbles-back k (n / 16))
+
+header-lt : (application blockSize : ℕ) → laid (header application blockSize) 0 < 65536
+unfolding laid
+header-lt application blockSize = omega arith
+
+head-back : (h : ℕ) (rest : List ℕ) → h < 65536 → headOf (parts 8 2 h ++ rest) ≡ h
+unfolding headOf
+head-back h rest l =
+    ap (whole 8) (take-at (parts 8 2 h) rest 2 (length-parts 8 2 h)) ∙ whole-parts 8 2 h ∙ mod-eq-of-lt l
+
+body-back : (h : ℕ) (rest : List ℕ) → nibblesOf (parts 8 2 h ++ rest) ≡ map nib rest
+unfolding nibblesOf
+body-back h rest = ap (map nib) (drop-at (parts 8 2 h) rest 2 (length-parts 8 2 h))
+
+nibbles-again :
+    (sum reserved filling : ℕ) (t : Table)
+    → map nib (map image (nibbles sum reserved filling t)) ≡ nibbles sum reserved filling t
+unfolding nibbles
+nibbles-again sum reserved filling t = nibbles-back (size t) _
+
+form-kind : (t : Table) → getD (form t) 0 0 ≡ t .kind
+unfolding form openingOf
+form-kind t = refl
+
+-- the record of a table says it, whatever its reserved bit and fill
+pub says-with :
+    (application reserved filling : ℕ) (t : Table) → application < 32 → fits t ≡ true → reserved < 2 → filling < 2 ^ fill t
+    → Says application (recordWith application reserved filling t) t
+unfolding recordWith
+says-with application reserved filling t a f b h =
+    let head = laid (header application (size t)) 0 in
+    let ns = nibbles (checksumOf application reserved filling t) reserved filling t in
+    record {
+      reserved = reserved;
+      filling = filling;
+      within = a;
+      sendable = f;
+      bit = b;
+      filled = h;
+      head = head-back head (map image ns) (header-lt application (size t));
+      body = body-back head (map image ns) ∙ nibbles-again (checksumOf application reserved filling t) reserved filling t;
+    }
+
+-- "read ones don't count": whatever the reserved bit and the fill, the same table is read
+pub reads-any :
+    (application reserved filling : ℕ) (t : Table) → application < 32 → fits t ≡ true → reserved < 2 → filling < 2 ^ fill t
+    → readBlock application (recordWith application reserved filling t) ≡ accepted t
+reads-any application reserved filling t a f b h =
+    reads-exactly application (recordWith application reserved filling t) t .1 (says-with application reserved filling t a f b h)
+
+-- what is written reads back
+pub writes-back :
+    (application : ℕ) (t : Table) → application < 32 → fits t ≡ true → readBlock application (recordOf application t) ≡ accepted t
+writes-back application t a f = reads-any application 0 0 t a f (omega arith) (pow-pos (fill t))
+
+-- of a form that writing takes: its table is read back, and that table's form is the one that was written
+pub writes-back-form :
+    (application : ℕ) (f : List ℕ) → Bytes f → Every (writeRules application f)
+    → (readBlock application (recordOf application (tableIn f)) ≡ accepted (tableIn f)) × (form (tableIn f) ≡ f)
+unfolding writeRules
+writes-back-form application f b e₀ =
+    let e₃ = others-hold (others-hold (others-hold e₀)) in
+    let a : application < 32 = ltb-true application 32 (first-holds e₀) in
+    let l : length f ≡ length (form (tableIn f)) = eqb-true (length f) (length (form (tableIn f))) (first-holds e₃) in
+    (writes-back application (tableIn f) a (first-holds (others-hold e₃)), in-form f b l)
+
+-- every accepted table is one that writing takes, and its form stands for it
+pub accepted-writable :
+    (application : ℕ) (r : List ℕ) (t : Table) → readBlock application r ≡ accepted t
+    → Every (writeRules application (form t)) × (tableIn (form t) ≡ t)
+unfolding writeRules
+accepted-writable application r t e =
+    let s = reads-exactly application r t .0 e in
+    let can = sendable t (s .sendable) in
+    let back = form-in t can in (
+      more (lt-ltb application 32 (s .within))
+          (more (le-leb 6 (length (form t)) (omega (arith, length-form t)))
+          (more (ap known (form-kind t) ∙ can .kind-known)
+          (more (eq-eqb (length (form t)) (length (form (tableIn (form t)))) (ap (λ (x : Table). length (form x)) (sym back)))
+          (more (ap fits back ∙ s .sendable) none)))),
+      back,
+    )

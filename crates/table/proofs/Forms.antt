@@ -1,0 +1,171 @@
+-- A table and its form in lent bytes are each other's inverse. Assumes nothing.
+use mathlib.Core.Path.{_≡_, _∙_, refl, sym, ap, ap₂, subst}
+use mathlib.Core.Bool.{Bool, true, false}
+use mathlib.Core.List.{List, [], _∷_, _++_}
+use Prim.Native.Nat.{ℕ, zero, suc, _+_, _-_, _*_, _/_, _%_, _^_, _≤_, _<_}
+use native.Mathlib.Nat.{mod-eq-of-lt, mul-comm, mul-div-cancel-left, not-suc-le-zero}
+use native.Mathlib.Omega.{arith}
+use borrow.Author.Tests.{ltb-true, eqb-true}
+use lib.Dec.{ltb, eqb}
+use lib.ListN.{length, getD, take, drop, length-append, length-drop, take-append-drop}
+use lib.Seq.{drop-drop, drop-at, drop-cons, getD-drop}
+use Rattle.laws.specs.Pick.{both}
+use Rattle.laws.proofs.Tests.{both-true}
+use Rattle.fields.specs.Fields.{Field, row, fitting, parts, whole}
+use Rattle.fields.proofs.Laid.{fitting-append, whole-parts, whole-first, whole-next}
+use Rattle.table.specs.Tables.{Descriptor, Table, per, entries, loops, entire}
+use Rattle.table.specs.Form.{spelled, listed, openingOf, form, wordsIn, descriptorsIn, tableIn}
+use Rattle.table.proofs.Inverse.{Sendable, entries-whole}
+use Rattle.table.proofs.Measures.{per-pos, length-spelled, length-listed, length-form}
+
+-- ---- the table out of its form
+
+words-back : (ws rest : List ℕ) → fitting (row 24 ws) ≡ true → wordsIn (length ws) (spelled ws ++ rest) ≡ ws
+unfolding wordsIn spelled fitting row parts
+words-back [] rest h = refl
+words-back (w ∷ ws) rest h =
+    let p = both-true (ltb w (2 ^ 24)) (fitting (row 24 ws)) h in
+    let small : w < 2 ^ 24 = ltb-true w (2 ^ 24) (p .0) in
+    ap₂ (λ (x : ℕ) (xs : List ℕ). x ∷ xs) (whole-parts 8 3 w ∙ mod-eq-of-lt small) (words-back ws rest (p .1))
+
+descriptors-back :
+    (kind : ℕ) (ds : List Descriptor) → entire kind ds ≡ true → fitting (loops kind ds) ≡ true
+    → descriptorsIn (per kind) (length ds) (listed kind ds) ≡ ds
+unfolding descriptorsIn listed entire loops fitting
+descriptors-back kind [] h k = refl
+descriptors-back kind (d ∷ ds) h k =
+    let c = entries kind (d .words) in
+    let f = listed kind (d ∷ ds) in
+    let e = both-true (eqb (c * per kind) (length (d .words))) (entire kind ds) h in
+    let k₁ = both-true (ltb (d .id) (2 ^ 6)) _ k in
+    let k₂ = both-true (ltb c (2 ^ 4)) _ (k₁ .1) in
+    let k₃ =
+    both-true (fitting (row 24 (d .words))) (fitting (loops kind ds))
+    (sym (fitting-append (row 24 (d .words)) (loops kind ds)) ∙ k₂ .1) in
+    let count : per kind * c ≡ length (d .words) =
+    entries-whole kind (d .words) (eqb-true (c * per kind) (length (d .words)) (e .0)) in
+    let words : wordsIn (per kind * c) (spelled (d .words) ++ listed kind ds) ≡ d .words =
+    ap (λ (x : ℕ). wordsIn x (spelled (d .words) ++ listed kind ds)) count ∙ words-back (d .words) (listed kind ds) (k₃ .0) in
+    let rest : drop (2 + 3 * (per kind * c)) f ≡ listed kind ds =
+    sym (drop-drop (3 * (per kind * c)) 2 f)
+    ∙ drop-at (spelled (d .words)) (listed kind ds) (3 * (per kind * c)) (length-spelled (d .words) ∙ ap (λ (x : ℕ). 3 * x) (sym count)) in
+    let one : _≡_ {A = Descriptor} (record { id = d .id; words = wordsIn (per kind * c) (spelled (d .words) ++ listed kind ds) }) d =
+    ap (λ (ws : List ℕ). record { id = d .id; words = ws }) words in
+    ap₂ (λ (x : Descriptor) (xs : List Descriptor). x ∷ xs) one
+    (ap (descriptorsIn (per kind) (length ds)) rest ∙ descriptors-back kind ds (e .1) (k₃ .1))
+
+pub form-in : (t : Table) → Sendable t → tableIn (form t) ≡ t
+unfolding tableIn form openingOf whole
+form-in t s =
+    let b : (0 * 2 ^ 8 + t .block / 256 % 2 ^ 8) * 2 ^ 8 + t .block % 256 % 2 ^ 8 ≡ t .block = omega (arith, s .block-fits) in
+    λ i.
+    record {
+      kind = t .kind;
+      copyright = t .copyright;
+      block = b i;
+      network = t .network;
+      descriptors = descriptors-back (t .kind) (t .descriptors) (s .entire-all) (s .loops-fit) i;
+    }
+
+-- ---- the form out of its table
+
+length-in : (each k : ℕ) (f : List ℕ) → length (descriptorsIn each k f) ≡ k
+unfolding descriptorsIn
+length-in each zero f = refl
+length-in each (suc k) f = ap suc (length-in each k _)
+
+length-words : (k : ℕ) (f : List ℕ) → length (wordsIn k f) ≡ k
+unfolding wordsIn
+length-words zero f = refl
+length-words (suc k) f = ap suc (length-words k (drop 3 f))
+
+-- bytes
+abbrev pub Bytes : List ℕ → Type 0
+Bytes f = (i : ℕ) → getD f i 0 < 256
+
+bytes-drop : (n : ℕ) (f : List ℕ) → Bytes f → Bytes (drop n f)
+bytes-drop n f h i = rw getD-drop (h (n + i))
+
+spelled-back : (k : ℕ) (f : List ℕ) → Bytes f → 3 * k ≤ length f → spelled (wordsIn k f) ≡ take (3 * k) f
+unfolding spelled wordsIn
+spelled-back zero f b h = refl
+spelled-back (suc k) [] b h = absurd (omega arith)
+spelled-back (suc k) (x ∷ []) b h = absurd (omega arith)
+spelled-back (suc k) (x ∷ y ∷ []) b h = absurd (omega arith)
+spelled-back (suc k) (x ∷ y ∷ z ∷ f) b h =
+    let e : 3 * suc k ≡ suc (suc (suc (3 * k))) = omega arith in
+    rw (
+      e,
+      whole-next 8 z (y ∷ x ∷ []),
+      whole-next 8 y (x ∷ []),
+      whole-first 8 x [],
+      whole-first 8 y (x ∷ []),
+      whole-first 8 z (y ∷ x ∷ []),
+      mod-eq-of-lt (b 0),
+      mod-eq-of-lt (b 1),
+      mod-eq-of-lt (b 2),
+      spelled-back k f (λ i. b (suc (suc (suc i)))) (omega arith),
+    )
+
+-- one descriptor on, as the form's length goes
+pub listed-step :
+    (kind each k : ℕ) (f : List ℕ)
+    → let words = each * getD f 1 0 in
+    length (listed kind (descriptorsIn each (suc k) f))
+    ≡ 2 + 3 * words + length (listed kind (descriptorsIn each k (drop (2 + 3 * words) f)))
+unfolding descriptorsIn
+listed-step kind each k f = rw (length-listed, length-words)
+
+listed-back :
+    (kind k : ℕ) (f : List ℕ) → Bytes f → length f ≡ length (listed kind (descriptorsIn (per kind) k f))
+    → listed kind (descriptorsIn (per kind) k f) ≡ f
+unfolding descriptorsIn listed
+listed-back kind zero [] b h = refl
+listed-back kind zero (x ∷ f) b h = absurd (omega arith)
+listed-back kind (suc k) [] b h = absurd (omega (arith, listed-step kind (per kind) k []))
+listed-back kind (suc k) (x ∷ []) b h = absurd (omega (arith, listed-step kind (per kind) k (x ∷ [])))
+listed-back kind (suc k) (x ∷ c ∷ f) b h =
+    let words = per kind * c in
+    let rest = drop (3 * words) f in
+    let same : drop (2 + 3 * words) (x ∷ c ∷ f) ≡ rest = sym (drop-drop (3 * words) 2 (x ∷ c ∷ f)) in
+    let step =
+    listed-step kind (per kind) k (x ∷ c ∷ f)
+    ∙ ap (λ (l : List ℕ). 2 + 3 * words + length (listed kind (descriptorsIn (per kind) k l))) same in
+    let long : length f ≡ 3 * words + length (listed kind (descriptorsIn (per kind) k rest)) = omega (arith, h, step) in
+    let count : entries kind (wordsIn words f) ≡ c =
+    ap (λ (n : ℕ). n / per kind) (length-words words f) ∙ mul-div-cancel-left c (per-pos kind) in
+    let spelt = spelled-back words f (bytes-drop 2 (x ∷ c ∷ f) b) (omega arith) in
+    let more =
+    ap (λ (l : List ℕ). listed kind (descriptorsIn (per kind) k l)) same
+    ∙ listed-back kind k rest (bytes-drop (3 * words) f (bytes-drop 2 (x ∷ c ∷ f) b)) (length-drop (3 * words) f ∙ omega arith) in
+    ap₂ (λ (n : ℕ) (l : List ℕ). x ∷ n ∷ l) count
+    (ap₂ (λ (l m : List ℕ). l ++ m) spelt more ∙ take-append-drop (3 * words) f)
+
+one-byte : (x : ℕ) → x < 256 → whole 8 (x ∷ []) ≡ x
+unfolding whole
+one-byte x h = omega arith
+
+six :
+    (f : List ℕ) → 6 ≤ length f
+    → getD f 0 0 ∷ getD f 1 0 ∷ getD f 2 0 ∷ getD f 3 0 ∷ getD f 4 0 ∷ getD f 5 0 ∷ drop 6 f ≡ f
+six f h =
+    sym
+    (drop-cons f 0 0 (omega arith)
+    ∙ (rw (drop-cons f 1 0 (omega arith), drop-cons f 2 0 (omega arith), drop-cons f 3 0 (omega arith), drop-cons f 4 0 (omega arith), drop-cons f 5 0 (omega arith))))
+
+-- a form of the length of its counts is that of its table
+pub in-form : (f : List ℕ) → Bytes f → length f ≡ length (form (tableIn f)) → form (tableIn f) ≡ f
+unfolding tableIn form openingOf
+in-form f b h =
+    let kind = getD f 0 0 in
+    let k = getD f 5 0 in
+    let more = drop 6 f in
+    let ds = descriptorsIn (per kind) k more in
+    let long : length f ≡ 6 + length (listed kind ds) = h ∙ length-form (tableIn f) in
+    let count : length ds ≡ k = length-in (per kind) k more in
+    let low : whole 8 (getD f 2 0 ∷ getD f 3 0 ∷ []) % 256 ≡ getD f 2 0 =
+    whole-first 8 (getD f 2 0) (getD f 3 0 ∷ []) ∙ mod-eq-of-lt (b 2) in
+    let high : whole 8 (getD f 2 0 ∷ getD f 3 0 ∷ []) / 256 ≡ getD f 3 0 =
+    whole-next 8 (getD f 2 0) (getD f 3 0 ∷ []) ∙ one-byte (getD f 3 0) (b 3) in
+    let rest : listed kind ds ≡ more = listed-back kind k more (bytes-drop 6 f b) (length-drop 6 f ∙ omega arith) in
+    rw (low, high, count, rest) (six f (omega arith))

@@ -1,0 +1,302 @@
+-- Tables 15 and 17 read and laid are each other's inverse. Assumes nothing.
+use mathlib.Core.Path.{_≡_, _∙_, refl, sym, ap, ap₂, subst}
+use mathlib.Core.Bool.{Bool, true, false}
+use mathlib.Core.List.{List, [], _∷_, _++_}
+use Prim.Native.Nat.{ℕ, zero, suc, _+_, _-_, _*_, _/_, _%_, _^_, _≤_, _<_}
+use native.Mathlib.Nat.{div-one, mod-eq-of-lt, mul-comm, mul-div-cancel-left}
+use native.Mathlib.Omega.{arith}
+use borrow.Author.Tests.{ltb-true, lt-ltb, eqb-true, eq-eqb}
+use lib.Dec.{ltb, eqb}
+use lib.ListN.{length}
+use lib.Pow.{shr-shr}
+use Rattle.laws.specs.Pick.{both}
+use Rattle.laws.proofs.Tests.{both-true, both-assoc}
+use Rattle.fields.specs.Fields.{Field, row, width, laid, fitting, field, parts}
+use Rattle.fields.proofs.Laid.{lay, lay-parts, parts-laid, laid-append, laid-past, laid-drop, laid-at, laid-first, laid-next, length-parts, width-row, fitting-append, fitting-parts, field-first, field-lt, field-past}
+use Rattle.table.specs.Tables.{Descriptor, Table, TI, known, per, entries, loops, fields, bits, control, entire, fits}
+use Rattle.table.specs.Reading.{descriptorsOf, tableOf}
+use Rattle.table.proofs.Measures.{per-pos, width-loops, bits-of, length-descriptors}
+
+-- what a table that can be sent has
+pub record Sendable (t : Table) : Type 0 where
+  pub kind-known : known (t .kind) ≡ true
+  pub entire-all : entire (t .kind) (t .descriptors) ≡ true
+  pub control-fits : control t < 1024
+  pub kind-fits : t .kind < 64
+  pub copyright-fits : t .copyright < 2
+  pub block-fits : t .block < 65536
+  pub network-fits : t .network < 256
+  pub count-fits : length (t .descriptors) < 64
+  pub loops-fit : fitting (loops (t .kind) (t .descriptors)) ≡ true
+
+pub sendable : (t : Table) → fits t ≡ true → Sendable t
+unfolding fits fields fitting
+sendable t h =
+    let a = both-true (known (t .kind)) _ h in
+    let b = both-true (entire (t .kind) (t .descriptors)) _ (a .1) in
+    let c = both-true (ltb (control t) (2 ^ 10)) _ (b .1) in
+    let d = both-true (ltb (t .kind) (2 ^ 6)) _ (c .1) in
+    let e = both-true (ltb (t .copyright) (2 ^ 1)) _ (d .1) in
+    let f = both-true (ltb (t .block) (2 ^ 16)) _ (e .1) in
+    let g = both-true (ltb (t .network) (2 ^ 8)) _ (f .1) in
+    let i = both-true (ltb (length (t .descriptors)) (2 ^ 6)) _ (g .1) in
+    record {
+      kind-known = a .0;
+      entire-all = b .0;
+      control-fits = ltb-true (control t) 1024 (c .0);
+      kind-fits = ltb-true (t .kind) 64 (d .0);
+      copyright-fits = ltb-true (t .copyright) 2 (e .0);
+      block-fits = ltb-true (t .block) 65536 (f .0);
+      network-fits = ltb-true (t .network) 256 (g .0);
+      count-fits = ltb-true (length (t .descriptors)) 64 (i .0);
+      loops-fit = i .1;
+    }
+
+-- and the other way round
+pub sends : (t : Table) → Sendable t → fits t ≡ true
+unfolding fits fields fitting
+sends t s =
+    rw (
+      s .kind-known,
+      s .entire-all,
+      lt-ltb (control t) 1024 (s .control-fits),
+      lt-ltb (t .kind) 64 (s .kind-fits),
+      lt-ltb (t .copyright) 2 (s .copyright-fits),
+      lt-ltb (t .block) 65536 (s .block-fits),
+      lt-ltb (t .network) 256 (s .network-fits),
+      lt-ltb (length (t .descriptors)) 64 (s .count-fits),
+      s .loops-fit,
+    )
+
+-- ---- what is read, laid again
+
+-- as many entries as the count says
+pub entries-read : (kind c n : ℕ) → entries kind (parts 24 (per kind * c) n) ≡ c
+entries-read kind c n = rw length-parts (mul-div-cancel-left c (per-pos kind))
+
+relaid-loops :
+    (kind k n : ℕ)
+    → n
+    ≡ laid (loops kind (descriptorsOf (per kind) k n)) (n / 2 ^ width (loops kind (descriptorsOf (per kind) k n)))
+unfolding loops descriptorsOf
+relaid-loops kind zero n = unfold width laid in sym (div-one n)
+relaid-loops kind (suc k) n =
+    let words = per kind * field 6 4 n in
+    let up = n / 2 ^ (10 + 24 * words) in
+    let ds = descriptorsOf (per kind) k up in
+    let rest = up / 2 ^ width (loops kind ds) in
+    let above : n / 2 ^ 10 / 2 ^ (words * 24) ≡ laid (loops kind ds) rest =
+    shr-shr n 10 (words * 24) ∙ ap (λ (x : ℕ). n / 2 ^ (10 + x)) (mul-comm words 24) ∙ relaid-loops kind k up in
+    let all = lay 0 6 n _ rest (lay 6 4 n _ rest (lay-parts 24 words (n / 2 ^ 10) (loops kind ds) rest above)) in
+    let d : Descriptor = record { id = field 0 6 n; words = parts 24 words (n / 2 ^ 10) } in
+    let last : n / 2 ^ width (loops kind (d ∷ ds)) ≡ rest =
+    ap (λ (x : ℕ). n / 2 ^ x) (width-loops kind d ds ∙ ap (λ (x : ℕ). 10 + 24 * x + width (loops kind ds)) (length-parts 24 words (n / 2 ^ 10)))
+    ∙ sym (shr-shr n (10 + 24 * words) (width (loops kind ds))) in
+    sym (div-one n) ∙ all
+    ∙ ap₂ (λ (c r : ℕ). laid ((6, field 0 6 n) ∷ (4, c) ∷ row 24 (parts 24 words (n / 2 ^ 10)) ++ loops kind ds) r)
+    (sym (entries-read kind (field 6 4 n) (n / 2 ^ 10))) (sym last)
+
+-- the bits n are those of the table that they hold, with what isn't the table's own as it stands in n
+pub relaid :
+    (n : ℕ) → field 24 2 n ≡ 0
+    → n ≡ laid (fields (field 0 8 n) (field 8 10 n) (field 27 1 n) (tableOf n)) (n / 2 ^ bits (tableOf n))
+unfolding fields tableOf
+relaid n clear =
+    let kind = field 18 6 n in
+    let ds = descriptorsOf (per kind) (field 52 6 n) (n / 2 ^ 58) in
+    let rest = n / 2 ^ bits (tableOf n) in
+    let count : length ds ≡ field 52 6 n = length-descriptors (per kind) (field 52 6 n) (n / 2 ^ 58) in
+    let above : n / 2 ^ 58 ≡ laid (loops kind ds) rest =
+    relaid-loops kind (field 52 6 n) (n / 2 ^ 58)
+    ∙ ap (laid (loops kind ds)) (shr-shr n 58 (width (loops kind ds)) ∙ ap (λ (x : ℕ). n / 2 ^ x) (sym (bits-of (tableOf n)))) in
+    let all =
+    lay 0 8 n _ rest
+    (lay 8 10 n _ rest
+    (lay 18 6 n _ rest
+    (lay 24 2 n _ rest
+    (lay 26 1 n _ rest
+    (lay 27 1 n _ rest (lay 28 16 n _ rest (lay 44 8 n _ rest (lay 52 6 n (loops kind ds) rest above)))))))) in
+    sym (div-one n) ∙ all
+    ∙ ap₂
+    (λ (a c : ℕ).
+    laid
+    ((8, field 0 8 n)
+    ∷ (10, field 8 10 n)
+    ∷ (6, kind)
+    ∷ (2, a)
+    ∷ (1, field 26 1 n)
+    ∷ (1, field 27 1 n)
+    ∷ (16, field 28 16 n)
+    ∷ (8, field 44 8 n)
+    ∷ (6, c)
+    ∷ loops kind ds)
+    rest)
+    clear (sym count)
+
+-- what is read has whole entries and values that fit
+entire-read : (kind k n : ℕ) → entire kind (descriptorsOf (per kind) k n) ≡ true
+unfolding entire descriptorsOf
+entire-read kind zero n = refl
+entire-read kind (suc k) n =
+    let c = field 6 4 n in
+    let ws = parts 24 (per kind * c) (n / 2 ^ 10) in
+    let e : entries kind ws * per kind ≡ length ws =
+    ap (λ (x : ℕ). x * per kind) (entries-read kind c (n / 2 ^ 10)) ∙ mul-comm c (per kind) ∙ sym (length-parts 24 (per kind * c) (n / 2 ^ 10)) in
+    rw (eq-eqb (entries kind ws * per kind) (length ws) e) (entire-read kind k (n / 2 ^ (10 + 24 * (per kind * c))))
+
+fitting-read : (kind k n : ℕ) → fitting (loops kind (descriptorsOf (per kind) k n)) ≡ true
+unfolding fitting loops descriptorsOf
+fitting-read kind zero n = refl
+fitting-read kind (suc k) n =
+    let c = field 6 4 n in
+    let ws = parts 24 (per kind * c) (n / 2 ^ 10) in
+    let up = n / 2 ^ (10 + 24 * (per kind * c)) in
+    let small : entries kind ws < 16 = rw (entries-read kind c (n / 2 ^ 10)) (field-lt 6 4 n) in
+    rw (
+      lt-ltb (field 0 6 n) 64 (field-lt 0 6 n),
+      lt-ltb (entries kind ws) 16 small,
+      fitting-append (row 24 ws) (loops kind (descriptorsOf (per kind) k up)),
+      fitting-parts 24 (per kind * c) (n / 2 ^ 10),
+    )
+    (fitting-read kind k up)
+
+-- a table that is read can be sent, where it is of a kind that is read and its control size fits
+pub read-sendable : (n : ℕ) → known (field 18 6 n) ≡ true → field 8 10 n ≡ control (tableOf n) → Sendable (tableOf n)
+unfolding tableOf
+read-sendable n k e =
+    let kind = field 18 6 n in
+    let c = field 52 6 n in
+    record {
+      kind-known = k;
+      entire-all = entire-read kind c (n / 2 ^ 58);
+      control-fits = rw e at (field-lt 8 10 n);
+      kind-fits = field-lt 18 6 n;
+      copyright-fits = field-lt 26 1 n;
+      block-fits = field-lt 28 16 n;
+      network-fits = field-lt 44 8 n;
+      count-fits = rw (length-descriptors (per kind) c (n / 2 ^ 58)) (field-lt 52 6 n);
+      loops-fit = fitting-read kind c (n / 2 ^ 58);
+    }
+
+-- ---- what is laid, read again
+
+-- the count is that of the entries, and their words are whole
+pub entries-whole : (kind : ℕ) (ws : List ℕ) → entries kind ws * per kind ≡ length ws → per kind * entries kind ws ≡ length ws
+entries-whole kind ws e = mul-comm (per kind) (entries kind ws) ∙ e
+
+reread-loops :
+    (kind : ℕ) (ds : List Descriptor) (rest : ℕ) → entire kind ds ≡ true → fitting (loops kind ds) ≡ true
+    → descriptorsOf (per kind) (length ds) (laid (loops kind ds) rest) ≡ ds
+unfolding descriptorsOf loops entire fitting
+reread-loops kind [] rest h k = refl
+reread-loops kind (d ∷ ds) rest h k =
+    let c = entries kind (d .words) in
+    let front : List Field = (6, d .id) ∷ (4, c) ∷ row 24 (d .words) in
+    let n = laid (loops kind (d ∷ ds)) rest in
+    let whole-d = both-true (eqb (c * per kind) (length (d .words))) (entire kind ds) h in
+    let k₁ = both-true (ltb (d .id) (2 ^ 6)) _ k in
+    let k₂ = both-true (ltb c (2 ^ 4)) _ (k₁ .1) in
+    let k₃ = both-true (fitting (row 24 (d .words))) (fitting (loops kind ds)) (sym (fitting-append (row 24 (d .words)) (loops kind ds)) ∙ k₂ .1) in
+    let e-id : field 0 6 n ≡ d .id = field-first 6 n ∙ laid-first (6, d .id) _ rest ∙ mod-eq-of-lt (ltb-true (d .id) (2 ^ 6) (k₁ .0)) in
+    let e-c : field 6 4 n ≡ c = unfold width in (laid-at ((6, d .id) ∷ []) 4 c _ rest ∙ mod-eq-of-lt (ltb-true c (2 ^ 4) (k₂ .0))) in
+    let e-words : per kind * field 6 4 n ≡ length (d .words) =
+    ap (λ (x : ℕ). per kind * x) e-c ∙ entries-whole kind (d .words) (eqb-true (c * per kind) (length (d .words)) (whole-d .0)) in
+    let e-ten : n / 2 ^ 10 ≡ laid (row 24 (d .words)) (laid (loops kind ds) rest) =
+    unfold width in (laid-drop ((6, d .id) ∷ (4, c) ∷ []) _ rest ∙ laid-append (row 24 (d .words)) (loops kind ds) rest) in
+    let e-list : parts 24 (per kind * field 6 4 n) (n / 2 ^ 10) ≡ d .words =
+    ap₂ (parts 24) e-words e-ten ∙ parts-laid 24 (d .words) (laid (loops kind ds) rest) (k₃ .0) in
+    let e-rest : n / 2 ^ (10 + 24 * (per kind * field 6 4 n)) ≡ laid (loops kind ds) rest =
+    ap (λ (x : ℕ). n / 2 ^ (10 + 24 * x)) e-words ∙ sym (shr-shr n 10 (24 * length (d .words)))
+    ∙ ap (λ (x : ℕ). x / 2 ^ (24 * length (d .words))) e-ten
+    ∙ ap (λ (x : ℕ). laid (row 24 (d .words)) (laid (loops kind ds) rest) / 2 ^ x) (mul-comm 24 (length (d .words)) ∙ sym (width-row 24 (d .words)))
+    ∙ laid-past (row 24 (d .words)) (laid (loops kind ds) rest) in
+    let one : _≡_ {A = Descriptor} (record { id = field 0 6 n; words = parts 24 (per kind * field 6 4 n) (n / 2 ^ 10) }) d =
+    ap₂ (λ (i : ℕ) (ws : List ℕ). record { id = i; words = ws }) e-id e-list in
+    ap₂ (λ (x : Descriptor) (xs : List Descriptor). x ∷ xs) one
+    (ap (descriptorsOf (per kind) (length ds)) e-rest ∙ reread-loops kind ds rest (whole-d .1) (k₃ .1))
+
+-- the fields of a block whose access is free, each at its place
+module _ (sum c reserved rest : ℕ) (t : Table) (s : Sendable t) where
+  abbrev block-of : ℕ
+  block-of = laid (fields sum c reserved t) rest
+
+  at-kind : field 18 6 block-of ≡ t .kind
+  unfolding fields width
+  at-kind = laid-at ((8, sum) ∷ (10, c) ∷ []) 6 (t .kind) _ rest ∙ mod-eq-of-lt (s .kind-fits)
+
+  at-count : field 52 6 block-of ≡ length (t .descriptors)
+  unfolding fields width
+  at-count =
+      laid-at
+      ((8, sum) ∷ (10, c) ∷ (6, t .kind) ∷ (2, 0) ∷ (1, t .copyright) ∷ (1, reserved) ∷ (16, t .block) ∷ (8, t .network) ∷ [])
+      6
+      (length (t .descriptors))
+      _
+      rest
+      ∙ mod-eq-of-lt (s .count-fits)
+
+  pub at-sum : field 0 8 block-of ≡ sum % 256
+  unfolding fields width
+  at-sum = laid-at [] 8 sum _ rest
+
+  pub at-control : field 8 10 block-of ≡ c % 1024
+  unfolding fields width
+  at-control = laid-at ((8, sum) ∷ []) 10 c _ rest
+
+  pub at-access : field 24 2 block-of ≡ 0
+  unfolding fields width
+  at-access = laid-at ((8, sum) ∷ (10, c) ∷ (6, t .kind) ∷ []) 2 0 _ rest
+
+  at-copyright : field 26 1 block-of ≡ t .copyright
+  unfolding fields width
+  at-copyright =
+      laid-at ((8, sum) ∷ (10, c) ∷ (6, t .kind) ∷ (2, 0) ∷ []) 1 (t .copyright) _ rest ∙ mod-eq-of-lt (s .copyright-fits)
+
+  at-block : field 28 16 block-of ≡ t .block
+  unfolding fields width
+  at-block =
+      laid-at ((8, sum) ∷ (10, c) ∷ (6, t .kind) ∷ (2, 0) ∷ (1, t .copyright) ∷ (1, reserved) ∷ []) 16 (t .block) _ rest
+      ∙ mod-eq-of-lt (s .block-fits)
+
+  at-network : field 44 8 block-of ≡ t .network
+  unfolding fields width
+  at-network =
+      laid-at
+      ((8, sum) ∷ (10, c) ∷ (6, t .kind) ∷ (2, 0) ∷ (1, t .copyright) ∷ (1, reserved) ∷ (16, t .block) ∷ [])
+      8
+      (t .network)
+      _
+      rest
+      ∙ mod-eq-of-lt (s .network-fits)
+
+  above-fields : block-of / 2 ^ 58 ≡ laid (loops (t .kind) (t .descriptors)) rest
+  unfolding fields width
+  above-fields =
+      laid-drop
+      ((8, sum)
+      ∷ (10, c)
+      ∷ (6, t .kind)
+      ∷ (2, 0)
+      ∷ (1, t .copyright)
+      ∷ (1, reserved)
+      ∷ (16, t .block)
+      ∷ (8, t .network)
+      ∷ (6, length (t .descriptors))
+      ∷ [])
+      (loops (t .kind) (t .descriptors))
+      rest
+
+  -- a table that can be sent is read out of its own fields
+  pub reread : tableOf (laid (fields sum c reserved t) rest) ≡ t
+  unfolding tableOf
+  reread =
+      let ds : descriptorsOf (per (field 18 6 block-of)) (field 52 6 block-of) (block-of / 2 ^ 58) ≡ t .descriptors =
+      rw (at-kind, at-count, above-fields) (reread-loops (t .kind) (t .descriptors) rest (s .entire-all) (s .loops-fit)) in
+      λ i.
+      record {
+        kind = at-kind i;
+        copyright = at-copyright i;
+        block = at-block i;
+        network = at-network i;
+        descriptors = ds i;
+      }

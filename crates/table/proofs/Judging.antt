@@ -1,0 +1,187 @@
+-- How the rules of block reading decide, a lemma for each way that the code goes. Assumes nothing.
+use mathlib.Core.Path.{_≡_, _∙_, refl, sym, ap}
+use mathlib.Core.Bool.{Bool, true, false}
+use mathlib.Core.List.{List, [], _∷_, map}
+use Prim.Native.Nat.{ℕ, suc, _+_, _-_, _*_, _/_, _%_, _≤_, _<_, zero-le, suc-le-suc}
+use native.Mathlib.Numerals.{add-one}
+use native.Mathlib.Nat.{le-refl, add-zero, add-assoc, mod-add-mod, mod-eq-of-lt}
+use native.Mathlib.Omega.{arith}
+use borrow.Author.Tests.{lt-ltb, le-ltb, le-leb, lt-leb, eq-eqb, ne-eqb, eqb-true, leb-true}
+use lib.Dec.{ltb}
+use lib.ListN.{length, getD, take, drop, drop-of-length-le}
+use lib.Seq.{drop-cons}
+use Rattle.laws.specs.Pick.{pick}
+use Rattle.answer.specs.Rules.{judged}
+use Rattle.answer.specs.declared.Answer.{Answer}
+use Rattle.answer.specs.declared.Answer.the-variants.{Done}
+use Rattle.answer.specs.Values.{refused}
+use Rattle.answer.proofs.Steps.{done-every, first-holds, others-hold}
+use Rattle.octet.specs.Decoding.{nib}
+use Rattle.fields.specs.Fields.{field, whole, parts}
+use Rattle.table.specs.Tables.{known, control, size}
+use Rattle.table.specs.Block.{headOf, total, checksum}
+use Rattle.table.specs.Reading.{sound, frameRules, frontRules, wholeRules, lengthRules, readRules, tableOf}
+
+-- ---- the head
+
+pub head-bytes : (r : List ℕ) → getD r 0 0 < 256 → getD r 1 0 < 256 → getD r 0 0 + 256 * getD r 1 0 ≡ headOf r
+unfolding headOf whole
+head-bytes [] h k = refl
+head-bytes (a ∷ []) h k = omega arith
+head-bytes (a ∷ b ∷ r) h k = omega arith
+
+module _ (application len head : ℕ) (a : Answer) where
+  pub frame-16 : 32 ≤ application → judged refused (frameRules application len head) a ≡ refused 16 0
+  unfolding frameRules
+  frame-16 h = rw (le-ltb application 32 h)
+
+  module _ (h₁ : application < 32) where
+    pub frame-13 : (len ≡ 2 + head / 32 → ⊥) → judged refused (frameRules application len head) a ≡ refused 13 0
+    unfolding frameRules
+    frame-13 h = rw (lt-ltb application 32 h₁, ne-eqb len (2 + head / 32) h)
+
+    module _ (h₂ : len ≡ 2 + head / 32) where
+      pub frame-12 : (head % 32 ≡ application → ⊥) → judged refused (frameRules application len head) a ≡ refused 12 0
+      unfolding frameRules
+      frame-12 h = rw (lt-ltb application 32 h₁, eq-eqb len (2 + head / 32) h₂, ne-eqb (head % 32) application h)
+
+      module _ (h₃ : head % 32 ≡ application) where
+        pub frame-13′ : head / 32 < 8 → judged refused (frameRules application len head) a ≡ refused 13 0
+        unfolding frameRules
+        frame-13′ h =
+            rw (lt-ltb application 32 h₁, eq-eqb len (2 + head / 32) h₂, eq-eqb (head % 32) application h₃, lt-leb 8 (head / 32) h)
+
+        pub frame-done : 8 ≤ head / 32 → judged refused (frameRules application len head) a ≡ a
+        unfolding frameRules
+        frame-done h =
+            rw (lt-ltb application 32 h₁, eq-eqb len (2 + head / 32) h₂, eq-eqb (head % 32) application h₃, le-leb 8 (head / 32) h)
+
+-- a frame that is taken
+pub framed :
+    (application len head n m : ℕ) → judged refused (frameRules application len head) (Done n) ≡ Done m
+    → (len ≡ 2 + head / 32) × (8 ≤ head / 32)
+unfolding frameRules
+framed application len head n m e =
+    let all = done-every (frameRules application len head) n m e in (
+      eqb-true len (2 + head / 32) (first-holds (others-hold all)),
+      leb-true 8 (head / 32) (first-holds (others-hold (others-hold (others-hold all)))),
+    )
+
+pub long-enough :
+    (application : ℕ) (r : List ℕ) (n m : ℕ) → judged refused (readRules application r) (Done n) ≡ Done m → 2 ≤ length r
+unfolding frameRules
+long-enough application r n m e =
+    let h : length r ≡ 2 + headOf r / 32 =
+    eqb-true (length r) (2 + headOf r / 32) (first-holds (others-hold (done-every (readRules application r) n m e))) in
+    omega arith
+
+-- ---- the front, with what it is judged by: how many of the first 8 bytes decode, the kind, the access
+
+module _ (blockSize : ℕ) (ns : List ℕ) (a : Answer) where
+  pub front-10 :
+      (sound (take 8 ns) ≡ 8 → ⊥)
+      → judged refused (frontRules blockSize ns) a ≡ refused 10 (2 + sound (take 8 ns))
+  unfolding frontRules
+  front-10 h = rw (ne-eqb (sound (take 8 ns)) 8 h)
+
+  module _ (h₁ : sound (take 8 ns) ≡ 8) where
+    pub front-12 : known (field 18 6 (whole 4 ns)) ≡ false → judged refused (frontRules blockSize ns) a ≡ refused 12 0
+    unfolding frontRules
+    front-12 h = rw (eq-eqb (sound (take 8 ns)) 8 h₁, h)
+
+    module _ (h₂ : known (field 18 6 (whole 4 ns)) ≡ true) where
+      pub front-12′ :
+          (field 24 2 (whole 4 ns) ≡ 0 → ⊥) → judged refused (frontRules blockSize ns) a ≡ refused 12 0
+      unfolding frontRules
+      front-12′ h = rw (eq-eqb (sound (take 8 ns)) 8 h₁, h₂, ne-eqb (field 24 2 (whole 4 ns)) 0 h)
+
+      module _ (h₃ : field 24 2 (whole 4 ns) ≡ 0) where
+        pub front-13 : (blockSize % 2 ≡ 0 → ⊥) → judged refused (frontRules blockSize ns) a ≡ refused 13 0
+        unfolding frontRules
+        front-13 h =
+            rw (eq-eqb (sound (take 8 ns)) 8 h₁, h₂, eq-eqb (field 24 2 (whole 4 ns)) 0 h₃, ne-eqb (blockSize % 2) 0 h)
+
+        pub front-done : blockSize % 2 ≡ 0 → judged refused (frontRules blockSize ns) a ≡ a
+        unfolding frontRules
+        front-done h =
+            rw (eq-eqb (sound (take 8 ns)) 8 h₁, h₂, eq-eqb (field 24 2 (whole 4 ns)) 0 h₃, eq-eqb (blockSize % 2) 0 h)
+
+-- ---- the whole block
+
+module _ (head : ℕ) (ns : List ℕ) (a : Answer) where
+  pub whole-10 : (sound ns ≡ length ns → ⊥) → judged refused (wholeRules head ns) a ≡ refused 10 (2 + sound ns)
+  unfolding wholeRules
+  whole-10 h = rw (ne-eqb (sound ns) (length ns) h)
+
+  module _ (h₁ : sound ns ≡ length ns) where
+    pub whole-11 : (field 0 8 (whole 4 ns) ≡ checksum head ns → ⊥) → judged refused (wholeRules head ns) a ≡ refused 11 0
+    unfolding wholeRules
+    whole-11 h = rw (eq-eqb (sound ns) (length ns) h₁, ne-eqb (field 0 8 (whole 4 ns)) (checksum head ns) h)
+
+    pub whole-done : field 0 8 (whole 4 ns) ≡ checksum head ns → judged refused (wholeRules head ns) a ≡ a
+    unfolding wholeRules
+    whole-done h = rw (eq-eqb (sound ns) (length ns) h₁, eq-eqb (field 0 8 (whole 4 ns)) (checksum head ns) h)
+
+-- ---- the lengths
+
+module _ (blockSize n : ℕ) (a : Answer) where
+  pub lengths-14 :
+      (field 8 10 n ≡ control (tableOf n) → ⊥) → judged refused (lengthRules blockSize n) a ≡ refused 14 0
+  unfolding lengthRules
+  lengths-14 h = rw (ne-eqb (field 8 10 n) (control (tableOf n)) h)
+
+  module _ (h₁ : field 8 10 n ≡ control (tableOf n)) where
+    pub lengths-14′ : (blockSize ≡ size (tableOf n) → ⊥) → judged refused (lengthRules blockSize n) a ≡ refused 14 0
+    unfolding lengthRules
+    lengths-14′ h = rw (eq-eqb (field 8 10 n) (control (tableOf n)) h₁, ne-eqb blockSize (size (tableOf n)) h)
+
+    pub lengths-done : blockSize ≡ size (tableOf n) → judged refused (lengthRules blockSize n) a ≡ a
+    unfolding lengthRules
+    lengths-done h = rw (eq-eqb (field 8 10 n) (control (tableOf n)) h₁, eq-eqb blockSize (size (tableOf n)) h)
+
+-- ---- the bytes that decode
+
+pub sound-le : (ns : List ℕ) → sound ns ≤ length ns
+unfolding sound
+sound-le [] = le-refl 0
+sound-le (n ∷ ns) = go (ltb n 16) (sound-le ns)
+  where
+    go : (b : Bool) → sound ns ≤ length ns → pick b (suc (sound ns)) 0 ≤ suc (length ns)
+    go true h = suc-le-suc h
+    go false h = zero-le
+
+pub sound-step : (s : List ℕ) (i : ℕ) → i < length s → nib (getD s i 0) < 16 → i + 1 + sound (map nib (drop (i + 1) s)) ≡ i + sound (map nib (drop i s))
+unfolding sound
+sound-step s i h k = rw (add-one i, drop-cons s i 0 h, lt-ltb _ 16 k) (omega arith)
+
+pub sound-stop : (s : List ℕ) (i : ℕ) → i < length s → 16 ≤ nib (getD s i 0) → i ≡ i + sound (map nib (drop i s))
+unfolding sound
+sound-stop s i h k = rw (drop-cons s i 0 h, le-ltb _ 16 k) (sym (add-zero i))
+
+pub sound-end : (s : List ℕ) (i : ℕ) → length s ≤ i → i ≡ i + sound (map nib (drop i s))
+unfolding sound
+sound-end s i h = rw (drop-of-length-le s h) (sym (add-zero i))
+
+-- ---- the checksum
+
+pub sum-start :
+    (head : ℕ) (ns : List ℕ)
+    → (head % 16 + head / 16 % 16 + head / 16 / 16 % 16 + head / 16 / 16 / 16 % 16 + total (drop 2 ns)) % 256
+    ≡ (total (parts 4 4 head) + total (drop 2 ns)) % 256
+unfolding total parts
+sum-start head ns = ap (λ (x : ℕ). (x + total (drop 2 ns)) % 256) (omega arith)
+
+pub sum-step :
+    (s : List ℕ) (i sum : ℕ) → i < length s
+    → ((sum + nib (getD s i 0)) % 256 + total (map nib (drop (i + 1) s))) % 256 ≡ (sum + total (map nib (drop i s))) % 256
+unfolding total
+sum-step s i sum h = rw (add-one i, drop-cons s i 0 h) (mod-add-mod _ 256 _ ∙ ap (λ (x : ℕ). x % 256) (add-assoc _ _ _))
+
+pub sum-end :
+    (head : ℕ) (s : List ℕ) (i sum : ℕ) → length s ≤ i → sum < 256
+    → (sum + total (map nib (drop i s))) % 256 ≡ (total (parts 4 4 head) + total (drop 2 (map nib s))) % 256
+    → (256 - sum) % 256 ≡ checksum head (map nib s)
+unfolding checksum
+sum-end head s i sum h l e =
+    ap (λ (x : ℕ). (256 - x) % 256)
+    (sym (mod-eq-of-lt l) ∙ ap (λ (x : ℕ). x % 256) (sym (add-zero sum)) ∙ (unfold total in (rw (drop-of-length-le s h) at e)))

@@ -1,0 +1,10 @@
+pub mod Measures
+pub mod Judging
+pub mod Written
+pub mod Inverse
+pub mod Exact
+pub mod Forms
+pub mod Back
+pub mod Noise
+pub mod Calls
+pub mod Cases

@@ -1,0 +1,34 @@
+-- `table::head_of` meets its contract: the head's two bytes make its 16 bits. Assumes nothing.
+use borrow.Author.Needs.{needs}
+use mathlib.Core.Path.{_≡_}
+use native.Mathlib.Omega.{arith}
+use denote.Ref.{now}
+use Rattle.table.proofs.Judging.{head-bytes}
+use mathlib.Core.List.{List}
+use Prim.Native.Nat.{ℕ}
+use lib.ListN.{getD}
+use Rattle.table.proofs.head_of.Statement.{statement}
+use Rattle.table.proofs.head_of.Tie as tie
+
+byte-at-requires : tie.Need-byte-at-requires
+byte-at-requires c κs = search needs
+
+byte-at-requires-2 : tie.Need-byte-at-requires-2
+byte-at-requires-2 c κs = search needs
+
+mul-result : tie.Need-mul-result
+mul-result c = search needs
+
+add-result : tie.Need-add-result
+add-result c = search needs
+
+returns : tie.Need-returns
+returns c =
+    let l : List ℕ = now (c .before .before .before .args .rec) in
+    let e₀ : c .before .byte-at .result ≡ getD l 0 0 = c .before .byte-at .ensures .0 in
+    let e₁ : c .byte-at2 .result ≡ getD l 1 0 = c .byte-at2 .ensures .0 in
+    (rw (e₀, e₁) (head-bytes l (omega arith) (omega arith)), search needs)
+
+pub head-of-spec : {M : Type 1} → statement M
+head-of-spec =
+    tie.close (tie.spec byte-at-requires byte-at-requires-2 mul-result add-result returns)

@@ -1,0 +1,104 @@
+-- `table::judge_front` meets its contract: each `return` is the first rule that doesn't hold, and the last is all of them.
+-- Assumes nothing.
+use borrow.Author.Needs.{needs}
+use mathlib.Core.Path.{_≡_, _∙_, sym, ap}
+use mathlib.Core.List.{List, map}
+use Prim.Native.Nat.{ℕ}
+use native.Mathlib.Omega.{arith}
+use lib.ListN.{take, length-map}
+use lib.Seq.{length-take-le}
+use denote.Ref.{now}
+use Rattle.laws.proofs.Maps.{map-take}
+use Rattle.octet.specs.Decoding.{nib}
+use Rattle.table.specs.Reading.{sound}
+use Rattle.table.proofs.Judging.{front-10, front-12, front-12′, front-13, front-done, sound-le}
+use Rattle.table.specs.Tables.{known}
+use borrow.Author.Tests.{not-true, not-false}
+use Rattle.table.proofs.judge_front.Statement.{statement}
+use Rattle.table.proofs.judge_front.Tie as tie
+
+slice-aggregate-sound : tie.Need-slice-aggregate-sound
+slice-aggregate-sound c = sym (length-take-le 8 (now (c .before .before .args .body)) (c .before .before .pre))
+
+sound-requires : tie.Need-sound-requires
+sound-requires c κs = search needs
+
+add-refuse : tie.Need-add-refuse
+add-refuse c =
+    let s : List ℕ = take 8 (now (c .before .before .before .before .args .body)) in
+    omega (arith, c .before .sound .ensures, sound-le (map nib s), length-map s nib, length-take-le 8 (now (c .before .before .before .before .args .body)) (c .before .before .before .before .pre))
+
+refuse-requires : tie.Need-refuse-requires
+refuse-requires c κs = search needs
+
+returns : tie.Need-returns
+returns c =
+    let s : List ℕ = now (c .before .before .before .before .before .args .body) in
+    let e : c .before .before .sound .result ≡ sound (take 8 (map nib s)) = c .before .before .sound .ensures ∙ ap sound (map-take nib 8 s) in
+    rw e at (c .refuse .ensures) ∙ sym (front-10 _ (map nib s) _ (rw e at (c .before .if1 .taken)))
+
+field-at-requires : tie.Need-field-at-requires
+field-at-requires c κs = search needs
+
+known-requires : tie.Need-known-requires
+known-requires c κs = search needs
+
+refuse-requires-2 : tie.Need-refuse-requires-2
+refuse-requires-2 c κs = search needs
+
+returns-2 : tie.Need-returns-2
+returns-2 c =
+    let s : List ℕ = now (c .before .before .before .before .before .before .before .before .args .body) in
+    let e : c .before .before .before .before .before .sound .result ≡ sound (take 8 (map nib s)) = c .before .before .before .before .before .sound .ensures ∙ ap sound (map-take nib 8 s) in
+    let k = c .before .before .known .ensures ∙ ap known (c .before .before .before .field-at .ensures .0) in
+    c .refuse2 .ensures ∙ sym (front-12 _ (map nib s) _ (sym e ∙ c .before .before .before .before .if1 .left) (sym k ∙ not-true _ (c .before .if2 .taken)))
+
+field-at-requires-2 : tie.Need-field-at-requires-2
+field-at-requires-2 c κs = search needs
+
+refuse-requires-3 : tie.Need-refuse-requires-3
+refuse-requires-3 c κs = search needs
+
+returns-3 : tie.Need-returns-3
+returns-3 c =
+    let s : List ℕ = now (c .before .before .before .before .before .before .before .before .before .before .args .body) in
+    let e : c .before .before .before .before .before .before .before .sound .result ≡ sound (take 8 (map nib s)) = c .before .before .before .before .before .before .before .sound .ensures ∙ ap sound (map-take nib 8 s) in
+    let k = c .before .before .before .before .known .ensures ∙ ap known (c .before .before .before .before .before .field-at .ensures .0) in
+    c .refuse3 .ensures ∙ sym (front-12′ _ (map nib s) _ (sym e ∙ c .before .before .before .before .before .before .if1 .left) (sym k ∙ not-false _ (c .before .before .before .if2 .left)) (rw (c .before .before .field-at2 .ensures .0) at (c .before .if3 .taken)))
+
+refuse-requires-4 : tie.Need-refuse-requires-4
+refuse-requires-4 c κs = search needs
+
+returns-4 : tie.Need-returns-4
+returns-4 c =
+    let s : List ℕ = now (c .before .before .before .before .before .before .before .before .before .before .before .args .body) in
+    let e : c .before .before .before .before .before .before .before .before .sound .result ≡ sound (take 8 (map nib s)) = c .before .before .before .before .before .before .before .before .sound .ensures ∙ ap sound (map-take nib 8 s) in
+    let k = c .before .before .before .before .before .known .ensures ∙ ap known (c .before .before .before .before .before .before .field-at .ensures .0) in
+    c .refuse4 .ensures ∙ sym (front-13 _ (map nib s) _ (sym e ∙ c .before .before .before .before .before .before .before .if1 .left) (sym k ∙ not-false _ (c .before .before .before .before .if2 .left)) (sym (c .before .before .before .field-at2 .ensures .0) ∙ c .before .before .if3 .left) (c .before .if4 .taken))
+
+returns-5 : tie.Need-returns-5
+returns-5 c =
+    let s : List ℕ = now (c .before .before .before .before .before .before .before .before .before .before .args .body) in
+    let e : c .before .before .before .before .before .before .before .sound .result ≡ sound (take 8 (map nib s)) = c .before .before .before .before .before .before .before .sound .ensures ∙ ap sound (map-take nib 8 s) in
+    let k = c .before .before .before .before .known .ensures ∙ ap known (c .before .before .before .before .before .field-at .ensures .0) in
+    sym (front-done _ (map nib s) _ (sym e ∙ c .before .before .before .before .before .before .if1 .left) (sym k ∙ not-false _ (c .before .before .before .if2 .left)) (sym (c .before .before .field-at2 .ensures .0) ∙ c .before .if3 .left) (c .if4 .left))
+
+pub judge-front-spec : {M : Type 1} → statement M
+judge-front-spec =
+    tie.close
+    (tie.spec
+    slice-aggregate-sound
+    sound-requires
+    add-refuse
+    refuse-requires
+    returns
+    field-at-requires
+    known-requires
+    refuse-requires-2
+    returns-2
+    field-at-requires-2
+    refuse-requires-3
+    returns-3
+    refuse-requires-4
+    returns-4
+    returns-5)

@@ -1,0 +1,71 @@
+-- `table::judge_whole` meets its contract: each `return` is the first rule that doesn't hold, and the last is both passed.
+-- Assumes nothing.
+use borrow.Author.Needs.{needs}
+use mathlib.Core.Path.{_∙_, sym}
+use mathlib.Core.List.{List, map}
+use Prim.Native.Nat.{ℕ}
+use native.Mathlib.Omega.{arith}
+use lib.ListN.{length-map}
+use denote.Ref.{now}
+use Rattle.octet.specs.Decoding.{nib}
+use Rattle.table.specs.Reading.{sound}
+use Rattle.table.proofs.Judging.{whole-10, whole-11, whole-done, sound-le}
+use Rattle.table.proofs.judge_whole.Statement.{statement}
+use Rattle.table.proofs.judge_whole.Tie as tie
+
+sound-requires : tie.Need-sound-requires
+sound-requires c κs = search needs
+
+add-refuse : tie.Need-add-refuse
+add-refuse c =
+    let s : List ℕ = now (c .before .before .before .args .body) in
+    omega (arith, c .before .sound .ensures, sound-le (map nib s), length-map s nib, c .before .before .before .good)
+
+refuse-requires : tie.Need-refuse-requires
+refuse-requires c κs = search needs
+
+returns : tie.Need-returns
+returns c =
+    let s : List ℕ = now (c .before .before .before .before .args .body) in
+    rw (c .before .before .sound .ensures) at (c .refuse .ensures)
+    ∙ sym (whole-10 _ (map nib s) _ (rw (c .before .before .sound .ensures, ← length-map s nib) at (c .before .if1 .taken)))
+
+field-at-requires : tie.Need-field-at-requires
+field-at-requires c κs = search needs
+
+checksum-requires : tie.Need-checksum-requires
+checksum-requires c κs = search needs
+
+refuse-requires-2 : tie.Need-refuse-requires-2
+refuse-requires-2 c κs = search needs
+
+returns-2 : tie.Need-returns-2
+returns-2 c =
+    let s : List ℕ = now (c .before .before .before .before .before .before .before .args .body) in
+    c .refuse2 .ensures
+    ∙ sym
+    (whole-11 _ (map nib s) _
+    (rw (c .before .before .before .before .before .sound .ensures, ← length-map s nib) at (c .before .before .before .before .if1 .left))
+    (rw (c .before .before .before .field-at .ensures .0, c .before .before .checksum .ensures) at (c .before .if2 .taken)))
+
+returns-3 : tie.Need-returns-3
+returns-3 c =
+    let s : List ℕ = now (c .before .before .before .before .before .before .args .body) in
+    sym
+    (whole-done _ (map nib s) _
+    (rw (c .before .before .before .before .sound .ensures, ← length-map s nib) at (c .before .before .before .if1 .left))
+    (rw (c .before .before .field-at .ensures .0, c .before .checksum .ensures) at (c .if2 .left)))
+
+pub judge-whole-spec : {M : Type 1} → statement M
+judge-whole-spec =
+    tie.close
+    (tie.spec
+    sound-requires
+    add-refuse
+    refuse-requires
+    returns
+    field-at-requires
+    checksum-requires
+    refuse-requires-2
+    returns-2
+    returns-3)

@@ -1,0 +1,53 @@
+-- A block as it is sent, and the record that holds it: its head, then its bytes as they came.
+use mathlib.Core.Path.{_≡_}
+use mathlib.Core.Bool.{true}
+use mathlib.Core.List.{List, [], _∷_, map}
+use Prim.Native.Nat.{ℕ, _+_, _%_, _-_, _^_, _<_}
+use lib.ListN.{take, drop}
+use Rattle.octet.specs.Decoding.{nib}
+use Rattle.fields.specs.Fields.{Field, laid, parts, whole}
+use Rattle.table.specs.Tables.{Table, fields, control, fill, size, fits}
+
+-- table 5, the Overall Data Header
+abbrev pub header : ℕ → ℕ → List Field
+header application size = (5, application) ∷ (11, size) ∷ []
+
+-- a record's head: "its 16 bits, low byte first"
+abbrev pub headSize : ℕ
+headSize = 2
+
+unfoldable pub headOf : List ℕ → ℕ
+headOf r = whole 8 (take headSize r)
+
+-- what the protected bytes behind it decode to
+unfoldable pub nibblesOf : List ℕ → List ℕ
+nibblesOf r = map nib (drop headSize r)
+
+unfoldable pub total : List ℕ → ℕ
+total [] = 0
+total (n ∷ ns) = n + total ns
+
+-- 11.1.2: application_id, block_size and all control data but the checksum itself, "divided into nibbles", "expanded into 8 bit
+-- bytes", "are summed (modulo 256) and the checksum is (0x100 − sum of bytes) modulo 256". Of a block's nibbles the first two
+-- are the checksum's
+unfoldable pub checksum : ℕ → List ℕ → ℕ
+checksum head nibbles = (256 - (total (parts 4 4 head) + total (drop 2 nibbles)) % 256) % 256
+
+-- the nibbles of a table's block, for any checksum, reserved bit and fill
+unfoldable pub nibbles : ℕ → ℕ → ℕ → Table → List ℕ
+nibbles sum reserved fill t = parts 4 (size t) (laid (fields sum (control t) reserved t) fill)
+
+-- the checksum of a table's block
+unfoldable pub checksumOf : ℕ → ℕ → ℕ → Table → ℕ
+checksumOf application reserved fill t = checksum (laid (header application (size t)) 0) (nibbles 0 reserved fill t)
+
+-- record r is exactly table t of this application, in clear: with any reserved bit and any fill
+pub record Says (application : ℕ) (r : List ℕ) (t : Table) : Type 0 where
+  pub reserved : ℕ
+  pub filling : ℕ
+  pub within : application < 32
+  pub sendable : fits t ≡ true
+  pub bit : reserved < 2
+  pub filled : filling < 2 ^ fill t
+  pub head : headOf r ≡ laid (header application (size t)) 0
+  pub body : nibblesOf r ≡ nibbles (checksumOf application reserved filling t) reserved filling t

@@ -1,0 +1,88 @@
+-- Block reading: its rules in document 01's order, and the table that it gives.
+use mathlib.Core.List.{List, [], _∷_, _++_}
+use Prim.Native.Nat.{ℕ, zero, suc, _+_, _*_, _/_, _%_, _^_}
+use lib.Dec.{eqb, ltb, leb}
+use lib.ListN.{length, take}
+use Rattle.laws.specs.Pick.{pick, both}
+use Rattle.answer.specs.Rules.{Rule, rule, judged}
+use Rattle.fields.specs.Fields.{field, parts, whole}
+use Rattle.table.specs.Tables.{Descriptor, Table, known, per, control, size}
+use Rattle.table.specs.Block.{headSize, headOf, nibblesOf, checksum}
+
+-- the k descriptors at the front of the bits n, whose entries have `each` words
+unfoldable pub descriptorsOf : ℕ → ℕ → ℕ → List Descriptor
+descriptorsOf each zero n = []
+descriptorsOf each (suc k) n =
+    let words = each * field 6 4 n in
+    record { id = field 0 6 n; words = parts 24 words (n / 2 ^ 10) } ∷ descriptorsOf each k (n / 2 ^ (10 + 24 * words))
+
+-- the table that control data n holds: each field at its place in tables 15 and 17
+unfoldable pub tableOf : ℕ → Table
+tableOf n =
+    record {
+      kind = field 18 6 n;
+      copyright = field 26 1 n;
+      block = field 28 16 n;
+      network = field 44 8 n;
+      descriptors = descriptorsOf (per (field 18 6 n)) (field 52 6 n) (n / 2 ^ 58);
+    }
+
+-- how many of these come before the first that can't be decoded
+unfoldable pub sound : List ℕ → ℕ
+sound [] = 0
+sound (n ∷ ns) = pick (ltb n 16) (suc (sound ns)) 0
+
+-- ---- the order of block reading, in parts
+
+-- 16, 13, 12, 13: the record as it is lent, by its length and its head
+unfoldable pub frameRules : ℕ → ℕ → ℕ → List Rule
+frameRules application len head =
+    rule (ltb application 32) 16 0
+    ∷ rule (eqb len (headSize + head / 32)) 13 0
+    ∷ rule (eqb (head % 32) application) 12 0
+    ∷ rule (leb 8 (head / 32)) 13 0
+    ∷ []
+
+-- 10 over the first 8 bytes, 12, 13: what can be said of a block before it is read whole
+unfoldable pub frontRules : ℕ → List ℕ → List Rule
+frontRules blockSize ns =
+    let n = whole 4 ns in
+    rule (eqb (sound (take 8 ns)) 8) 10 (headSize + sound (take 8 ns))
+    ∷ rule (both (known (field 18 6 n)) (eqb (field 24 2 n) 0)) 12 0
+    ∷ rule (eqb (blockSize % 2) 0) 13 0
+    ∷ []
+
+-- 10 over the rest, 11
+unfoldable pub wholeRules : ℕ → List ℕ → List Rule
+wholeRules head ns =
+    rule (eqb (sound ns) (length ns)) 10 (headSize + sound ns)
+    ∷ rule (eqb (field 0 8 (whole 4 ns)) (checksum head ns)) 11 0
+    ∷ []
+
+-- 14: loops, control size and fill fit where both sizes are those of the table read
+unfoldable pub lengthRules : ℕ → ℕ → List Rule
+lengthRules blockSize n =
+    rule (both (eqb (field 8 10 n) (control (tableOf n))) (eqb blockSize (size (tableOf n)))) 14 0 ∷ []
+
+-- what follows the frame
+abbrev pub bodyRules : ℕ → List ℕ → List Rule
+bodyRules head ns = frontRules (head / 32) ns ++ (wholeRules head ns ++ lengthRules (head / 32) (whole 4 ns))
+
+-- for a record of so many bytes, this head and these nibbles
+abbrev pub rulesFor : ℕ → ℕ → ℕ → List ℕ → List Rule
+rulesFor application len head ns = frameRules application len head ++ bodyRules head ns
+
+abbrev pub readRules : ℕ → List ℕ → List Rule
+readRules application r = rulesFor application (length r) (headOf r) (nibblesOf r)
+
+-- the table that reading finds in r
+abbrev pub tableRead : List ℕ → Table
+tableRead r = tableOf (whole 4 (nibblesOf r))
+
+pub data Outcome : Type 0 where
+  accepted : Table → Outcome
+  refused : ℕ → ℕ → Outcome
+
+-- what reading makes of a record, room apart
+unfoldable pub readBlock : ℕ → List ℕ → Outcome
+readBlock application r = judged refused (readRules application r) (accepted (tableRead r))

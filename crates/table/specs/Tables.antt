@@ -1,0 +1,87 @@
+-- A TI or LI table as a value, and the fields that tables 15 and 17 lay out for it.
+use mathlib.Core.Bool.{Bool, true}
+use mathlib.Core.List.{List, [], _∷_, _++_}
+use Prim.Native.Nat.{ℕ, _+_, _*_, _/_, _-_}
+use lib.Dec.{eqb}
+use lib.ListN.{length}
+use Rattle.laws.specs.Pick.{pick, both, either}
+use Rattle.fields.specs.Fields.{Field, row, width, fitting}
+
+-- a set of languages, or of languages with a page each: its descriptor_id, and its words of 24 bits: language, page, language,
+-- page .. in TI, languages in LI
+pub record Descriptor : Type 0 where
+  pub id : ℕ
+  pub words : List ℕ
+
+pub record Table : Type 0 where
+  pub kind : ℕ
+  pub copyright : ℕ
+  pub block : ℕ
+  pub network : ℕ
+  pub descriptors : List Descriptor
+
+-- 11.12.3: the datatype_id of a Subtitle and of a Language table
+abbrev pub TI : ℕ
+TI = 8
+
+abbrev pub LI : ℕ
+LI = 7
+
+abbrev pub known : ℕ → Bool
+known kind = either (eqb kind TI) (eqb kind LI)
+
+-- the words of an entry: a subtitle is a language and a page, a language is itself
+unfoldable pub per : ℕ → ℕ
+per kind = pick (eqb kind TI) 2 1
+
+-- subtt_no, language_no: how many entries these words make
+abbrev pub entries : ℕ → List ℕ → ℕ
+entries kind words = length words / per kind
+
+-- the loops of tables 15 and 17
+unfoldable pub loops : ℕ → List Descriptor → List Field
+loops kind [] = []
+loops kind (d ∷ ds) =
+    (6, d .id) ∷ (4, entries kind (d .words)) ∷ row 24 (d .words) ++ loops kind ds
+
+-- tables 15 and 17 from checksum on, with what isn't the table's own: checksum, control_block_size and reserved_for_future_use.
+-- CA_mode is 0, "Access is free to everyone" (11.1.3)
+unfoldable pub fields : ℕ → ℕ → ℕ → Table → List Field
+fields checksum control reserved t =
+    (8, checksum)
+    ∷ (10, control)
+    ∷ (6, t .kind)
+    ∷ (2, 0)
+    ∷ (1, t .copyright)
+    ∷ (1, reserved)
+    ∷ (16, t .block)
+    ∷ (8, t .network)
+    ∷ (6, length (t .descriptors))
+    ∷ loops (t .kind) (t .descriptors)
+
+-- how many bits these are
+abbrev pub bits : Table → ℕ
+bits t = width (fields 0 0 0 t)
+
+-- control_block_size: "a value of N indicates the presence of 8 × N control bits", fill_up bits included
+abbrev pub control : Table → ℕ
+control t = (bits t + 7) / 8
+
+-- fill_up: 0 to 7 bits to a whole byte
+abbrev pub fill : Table → ℕ
+fill t = 8 * control t - bits t
+
+-- block_size: two protected bytes make eight bits
+abbrev pub size : Table → ℕ
+size t = 2 * control t
+
+-- every entry is whole
+unfoldable pub entire : ℕ → List Descriptor → Bool
+entire kind [] = true
+entire kind (d ∷ ds) = both (eqb (entries kind (d .words) * per kind) (length (d .words))) (entire kind ds)
+
+-- a table that can be sent: of a kind that is read, its entries whole, and each value fitting its field; of control_block_size
+-- that is "over 8,184 bits"
+unfoldable pub fits : Table → Bool
+fits t =
+    both (known (t .kind)) (both (entire (t .kind) (t .descriptors)) (fitting (fields 0 (control t) 0 t)))
