@@ -3,13 +3,10 @@ use mathlib.Core.Bool.{Bool}
 use mathlib.Core.List.{List, [], _∷_}
 use Prim.Native.Nat.{ℕ, _+_, _-_, _*_, _/_, _%_}
 use lib.Dec.{eqb, leb}
-use lib.ListN.{length, getD}
+use lib.ListN.{length}
 use Rattle.laws.specs.Pick.{both}
 use Rattle.answer.specs.Rules.{Rule, rule}
-
--- the packet's byte at a place
-abbrev pub byteAt : List ℕ → ℕ → ℕ
-byteAt pes at = getD pes at 0
+use Rattle.units.specs.Units.{byteAt}
 
 -- "00 00 01 BD at the front": packet_start_code_prefix, and the stream_id "private stream 1"
 abbrev pub startsRight : List ℕ → Bool

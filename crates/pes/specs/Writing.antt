@@ -7,8 +7,8 @@ use lib.ListN.{length, take, drop, replicate}
 use Rattle.laws.specs.Pick.{both}
 use Rattle.answer.specs.Rules.{Rule, rule}
 use Rattle.octet.specs.Turning.{turned}
-use Rattle.pes.specs.Header.{byteAt, ebuData}
-use Rattle.pes.specs.Units.{textId, lineFits, textLength, framing}
+use Rattle.units.specs.Units.{byteAt, textId, lineFits, textLength, framing}
+use Rattle.pes.specs.Header.{ebuData}
 
 -- how many records of 44 bytes a list of bytes holds: a unit is written for each
 abbrev pub unitCount : List ℕ → ℕ

@@ -6,89 +6,22 @@
 // and Writing.antt have each call's rules, in order, and its bytes.
 use answer::Answer;
 use answer::Refusal;
+use units::DataUnit;
 ghost use mathlib.Core.Path.{_≡_};
 ghost use mathlib.Core.List.{map};
 ghost use Prim.Native.Nat.{_+_, _*_, _≤_};
 ghost use lib.Dec.{leb, eqb};
 ghost use lib.ListN.{length, take, drop, replicate};
 ghost use lib.Seq.{sets};
-ghost use Rattle.laws.specs.Pick.{both, either};
+ghost use Rattle.laws.specs.Pick.{both};
 ghost use Rattle.answer.specs.Rules.{judged, Every};
 ghost use Rattle.answer.specs.Values.{refused};
 ghost use Rattle.answer.specs.Writing.{answered, left};
 ghost use Rattle.octet.specs.Turning.{turned};
+ghost use Rattle.units.specs.Units.{textId, lineFits};
 ghost use Rattle.pes.specs.Header.{startsRight, lengthFits, flagsFit, ebuData};
-ghost use Rattle.pes.specs.Units.{textId, stuffingId, lineFits, nextUnit, textRules, badUnit, unitAt, recordAt};
-ghost use Rattle.pes.specs.Reading.{unitsRules, readRules, recordsOf};
-ghost use Rattle.pes.specs.Writing.{
-  unitCount,
-  packetSize,
-  recordsFit,
-  writeRules,
-  headerOf,
-  unitOf,
-  unitsOf,
-  stuffingUnit,
-  stuffingUnits,
-  packetOf,
-};
-
-// What the unit walk finds at a place of a packet. Offsets and places count from the packet's first
-// byte.
-pub enum DataUnit {
-    // No byte is left.
-    End,
-    // A text unit begins there, and the next unit at the place held.
-    Text(usize),
-    // A stuffing unit, the same.
-    Stuffing(usize),
-    // The unit is refused.
-    Refused(Refusal),
-}
-
-// One step of the unit walk: the unit that begins at `at`. Total over any bytes and any place.
-pub fn unit_at(pes: &[u8], at: usize) -> DataUnit
-    ensures { λ r. ⌜ r ≡ unitAt (now (pes .entry)) at ⌝ }
-{
-    if pes.len() <= at {
-        return DataUnit::End;
-    }
-    if pes.len() - at < 2 {
-        return DataUnit::Refused(Refusal { no: 6, at });
-    }
-    let id = pes[at];
-    let next = at + 2 + (pes[at + 1] as usize);
-    if !is_unit(id) {
-        return DataUnit::Refused(Refusal { no: 7, at });
-    }
-    if pes.len() < next {
-        return DataUnit::Refused(Refusal { no: 6, at });
-    }
-    if id == 0xFF {
-        return DataUnit::Stuffing(next);
-    }
-    text_at(pes, at)
-}
-
-// The text unit at `at`, which doesn't run past the end.
-fn text_at(pes: &[u8], at: usize) -> DataUnit
-    requires { ⌜ nextUnit (now pes) at ≤ length (now pes) ⌝ }
-    ensures { λ r. ⌜ r ≡ judged badUnit (textRules (now (pes .entry)) at) (DataUnit.Text (nextUnit (now (pes .entry)) at)) ⌝ }
-{
-    let size = pes[at + 1];
-    if size != 0x2C {
-        return DataUnit::Refused(Refusal { no: 8, at });
-    }
-    let line = at + 2;
-    if !line_fits(pes[line]) {
-        return DataUnit::Refused(Refusal { no: 9, at: line });
-    }
-    let framing = at + 3;
-    if pes[framing] != 0xE4 {
-        return DataUnit::Refused(Refusal { no: 9, at: framing });
-    }
-    DataUnit::Text(at + 46)
-}
+ghost use Rattle.pes.specs.Reading.{recordAt, unitsRules, readRules, recordsOf};
+ghost use Rattle.pes.specs.Writing.{unitCount, packetSize, recordsFit, writeRules, headerOf, unitOf, unitsOf, stuffingUnit, stuffingUnits, packetOf};
 
 // The records of a PES packet, 44 bytes for each text unit in order, into the front of `out`. Goes
 // along the packet twice, to judge it and to write, and holds nothing but its place.
@@ -116,7 +49,7 @@ fn put_records(pes: &[u8], out: &mut [u8])
     let mut at = 46;
     let mut to = 0;
     loop {
-        match unit_at(pes, at) {
+        match units::unit_at(pes, at) {
             DataUnit::End => return,
             DataUnit::Text(next) => {
                 put_record(pes, at, out, to);
@@ -202,10 +135,10 @@ fn records_fit(records: &[u8], units: usize) -> bool
 fn record_fits(id: u8, line: u8) -> bool
     ensures { λ r. ⌜ r ≡ both (textId id) (lineFits line) ⌝ }
 {
-    if !is_text(id) {
+    if !units::is_text(id) {
         return false;
     }
-    line_fits(line)
+    units::line_fits(line)
 }
 
 // Writes the whole packet, where it has room.
@@ -347,7 +280,7 @@ fn scan(pes: &[u8]) -> Answer
     let mut at = 46;
     let mut given = 0;
     loop {
-        match unit_at(pes, at) {
+        match units::unit_at(pes, at) {
             DataUnit::End => return Answer::Done(given),
             DataUnit::Text(next) => {
                 given += 44;
@@ -414,38 +347,4 @@ fn is_ebu(d: u8) -> bool
         return false;
     }
     d <= 0x1F
-}
-
-// Whether an id is a text unit's: non-subtitle or subtitle data.
-fn is_text(id: u8) -> bool
-    ensures { λ r. ⌜ r ≡ textId id ⌝ }
-{
-    if id == 0x02 {
-        return true;
-    }
-    id == 0x03
-}
-
-// Whether an id is a text unit's or that of stuffing.
-fn is_unit(id: u8) -> bool
-    ensures { λ r. ⌜ r ≡ either (textId id) (stuffingId id) ⌝ }
-{
-    if is_text(id) {
-        return true;
-    }
-    id == 0xFF
-}
-
-// Whether the line offset of a line byte is 0 or from 07 to 16 hex.
-fn line_fits(b: u8) -> bool
-    ensures { λ r. ⌜ r ≡ lineFits b ⌝ }
-{
-    let offset = b % 32;
-    if offset == 0 {
-        return true;
-    }
-    if offset < 0x07 {
-        return false;
-    }
-    offset <= 0x16
 }
