@@ -10,3 +10,4 @@ pub mod Settled
 pub mod Fed
 pub mod Tables
 pub mod Demands
+pub mod Marked
