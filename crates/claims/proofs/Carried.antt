@@ -261,10 +261,13 @@ module _ (d : ℕ) (small : d ≤ 2) (s : Setting) where
         (next-ready k st (subst (λ (x : ℕ). Inside d k m index x st) full inside)) a
     rows-carried (suc w) last index p m ss bs st qs e celled fits r next inside a =
         let g = grabbed m perPacket ss bs r in
-        row-then m index last ss bs (omega arith) celled g
+        let within : suc last ≤ k = omega arith in
+        let on : suc last + w ≡ k = omega arith in
+        let left : length (drop perPacket ss) ≤ w * perPacket + p * (k * perPacket) = rw length-drop (omega arith) in
+        row-then m index last ss bs within celled g
         (λ st qs i a.
-        rows-carried w (suc last) index p (sentEnds m (grab perPacket ss)) (drop perPacket ss) (g .rest) st qs (omega arith)
-        (after-celled 1 celled) (rw length-drop (omega arith)) (g .sends) next i
+        rows-carried w (suc last) index p (sentEnds m (grab perPacket ss)) (drop perPacket ss) (g .rest) st qs on
+        (after-celled 1 celled) left (g .sends) next i
         (subst
         (λ (l : List Symbol).
         Aired d s (rows s w (suc (suc last)) (drop perPacket ss) ++ pages s k p ((index + 1) % 16) l) qs)

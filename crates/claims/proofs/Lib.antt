@@ -11,3 +11,4 @@ pub mod Fed
 pub mod Tables
 pub mod Demands
 pub mod Marked
+pub mod Wrong

@@ -48,5 +48,5 @@ marked =
       h = case-H;
       i = case-I;
       j = case-j;
-      k = case-k
+      k = case-k;
     }

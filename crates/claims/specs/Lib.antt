@@ -3,3 +3,4 @@ pub mod Carrying
 pub mod Feeding
 pub mod Lists
 pub mod Tables
+pub mod Carries
