@@ -4,3 +4,4 @@ pub mod Feeding
 pub mod Lists
 pub mod Tables
 pub mod Carries
+pub mod March
