@@ -24,7 +24,7 @@ use Rattle.table.specs.Tables.{Table, per, loops, fields, fits, entire}
 use Rattle.table.specs.Block.{total, checksum, nibbles, checksumOf}
 use Rattle.table.specs.Writing.{recordWith}
 use Rattle.table.proofs.Cases.{G, H}
-use Rattle.claims.specs.Noise.{Near, none, more, Aired, ended, sent as Aired·sent, Each, nil, and}
+use Rattle.claims.specs.Noise.{Flipped, Near, none, more, Aired, ended, sent as Aired·sent, Each, nil, and}
 use Rattle.claims.specs.Feeding.{Call, packetsOf}
 use Rattle.claims.specs.Tables.{recordsOf, sent, received}
 use Rattle.claims.specs.Carries.{Carries}
@@ -40,11 +40,11 @@ received-carries =
 
 -- ---- packets that arrive as they were sent
 
-near-itself : {d : ℕ} (l : List ℕ) → Near d l l
+near-itself : {d : ℕ} (l : List ℕ) → Near (Flipped d) l l
 near-itself [] = none
 near-itself {d} (a ∷ l) = let e : flips a a ≤ d = omega (arith, flips-self 8 a) in more e (near-itself l)
 
-aired-itself : {d : ℕ} {s : Setting} (ps : List (List ℕ)) → Aired d s ps ps
+aired-itself : {d : ℕ} {s : Setting} (ps : List (List ℕ)) → Aired (Flipped d) s ps ps
 aired-itself [] = ended
 aired-itself (p ∷ ps) = Aired·sent (near-itself p) (aired-itself ps)
 
@@ -69,7 +69,7 @@ given : (f : Setting → List Call → List Table) → Carries f → (t : Table)
 unfolding inRange
 given f c t e =
     c .exactly desk refl 0 1 (lit< tt) (lit≤ tt) (lit≤ tt) (t ∷ []) (and e nil) (callsFor (only t))
-    (subst (λ (ps : List (List ℕ)). Aired 0 desk (only t) ps) (sym (packets-of-calls (only t))) (aired-itself (only t)))
+    (subst (λ (ps : List (List ℕ)). Aired (Flipped 0) desk (only t) ps) (sym (packets-of-calls (only t))) (aired-itself (only t)))
 
 g-fits : fits G ≡ true
 unfolding fits entire fitting fields loops per row width

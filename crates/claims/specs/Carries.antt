@@ -6,7 +6,7 @@ use Prim.Native.Nat.{ℕ, _≤_, _<_}
 use Rattle.guide.specs.declared.Setting.{Setting}
 use Rattle.guide.specs.Setting.{inRange}
 use Rattle.table.specs.Tables.{Table, fits}
-use Rattle.claims.specs.Noise.{Aired, Each}
+use Rattle.claims.specs.Noise.{Flipped, Aired, Each}
 use Rattle.claims.specs.Feeding.{Call, packetsOf}
 use Rattle.claims.specs.Tables.{sent}
 
@@ -14,4 +14,4 @@ use Rattle.claims.specs.Tables.{sent}
 pub record Carries (loader : Setting → List Call → List Table) : Type 0 where
   pub exactly :
       (s : Setting) → inRange s ≡ true → (index k : ℕ) → index < 16 → 1 ≤ k → k ≤ 25 → (ts : List Table) → Each (λ t. fits t ≡ true) ts
-      → (calls : List Call) → Aired 0 s (sent s index k ts) (packetsOf calls) → loader s calls ≡ ts
+      → (calls : List Call) → Aired (Flipped 0) s (sent s index k ts) (packetsOf calls) → loader s calls ≡ ts
