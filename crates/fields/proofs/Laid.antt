@@ -1,6 +1,6 @@
 -- Laws of fields, parts and the numbers that they make, each over the width. Assumes nothing.
 use mathlib.Core.Path.{_≡_, _∙_, refl, sym, ap, ap₂, subst}
-use mathlib.Core.Bool.{Bool, true, false}
+use mathlib.Core.Bool.{true}
 use mathlib.Core.List.{List, [], _∷_, _++_, map}
 use Prim.Native.Nat.{ℕ, zero, suc, _+_, _-_, _*_, _/_, _%_, _^_, _≤_, _<_}
 use native.Mathlib.Nat.{add-zero, zero-add, add-comm, add-assoc, suc-mul, zero-mul, mod-lt, mod-mod, mod-eq-of-lt, div-one, zero-div, mod-one, zero-mod}

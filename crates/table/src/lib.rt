@@ -1,20 +1,22 @@
 // Subtitle and Language blocks.
+ghost use mathlib.Core.Bool.{true};
 ghost use mathlib.Core.Path.{_≡_};
 ghost use mathlib.Core.List.{map, _∷_, []};
 ghost use Prim.Native.Nat.{_+_, _-_, _*_, _/_, _%_, _^_, _<_, _≤_, min};
 ghost use lib.ListN.{length, getD, take, drop};
 ghost use lib.Seq.{sets};
-ghost use Rattle.answer.specs.Rules.{judged};
+ghost use Rattle.answer.specs.Rules.{rule, judged};
 ghost use Rattle.answer.specs.Values.{refused};
 ghost use Rattle.answer.specs.Writing.{answered, left};
 ghost use Rattle.answer.specs.declared.Answer.the-variants.{Done};
 ghost use Rattle.octet.specs.Decoding.{nib};
-ghost use Rattle.fields.specs.Fields.{field, parts};
-ghost use Rattle.table.specs.Tables.{per, bits, known as knownKind};
-ghost use Rattle.table.specs.Form.{form, spelled, listed, openingOf};
+ghost use Rattle.fields.specs.Fields.{field, fitting, parts};
+ghost use Rattle.table.specs.Tables.{per, bits, loops, fits, known as Tables·known};
+ghost use Rattle.table.specs.Form.{form, spelled, listed, openingOf, tableIn};
 ghost use Rattle.fields.specs.Compound.{compound};
 ghost use Rattle.table.specs.Block.{headOf, checksum as checksumOf};
 ghost use Rattle.table.specs.Reading.{frameRules, frontRules, wholeRules, lengthRules, bodyRules, readRules, tableOf, tableRead, sound as soundOf};
+ghost use Rattle.table.specs.Writing.{formRules};
 use answer::Answer;
 use answer::Refusal;
 
@@ -47,6 +49,84 @@ pub fn read_block(application: u8, rec: &[u8], out: &mut [u8]) -> Answer
     }
 }
 
+// 13, 15: whether a form is one that can be written; where it is, the bits that its table takes.
+pub fn judge_form(table: &[u8]) -> Answer
+    ensures { λ r. ⌜ r ≡ judged refused (formRules (now (table .entry))) (Done (bits (tableIn (now (table .entry))))) ⌝ }
+{
+    if table.len() < 6 {
+        return refuse(13, 0);
+    }
+    if !known(byte_at(table, 0)) {
+        return refuse(15, 0);
+    }
+    if table.len() != form_size(table) {
+        return refuse(13, 0);
+    }
+    judge_values(table)
+}
+
+// The length of a form by its counts as they stand.
+fn form_size(table: &[u8]) -> usize
+    ensures { λ r. ⌜ (r ≡ length (form (tableIn (now (table .entry))))) × (r ≤ 390666) ⌝ }
+{
+    let kind = byte_at(table, 0);
+    let mut left = byte_at(table, 5);
+    let mut at = 6;
+    while 0 < left {
+        at += 2 + 3 * words_of(kind, byte_at(table, at + 1));
+        left -= 1;
+    }
+    at
+}
+
+// 15: each value fits its field. Blocks, networks and words always do.
+fn judge_values(table: &[u8]) -> Answer
+    requires { ⌜ (Tables·known (getD (now table) 0 0) ≡ true)
+        × (length (now table) ≡ length (form (tableIn (now table))))
+        × (length (now table) ≤ 390666) ⌝ }
+    ensures { λ r.
+        ⌜ r
+        ≡ judged refused (rule (fits (tableIn (now (table .entry)))) 15 0 ∷ []) (Done (bits (tableIn (now (table .entry))))) ⌝ }
+{
+    let count = byte_at(table, 5);
+    if 1 < byte_at(table, 1) {
+        return refuse(15, 0);
+    }
+    if 63 < count {
+        return refuse(15, 0);
+    }
+    if !loops_fit(table) {
+        return refuse(15, 0);
+    }
+    let bits = 58 + 8 * (table.len() - 6) - 6 * count;
+    if 8184 < bits {
+        return refuse(15, 0);
+    }
+    Answer::Done(bits)
+}
+
+// Whether each descriptor's id and number of entries fit their fields.
+fn loops_fit(table: &[u8]) -> bool
+    ensures { λ r.
+        ⌜ r ≡ fitting (loops (tableIn (now (table .entry)) .kind) (tableIn (now (table .entry)) .descriptors)) ⌝ }
+{
+    let kind = byte_at(table, 0);
+    let mut left = byte_at(table, 5);
+    let mut at = 6;
+    while 0 < left {
+        let entries = byte_at(table, at + 1);
+        if 63 < byte_at(table, at) {
+            return false;
+        }
+        if 15 < entries {
+            return false;
+        }
+        at += 2 + 3 * words_of(kind, entries);
+        left -= 1;
+    }
+    true
+}
+
 fn refuse(no: u8, at: usize) -> Answer
     ensures { λ r. ⌜ r ≡ refused no at ⌝ }
 {
@@ -54,7 +134,7 @@ fn refuse(no: u8, at: usize) -> Answer
 }
 
 // The byte i; 0 past the end.
-fn byte_at(s: &[u8], i: usize) -> usize
+pub fn byte_at(s: &[u8], i: usize) -> usize
     ensures { λ r. ⌜ (r ≡ getD (now (s .entry)) i 0) × (r < 256) ⌝ }
 {
     if i < s.len() {
@@ -121,8 +201,8 @@ fn checksum(head: usize, body: &[u8]) -> usize
 }
 
 // TI or LI.
-fn known(kind: usize) -> bool
-    ensures { λ r. ⌜ r ≡ knownKind kind ⌝ }
+pub fn known(kind: usize) -> bool
+    ensures { λ r. ⌜ r ≡ Tables·known kind ⌝ }
 {
     if kind == TI {
         return true;
@@ -152,15 +232,15 @@ fn judge_front(size: usize, body: &[u8]) -> Answer
     Answer::Done(0)
 }
 
-// The words that so many entries of a kind have.
-fn words_of(kind: usize, entries: usize) -> usize
-    requires { ⌜ entries < 256 ⌝ }
-    ensures { λ r. ⌜ (r ≡ per kind * entries) × (r ≤ 2 * entries) ⌝ }
+// The words that so many entries of a kind have. Only a byte's worth of entries counts.
+pub fn words_of(kind: usize, entries: usize) -> usize
+    ensures { λ r. ⌜ (r ≡ per kind * (entries % 256)) × (r ≤ 2 * (entries % 256)) ⌝ }
 {
+    let n = entries % 256;
     if kind == TI {
-        return 2 * entries;
+        return 2 * n;
     }
-    entries
+    n
 }
 
 // The bits of the table that a block holds, by its counts as they stand.
