@@ -1,0 +1,2 @@
+-- How the writer lays fields into lent bytes.
+pub mod Ink
