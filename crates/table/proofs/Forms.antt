@@ -69,12 +69,12 @@ form-in t s =
 
 -- ---- the form out of its table
 
-length-in : (each k : ℕ) (f : List ℕ) → length (descriptorsIn each k f) ≡ k
+pub length-in : (each k : ℕ) (f : List ℕ) → length (descriptorsIn each k f) ≡ k
 unfolding descriptorsIn
 length-in each zero f = refl
 length-in each (suc k) f = ap suc (length-in each k _)
 
-length-words : (k : ℕ) (f : List ℕ) → length (wordsIn k f) ≡ k
+pub length-words : (k : ℕ) (f : List ℕ) → length (wordsIn k f) ≡ k
 unfolding wordsIn
 length-words zero f = refl
 length-words (suc k) f = ap suc (length-words k (drop 3 f))

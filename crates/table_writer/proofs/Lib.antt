@@ -1,1 +1,3 @@
 pub mod Inking
+pub mod Rows
+pub mod Descriptors

@@ -1,8 +1,12 @@
 // Subtitle and Language tables to blocks.
+ghost use mathlib.Core.Bool.{true};
 ghost use mathlib.Core.Path.{_≡_};
 ghost use mathlib.Core.List.{map, _∷_, []};
 ghost use Prim.Native.Nat.{_+_, _-_, _*_, _/_, _%_, _^_, _<_, _≤_};
-ghost use lib.ListN.{length};
+ghost use lib.ListN.{length, getD, drop};
+ghost use Rattle.fields.specs.Fields.{row, whole, fitting};
+ghost use Rattle.table.specs.Tables.{loops};
+ghost use Rattle.table.specs.Form.{wordsIn, tableIn};
 ghost use Rattle.table_writer.specs.Ink.{ready, inked, moved, Fine};
 
 // Where the next nibble goes, and the bits, fewer than four, that don't make one yet.
@@ -30,4 +34,77 @@ fn put(pen: Pen, w: usize, v: usize, out: &mut [u8]) -> Pen
         at += 1;
     }
     Pen { at, held, bits }
+}
+
+// The word at a place of the form, high byte first.
+fn word_at(table: &[u8], i: usize) -> usize
+    requires { ⌜ i < 400000 ⌝ }
+    ensures
+    {
+        λ r.
+        ⌜ (r
+        ≡ whole 8
+        (getD (now (table .entry)) (i + 2) 0 ∷ getD (now (table .entry)) (i + 1) 0 ∷ getD (now (table .entry)) i 0 ∷ []))
+        × (r < 2 ^ 24) ⌝
+    }
+{
+    (table::byte_at(table, i) * 256 + table::byte_at(table, i + 1)) * 256 + table::byte_at(table, i + 2)
+}
+
+// Lays the k words from a place of the form on.
+fn put_words(table: &[u8], from: usize, k: usize, pen: Pen, out: &mut [u8]) -> Pen
+    requires
+    {
+        ⌜ Fine pen
+        × (from + 3 * k < 400000)
+        × (pen .at + ready pen (row 24 (wordsIn k (drop from (now table)))) ≤ length (now out)) ⌝
+    }
+    ensures
+    {
+        λ r.
+        ⌜ (r ≡ moved pen (row 24 (wordsIn k (drop from (now (table .entry))))))
+        × (now (out .exit) ≡ inked pen (row 24 (wordsIn k (drop from (now (table .entry))))) (now (out .entry))) ⌝
+    }
+{
+    let mut p = pen;
+    let mut i = from;
+    let mut left = k;
+    while 0 < left {
+        p = put(p, 24, word_at(table, i), out);
+        i += 3;
+        left -= 1;
+    }
+    p
+}
+
+// Lays the descriptors of a form whose values fit.
+fn put_descriptors(table: &[u8], pen: Pen, out: &mut [u8]) -> Pen
+    requires
+    {
+        ⌜ Fine pen
+        × (fitting (loops (tableIn (now table) .kind) (tableIn (now table) .descriptors)) ≡ true)
+        × (pen .at + ready pen (loops (tableIn (now table) .kind) (tableIn (now table) .descriptors)) ≤ length (now out)) ⌝
+    }
+    ensures
+    {
+        λ r.
+        ⌜ (r ≡ moved pen (loops (tableIn (now (table .entry)) .kind) (tableIn (now (table .entry)) .descriptors)))
+        × (now (out .exit)
+        ≡ inked pen (loops (tableIn (now (table .entry)) .kind) (tableIn (now (table .entry)) .descriptors)) (now (out .entry))) ⌝
+    }
+{
+    let kind = table::byte_at(table, 0);
+    let mut left = table::byte_at(table, 5);
+    let mut p = pen;
+    let mut i = 6;
+    while 0 < left {
+        let id = table::byte_at(table, i);
+        let entries = table::byte_at(table, i + 1);
+        let words = table::words_of(kind, entries);
+        let q = put(p, 10, entries * 64 + id, out);
+        p = put_words(table, i + 2, words, q, out);
+        i += 2 + 3 * words;
+        left -= 1;
+    }
+    p
 }
