@@ -1,3 +1,4 @@
 pub mod Inking
 pub mod Rows
 pub mod Descriptors
+pub mod Whole

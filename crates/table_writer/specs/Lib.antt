@@ -1,2 +1,3 @@
 -- How the writer lays fields into lent bytes.
 pub mod Ink
+pub mod Parts

@@ -4,10 +4,17 @@ ghost use mathlib.Core.Path.{_≡_};
 ghost use mathlib.Core.List.{map, _∷_, []};
 ghost use Prim.Native.Nat.{_+_, _-_, _*_, _/_, _%_, _^_, _<_, _≤_};
 ghost use lib.ListN.{length, getD, drop};
-ghost use Rattle.fields.specs.Fields.{row, whole, fitting};
-ghost use Rattle.table.specs.Tables.{loops};
+ghost use Rattle.fields.specs.Fields.{row, laid, whole, fitting};
+ghost use Rattle.table.specs.Tables.{loops, size, fits, bits as Tables·bits};
 ghost use Rattle.table.specs.Form.{wordsIn, tableIn};
+ghost use Rattle.table.specs.Block.{nibbles};
+ghost use Rattle.octet.specs.Image.{image};
+ghost use lib.Seq.{sets};
 ghost use Rattle.table_writer.specs.Ink.{ready, inked, moved, Fine};
+ghost use Rattle.table_writer.specs.Parts.{firstFields, secondFields};
+
+// The bytes of a record before its block: the block's 16 bits, low byte first.
+const HEAD: usize = 2;
 
 // Where the next nibble goes, and the bits, fewer than four, that don't make one yet.
 pub struct Pen {
@@ -107,4 +114,44 @@ fn put_descriptors(table: &[u8], pen: Pen, out: &mut [u8]) -> Pen
         left -= 1;
     }
     p
+}
+
+// The first six fields of a block but for its checksum, as one of 28 bits.
+fn first_fields(table: &[u8], control: usize) -> usize
+    requires { ⌜ (fits (tableIn (now table)) ≡ true) × (control < 1024) ⌝ }
+    ensures { λ r. ⌜ (r ≡ laid (firstFields control (tableIn (now (table .entry)))) 0) × (r < 2 ^ 28) ⌝ }
+{
+    let kind = table::byte_at(table, 0);
+    let copyright = table::byte_at(table, 1);
+    ((copyright * 256 + kind) * 1024 + control) * 256
+}
+
+// The three fields after them, as one of 30 bits.
+fn second_fields(table: &[u8]) -> usize
+    requires { ⌜ fits (tableIn (now table)) ≡ true ⌝ }
+    ensures { λ r. ⌜ (r ≡ laid (secondFields (tableIn (now (table .entry)))) 0) × (r < 2 ^ 30) ⌝ }
+{
+    let block = table::byte_at(table, 2) + 256 * table::byte_at(table, 3);
+    let network = table::byte_at(table, 4);
+    let count = table::byte_at(table, 5);
+    (count * 256 + network) * 65536 + block
+}
+
+// Lays all fields behind the head, the checksum's as zeros.
+fn write_fields(table: &[u8], bits: usize, out: &mut [u8])
+    requires
+    {
+        ⌜ (fits (tableIn (now table)) ≡ true)
+        × (bits ≡ Tables·bits (tableIn (now table)))
+        × (2 + size (tableIn (now table)) ≤ length (now out)) ⌝
+    }
+    ensures { λ _. ⌜ now (out .exit) ≡ sets (now (out .entry)) 2 (map image (nibbles 0 0 0 (tableIn (now (table .entry))))) ⌝ }
+{
+    let control = (bits + 7) / 8;
+    let first = first_fields(table, control);
+    let second = second_fields(table);
+    let a = put(Pen { at: HEAD, held: 0, bits: 0 }, 28, first, out);
+    let b = put(a, 30, second, out);
+    let c = put_descriptors(table, b, out);
+    put(c, 8 * control - bits, 0, out);
 }
