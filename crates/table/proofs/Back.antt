@@ -45,7 +45,7 @@ body-back : (h : ℕ) (rest : List ℕ) → nibblesOf (parts 8 2 h ++ rest) ≡ 
 unfolding nibblesOf
 body-back h rest = ap (map nib) (drop-at (parts 8 2 h) rest 2 (length-parts 8 2 h))
 
-nibbles-again :
+pub nibbles-again :
     (sum reserved filling : ℕ) (t : Table)
     → map nib (map image (nibbles sum reserved filling t)) ≡ nibbles sum reserved filling t
 unfolding nibbles

@@ -87,7 +87,7 @@ unfolding parts
 drop-parts k n = ap (parts 4 k) (shr-shr n 4 4)
 
 -- the nibbles behind the checksum's two are those of the other fields
-behind-sum :
+pub behind-sum :
     (sum reserved filling : ℕ) (t : Table)
     → drop 2 (nibbles sum reserved filling t)
     ≡ parts 4 (size t - 2) (laid (drop 1 (fields 0 (control t) reserved t)) filling)
@@ -167,7 +167,7 @@ nibbles-sound : (sum reserved filling : ℕ) (t : Table) → sound (nibbles sum 
 unfolding nibbles
 nibbles-sound sum reserved filling t = parts-sound (size t) _
 
-checksum-lt : (head : ℕ) (ns : List ℕ) → checksum head ns < 256
+pub checksum-lt : (head : ℕ) (ns : List ℕ) → checksum head ns < 256
 unfolding checksum
 checksum-lt head ns = omega arith
 

@@ -188,7 +188,7 @@ fn sound(s: &[u8]) -> usize
 }
 
 // 11.1.2: the checksum of a block with this head, whose first two bytes are the checksum's own.
-fn checksum(head: usize, body: &[u8]) -> usize
+pub fn checksum(head: usize, body: &[u8]) -> usize
     ensures { λ r. ⌜ r ≡ checksumOf head (map nib (now (body .entry))) ⌝ }
 {
     let mut sum = head % 16 + head / 16 % 16 + head / 16 / 16 % 16 + head / 16 / 16 / 16 % 16;

@@ -1,7 +1,7 @@
 -- How a pen goes on: nibble by nibble within a field, and field by field. Assumes nothing.
 use mathlib.Core.Path.{_≡_, _∙_, refl, sym, ap, ap₂, subst}
 use mathlib.Core.List.{List, [], _∷_, _++_, map, map-append}
-use Prim.Native.Nat.{ℕ, zero, suc, _+_, _-_, _*_, _/_, _%_, _^_, _≤_, _<_}
+use Prim.Native.Nat.{ℕ, suc, _+_, _-_, _*_, _/_, _%_, _^_, _≤_, _<_}
 use native.Mathlib.Nat.{add-zero, mul-assoc, mul-comm, mul-add-div-right, mul-add-mod-self-right, zero-mul, zero-add, add-comm, div-one, mod-eq-of-lt, lt-of-lt-of-le}
 use native.Mathlib.Numerals.{add-one}
 use native.Mathlib.Omega.{arith}
@@ -98,10 +98,10 @@ unfolding moved
 moved-fine p fs =
     let n = p .held + width fs in
     let e : n ≡ n % 4 + 4 * (n / 4) = omega arith in
-    record
-      { few = omega arith
-      ; low = shr-lt (n % 4) (4 * (n / 4)) (subst (λ (x : ℕ). inHand p fs < 2 ^ x) e (hand-fits p fs))
-      }
+    record {
+      few = omega arith;
+      low = shr-lt (n % 4) (4 * (n / 4)) (subst (λ (x : ℕ). inHand p fs < 2 ^ x) e (hand-fits p fs));
+    }
 
 pub moved-at : (p : Pen) (fs : List Field) → moved p fs .at ≡ p .at + ready p fs
 unfolding moved
@@ -162,9 +162,9 @@ module _ (p : Pen) (fs gs : List Field) where
   then-parts =
       let m = ready (moved p fs) gs in
       let same : inHand p (fs ++ gs) % 2 ^ (q * 4) ≡ inHand p fs % 2 ^ (q * 4) =
-            ap (λ (x : ℕ). inHand p (fs ++ gs) % 2 ^ x) (mul-comm q 4) ∙ ap (λ (x : ℕ). x % 2 ^ (4 * q)) (above ∙ over)
-            ∙ mul-add-mod-self-right (laid gs 0 * 2 ^ (n % 4)) (2 ^ (4 * q)) (inHand p fs)
-            ∙ ap (λ (x : ℕ). inHand p fs % 2 ^ x) (mul-comm 4 q) in
+      ap (λ (x : ℕ). inHand p (fs ++ gs) % 2 ^ x) (mul-comm q 4) ∙ ap (λ (x : ℕ). x % 2 ^ (4 * q)) (above ∙ over)
+      ∙ mul-add-mod-self-right (laid gs 0 * 2 ^ (n % 4)) (2 ^ (4 * q)) (inHand p fs)
+      ∙ ap (λ (x : ℕ). inHand p fs % 2 ^ x) (mul-comm 4 q) in
       sym
       (ap (λ (k : ℕ). parts 4 k (inHand p (fs ++ gs))) then-ready ∙ parts-append 4 q m (inHand p (fs ++ gs))
       ∙ ap₂ (λ (a b : List ℕ). a ++ b) (parts-same 4 q (inHand p (fs ++ gs)) (inHand p fs) same)
@@ -229,11 +229,11 @@ none-left p f =
     let h : (p .held + 0) / 4 ≡ 0 = omega (arith, f .few) in
     let k : (p .held + 0) % 4 ≡ p .held = omega (arith, f .few) in
     let b : (0 * 2 ^ p .held + p .bits % 2 ^ p .held) / 2 ^ (4 * ((p .held + 0) / 4)) ≡ p .bits =
-          ap (λ (x : ℕ). (0 * 2 ^ p .held + p .bits % 2 ^ p .held) / 2 ^ (4 * x)) h
-          ∙ div-one (0 * 2 ^ p .held + p .bits % 2 ^ p .held)
-          ∙ ap (λ (x : ℕ). x + p .bits % 2 ^ p .held) (zero-mul (2 ^ p .held))
-          ∙ zero-add (p .bits % 2 ^ p .held)
-          ∙ mod-eq-of-lt (f .low) in
+    ap (λ (x : ℕ). (0 * 2 ^ p .held + p .bits % 2 ^ p .held) / 2 ^ (4 * x)) h
+    ∙ div-one (0 * 2 ^ p .held + p .bits % 2 ^ p .held)
+    ∙ ap (λ (x : ℕ). x + p .bits % 2 ^ p .held) (zero-mul (2 ^ p .held))
+    ∙ zero-add (p .bits % 2 ^ p .held)
+    ∙ mod-eq-of-lt (f .low) in
     let a : p .at + (p .held + 0) / 4 ≡ p .at = omega arith in
     λ i. record { at = a i; held = k i; bits = b i }
 

@@ -2,3 +2,4 @@ pub mod Inking
 pub mod Rows
 pub mod Descriptors
 pub mod Whole
+pub mod Sealing

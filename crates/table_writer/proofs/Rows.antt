@@ -1,13 +1,13 @@
 -- The fields of a form, a word or a descriptor at a time. Assumes nothing.
-use mathlib.Core.Path.{_≡_, _∙_, refl, sym, ap, ap₂, subst}
+use mathlib.Core.Path.{_≡_, _∙_, refl, sym, ap}
 use mathlib.Core.Bool.{true}
 use mathlib.Core.List.{List, [], _∷_, _++_}
-use Prim.Native.Nat.{ℕ, zero, suc, _+_, _-_, _*_, _/_, _%_, _^_, _≤_, _<_}
+use Prim.Native.Nat.{ℕ, suc, _+_, _-_, _*_, _/_, _≤_, _<_}
 use native.Mathlib.Nat.{add-zero, mul-div-cancel-left}
 use native.Mathlib.Omega.{arith}
 use borrow.Author.Tests.{ltb-true}
 use lib.Dec.{ltb}
-use lib.ListN.{length, getD, drop}
+use lib.ListN.{getD, drop}
 use lib.Seq.{drop-drop, getD-drop}
 use Rattle.laws.proofs.Tests.{both-true}
 use Rattle.fields.specs.Fields.{Field, row, width, laid, fitting, whole}
@@ -64,7 +64,7 @@ loops-on kind left i id c words f h e₀ e₁ e₂ =
     let z : getD (drop i f) 0 0 ≡ id = getD-drop i f 0 0 ∙ ap (λ (x : ℕ). getD f x 0) (add-zero i) ∙ sym e₀ in
     let w : per kind * getD (drop i f) 1 0 ≡ words = ap (λ (x : ℕ). per kind * x) n ∙ sym e₂ in
     let count : entries kind (wordsIn words (drop 2 (drop i f))) ≡ c =
-          ap (λ (x : ℕ). x / per kind) (length-words words (drop 2 (drop i f)) ∙ e₂) ∙ mul-div-cancel-left c (per-pos kind) in
+    ap (λ (x : ℕ). x / per kind) (length-words words (drop 2 (drop i f)) ∙ e₂) ∙ mul-div-cancel-left c (per-pos kind) in
     ap (λ (x : ℕ). loops kind (descriptorsIn (per kind) x (drop i f))) k
     ∙ (rw (w, z, count, drop-drop 2 i f, drop-drop (2 + 3 * words) i f))
 

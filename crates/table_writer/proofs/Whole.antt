@@ -1,20 +1,20 @@
 -- The whole block: its opening in two fields, its descriptors, its fill; then the checksum in its place. Assumes nothing.
-use mathlib.Core.Path.{_≡_, _∙_, refl, sym, ap, ap₂, subst}
+use mathlib.Core.Path.{_≡_, _∙_, refl, sym, ap, ap₂}
 use mathlib.Core.Bool.{true}
 use mathlib.Core.List.{List, [], _∷_, _++_, map}
-use Prim.Native.Nat.{ℕ, zero, suc, _+_, _-_, _*_, _/_, _%_, _^_, _≤_, _<_}
-use native.Mathlib.Nat.{add-zero, zero-mul, zero-add, mul-one, mod-one, zero-mod, mod-eq-of-lt}
+use Prim.Native.Nat.{ℕ, _+_, _*_, _^_, _≤_, _<_}
+use native.Mathlib.Nat.{add-zero, zero-mul, zero-mod}
 use native.Mathlib.Omega.{arith}
 use lib.ListN.{length, getD, drop}
 use lib.Pow.{pow-pos}
 use lib.Seq.{sets}
 use Rattle.octet.specs.Image.{image}
-use Rattle.fields.specs.Fields.{Field, width, laid, parts, whole}
+use Rattle.fields.specs.Fields.{Field, width, laid, whole}
 use Rattle.fields.proofs.Laid.{laid-append, width-append}
 use Rattle.table.specs.Tables.{Table, per, loops, fields, bits, control, fill, size, fits}
 use Rattle.table.specs.Form.{tableIn}
 use Rattle.table.specs.Block.{nibbles}
-use Rattle.table.proofs.Inverse.{Sendable, sendable}
+use Rattle.table.proofs.Inverse.{sendable}
 use Rattle.table.proofs.Forms.{length-in}
 use Rattle.table_writer.specs.declared.Pen.{Pen}
 use Rattle.table_writer.specs.Parts.{firstFields, secondFields}
@@ -62,8 +62,8 @@ all-fields t = refl
 pub all-ready : (t : Table) → ready start (laid-all t) ≡ size t
 all-ready t =
     let w : width (laid-all t) ≡ bits t + fill t =
-          ap width (all-fields t) ∙ width-append (fields 0 (control t) 0 t) (lastField t)
-          ∙ ap₂ (λ (a b : ℕ). a + b) (unfold width fields in refl) (unfold width in add-zero (fill t)) in
+    ap width (all-fields t) ∙ width-append (fields 0 (control t) 0 t) (lastField t)
+    ∙ ap₂ (λ (a b : ℕ). a + b) (unfold width fields in refl) (unfold width in add-zero (fill t)) in
     omega arith
 
 empty : (fs : List Field) → laid ((0, 0) ∷ fs) 0 ≡ laid fs 0
@@ -93,9 +93,10 @@ unfolding tableIn
 first-of f c k y ek ey h hc =
     let s = sendable (tableIn f) h in
     let hk : k < 64 = rw ek (s .kind-fits) in
-    let hy : y < 2 = rw ey (s .copyright-fits) in
-    (ap₂ (λ (a b : ℕ). ((a * 256 + b) * 1024 + c) * 256) ey ek ∙ first-laid c (tableIn f) hc (s .kind-fits) (s .copyright-fits)
-    , omega arith)
+    let hy : y < 2 = rw ey (s .copyright-fits) in (
+      ap₂ (λ (a b : ℕ). ((a * 256 + b) * 1024 + c) * 256) ey ek ∙ first-laid c (tableIn f) hc (s .kind-fits) (s .copyright-fits),
+      omega arith,
+    )
 
 pub second-of :
     (f : List ℕ) (b₀ b₁ n d : ℕ) → b₀ ≡ getD f 2 0 → b₁ ≡ getD f 3 0 → n ≡ getD f 4 0 → d ≡ getD f 5 0 → b₀ < 256 → b₁ < 256
@@ -106,12 +107,13 @@ second-of f b₀ b₁ n d e₀ e₁ en ed h₀ h₁ h =
     let s = sendable (tableIn f) h in
     let count : length (tableIn f .descriptors) ≡ d = length-in (per (getD f 0 0)) (getD f 5 0) (drop 6 f) ∙ sym ed in
     let block : tableIn f .block ≡ b₀ + 256 * b₁ =
-          ap₂ (λ (a b : ℕ). whole 8 (a ∷ b ∷ [])) (sym e₀) (sym e₁) ∙ two-bytes b₀ b₁ h₀ h₁ in
+    ap₂ (λ (a b : ℕ). whole 8 (a ∷ b ∷ [])) (sym e₀) (sym e₁) ∙ two-bytes b₀ b₁ h₀ h₁ in
     let hn : n < 256 = rw en (s .network-fits) in
-    let hd : d < 64 = rw count at (s .count-fits) in
-    (ap₂ (λ (a b : ℕ). a * 65536 + b) (ap₂ (λ (a b : ℕ). a * 256 + b) (sym count) en) (sym block)
-    ∙ second-laid (tableIn f) (s .block-fits) (s .network-fits) (s .count-fits)
-    , omega arith)
+    let hd : d < 64 = rw count at (s .count-fits) in (
+      ap₂ (λ (a b : ℕ). a * 65536 + b) (ap₂ (λ (a b : ℕ). a * 256 + b) (sym count) en) (sym block)
+          ∙ second-laid (tableIn f) (s .block-fits) (s .network-fits) (s .count-fits),
+      omega arith,
+    )
 
 -- ---- laid one after the other
 

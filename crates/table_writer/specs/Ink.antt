@@ -1,6 +1,6 @@
 -- A pen that lays fields, lowest bit first, as protected nibbles: it stands at a place of the output and holds the bits, fewer
 -- than four, that don't make a nibble yet.
-use mathlib.Core.List.{List, [], _∷_, map}
+use mathlib.Core.List.{List, _∷_, map}
 use Prim.Native.Nat.{ℕ, _+_, _*_, _/_, _%_, _^_, _<_}
 use lib.Seq.{sets}
 use Rattle.octet.specs.Image.{image}
@@ -22,11 +22,11 @@ inked p fs out = sets out (p .at) (map image (parts 4 (ready p fs) (inHand p fs)
 -- and the pen: past those, with the bits left
 unfoldable pub moved : Pen → List Field → Pen
 moved p fs =
-    record
-      { at = p .at + ready p fs
-      ; held = (p .held + width fs) % 4
-      ; bits = inHand p fs / 2 ^ (4 * ready p fs)
-      }
+    record {
+      at = p .at + ready p fs;
+      held = (p .held + width fs) % 4;
+      bits = inHand p fs / 2 ^ (4 * ready p fs);
+    }
 
 -- a pen that holds fewer than four bits, and no others
 pub record Fine (p : Pen) : Type 0 where

@@ -1,23 +1,18 @@
 -- `table_writer::put` meets its contract: what is left to be stored from here makes what was to be stored. The measure is the
 -- bits in hand. Assumes nothing.
 use borrow.Author.Needs.{needs}
-use mathlib.Core.Path.{_≡_, _∙_, refl, sym, ap}
-use mathlib.Core.List.{List, [], _∷_, map}
-use Prim.Native.Nat.{ℕ, _+_, _-_, _*_, _/_, _%_, _^_, _≤_, _<_}
+use mathlib.Core.Path.{_≡_, _∙_, refl}
+use mathlib.Core.List.{map}
+use Prim.Native.Nat.{_+_, _*_, _/_, _%_, _^_, _≤_}
 use native.Mathlib.Omega.{arith}
 use lib.ListN.{length, length-set}
 use lib.Seq.{sets}
 use denote.Ref.{now}
 use Rattle.octet.specs.Image.{image}
-use Rattle.fields.specs.Fields.{width, parts}
-use Rattle.table_writer.specs.Ink.{ready, inHand, inked, moved}
-use Rattle.table_writer.proofs.Inking.{add-up, next-bits, next-stored, last-stored, last-bits}
-use Rattle.table_writer.proofs.Inking.{width-one, hand-lt, put-done}
+use Rattle.fields.specs.Fields.{parts}
+use Rattle.table_writer.proofs.Inking.{next-bits, next-stored, width-one, hand-lt, put-done}
 use Rattle.table_writer.proofs.put.Statement.{statement}
 use Rattle.table_writer.proofs.put.Tie as tie
-use Rattle.table_writer.proofs.put.Reads as reads
-use Rattle.table_writer.proofs.put.Lts as lts
-use Rattle.octet.proofs.image.Reads as image-reads
 
 abbrev Inv-loop : tie.InvT-loop
 Inv-loop w v out₀ at₀ held₀ bits₀ out at held bits =
@@ -62,13 +57,14 @@ loop-less c = search needs
 loop-again : tie.Need-loop-again Inv-loop μ-loop
 loop-again c =
     let l = c .before .before .loop in
-    let h : 4 ≤ l .held = c .before .loop-test .taken in
-    (simp length-set (l .inv .0)
-    , simp length-set (omega arith)
-    , omega (arith, l .inv .2)
-    , omega (arith, l .inv .3)
-    , next-bits (l .at) (l .held) (l .bits) h ∙ l .inv .4
-    , next-stored (l .at) (l .held) (l .bits) h (c .image .result) (l .out) _ (c .image .ensures) (l .inv .5))
+    let h : 4 ≤ l .held = c .before .loop-test .taken in (
+      simp length-set (l .inv .0),
+      simp length-set (omega arith),
+      omega (arith, l .inv .2),
+      omega (arith, l .inv .3),
+      next-bits (l .at) (l .held) (l .bits) h ∙ l .inv .4,
+      next-stored (l .at) (l .held) (l .bits) h (c .image .result) (l .out) _ (c .image .ensures) (l .inv .5),
+    )
 
 same-length : tie.Need-same-length Inv-loop μ-loop
 same-length c = c .before .loop .inv .0

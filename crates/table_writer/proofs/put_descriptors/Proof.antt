@@ -3,29 +3,22 @@
 use borrow.Author.Needs.{needs}
 use mathlib.Core.Path.{_≡_, _∙_, refl, sym, ap}
 use mathlib.Core.Bool.{true}
-use mathlib.Core.List.{List, [], _∷_, _++_}
-use Prim.Native.Nat.{ℕ, _+_, _-_, _*_, _≤_, _<_}
+use mathlib.Core.List.{List}
+use Prim.Native.Nat.{ℕ, _+_, _*_, _≤_, _<_}
 use native.Mathlib.Nat.{le-trans, le-of-eq}
 use native.Mathlib.Omega.{arith}
-use lib.ListN.{length, getD, drop}
+use lib.ListN.{length, drop}
 use denote.Ref.{now}
-use Rattle.fields.specs.Fields.{Field, row, width, laid, fitting}
+use Rattle.fields.specs.Fields.{Field, fitting}
 use Rattle.table.specs.Tables.{per, loops}
-use Rattle.table.specs.Form.{wordsIn, descriptorsIn, tableIn}
+use Rattle.table.specs.Form.{descriptorsIn, tableIn}
 use Rattle.table.proofs.Measures.{words-counted}
-use Rattle.table_writer.specs.declared.Pen.{Pen}
-use Rattle.table_writer.specs.Ink.{ready, inked, moved, Fine}
-use Rattle.table_writer.proofs.Inking.{room-first, room-on, on-moved, on-inked, on-fine, none-left, none-inked, pressed-moved, pressed-inked, pressed-ready}
-use Rattle.table_writer.proofs.Rows.{heading, heading-laid, heading-width, loops-on, loops-end, fits-now}
+use Rattle.table_writer.specs.Ink.{inked, moved, Fine}
+use Rattle.table_writer.proofs.Inking.{room-on, none-left, none-inked}
+use Rattle.table_writer.proofs.Rows.{loops-end}
 use Rattle.table_writer.proofs.Descriptors.{heading-lt, few-words, fit-on, room-heading, fine-heading, room-words, fine-descriptor, on-descriptor, inked-descriptor}
 use Rattle.table_writer.proofs.put_descriptors.Statement.{statement}
 use Rattle.table_writer.proofs.put_descriptors.Tie as tie
-use Rattle.table_writer.proofs.put_descriptors.Reads as reads
-use Rattle.table_writer.proofs.put_descriptors.Lts as lts
-use Rattle.table.proofs.byte_at.Reads as byte-at-reads
-use Rattle.table.proofs.words_of.Reads as words-of-reads
-use Rattle.table_writer.proofs.put.Reads as put-reads
-use Rattle.table_writer.proofs.put_words.Reads as put-words-reads
 
 abbrev Inv-loop : tie.InvT-loop
 Inv-loop table out₀ kind left₀ p₀ i₀ out left p i =
@@ -80,12 +73,13 @@ put-requires c κs =
     let w = c .before .words-of in
     let e₂ = words-counted _ _ _ _ (w .ensures .0) (n .ensures .1) refl in
     let room =
-          room-on (l .p) (s .args .pen) (loops kind (descriptorsIn (per kind) (l .left) (drop (l .i) f)))
-          (loops (tableIn f .kind) (tableIn f .descriptors)) (length (now (s .args .out))) (l .inv .4) (s .pre .2) in
-    (l .inv .0
-    , search needs
-    , heading-lt kind (l .left) (l .i) (d .result) (n .result) (w .result) f (search needs) (d .ensures .0) (n .ensures .0) e₂ (l .inv .3)
-    , room-heading kind (l .left) (l .i) (d .result) (n .result) (w .result) f (search needs) (d .ensures .0) (n .ensures .0) e₂ (l .inv .3) (l .p) _ (rw (l .inv .1) room))
+    room-on (l .p) (s .args .pen) (loops kind (descriptorsIn (per kind) (l .left) (drop (l .i) f)))
+    (loops (tableIn f .kind) (tableIn f .descriptors)) (length (now (s .args .out))) (l .inv .4) (s .pre .2) in (
+      l .inv .0,
+      search needs,
+      heading-lt kind (l .left) (l .i) (d .result) (n .result) (w .result) f (search needs) (d .ensures .0) (n .ensures .0) e₂ (l .inv .3),
+      room-heading kind (l .left) (l .i) (d .result) (n .result) (w .result) f (search needs) (d .ensures .0) (n .ensures .0) e₂ (l .inv .3) (l .p) _ (rw (l .inv .1) room),
+    )
 
 add-put-words : tie.Need-add-put-words Inv-loop μ-loop
 add-put-words c = omega (arith, c .before .before .before .before .before .before .before .before .loop .inv .2)
@@ -103,13 +97,14 @@ put-words-requires c κs =
     let e₂ = words-counted _ _ _ _ (w .ensures .0) (n .ensures .1) refl in
     let pos : 0 < l .left = c .before .before .before .before .before .before .before .before .loop-test .taken in
     let room =
-          room-on (l .p) (s .args .pen) (loops kind (descriptorsIn (per kind) (l .left) (drop (l .i) f)))
-          (loops (tableIn f .kind) (tableIn f .descriptors)) (length (now (s .args .out))) (l .inv .4) (s .pre .2) in
-    (fine-heading kind (l .left) (l .i) (d .result) (n .result) (w .result) f pos (d .ensures .0) (n .ensures .0) e₂ (l .inv .3) (l .p) _ room (q .ensures .0)
-    , omega (arith, l .inv .2, w .ensures .1, n .ensures .1)
-    , le-trans
-    (room-words kind (l .left) (l .i) (d .result) (n .result) (w .result) f pos (d .ensures .0) (n .ensures .0) e₂ (l .inv .3) (l .p) _ room (q .ensures .0))
-    (le-of-eq (sym (q .kept .1 .1 .1 .0 ∙ l .inv .1))))
+    room-on (l .p) (s .args .pen) (loops kind (descriptorsIn (per kind) (l .left) (drop (l .i) f)))
+    (loops (tableIn f .kind) (tableIn f .descriptors)) (length (now (s .args .out))) (l .inv .4) (s .pre .2) in (
+      fine-heading kind (l .left) (l .i) (d .result) (n .result) (w .result) f pos (d .ensures .0) (n .ensures .0) e₂ (l .inv .3) (l .p) _ room (q .ensures .0),
+      omega (arith, l .inv .2, w .ensures .1, n .ensures .1),
+      le-trans
+          (room-words kind (l .left) (l .i) (d .result) (n .result) (w .result) f pos (d .ensures .0) (n .ensures .0) e₂ (l .inv .3) (l .p) _ room (q .ensures .0))
+          (le-of-eq (sym (q .kept .1 .1 .1 .0 ∙ l .inv .1))),
+    )
 
 mul-i : tie.Need-mul-i Inv-loop μ-loop
 mul-i c = omega (arith, c .before .before .before .before .before .before .before .before .words-of .ensures .1)
@@ -140,14 +135,15 @@ loop-again c =
     let e₂ = words-counted _ _ _ _ (w .ensures .0) (n .ensures .1) refl in
     let pos : 0 < l .left = c .before .before .before .before .before .before .before .before .before .before .before .loop-test .taken in
     let room =
-          room-on (l .p) (s .args .pen) (loops kind (descriptorsIn (per kind) (l .left) (drop (l .i) f)))
-          (loops (tableIn f .kind) (tableIn f .descriptors)) (length (now (s .args .out))) (l .inv .4) (s .pre .2) in
-    (fine-descriptor kind (l .left) (l .i) (d .result) (n .result) (w .result) f pos (d .ensures .0) (n .ensures .0) e₂ (l .inv .3) (l .p) _ room (q .ensures .0) (r .ensures .0)
-    , r .kept .1 .1 .1 .1 .0 ∙ q .kept .1 .1 .1 .0 ∙ l .inv .1
-    , omega (arith, l .inv .2, w .ensures .1, few-words kind (l .left) (l .i) (d .result) (n .result) (w .result) f pos (d .ensures .0) (n .ensures .0) e₂ (l .inv .3))
-    , fit-on kind (l .left) (l .i) (d .result) (n .result) (w .result) f pos (d .ensures .0) (n .ensures .0) e₂ (l .inv .3)
-    , on-descriptor kind (l .left) (l .i) (d .result) (n .result) (w .result) f pos (d .ensures .0) (n .ensures .0) e₂ (l .inv .3) (l .p) _ room (q .ensures .0) (r .ensures .0) ∙ l .inv .4
-    , inked-descriptor kind (l .left) (l .i) (d .result) (n .result) (w .result) f pos (d .ensures .0) (n .ensures .0) e₂ (l .inv .3) (l .p) _ room (q .ensures .0) (r .ensures .0) (l .out) (q .ensures .1) (r .ensures .1) ∙ l .inv .5)
+    room-on (l .p) (s .args .pen) (loops kind (descriptorsIn (per kind) (l .left) (drop (l .i) f)))
+    (loops (tableIn f .kind) (tableIn f .descriptors)) (length (now (s .args .out))) (l .inv .4) (s .pre .2) in (
+      fine-descriptor kind (l .left) (l .i) (d .result) (n .result) (w .result) f pos (d .ensures .0) (n .ensures .0) e₂ (l .inv .3) (l .p) _ room (q .ensures .0) (r .ensures .0),
+      r .kept .1 .1 .1 .1 .0 ∙ q .kept .1 .1 .1 .0 ∙ l .inv .1,
+      omega (arith, l .inv .2, w .ensures .1, few-words kind (l .left) (l .i) (d .result) (n .result) (w .result) f pos (d .ensures .0) (n .ensures .0) e₂ (l .inv .3)),
+      fit-on kind (l .left) (l .i) (d .result) (n .result) (w .result) f pos (d .ensures .0) (n .ensures .0) e₂ (l .inv .3),
+      on-descriptor kind (l .left) (l .i) (d .result) (n .result) (w .result) f pos (d .ensures .0) (n .ensures .0) e₂ (l .inv .3) (l .p) _ room (q .ensures .0) (r .ensures .0) ∙ l .inv .4,
+      inked-descriptor kind (l .left) (l .i) (d .result) (n .result) (w .result) f pos (d .ensures .0) (n .ensures .0) e₂ (l .inv .3) (l .p) _ room (q .ensures .0) (r .ensures .0) (l .out) (q .ensures .1) (r .ensures .1) ∙ l .inv .5,
+    )
 
 same-length : tie.Need-same-length Inv-loop μ-loop
 same-length c = c .before .loop .inv .1
@@ -158,9 +154,10 @@ returns c =
     let s = c .before .before .before .before .before .before in
     let f : List ℕ = now (s .args .table) in
     let kind = c .before .before .before .byte-at .result in
-    let e = loops-end kind (l .left) (l .i) f (search needs) in
-    (sym (none-left (l .p) (l .inv .0)) ∙ sym (ap (moved (l .p)) e) ∙ l .inv .4
-    , sym (none-inked (l .p) (l .inv .0) (l .out)) ∙ sym (ap (λ (x : List Field). inked (l .p) x (l .out)) e) ∙ l .inv .5)
+    let e = loops-end kind (l .left) (l .i) f (search needs) in (
+      sym (none-left (l .p) (l .inv .0)) ∙ sym (ap (moved (l .p)) e) ∙ l .inv .4,
+      sym (none-inked (l .p) (l .inv .0) (l .out)) ∙ sym (ap (λ (x : List Field). inked (l .p) x (l .out)) e) ∙ l .inv .5,
+    )
 
 pub put-descriptors-spec : {M : Type 1} → statement M
 put-descriptors-spec =

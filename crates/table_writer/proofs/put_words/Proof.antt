@@ -3,21 +3,16 @@
 use borrow.Author.Needs.{needs}
 use mathlib.Core.Path.{_≡_, _∙_, refl, sym, ap}
 use mathlib.Core.List.{List, [], _∷_}
-use Prim.Native.Nat.{ℕ, _+_, _-_, _*_, _≤_, _<_}
-use native.Mathlib.Omega.{arith}
+use Prim.Native.Nat.{ℕ, _+_, _-_, _*_, _<_}
 use lib.ListN.{length, drop}
 use denote.Ref.{now}
 use Rattle.fields.specs.Fields.{Field, row}
 use Rattle.table.specs.Form.{wordsIn}
-use Rattle.table_writer.specs.Ink.{ready, inked, moved, Fine}
+use Rattle.table_writer.specs.Ink.{inked, moved, Fine}
 use Rattle.table_writer.proofs.Inking.{room-first, room-on, on-moved, on-inked, on-fine, none-left, none-inked}
 use Rattle.table_writer.proofs.Rows.{row-on, row-end}
 use Rattle.table_writer.proofs.put_words.Statement.{statement}
 use Rattle.table_writer.proofs.put_words.Tie as tie
-use Rattle.table_writer.proofs.put_words.Reads as reads
-use Rattle.table_writer.proofs.put_words.Lts as lts
-use Rattle.table_writer.proofs.put.Reads as put-reads
-use Rattle.table_writer.proofs.word_at.Reads as word-at-reads
 
 abbrev Inv-loop : tie.InvT-loop
 Inv-loop table from k out₀ p₀ i₀ left₀ out p i left =
@@ -43,11 +38,12 @@ put-requires c κs =
     let rest : List Field = row 24 (wordsIn (l .left - 1) (drop (l .i + 3) f)) in
     let now-left : List Field = row 24 (wordsIn (l .left) (drop (l .i) f)) in
     let e = row-on (l .left) (l .i) (w .result) f (search needs) (w .ensures .0) in
-    let room = room-on (l .p) (s .args .pen) now-left (row 24 (wordsIn (s .args .k) (drop (s .args .from) f))) (length (now (s .args .out))) (l .inv .3) (s .pre .2) in
-    (l .inv .0
-    , search needs
-    , w .ensures .1
-    , room-first (l .p) ((24, w .result) ∷ []) rest _ (rw (← e) (rw (l .inv .1) room)))
+    let room = room-on (l .p) (s .args .pen) now-left (row 24 (wordsIn (s .args .k) (drop (s .args .from) f))) (length (now (s .args .out))) (l .inv .3) (s .pre .2) in (
+      l .inv .0,
+      search needs,
+      w .ensures .1,
+      room-first (l .p) ((24, w .result) ∷ []) rest _ (rw (← e) (rw (l .inv .1) room)),
+    )
 
 add-i : tie.Need-add-i Inv-loop μ-loop
 add-i c = search needs
@@ -67,12 +63,13 @@ loop-again c =
     let d = c .before .before .put in
     let rest : List Field = row 24 (wordsIn (l .left - 1) (drop (l .i + 3) f)) in
     let now-left : List Field = row 24 (wordsIn (l .left) (drop (l .i) f)) in
-    let e = row-on (l .left) (l .i) (w .result) f (search needs) (w .ensures .0) in
-    (on-fine (l .p) ((24, w .result) ∷ []) rest now-left e (d .ensures .0)
-    , d .kept .1 .1 .1 .0 ∙ l .inv .1
-    , search needs
-    , on-moved (l .p) ((24, w .result) ∷ []) rest now-left e (d .ensures .0) ∙ l .inv .3
-    , on-inked (l .p) ((24, w .result) ∷ []) rest now-left e (d .ensures .0) (l .out) (d .ensures .1) ∙ l .inv .4)
+    let e = row-on (l .left) (l .i) (w .result) f (search needs) (w .ensures .0) in (
+      on-fine (l .p) ((24, w .result) ∷ []) rest now-left e (d .ensures .0),
+      d .kept .1 .1 .1 .0 ∙ l .inv .1,
+      search needs,
+      on-moved (l .p) ((24, w .result) ∷ []) rest now-left e (d .ensures .0) ∙ l .inv .3,
+      on-inked (l .p) ((24, w .result) ∷ []) rest now-left e (d .ensures .0) (l .out) (d .ensures .1) ∙ l .inv .4,
+    )
 
 same-length : tie.Need-same-length Inv-loop μ-loop
 same-length c = c .before .loop .inv .1
@@ -82,9 +79,10 @@ returns c =
     let l = c .before .loop in
     let s = c .before .before .before .before in
     let f : List ℕ = now (s .args .table) in
-    let e = row-end (l .left) (l .i) f (search needs) in
-    (sym (none-left (l .p) (l .inv .0)) ∙ sym (ap (moved (l .p)) e) ∙ l .inv .3
-    , sym (none-inked (l .p) (l .inv .0) (l .out)) ∙ sym (ap (λ (x : List Field). inked (l .p) x (l .out)) e) ∙ l .inv .4)
+    let e = row-end (l .left) (l .i) f (search needs) in (
+      sym (none-left (l .p) (l .inv .0)) ∙ sym (ap (moved (l .p)) e) ∙ l .inv .3,
+      sym (none-inked (l .p) (l .inv .0) (l .out)) ∙ sym (ap (λ (x : List Field). inked (l .p) x (l .out)) e) ∙ l .inv .4,
+    )
 
 pub put-words-spec : {M : Type 1} → statement M
 put-words-spec =

@@ -4,9 +4,6 @@ use denote.Ref.{now}
 use Rattle.table_writer.proofs.Whole.{second-of}
 use Rattle.table_writer.proofs.second_fields.Statement.{statement}
 use Rattle.table_writer.proofs.second_fields.Tie as tie
-use Rattle.table_writer.proofs.second_fields.Reads as reads
-use Rattle.table_writer.proofs.second_fields.Lts as lts
-use Rattle.table.proofs.byte_at.Reads as byte-at-reads
 
 byte-at-requires : tie.Need-byte-at-requires
 byte-at-requires c κs = search needs

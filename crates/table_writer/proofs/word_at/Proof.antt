@@ -7,13 +7,8 @@ use native.Mathlib.Omega.{arith}
 use lib.ListN.{getD}
 use denote.Ref.{now}
 use Rattle.table_writer.proofs.Rows.{word-of}
-use mathlib.Core.List.{[], _∷_}
-use Rattle.fields.specs.Fields.{whole}
 use Rattle.table_writer.proofs.word_at.Statement.{statement}
 use Rattle.table_writer.proofs.word_at.Tie as tie
-use Rattle.table_writer.proofs.word_at.Reads as reads
-use Rattle.table_writer.proofs.word_at.Lts as lts
-use Rattle.table.proofs.byte_at.Reads as byte-at-reads
 
 byte-at-requires : tie.Need-byte-at-requires
 byte-at-requires c κs = search needs
@@ -51,9 +46,10 @@ returns c =
     let z = c .byte-at3 in
     let ex : x .result ≡ getD f (a .i) 0 = x .ensures .0 in
     let ey : y .result ≡ getD f (a .i + 1) 0 = y .ensures .0 in
-    let ez : z .result ≡ getD f (a .i + 2) 0 = z .ensures .0 in
-    (word-of (x .result) (y .result) (z .result) (x .ensures .1) (y .ensures .1) (z .ensures .1) ∙ (rw (ex, ey, ez))
-    , omega (arith, x .ensures .1, y .ensures .1, z .ensures .1))
+    let ez : z .result ≡ getD f (a .i + 2) 0 = z .ensures .0 in (
+      word-of (x .result) (y .result) (z .result) (x .ensures .1) (y .ensures .1) (z .ensures .1) ∙ (rw (ex, ey, ez)),
+      omega (arith, x .ensures .1, y .ensures .1, z .ensures .1),
+    )
 
 pub word-at-spec : {M : Type 1} → statement M
 word-at-spec =

@@ -1,17 +1,15 @@
 -- `table_writer::write_fields` meets its contract: two fields, the descriptors and the fill, laid one after the other. Assumes
 -- nothing.
 use borrow.Author.Needs.{needs}
-use mathlib.Core.Path.{_≡_, _∙_, refl, sym, ap}
-use mathlib.Core.Bool.{true}
-use mathlib.Core.List.{List, [], _∷_}
-use Prim.Native.Nat.{ℕ, _+_, _-_, _*_, _/_, _≤_, _<_}
+use mathlib.Core.Path.{_≡_, _∙_, sym, ap}
+use mathlib.Core.List.{[], _∷_}
+use Prim.Native.Nat.{ℕ, _+_, _-_, _*_, _/_}
 use native.Mathlib.Nat.{le-trans, le-of-eq}
 use native.Mathlib.Omega.{arith}
-use lib.ListN.{length}
 use lib.Pow.{pow-pos}
 use denote.Ref.{now}
-use Rattle.fields.specs.Fields.{Field, laid}
-use Rattle.table.specs.Tables.{bits, control, fill, size}
+use Rattle.fields.specs.Fields.{laid}
+use Rattle.table.specs.Tables.{bits, control, fill}
 use Rattle.table.specs.Form.{tableIn}
 use Rattle.table.proofs.Inverse.{sendable}
 use Rattle.table_writer.specs.Parts.{firstFields}
@@ -19,12 +17,6 @@ use Rattle.table_writer.specs.Ink.{inked, ready}
 use Rattle.table_writer.proofs.Whole.{start-fine, room-1, fine-1, room-2, fine-2, room-3, fine-3, room-4, all-stored}
 use Rattle.table_writer.proofs.write_fields.Statement.{statement}
 use Rattle.table_writer.proofs.write_fields.Tie as tie
-use Rattle.table_writer.proofs.write_fields.Reads as reads
-use Rattle.table_writer.proofs.write_fields.Lts as lts
-use Rattle.table_writer.proofs.first_fields.Reads as first-fields-reads
-use Rattle.table_writer.proofs.put.Reads as put-reads
-use Rattle.table_writer.proofs.put_descriptors.Reads as put-descriptors-reads
-use Rattle.table_writer.proofs.second_fields.Reads as second-fields-reads
 
 add-control : tie.Need-add-control
 add-control c =
@@ -41,7 +33,7 @@ second-fields-requires c κs = search needs
 
 put-requires : tie.Need-put-requires
 put-requires c κs =
-    let s = c .before .before .before .before .before  in
+    let s = c .before .before .before .before .before in
     let t = tableIn (now (s .args .table)) in
     let x = c .before .before .first-fields in
     let ex : x .result ≡ laid (firstFields (control t) t) 0 = x .ensures .0 ∙ ap (λ (b : ℕ). laid (firstFields ((b + 7) / 8) t) 0) (s .pre .1) in
@@ -49,33 +41,35 @@ put-requires c κs =
 
 put-requires-2 : tie.Need-put-requires-2
 put-requires-2 c κs =
-    let s = c .before .before .before .before .before .before .before .before .before  in
+    let s = c .before .before .before .before .before .before .before .before .before in
     let t = tableIn (now (s .args .table)) in
     let x = c .before .before .before .before .before .before .first-fields in
     let y = c .before .before .before .before .before .second-fields in
     let a = c .before .before .before .put in
-    let ex : x .result ≡ laid (firstFields (control t) t) 0 = x .ensures .0 ∙ ap (λ (b : ℕ). laid (firstFields ((b + 7) / 8) t) 0) (s .pre .1) in
-    (fine-1 t _ (s .pre .2) (x .result) ex (a .ensures .0)
-    , search needs
-    , y .ensures .1
-    , le-trans (room-2 t _ (s .pre .2) (x .result) ex (a .ensures .0) (y .result) (y .ensures .0)) (le-of-eq (sym (a .kept .1 .1 .1 .0))))
+    let ex : x .result ≡ laid (firstFields (control t) t) 0 = x .ensures .0 ∙ ap (λ (b : ℕ). laid (firstFields ((b + 7) / 8) t) 0) (s .pre .1) in (
+      fine-1 t _ (s .pre .2) (x .result) ex (a .ensures .0),
+      search needs,
+      y .ensures .1,
+      le-trans (room-2 t _ (s .pre .2) (x .result) ex (a .ensures .0) (y .result) (y .ensures .0)) (le-of-eq (sym (a .kept .1 .1 .1 .0))),
+    )
 
 put-descriptors-requires : tie.Need-put-descriptors-requires
 put-descriptors-requires c κs =
-    let s = c .before .before .before .before .before .before .before .before .before .before .before .before .before  in
+    let s = c .before .before .before .before .before .before .before .before .before .before .before .before .before in
     let t = tableIn (now (s .args .table)) in
     let x = c .before .before .before .before .before .before .before .before .before .before .first-fields in
     let y = c .before .before .before .before .before .before .before .before .before .second-fields in
     let a = c .before .before .before .before .before .before .before .put in
     let b = c .before .before .before .put2 in
-    let ex : x .result ≡ laid (firstFields (control t) t) 0 = x .ensures .0 ∙ ap (λ (b : ℕ). laid (firstFields ((b + 7) / 8) t) 0) (s .pre .1) in
-    (fine-2 t _ (s .pre .2) (x .result) ex (a .ensures .0) (y .result) (y .ensures .0) (b .ensures .0)
-    , sendable t (s .pre .0) .loops-fit
-    , le-trans (room-3 t _ (s .pre .2) (x .result) ex (a .ensures .0) (y .result) (y .ensures .0) (b .ensures .0)) (le-of-eq (sym (b .kept .1 .1 .1 .0 ∙ a .kept .1 .1 .1 .0))))
+    let ex : x .result ≡ laid (firstFields (control t) t) 0 = x .ensures .0 ∙ ap (λ (b : ℕ). laid (firstFields ((b + 7) / 8) t) 0) (s .pre .1) in (
+      fine-2 t _ (s .pre .2) (x .result) ex (a .ensures .0) (y .result) (y .ensures .0) (b .ensures .0),
+      sendable t (s .pre .0) .loops-fit,
+      le-trans (room-3 t _ (s .pre .2) (x .result) ex (a .ensures .0) (y .result) (y .ensures .0) (b .ensures .0)) (le-of-eq (sym (b .kept .1 .1 .1 .0 ∙ a .kept .1 .1 .1 .0))),
+    )
 
 mul-put : tie.Need-mul-put
 mul-put c =
-    let s = c .before .before .before .before .before .before .before .before .before .before .before .before .before .before .before .before  in
+    let s = c .before .before .before .before .before .before .before .before .before .before .before .before .before .before .before .before in
     omega (arith, s .pre .1, sendable (tableIn (now (s .args .table))) (s .pre .0) .control-fits)
 
 sub-put : tie.Need-sub-put
@@ -83,7 +77,7 @@ sub-put c = search needs
 
 put-requires-3 : tie.Need-put-requires-3
 put-requires-3 c κs =
-    let s = c .before .before .before .before .before .before .before .before .before .before .before .before .before .before .before .before .before  in
+    let s = c .before .before .before .before .before .before .before .before .before .before .before .before .before .before .before .before .before in
     let t = tableIn (now (s .args .table)) in
     let x = c .before .before .before .before .before .before .before .before .before .before .before .before .before .before .first-fields in
     let y = c .before .before .before .before .before .before .before .before .before .before .before .before .before .second-fields in
@@ -92,20 +86,21 @@ put-requires-3 c κs =
     let d = c .before .before .before .put-descriptors in
     let ex : x .result ≡ laid (firstFields (control t) t) 0 = x .ensures .0 ∙ ap (λ (b : ℕ). laid (firstFields ((b + 7) / 8) t) 0) (s .pre .1) in
     let ef : ready (d .result) ((8 * ((s .args .bits + 7) / 8) - s .args .bits, 0) ∷ []) ≡ ready (d .result) ((fill t, 0) ∷ []) =
-          ap (λ (n : ℕ). ready (d .result) ((8 * ((n + 7) / 8) - n, 0) ∷ [])) (s .pre .1) in
-    (fine-3 t _ (s .pre .2) (x .result) ex (a .ensures .0) (y .result) (y .ensures .0) (b .ensures .0) (d .ensures .0)
-    , search needs
-    , pow-pos _
-    , le-trans
-    (le-trans (le-of-eq (ap (λ (n : ℕ). d .result .at + n) ef)) (room-4 t _ (s .pre .2) (x .result) ex (a .ensures .0) (y .result) (y .ensures .0) (b .ensures .0) (d .ensures .0)))
-    (le-of-eq (sym (d .kept .1 .1 .0 ∙ b .kept .1 .1 .1 .0 ∙ a .kept .1 .1 .1 .0))))
+    ap (λ (n : ℕ). ready (d .result) ((8 * ((n + 7) / 8) - n, 0) ∷ [])) (s .pre .1) in (
+      fine-3 t _ (s .pre .2) (x .result) ex (a .ensures .0) (y .result) (y .ensures .0) (b .ensures .0) (d .ensures .0),
+      search needs,
+      pow-pos _,
+      le-trans
+          (le-trans (le-of-eq (ap (λ (n : ℕ). d .result .at + n) ef)) (room-4 t _ (s .pre .2) (x .result) ex (a .ensures .0) (y .result) (y .ensures .0) (b .ensures .0) (d .ensures .0)))
+          (le-of-eq (sym (d .kept .1 .1 .0 ∙ b .kept .1 .1 .1 .0 ∙ a .kept .1 .1 .1 .0))),
+    )
 
 same-length : tie.Need-same-length
 same-length c = search needs
 
 returns : tie.Need-returns
 returns c =
-    let s = c .before .before .before .before .before .before .before .before .before .before .before .before .before .before .before .before .before .before .before .before  in
+    let s = c .before .before .before .before .before .before .before .before .before .before .before .before .before .before .before .before .before .before .before .before in
     let t = tableIn (now (s .args .table)) in
     let x = c .before .before .before .before .before .before .before .before .before .before .before .before .before .before .before .before .before .first-fields in
     let y = c .before .before .before .before .before .before .before .before .before .before .before .before .before .before .before .before .second-fields in
