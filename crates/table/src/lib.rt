@@ -21,7 +21,7 @@ use answer::Answer;
 use answer::Refusal;
 
 // The bytes of a record before its block: the block's 16 bits, low byte first.
-const HEAD: usize = 2;
+pub const HEAD: usize = 2;
 
 const TI: usize = 8;
 
@@ -47,6 +47,261 @@ pub fn read_block(application: u8, rec: &[u8], out: &mut [u8]) -> Answer
             Answer::Done(need)
         }
     }
+}
+
+// All rules but the room; where they hold, the bytes of the table's form.
+fn judge(application: u8, rec: &[u8]) -> Answer
+    ensures { λ r.
+        ⌜ r ≡ judged refused (readRules application (now (rec .entry))) (Done (length (form (tableRead (now (rec .entry)))))) ⌝ }
+{
+    match judge_frame(application, rec) {
+        Answer::Refused(why) => Answer::Refused(why),
+        Answer::Done(head) => judge_body(head, &rec[HEAD..]),
+    }
+}
+
+// 16, 13, 12, 13: the record as it is lent. Where it is taken, the head's 16 bits.
+fn judge_frame(application: u8, rec: &[u8]) -> Answer
+    ensures { λ r.
+        ⌜ r
+        ≡ judged refused (frameRules application (length (now (rec .entry))) (headOf (now (rec .entry))))
+        (Done (headOf (now (rec .entry)))) ⌝ }
+{
+    if 32 <= application {
+        return refuse(16, 0);
+    }
+    let head = head_of(rec);
+    if rec.len() != HEAD + head / 32 {
+        return refuse(13, 0);
+    }
+    if head % 32 != application as usize {
+        return refuse(12, 0);
+    }
+    if head / 32 < 8 {
+        return refuse(13, 0);
+    }
+    Answer::Done(head)
+}
+
+// The 16 bits of a record's head.
+fn head_of(rec: &[u8]) -> usize
+    ensures { λ r. ⌜ (r ≡ headOf (now (rec .entry))) × (r < 65536) ⌝ }
+{
+    byte_at(rec, 0) + 256 * byte_at(rec, 1)
+}
+
+// The rules after those of the frame; where all hold, the bytes of the table's form.
+fn judge_body(head: usize, body: &[u8]) -> Answer
+    requires { ⌜ 8 ≤ length (now body) ⌝ }
+    ensures { λ r.
+        ⌜ r
+        ≡ judged refused (bodyRules head (map nib (now (body .entry))))
+        (Done (length (form (tableOf (compound (now (body .entry))))))) ⌝ }
+{
+    match judge_front(head / 32, body) {
+        Answer::Refused(why) => Answer::Refused(why),
+        Answer::Done(_) => match judge_whole(head, body) {
+            Answer::Refused(why) => Answer::Refused(why),
+            Answer::Done(_) => judge_lengths(head / 32, body),
+        },
+    }
+}
+
+// 10 over the first 8 bytes, 12, 13: what can be said of a block before it is read whole.
+fn judge_front(size: usize, body: &[u8]) -> Answer
+    requires { ⌜ 8 ≤ length (now body) ⌝ }
+    ensures { λ r. ⌜ r ≡ judged refused (frontRules size (map nib (now (body .entry)))) (Done 0) ⌝ }
+{
+    let good = sound(&body[..8]);
+    if good != 8 {
+        return refuse(10, HEAD + good);
+    }
+    let kind = fields::field_at(body, 18, 6);
+    if !known(kind) {
+        return refuse(12, 0);
+    }
+    if fields::field_at(body, 24, 2) != 0 {
+        return refuse(12, 0);
+    }
+    if size % 2 != 0 {
+        return refuse(13, 0);
+    }
+    Answer::Done(0)
+}
+
+// 10 over the rest, 11.
+fn judge_whole(head: usize, body: &[u8]) -> Answer
+    ensures { λ r. ⌜ r ≡ judged refused (wholeRules head (map nib (now (body .entry)))) (Done 0) ⌝ }
+{
+    let good = sound(body);
+    if good != body.len() {
+        return refuse(10, HEAD + good);
+    }
+    if fields::field_at(body, 0, 8) != checksum(head, body) {
+        return refuse(11, 0);
+    }
+    Answer::Done(0)
+}
+
+// 14: where loops, control size and fill fit, the bytes of the table's form.
+fn judge_lengths(size: usize, body: &[u8]) -> Answer
+    ensures { λ r.
+        ⌜ r
+        ≡ judged refused (lengthRules size (compound (now (body .entry))))
+        (Done (length (form (tableOf (compound (now (body .entry))))))) ⌝ }
+{
+    let bits = measure(body);
+    let control = (bits + 7) / 8;
+    if fields::field_at(body, 8, 10) != control {
+        return refuse(14, 0);
+    }
+    if size != 2 * control {
+        return refuse(14, 0);
+    }
+    Answer::Done(6 + (bits - 58 + 6 * fields::field_at(body, 52, 6)) / 8)
+}
+
+// The bits of the table that a block holds, by its counts as they stand.
+fn measure(body: &[u8]) -> usize
+    ensures { λ r. ⌜ (r ≡ bits (tableOf (compound (now (body .entry))))) × (r ≤ 46048) ⌝ }
+{
+    let kind = fields::field_at(body, 18, 6);
+    let mut left = fields::field_at(body, 52, 6);
+    let mut at = 58;
+    while 0 < left {
+        let words = words_of(kind, fields::field_at(body, at + 6, 4));
+        at += 10 + 24 * words;
+        left -= 1;
+    }
+    at
+}
+
+// 11.1.2: the checksum of a block with this head, whose first two bytes are the checksum's own.
+pub fn checksum(head: usize, body: &[u8]) -> usize
+    ensures { λ r. ⌜ r ≡ checksumOf head (map nib (now (body .entry))) ⌝ }
+{
+    let mut sum = head % 16 + head / 16 % 16 + head / 16 / 16 % 16 + head / 16 / 16 / 16 % 16;
+    let mut i = 2;
+    while i < body.len() {
+        sum = (sum + octet::decode(body[i]) as usize) % 256;
+        i += 1;
+    }
+    (256 - sum) % 256
+}
+
+// How many bytes come before the first that can't be decoded.
+fn sound(s: &[u8]) -> usize
+    ensures { λ r. ⌜ r ≡ soundOf (map nib (now (s .entry))) ⌝ }
+{
+    let mut i = 0;
+    while i < s.len() {
+        if 15 < octet::decode(s[i]) {
+            return i;
+        }
+        i += 1;
+    }
+    i
+}
+
+// The form of the table that a block holds.
+fn write_form(body: &[u8], out: &mut [u8])
+    requires { ⌜ length (form (tableOf (compound (now body)))) ≤ length (now out) ⌝ }
+    ensures { λ _. ⌜ now (out .exit) ≡ sets (now (out .entry)) 0 (form (tableOf (compound (now (body .entry))))) ⌝ }
+{
+    write_opening(body, out);
+    write_descriptors(body, out);
+}
+
+// The six bytes before the descriptors.
+fn write_opening(body: &[u8], out: &mut [u8])
+    requires { ⌜ 6 ≤ length (now out) ⌝ }
+    ensures { λ _. ⌜ now (out .exit) ≡ sets (now (out .entry)) 0 (openingOf (tableOf (compound (now (body .entry))))) ⌝ }
+{
+    let kind = (fields::field_at(body, 18, 6) % 256) as u8;
+    let copyright = (fields::field_at(body, 26, 1) % 256) as u8;
+    let block = fields::field_at(body, 28, 16);
+    let network = (fields::field_at(body, 44, 8) % 256) as u8;
+    let count = (fields::field_at(body, 52, 6) % 256) as u8;
+    let low = (block % 256) as u8;
+    let high = (block / 256 % 256) as u8;
+    out[0] = kind;
+    out[1] = copyright;
+    out[2] = low;
+    out[3] = high;
+    out[4] = network;
+    out[5] = count;
+}
+
+// The descriptors, behind the opening.
+fn write_descriptors(body: &[u8], out: &mut [u8])
+    requires { ⌜ length (form (tableOf (compound (now body)))) ≤ length (now out) ⌝ }
+    ensures { λ _.
+        ⌜ now (out .exit)
+        ≡ sets (now (out .entry)) 6
+        (listed (tableOf (compound (now (body .entry))) .kind) (tableOf (compound (now (body .entry))) .descriptors)) ⌝ }
+{
+    let kind = fields::field_at(body, 18, 6);
+    let mut left = fields::field_at(body, 52, 6);
+    let mut at = 58;
+    let mut q = 6;
+    while 0 < left {
+        let words = write_descriptor(body, kind, at, out, q);
+        at += 10 + 24 * words;
+        q += 2 + 3 * words;
+        left -= 1;
+    }
+}
+
+// The descriptor at the place `at`; how many words it has.
+fn write_descriptor(body: &[u8], kind: usize, at: usize, out: &mut [u8], q: usize) -> usize
+    requires { ⌜ (q + (2 + 3 * (per kind * field (at + 6) 4 (compound (now body)))) ≤ length (now out)) × (at < 60000) ⌝ }
+    ensures { λ r.
+        ⌜ (r ≡ per kind * field (at + 6) 4 (compound (now (body .entry))))
+        × (r ≤ 30)
+        × (now (out .exit)
+        ≡ sets (now (out .entry)) q
+        (field at 6 (compound (now (body .entry)))
+        ∷ field (at + 6) 4 (compound (now (body .entry)))
+        ∷ spelled (parts 24 r (compound (now (body .entry)) / 2 ^ (at + 10))))) ⌝ }
+{
+    let id = fields::field_at(body, at, 6);
+    let entries = fields::field_at(body, at + 6, 4);
+    let words = words_of(kind, entries);
+    out[q] = (id % 256) as u8;
+    out[q + 1] = (entries % 256) as u8;
+    write_words(body, at + 10, words, out, q + 2);
+    words
+}
+
+// The k words of a block from the place `from` on.
+fn write_words(body: &[u8], from: usize, k: usize, out: &mut [u8], q: usize)
+    requires { ⌜ (q + 3 * k ≤ length (now out)) × (from + 24 * k < 65536) ⌝ }
+    ensures { λ _.
+        ⌜ now (out .exit) ≡ sets (now (out .entry)) q (spelled (parts 24 k (compound (now (body .entry)) / 2 ^ from))) ⌝ }
+{
+    let mut at = from;
+    let mut p = q;
+    let mut left = k;
+    while 0 < left {
+        let w = fields::field_at(body, at, 24);
+        write_word(w, out, p);
+        at += 24;
+        p += 3;
+        left -= 1;
+    }
+}
+
+// A word, high byte first.
+fn write_word(w: usize, out: &mut [u8], q: usize)
+    requires { ⌜ q + 3 ≤ length (now out) ⌝ }
+    ensures { λ _. ⌜ now (out .exit) ≡ sets (now (out .entry)) q (spelled (w ∷ [])) ⌝ }
+{
+    let high = (w / 256 / 256 % 256) as u8;
+    let middle = (w / 256 % 256) as u8;
+    let low = (w % 256) as u8;
+    out[q] = high;
+    out[q + 1] = middle;
+    out[q + 2] = low;
 }
 
 // 13, 15: whether a form is one that can be written; where it is, the bits that its table takes.
@@ -127,79 +382,6 @@ fn loops_fit(table: &[u8]) -> bool
     true
 }
 
-fn refuse(no: u8, at: usize) -> Answer
-    ensures { λ r. ⌜ r ≡ refused no at ⌝ }
-{
-    Answer::Refused(Refusal { no, at })
-}
-
-// The byte i; 0 past the end.
-pub fn byte_at(s: &[u8], i: usize) -> usize
-    ensures { λ r. ⌜ (r ≡ getD (now (s .entry)) i 0) × (r < 256) ⌝ }
-{
-    if i < s.len() {
-        return s[i] as usize;
-    }
-    0
-}
-
-// The 16 bits of a record's head.
-fn head_of(rec: &[u8]) -> usize
-    ensures { λ r. ⌜ (r ≡ headOf (now (rec .entry))) × (r < 65536) ⌝ }
-{
-    byte_at(rec, 0) + 256 * byte_at(rec, 1)
-}
-
-// 16, 13, 12, 13: the record as it is lent. Where it is taken, the head's 16 bits.
-fn judge_frame(application: u8, rec: &[u8]) -> Answer
-    ensures { λ r.
-        ⌜ r
-        ≡ judged refused (frameRules application (length (now (rec .entry))) (headOf (now (rec .entry))))
-        (Done (headOf (now (rec .entry)))) ⌝ }
-{
-    if 32 <= application {
-        return refuse(16, 0);
-    }
-    let head = head_of(rec);
-    if rec.len() != HEAD + head / 32 {
-        return refuse(13, 0);
-    }
-    if head % 32 != application as usize {
-        return refuse(12, 0);
-    }
-    if head / 32 < 8 {
-        return refuse(13, 0);
-    }
-    Answer::Done(head)
-}
-
-// How many bytes come before the first that can't be decoded.
-fn sound(s: &[u8]) -> usize
-    ensures { λ r. ⌜ r ≡ soundOf (map nib (now (s .entry))) ⌝ }
-{
-    let mut i = 0;
-    while i < s.len() {
-        if 15 < octet::decode(s[i]) {
-            return i;
-        }
-        i += 1;
-    }
-    i
-}
-
-// 11.1.2: the checksum of a block with this head, whose first two bytes are the checksum's own.
-pub fn checksum(head: usize, body: &[u8]) -> usize
-    ensures { λ r. ⌜ r ≡ checksumOf head (map nib (now (body .entry))) ⌝ }
-{
-    let mut sum = head % 16 + head / 16 % 16 + head / 16 / 16 % 16 + head / 16 / 16 / 16 % 16;
-    let mut i = 2;
-    while i < body.len() {
-        sum = (sum + octet::decode(body[i]) as usize) % 256;
-        i += 1;
-    }
-    (256 - sum) % 256
-}
-
 // TI or LI.
 pub fn known(kind: usize) -> bool
     ensures { λ r. ⌜ r ≡ Tables·known kind ⌝ }
@@ -208,28 +390,6 @@ pub fn known(kind: usize) -> bool
         return true;
     }
     kind == LI
-}
-
-// 10 over the first 8 bytes, 12, 13: what can be said of a block before it is read whole.
-fn judge_front(size: usize, body: &[u8]) -> Answer
-    requires { ⌜ 8 ≤ length (now body) ⌝ }
-    ensures { λ r. ⌜ r ≡ judged refused (frontRules size (map nib (now (body .entry)))) (Done 0) ⌝ }
-{
-    let good = sound(&body[..8]);
-    if good != 8 {
-        return refuse(10, HEAD + good);
-    }
-    let kind = fields::field_at(body, 18, 6);
-    if !known(kind) {
-        return refuse(12, 0);
-    }
-    if fields::field_at(body, 24, 2) != 0 {
-        return refuse(12, 0);
-    }
-    if size % 2 != 0 {
-        return refuse(13, 0);
-    }
-    Answer::Done(0)
 }
 
 // The words that so many entries of a kind have. Only a byte's worth of entries counts.
@@ -243,178 +403,18 @@ pub fn words_of(kind: usize, entries: usize) -> usize
     n
 }
 
-// The bits of the table that a block holds, by its counts as they stand.
-fn measure(body: &[u8]) -> usize
-    ensures { λ r. ⌜ (r ≡ bits (tableOf (compound (now (body .entry))))) × (r ≤ 46048) ⌝ }
+// The byte i; 0 past the end.
+pub fn byte_at(s: &[u8], i: usize) -> usize
+    ensures { λ r. ⌜ (r ≡ getD (now (s .entry)) i 0) × (r < 256) ⌝ }
 {
-    let kind = fields::field_at(body, 18, 6);
-    let mut left = fields::field_at(body, 52, 6);
-    let mut at = 58;
-    while 0 < left {
-        let words = words_of(kind, fields::field_at(body, at + 6, 4));
-        at += 10 + 24 * words;
-        left -= 1;
+    if i < s.len() {
+        return s[i] as usize;
     }
-    at
+    0
 }
 
-// 14: where loops, control size and fill fit, the bytes of the table's form.
-fn judge_lengths(size: usize, body: &[u8]) -> Answer
-    ensures { λ r.
-        ⌜ r
-        ≡ judged refused (lengthRules size (compound (now (body .entry))))
-        (Done (length (form (tableOf (compound (now (body .entry))))))) ⌝ }
+fn refuse(no: u8, at: usize) -> Answer
+    ensures { λ r. ⌜ r ≡ refused no at ⌝ }
 {
-    let bits = measure(body);
-    let control = (bits + 7) / 8;
-    if fields::field_at(body, 8, 10) != control {
-        return refuse(14, 0);
-    }
-    if size != 2 * control {
-        return refuse(14, 0);
-    }
-    Answer::Done(6 + (bits - 58 + 6 * fields::field_at(body, 52, 6)) / 8)
-}
-
-// 10 over the rest, 11.
-fn judge_whole(head: usize, body: &[u8]) -> Answer
-    ensures { λ r. ⌜ r ≡ judged refused (wholeRules head (map nib (now (body .entry)))) (Done 0) ⌝ }
-{
-    let good = sound(body);
-    if good != body.len() {
-        return refuse(10, HEAD + good);
-    }
-    if fields::field_at(body, 0, 8) != checksum(head, body) {
-        return refuse(11, 0);
-    }
-    Answer::Done(0)
-}
-
-// The rules after those of the frame; where all hold, the bytes of the table's form.
-fn judge_body(head: usize, body: &[u8]) -> Answer
-    requires { ⌜ 8 ≤ length (now body) ⌝ }
-    ensures { λ r.
-        ⌜ r
-        ≡ judged refused (bodyRules head (map nib (now (body .entry))))
-        (Done (length (form (tableOf (compound (now (body .entry))))))) ⌝ }
-{
-    match judge_front(head / 32, body) {
-        Answer::Refused(why) => Answer::Refused(why),
-        Answer::Done(_) => match judge_whole(head, body) {
-            Answer::Refused(why) => Answer::Refused(why),
-            Answer::Done(_) => judge_lengths(head / 32, body),
-        },
-    }
-}
-
-// All rules but the room; where they hold, the bytes of the table's form.
-fn judge(application: u8, rec: &[u8]) -> Answer
-    ensures { λ r.
-        ⌜ r ≡ judged refused (readRules application (now (rec .entry))) (Done (length (form (tableRead (now (rec .entry)))))) ⌝ }
-{
-    match judge_frame(application, rec) {
-        Answer::Refused(why) => Answer::Refused(why),
-        Answer::Done(head) => judge_body(head, &rec[HEAD..]),
-    }
-}
-
-// The form of the table that a block holds.
-fn write_form(body: &[u8], out: &mut [u8])
-    requires { ⌜ length (form (tableOf (compound (now body)))) ≤ length (now out) ⌝ }
-    ensures { λ _. ⌜ now (out .exit) ≡ sets (now (out .entry)) 0 (form (tableOf (compound (now (body .entry))))) ⌝ }
-{
-    write_opening(body, out);
-    write_descriptors(body, out);
-}
-
-// The six bytes before the descriptors.
-fn write_opening(body: &[u8], out: &mut [u8])
-    requires { ⌜ 6 ≤ length (now out) ⌝ }
-    ensures { λ _. ⌜ now (out .exit) ≡ sets (now (out .entry)) 0 (openingOf (tableOf (compound (now (body .entry))))) ⌝ }
-{
-    let kind = (fields::field_at(body, 18, 6) % 256) as u8;
-    let copyright = (fields::field_at(body, 26, 1) % 256) as u8;
-    let block = fields::field_at(body, 28, 16);
-    let network = (fields::field_at(body, 44, 8) % 256) as u8;
-    let count = (fields::field_at(body, 52, 6) % 256) as u8;
-    let low = (block % 256) as u8;
-    let high = (block / 256 % 256) as u8;
-    out[0] = kind;
-    out[1] = copyright;
-    out[2] = low;
-    out[3] = high;
-    out[4] = network;
-    out[5] = count;
-}
-
-// The descriptors, behind the opening.
-fn write_descriptors(body: &[u8], out: &mut [u8])
-    requires { ⌜ length (form (tableOf (compound (now body)))) ≤ length (now out) ⌝ }
-    ensures { λ _.
-        ⌜ now (out .exit)
-        ≡ sets (now (out .entry)) 6
-        (listed (tableOf (compound (now (body .entry))) .kind) (tableOf (compound (now (body .entry))) .descriptors)) ⌝ }
-{
-    let kind = fields::field_at(body, 18, 6);
-    let mut left = fields::field_at(body, 52, 6);
-    let mut at = 58;
-    let mut q = 6;
-    while 0 < left {
-        let words = write_descriptor(body, kind, at, out, q);
-        at += 10 + 24 * words;
-        q += 2 + 3 * words;
-        left -= 1;
-    }
-}
-
-// The descriptor at the place `at`; how many words it has.
-fn write_descriptor(body: &[u8], kind: usize, at: usize, out: &mut [u8], q: usize) -> usize
-    requires { ⌜ (q + (2 + 3 * (per kind * field (at + 6) 4 (compound (now body)))) ≤ length (now out)) × (at < 60000) ⌝ }
-    ensures { λ r.
-        ⌜ (r ≡ per kind * field (at + 6) 4 (compound (now (body .entry))))
-        × (r ≤ 30)
-        × (now (out .exit)
-        ≡ sets (now (out .entry)) q
-        (field at 6 (compound (now (body .entry)))
-        ∷ field (at + 6) 4 (compound (now (body .entry)))
-        ∷ spelled (parts 24 r (compound (now (body .entry)) / 2 ^ (at + 10))))) ⌝ }
-{
-    let id = fields::field_at(body, at, 6);
-    let entries = fields::field_at(body, at + 6, 4);
-    let words = words_of(kind, entries);
-    out[q] = (id % 256) as u8;
-    out[q + 1] = (entries % 256) as u8;
-    write_words(body, at + 10, words, out, q + 2);
-    words
-}
-
-// A word, high byte first.
-fn write_word(w: usize, out: &mut [u8], q: usize)
-    requires { ⌜ q + 3 ≤ length (now out) ⌝ }
-    ensures { λ _. ⌜ now (out .exit) ≡ sets (now (out .entry)) q (spelled (w ∷ [])) ⌝ }
-{
-    let high = (w / 256 / 256 % 256) as u8;
-    let middle = (w / 256 % 256) as u8;
-    let low = (w % 256) as u8;
-    out[q] = high;
-    out[q + 1] = middle;
-    out[q + 2] = low;
-}
-
-// The k words of a block from the place `from` on.
-fn write_words(body: &[u8], from: usize, k: usize, out: &mut [u8], q: usize)
-    requires { ⌜ (q + 3 * k ≤ length (now out)) × (from + 24 * k < 65536) ⌝ }
-    ensures { λ _.
-        ⌜ now (out .exit) ≡ sets (now (out .entry)) q (spelled (parts 24 k (compound (now (body .entry)) / 2 ^ from))) ⌝ }
-{
-    let mut at = from;
-    let mut p = q;
-    let mut left = k;
-    while 0 < left {
-        let w = fields::field_at(body, at, 24);
-        write_word(w, out, p);
-        at += 24;
-        p += 3;
-        left -= 1;
-    }
+    Answer::Refused(Refusal { no, at })
 }
