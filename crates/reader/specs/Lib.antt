@@ -4,3 +4,4 @@ pub mod Seen
 pub mod Acting
 pub mod State
 pub mod Feeding
+pub mod Places
