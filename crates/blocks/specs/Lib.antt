@@ -1,1 +1,3 @@
 pub mod Block
+pub mod Sizes
+pub mod Place

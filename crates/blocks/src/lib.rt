@@ -1,2 +1,47 @@
 // Blocks as they go between the calls: a record is a block's 16 bits, low byte first, and its raw
 // bytes. The reader hands out records, one after the other; the writer and block reading take them.
+ghost use mathlib.Core.Path.{_≡_};
+ghost use Rattle.blocks.specs.Place.{foundAt};
+
+// How many bytes of a record stand before its raw bytes.
+const HEAD: usize = 2;
+
+// What stands at a place of a list of records.
+pub enum Found {
+    // The list ends there.
+    End,
+    // A whole record, the bytes from that place up to next: its 16 bits, and the place of its raw
+    // bytes, which go up to next.
+    Record { head: u16, raw: usize, next: usize },
+    // Something else: what is left isn't a whole record, or the place is past the end.
+    Broken,
+}
+
+// What stands at a place of a list of records. To walk a list, start at 0 and go on at each next.
+pub fn record_at(records: &[u8], place: usize) -> Found
+    ensures { λ r. ⌜ r ≡ foundAt (now (records .entry)) place ⌝ }
+{
+    if place == records.len() {
+        return Found::End;
+    }
+    if records.len() < place {
+        return Found::Broken;
+    }
+    let left = records.len() - place;
+    if left < HEAD {
+        return Found::Broken;
+    }
+    let low = records[place] as u16;
+    let high = records[place + 1] as u16;
+    let head = low + 256 * high;
+    let size = (head / 32) as usize;
+    if left - HEAD < size {
+        return Found::Broken;
+    }
+    let raw = place + HEAD;
+    Found::Record {
+        head,
+        raw,
+        next: raw + size,
+    }
+}

@@ -4,6 +4,8 @@ use lib.Dec.{leb}
 use Rattle.laws.specs.Pick.{both}
 use Rattle.guide.specs.declared.Setting.{Setting}
 
--- a setting is in range; a page is a byte, so it always is
+-- a setting is in range
 unfoldable pub inRange : Setting → Bool
-inRange s = both (leb 1 (s .magazine)) (both (leb (s .magazine) 8) (both (leb (s .stream) 15) (leb (s .application) 31)))
+inRange s =
+    both (leb 1 (s .magazine))
+    (both (leb (s .magazine) 8) (both (leb (s .page) 255) (both (leb (s .stream) 15) (leb (s .application) 31))))

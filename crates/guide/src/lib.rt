@@ -3,7 +3,7 @@ ghost use mathlib.Core.Path.{_≡_};
 ghost use Rattle.guide.specs.Setting.{inRange};
 
 // Which page and stream carry the guide, and which application its blocks are of. In range:
-// magazine 1..8, stream 0..15, application 0..31; a page is any byte.
+// magazine 1..8, page 0..255 (any byte), stream 0..15, application 0..31.
 pub struct Setting {
     pub magazine: u8,
     pub page: u8,

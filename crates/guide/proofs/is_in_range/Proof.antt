@@ -1,6 +1,7 @@
--- `guide::is_in_range` meets its contract: each `return` is by the tests that led there. Assumes nothing.
-use borrow.Author.Needs.{needs}
+-- `guide::is_in_range` meets its contract: each `return` is by the tests that led there, and a page is a byte. Assumes nothing.
 use borrow.Author.Tests.{lt-leb, le-leb}
+use Prim.Native.Nat.{_≤_}
+use native.Mathlib.Omega.{arith}
 use Rattle.guide.specs.Setting.{inRange}
 use Rattle.guide.proofs.is_in_range.Statement.{statement}
 use Rattle.guide.proofs.is_in_range.Tie as tie
@@ -15,19 +16,21 @@ returns-2 c = simp (le-leb _ _ (c .before .before .if1 .left), lt-leb _ _ (c .if
 
 returns-3 : tie.Need-returns-3
 unfolding inRange
-returns-3 c = simp (le-leb _ _ (c .before .before .before .before .if1 .left), le-leb _ _ (c .before .before .if2 .left), lt-leb _ _ (c .if3 .taken))
+returns-3 c =
+    let page : c .before .before .before .before .before .before .args .s .page ≤ 255 = omega arith in
+    simp (le-leb _ _ (c .before .before .before .before .if1 .left), le-leb _ _ (c .before .before .if2 .left), le-leb _ 255 page, lt-leb _ _ (c .if3 .taken))
 
 returns-4 : tie.Need-returns-4
 unfolding inRange
 returns-4 c =
-    simp
-    (le-leb _ _ (c .before .before .before .before .before .before .if1 .left), le-leb _ _ (c .before .before .before .before .if2 .left), le-leb _ _ (c .before .before .if3 .left), lt-leb _ _ (c .if4 .taken))
+    let page : c .before .before .before .before .before .before .before .before .args .s .page ≤ 255 = omega arith in
+    simp (le-leb _ _ (c .before .before .before .before .before .before .if1 .left), le-leb _ _ (c .before .before .before .before .if2 .left), le-leb _ _ (c .before .before .if3 .left), le-leb _ 255 page, lt-leb _ _ (c .if4 .taken))
 
 returns-5 : tie.Need-returns-5
 unfolding inRange
 returns-5 c =
-    simp
-    (le-leb _ _ (c .before .before .before .before .before .before .if1 .left), le-leb _ _ (c .before .before .before .before .if2 .left), le-leb _ _ (c .before .before .if3 .left), le-leb _ _ (c .if4 .left))
+    let page : c .before .before .before .before .before .before .before .before .args .s .page ≤ 255 = omega arith in
+    simp (le-leb _ _ (c .before .before .before .before .before .before .if1 .left), le-leb _ _ (c .before .before .before .before .if2 .left), le-leb _ _ (c .before .before .if3 .left), le-leb _ 255 page, le-leb _ _ (c .if4 .left))
 
 pub is-in-range-spec : {M : Type 1} → statement M
 is-in-range-spec = tie.close (tie.spec returns returns-2 returns-3 returns-4 returns-5)

@@ -1,0 +1,17 @@
+-- What stands at a place of a list of records.
+use mathlib.Core.List.{List}
+use Prim.Native.Nat.{ℕ, _+_}
+use lib.Dec.{eqb}
+use lib.ListN.{length, drop}
+use Rattle.laws.specs.Pick.{pick}
+use Rattle.blocks.specs.declared.Found.{Found}
+use Rattle.blocks.specs.declared.Found.the-variants.{End, Record, Broken}
+use Rattle.blocks.specs.Block.{headLength, headOf, recordLength, begins}
+
+-- the end of the list; a whole record, with its 16 bits, the place of its raw bytes and the place after it; or neither, as past
+-- the end
+unfoldable pub foundAt : List ℕ → ℕ → Found
+foundAt l place =
+    let rest = drop place l in
+    pick (eqb place (length l)) End
+    (pick (begins rest) (Record (headOf rest) (place + headLength) (place + recordLength rest)) Broken)

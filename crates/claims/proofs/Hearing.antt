@@ -1,0 +1,204 @@
+-- What a packet of our writer, or one of another magazine, is to the reader that hears it: itself, or, where two flips are allowed,
+-- one that can't be read. Assumes nothing.
+use mathlib.Core.Path.{_≡_, _∙_, refl, sym, ap}
+use mathlib.Core.Bool.{Bool, true, false}
+use mathlib.Core.Logic.{_⊎_, inl, inr}
+use mathlib.Core.List.{List, [], _∷_, _++_, map}
+use Prim.Native.Nat.{ℕ, zero, suc, _+_, _*_, _/_, _%_, _≤_, _<_}
+use native.Mathlib.Omega.{arith}
+use lib.Dec.{eqb, leb, ltb}
+use lib.ListN.{length, getD, drop}
+use lib.Seq.{getD-drop}
+use borrow.Author.Tests.{lt-ltb, le-ltb, eq-eqb, ne-eqb, le-leb, leb-true}
+use Rattle.laws.specs.Pick.{pick, both}
+use Rattle.octet.specs.Image.{image}
+use Rattle.octet.specs.Decoding.{nib, undecodable}
+use Rattle.octet.proofs.Laws.{near as Laws·near}
+use Rattle.guide.specs.declared.Setting.{Setting}
+use Rattle.guide.specs.Setting.{inRange}
+use Rattle.guide.specs.Packet.{address, packetZero, packetOf}
+use Rattle.reader.specs.Seen.{Seen, junk, other, ours, row, decodes, see, seeY, seeZero}
+use Rattle.claims.specs.Noise.{Near, none, more, Each, nil, and, Elsewhere}
+use Rattle.claims.proofs.Losing.{near-drop}
+
+-- l begins with bytes that decode to these nibbles
+pub data Reads : List ℕ → List ℕ → Type 0 where
+  done : {l : List ℕ} → Reads [] l
+  reads : {n b : ℕ} {ns l : List ℕ} → nib b ≡ n → Reads ns l → Reads (n ∷ ns) (b ∷ l)
+
+reads-at : {ns l : List ℕ} → Reads ns l → (i : ℕ) → i < length ns → nib (getD l i 0) ≡ getD ns i 0
+reads-at done i h = absurd (omega arith)
+reads-at (reads e r) zero h = e
+reads-at (reads e r) (suc i) h = reads-at r i (omega arith)
+
+reads-decodes : {ns l : List ℕ} → Each (λ n. n < 16) ns → Reads ns l → decodes (length ns) l ≡ true
+unfolding decodes
+reads-decodes nil done = refl
+reads-decodes (and {a = n} h t) (reads {b = b} e r) =
+    let f : nib b < 16 = omega arith in
+    rw (lt-ltb (nib b) 16 f) (reads-decodes t r)
+
+-- images with noise are read, or, with two flips, one of them can't be
+nibbles-heard :
+    (d : ℕ) → d ≤ 2 → (ns rest : List ℕ) {q : List ℕ} → Each (λ n. n < 16) ns → Near d (map image ns ++ rest) q
+    → Reads ns q ⊎ ((decodes (length ns) q ≡ false) × (2 ≤ d))
+unfolding decodes
+nibbles-heard d small [] rest nil n = inl done
+nibbles-heard d small (n ∷ ns) rest (and h t) (more {b = b} f k) = go (Laws·near d n b small h f) (nibbles-heard d small ns rest t k)
+  where
+    go :
+        {q : List ℕ} → (nib b ≡ n) ⊎ ((nib b ≡ undecodable) × (2 ≤ d))
+        → Reads ns q ⊎ ((decodes (length ns) q ≡ false) × (2 ≤ d))
+        → Reads (n ∷ ns) (b ∷ q) ⊎ ((decodes (suc (length ns)) (b ∷ q) ≡ false) × (2 ≤ d))
+    go (inl e) (inl r) = inl (reads e r)
+    go (inl e) (inr w) = inr (rw (lt-ltb (nib b) 16 (rw e h)) (w .0), w .1)
+    go (inr w) r = inr (rw (w .0), w .1)
+
+-- ---- the address
+
+abbrev addressed : ℕ → ℕ → List ℕ
+addressed magazine y = (magazine % 8 + 8 * (y % 2)) ∷ (y / 2) ∷ []
+
+addressed-nibbles : (magazine y : ℕ) → y < 32 → Each (λ n. n < 16) (addressed magazine y)
+addressed-nibbles magazine y h =
+    let a : magazine % 8 + 8 * (y % 2) < 16 = omega arith in
+    let b : y / 2 < 16 = omega arith in
+    and a (and b nil)
+
+-- a packet of our magazine is seen by its number
+see-ours : (s : Setting) (y : ℕ) {q : List ℕ} → y < 32 → Reads (addressed (s .magazine) y) q → see s q ≡ seeY s y q
+unfolding see
+see-ours s y h r =
+    let m : (s .magazine % 8 + 8 * (y % 2)) % 8 ≡ s .magazine % 8 = omega arith in
+    let n : (s .magazine % 8 + 8 * (y % 2)) / 8 + 2 * (y / 2) ≡ y = omega arith in
+    rw (
+      reads-decodes (addressed-nibbles (s .magazine) y h) r,
+      reads-at r 0 (omega arith),
+      reads-at r 1 (omega arith),
+      m,
+      n,
+      eq-eqb (s .magazine % 8) (s .magazine % 8) refl,
+    )
+
+see-elsewhere :
+    (s : Setting) (magazine y : ℕ) {q : List ℕ} → y < 32 → (magazine % 8 ≡ s .magazine % 8 → ⊥) → Reads (addressed magazine y) q
+    → see s q ≡ other
+unfolding see
+see-elsewhere s magazine y h z r =
+    let m : (magazine % 8 + 8 * (y % 2)) % 8 ≡ magazine % 8 = omega arith in
+    rw
+    (reads-decodes (addressed-nibbles magazine y h) r, reads-at r 0 (omega arith), m, ne-eqb (magazine % 8) (s .magazine % 8) z)
+
+see-junk : (s : Setting) (q : List ℕ) → decodes 2 q ≡ false → see s q ≡ junk
+unfolding see
+see-junk s q e = rw e
+
+-- the address with noise is read, or, with two flips, can't be
+address-heard :
+    (d : ℕ) → d ≤ 2 → (magazine y : ℕ) (rest : List ℕ) {q : List ℕ} → y < 32 → Near d (address magazine y ++ rest) q
+    → Reads (addressed magazine y) q ⊎ ((decodes 2 q ≡ false) × (2 ≤ d))
+address-heard d small magazine y rest h n =
+    nibbles-heard d small (addressed magazine y) rest (addressed-nibbles magazine y h) n
+
+pub elsewhere-heard :
+    (d : ℕ) → d ≤ 2 → (s : Setting) {q : List ℕ} → Elsewhere d s q → (see s q ≡ other) ⊎ ((see s q ≡ junk) × (2 ≤ d))
+elsewhere-heard d small s {q} e = go (address-heard d small (e .magazine) (e .y) (e .rest) (e .number) (e .near))
+  where
+    go :
+        Reads (addressed (e .magazine) (e .y)) q ⊎ ((decodes 2 q ≡ false) × (2 ≤ d))
+        → (see s q ≡ other) ⊎ ((see s q ≡ junk) × (2 ≤ d))
+    go (inl r) = inl (see-elsewhere s (e .magazine) (e .y) (e .number) (e .differs) r)
+    go (inr w) = inr (see-junk s q (w .0), w .1)
+
+-- ---- packet 0
+
+-- the six nibbles from page units to S4
+abbrev sixOf : Setting → ℕ → ℕ → List ℕ
+sixOf s index n = (s .page % 16) ∷ (s .page / 16) ∷ index ∷ (n % 8) ∷ (s .stream) ∷ (n / 8) ∷ []
+
+module _ (s : Setting) (page : s .page < 256) (stream : s .stream < 16) (index n : ℕ) (small-index : index < 16) (small-n : n ≤ 25) where
+  six-nibbles : Each (λ x. x < 16) (sixOf s index n)
+  six-nibbles =
+      let u : s .page % 16 < 16 = omega arith in
+      let t : s .page / 16 < 16 = omega arith in
+      let low : n % 8 < 16 = omega arith in
+      let high : n / 8 < 16 = omega arith in
+      and u (and t (and small-index (and low (and stream (and high nil)))))
+
+  zero-seen : {l : List ℕ} → Reads (sixOf s index n) l → seeZero s l ≡ ours index n
+  unfolding seeZero
+  zero-seen r =
+      let p : s .page % 16 + 16 * (s .page / 16) ≡ s .page = omega arith in
+      let c : n % 8 % 8 + 8 * (n / 8 % 4) ≡ n = omega arith in
+      rw (
+        reads-decodes six-nibbles r,
+        reads-at r 0 (omega arith),
+        reads-at r 1 (omega arith),
+        reads-at r 2 (omega arith),
+        reads-at r 3 (omega arith),
+        reads-at r 4 (omega arith),
+        reads-at r 5 (omega arith),
+        p,
+        c,
+        eq-eqb (s .page) (s .page) refl,
+        eq-eqb (s .stream) (s .stream) refl,
+      )
+
+  zero-junk : (l : List ℕ) → decodes 6 l ≡ false → seeZero s l ≡ junk
+  unfolding seeZero
+  zero-junk l e = rw e
+
+  seeY-zero : (q : List ℕ) → seeY s 0 q ≡ seeZero s (drop 2 q)
+  unfolding seeY
+  seeY-zero q = refl
+
+  pub zero-heard :
+      (d : ℕ) → d ≤ 2 → {q : List ℕ} → Near d (packetZero s index n) q → (see s q ≡ ours index n) ⊎ ((see s q ≡ junk) × (2 ≤ d))
+  unfolding packetZero
+  zero-heard d small {q} near =
+      go (address-heard d small (s .magazine) 0 _ (omega arith) near)
+      (nibbles-heard d small (sixOf s index n) _ six-nibbles (near-drop 2 near))
+    where
+      go :
+          Reads (addressed (s .magazine) 0) q ⊎ ((decodes 2 q ≡ false) × (2 ≤ d))
+          → Reads (sixOf s index n) (drop 2 q) ⊎ ((decodes 6 (drop 2 q) ≡ false) × (2 ≤ d))
+          → (see s q ≡ ours index n) ⊎ ((see s q ≡ junk) × (2 ≤ d))
+      go (inr w) r = inr (see-junk s q (w .0), w .1)
+      go (inl a) (inl r) = inl (see-ours s 0 (omega arith) a ∙ seeY-zero q ∙ zero-seen r)
+      go (inl a) (inr w) = inr (see-ours s 0 (omega arith) a ∙ seeY-zero q ∙ zero-junk (drop 2 q) (w .0), w .1)
+
+-- ---- packets 1 to 25
+
+-- what becomes of a packet y with pointer p and these bytes
+pub data RowHeard (d : ℕ) (s : Setting) (y p : ℕ) (bytes q : List ℕ) : Type 0 where
+  read : {cs : List ℕ} → Near d bytes cs → see s q ≡ row y p cs → RowHeard d s y p bytes q
+  skipped : {cs : List ℕ} → 2 ≤ d → see s q ≡ row y undecodable cs → RowHeard d s y p bytes q
+  unread : 2 ≤ d → see s q ≡ junk → RowHeard d s y p bytes q
+
+seeY-row : (s : Setting) (y : ℕ) (q : List ℕ) → 1 ≤ y → y ≤ 25 → seeY s y q ≡ row y (nib (getD q 2 0)) (drop 3 q)
+unfolding seeY
+seeY-row s y q h k = rw (ne-eqb y 0 (λ e. omega arith), le-leb y 25 k)
+
+pub row-heard :
+    (d : ℕ) → d ≤ 2 → (s : Setting) (y p : ℕ) (bytes : List ℕ) {q : List ℕ} → 1 ≤ y → y ≤ 25 → p < 16
+    → Near d (packetOf s y p bytes) q → RowHeard d s y p bytes q
+unfolding packetOf
+row-heard d small s y p bytes {q} least most h near =
+    go (address-heard d small (s .magazine) y _ (omega arith) near) (pointer-heard (near-drop 2 near))
+  where
+    pointer-heard : {l : List ℕ} → Near d (image p ∷ bytes) l → (nib (getD l 0 0) ≡ p) ⊎ ((nib (getD l 0 0) ≡ undecodable) × (2 ≤ d))
+    pointer-heard (more {b = b} f n) = Laws·near d p b small h f
+
+    seen : Reads (addressed (s .magazine) y) q → see s q ≡ row y (nib (getD q 2 0)) (drop 3 q)
+    seen a = see-ours s y (omega arith) a ∙ seeY-row s y q least most
+
+    at-two : nib (getD (drop 2 q) 0 0) ≡ nib (getD q 2 0)
+    at-two = ap nib (getD-drop 2 q 0 0)
+
+    go :
+        Reads (addressed (s .magazine) y) q ⊎ ((decodes 2 q ≡ false) × (2 ≤ d))
+        → (nib (getD (drop 2 q) 0 0) ≡ p) ⊎ ((nib (getD (drop 2 q) 0 0) ≡ undecodable) × (2 ≤ d))
+        → RowHeard d s y p bytes q
+    go (inr w) r = unread (w .1) (see-junk s q (w .0))
+    go (inl a) (inl e) = read (near-drop 3 near) (seen a ∙ ap (λ (x : ℕ). row y x (drop 3 q)) (sym at-two ∙ e))
+    go (inl a) (inr w) = skipped (w .1) (seen a ∙ ap (λ (x : ℕ). row y x (drop 3 q)) (sym at-two ∙ w .0))

@@ -1,0 +1,171 @@
+-- Noise only loses, within a packet: the reader along bytes that arrive does what it does along the bytes that were sent, or, where
+-- loss is allowed, has dropped. The walk along what was sent meets a symbol that fits its mode at each byte, so wherever a nibble
+-- is read its image was sent. Assumes nothing.
+use mathlib.Core.Path.{_≡_, _∙_, refl, sym, ap, subst}
+use mathlib.Core.Bool.{Bool, true, false}
+use mathlib.Core.Logic.{_⊎_, inl, inr}
+use mathlib.Core.List.{List, [], _∷_, _++_, map}
+use Prim.Native.Nat.{ℕ, zero, suc, _+_, _*_, _/_, _%_, _≤_, _<_}
+use native.Mathlib.Nat.{mod-eq-of-lt}
+use native.Mathlib.Omega.{arith}
+use lib.Dec.{eqb, leb, ltb, lit<}
+use lib.ListN.{length, length-append}
+use borrow.Author.Tests.{ne-eqb}
+use Rattle.laws.specs.Pick.{pick}
+use Rattle.octet.specs.Bits.{flips}
+use Rattle.octet.specs.Image.{image}
+use Rattle.octet.specs.Decoding.{nib, undecodable}
+use Rattle.octet.proofs.Laws.{near, nib-image}
+use Rattle.blocks.specs.Block.{Block, sizeOf}
+use Rattle.guide.specs.Stream.{Symbol, start, fill, bits, raw, byteOf}
+use Rattle.reader.specs.Mode.{Mode, off, scan, heading, body, shifted, full, headed, step, emitted, ends, gives}
+use Rattle.claims.specs.Noise.{Near, none, more, Came, over, kept, lost, Alike}
+use Rattle.claims.proofs.Losing.{near-length, near-snoc, lost-all, came-append}
+
+-- ---- what the modes do along what was sent
+
+-- the symbol is one that the mode expects
+pub data Fit : Mode → Symbol → Type 0 where
+  skips : Fit scan fill
+  opens : Fit scan start
+  nibble : {g v n : ℕ} → n < 16 → Fit (heading g v) (bits n)
+  byte : {h b : ℕ} {held : List ℕ} → Fit (body h held) (raw b)
+
+-- each symbol fits the mode that it meets
+abbrev pub Plain : Mode → List Symbol → Type 0
+Plain m [] = Unit {0}
+Plain m (s ∷ ss) = Fit m s × Plain (step m (byteOf s)) ss
+
+abbrev pub sentEnds : Mode → List Symbol → Mode
+sentEnds m ss = ends m (map byteOf ss)
+
+abbrev pub sentGives : Mode → List Symbol → List Block
+sentGives m ss = gives m (map byteOf ss)
+
+pub step-fill : step scan (byteOf fill) ≡ scan
+unfolding step
+step-fill = rw (nib-image 3)
+
+pub step-start : step scan (byteOf start) ≡ heading 0 0
+unfolding step
+step-start = rw (nib-image 12)
+
+pub nib-sent : (n : ℕ) → n < 16 → nib (image n) ≡ n
+nib-sent n h = nib-image n ∙ mod-eq-of-lt h
+
+-- ---- the same along what arrives
+
+-- the mode along what arrives, beside the mode along what was sent; d is the number of flips
+pub data Sim (d : ℕ) : Mode → Mode → Type 0 where
+  scans : Sim d scan scan
+  heads : {g v : ℕ} → Sim d (heading g v) (heading g v)
+  bodies : {h : ℕ} {l m : List ℕ} → Near d l m → full h l ≡ false → Sim d (body h l) (body h m)
+  gone : {m : Mode} → 2 ≤ d → Sim d m off
+
+abbrev pub Blocks : ℕ → List Block → List Block → Type 0
+Blocks d = Came (2 ≤ d) (Alike d)
+
+-- where a walk is and what it has given, beside the one along what was sent
+pub record Follows (d : ℕ) (m : Mode) (a : List Block) (k : Mode) (b : List Block) : Type 0 where
+  pub mode : Sim d m k
+  pub blocks : Blocks d a b
+
+abbrev pub same-block : (d h : ℕ) {l m : List ℕ} → Near d l m → Blocks d (record { head = h; raw = l } ∷ []) (record { head = h; raw = m } ∷ [])
+same-block d h n = kept (record { head = refl; raw = n }) over
+
+pub full-near : {d : ℕ} (h : ℕ) {l m : List ℕ} → Near d l m → full h m ≡ full h l
+full-near h n = ap (λ (x : ℕ). leb (sizeOf h) x) (sym (near-length n))
+
+module _ (d : ℕ) (small : d ≤ 2) where
+  dropped-here : {m : Mode} (a : List Block) → 2 ≤ d → Follows d m a off []
+  dropped-here a x = record { mode = gone x; blocks = lost-all x a }
+
+  scan-fill : (c : ℕ) → flips (image 3) c ≤ d → Follows d (step scan (image 3)) (emitted scan (image 3)) (step scan c) (emitted scan c)
+  unfolding step emitted
+  scan-fill c f = go (near d 3 c small (lit< tt) f)
+    where
+      go :
+          (nib c ≡ 3) ⊎ ((nib c ≡ undecodable) × (2 ≤ d))
+          → Follows d (step scan (image 3)) (emitted scan (image 3)) (step scan c) (emitted scan c)
+      go (inl e) = rw (nib-image 3, e) (record { mode = scans; blocks = over })
+      go (inr w) = rw (nib-image 3, w .0) (dropped-here [] (w .1))
+
+  scan-start : (c : ℕ) → flips (image 12) c ≤ d → Follows d (step scan (image 12)) (emitted scan (image 12)) (step scan c) (emitted scan c)
+  unfolding step emitted
+  scan-start c f = go (near d 12 c small (lit< tt) f)
+    where
+      go :
+          (nib c ≡ 12) ⊎ ((nib c ≡ undecodable) × (2 ≤ d))
+          → Follows d (step scan (image 12)) (emitted scan (image 12)) (step scan c) (emitted scan c)
+      go (inl e) = rw (nib-image 12, e) (record { mode = heads; blocks = over })
+      go (inr w) = rw (nib-image 12, w .0) (dropped-here [] (w .1))
+
+  -- past a nibble that was heard right
+  headed-same : (g w : ℕ) (t u : Bool) → full w [] ≡ u →
+      Follows d
+      (pick t (heading (suc g) w) (pick u scan (body w [])))
+      (pick t [] (pick u (record { head = w; raw = [] } ∷ []) []))
+      (pick t (heading (suc g) w) (pick u scan (body w [])))
+      (pick t [] (pick u (record { head = w; raw = [] } ∷ []) []))
+  headed-same g w true u e = record { mode = heads; blocks = over }
+  headed-same g w false true e = record { mode = scans; blocks = same-block d w none }
+  headed-same g w false false e = record { mode = bodies none e; blocks = over }
+
+  head-nibble :
+      (g v n c : ℕ) → n < 16 → flips (image n) c ≤ d
+      → Follows d (step (heading g v) (image n)) (emitted (heading g v) (image n)) (step (heading g v) c) (emitted (heading g v) c)
+  unfolding step emitted
+  head-nibble g v n c h f = go (near d n c small h f)
+    where
+      read : eqb n undecodable ≡ false
+      read = ne-eqb n undecodable (λ e. omega arith)
+
+      go :
+          (nib c ≡ n) ⊎ ((nib c ≡ undecodable) × (2 ≤ d))
+          → Follows d (step (heading g v) (image n)) (emitted (heading g v) (image n)) (step (heading g v) c) (emitted (heading g v) c)
+      go (inl e) =
+          rw (nib-sent n h, e, read) (headed-same g (v / 16 + n * 4096) (ltb g 3) (full (v / 16 + n * 4096) []) refl)
+      go (inr w) = rw (w .0) (dropped-here (emitted (heading g v) (image n)) (w .1))
+
+  body-byte :
+      (h b c : ℕ) {l m : List ℕ} → flips b c ≤ d → Near d l m
+      → Follows d (step (body h l) b) (emitted (body h l) b) (step (body h m) c) (emitted (body h m) c)
+  unfolding step emitted
+  body-byte h b c {l} {m} f n = rw (full-near h (near-snoc b c n f)) (go (full h (l ++ b ∷ [])) refl)
+    where
+      go :
+          (t : Bool) → full h (l ++ b ∷ []) ≡ t
+          → Follows d
+          (pick t scan (body h (l ++ b ∷ [])))
+          (pick t (record { head = h; raw = l ++ b ∷ [] } ∷ []) [])
+          (pick t scan (body h (m ++ c ∷ [])))
+          (pick t (record { head = h; raw = m ++ c ∷ [] } ∷ []) [])
+      go true e = record { mode = scans; blocks = same-block d h (near-snoc b c n f) }
+      go false e = record { mode = bodies (near-snoc b c n f) e; blocks = over }
+
+  gone-step : (m : Mode) (a : List Block) (c : ℕ) → 2 ≤ d → Follows d m a (step off c) (emitted off c)
+  unfolding step emitted
+  gone-step m a c x = dropped-here a x
+
+  step-follows :
+      {m k : Mode} {s : Symbol} (c : ℕ) → Fit m s → flips (byteOf s) c ≤ d → Sim d m k
+      → Follows d (step m (byteOf s)) (emitted m (byteOf s)) (step k c) (emitted k c)
+  step-follows c skips f scans = scan-fill c f
+  step-follows c skips f (gone x) = gone-step _ _ c x
+  step-follows c opens f scans = scan-start c f
+  step-follows c opens f (gone x) = gone-step _ _ c x
+  step-follows c (nibble {g} {v} {n} h) f heads = head-nibble g v n c h f
+  step-follows c (nibble h) f (gone x) = gone-step _ _ c x
+  step-follows c (byte {h} {b}) f (bodies n e) = body-byte h b c f n
+  step-follows c byte f (gone x) = gone-step _ _ c x
+
+  -- along any bytes
+  pub flow-follows :
+      {m k : Mode} (ss : List Symbol) {cs : List ℕ} → Plain m ss → Near d (map byteOf ss) cs → Sim d m k
+      → Follows d (sentEnds m ss) (sentGives m ss) (ends k cs) (gives k cs)
+  unfolding ends gives
+  flow-follows [] t none r = record { mode = r; blocks = over }
+  flow-follows (s ∷ ss) t (more {b = c} h n) r =
+      let one = step-follows c (t .0) h r in
+      let rest = flow-follows ss (t .1) n (one .mode) in
+      record { mode = rest .mode; blocks = came-append (one .blocks) (rest .blocks) }

@@ -1,0 +1,51 @@
+-- What noise may do to packets, and what may come of what was sent.
+use mathlib.Core.Path.{_≡_}
+use mathlib.Core.List.{List, [], _∷_, _++_}
+use Prim.Native.Nat.{ℕ, _%_, _<_, _≤_}
+use lib.ListN.{length}
+use Rattle.octet.specs.Bits.{flips}
+use Rattle.blocks.specs.Block.{Block, sizeOf}
+use Rattle.guide.specs.declared.Setting.{Setting}
+use Rattle.guide.specs.Packet.{address}
+
+-- "at most one flipped bit in each byte", "up to two": each byte of the second list is at most d flips from that of the first
+pub data Near (d : ℕ) : List ℕ → List ℕ → Type 0 where
+  none : Near d [] []
+  more : {a b : ℕ} {l m : List ℕ} → flips a b ≤ d → Near d l m → Near d (a ∷ l) (b ∷ m)
+
+-- a packet rightly addressed to another magazine, with noise
+pub record Elsewhere (d : ℕ) (s : Setting) (q : List ℕ) : Type 0 where
+  pub magazine : ℕ
+  pub y : ℕ
+  pub number : y < 32
+  pub rest : List ℕ
+  pub differs : magazine % 8 ≡ s .magazine % 8 → ⊥
+  pub near : Near d (address magazine y ++ rest) q
+
+-- "all packets fed in order to one fresh reader, other magazines between": what arrives of the packets that were sent
+pub data Aired (d : ℕ) (s : Setting) : List (List ℕ) → List (List ℕ) → Type 0 where
+  ended : Aired d s [] []
+  sent : {p q : List ℕ} {ps qs : List (List ℕ)} → Near d p q → Aired d s ps qs → Aired d s (p ∷ ps) (q ∷ qs)
+  between : {q : List ℕ} {ps qs : List (List ℕ)} → Elsewhere d s q → Aired d s ps qs → Aired d s ps (q ∷ qs)
+
+-- what comes out of what was sent: each is kept, and related to what was sent by R, or lost, and that only where L allows it; the
+-- order stays, and nothing comes twice
+pub data Came {ℓ} {A B : Type ℓ} (L : Type 0) (R : A → B → Type 0) : List A → List B → Type ℓ where
+  over : Came L R [] []
+  kept : {a : A} {b : B} {l : List A} {m : List B} → R a b → Came L R l m → Came L R (a ∷ l) (b ∷ m)
+  lost : {a : A} {l : List A} {m : List B} → L → Came L R l m → Came L R (a ∷ l) m
+
+-- the same 16 bits, and raw bytes with at most d flips in each
+pub record Alike (d : ℕ) (a b : Block) : Type 0 where
+  pub head : a .head ≡ b .head
+  pub raw : Near d (a .raw) (b .raw)
+
+-- a block whose 16 bits are 16 bits and say how many raw bytes there are
+pub record Fits (b : Block) : Type 0 where
+  pub head : b .head < 65536
+  pub size : length (b .raw) ≡ sizeOf (b .head)
+
+-- every one of them has P
+pub data Each {ℓ} {A : Type ℓ} (P : A → Type 0) : List A → Type ℓ where
+  nil : Each P []
+  and : {a : A} {l : List A} → P a → Each P l → Each P (a ∷ l)

@@ -1,0 +1,1 @@
+// No code: the statements that need several layers, in specs/, and their proofs.

@@ -1,0 +1,22 @@
+// What the recorder's firmware, which is in C, calls: the functions that firmware/guide.h declares, and
+// nothing else. Each takes any value, keeps nothing between calls and touches no memory but what its
+// arguments name.
+ghost use mathlib.Core.Path.{_≡_};
+ghost use Rattle.octet.specs.Decoding.{nib};
+ghost use Rattle.octet.specs.Turning.{turned};
+
+// The nibble that a protected byte decodes to, 0 to 15, or 16 where it can't be decoded.
+#[no_mangle]
+pub extern "C" fn guide_decode(b: u8) -> u8
+    ensures { λ r. ⌜ r ≡ nib b ⌝ }
+{
+    octet::decode(b)
+}
+
+// The byte with its bits turned: bit i goes to bit 7 - i.
+#[no_mangle]
+pub extern "C" fn guide_turn(b: u8) -> u8
+    ensures { λ r. ⌜ r ≡ turned b ⌝ }
+{
+    octet::turn(b)
+}

@@ -1,0 +1,47 @@
+/* Calls each function of guide.h and prints what it got, on cases of document 01. */
+#include <stdio.h>
+
+#include "guide.h"
+
+static void decode(const char *name, uint8_t b)
+{
+    uint8_t nibble = guide_decode(b);
+    if (nibble == GUIDE_UNDECODABLE)
+        printf("%s: decode %02X refused\n", name, b);
+    else
+        printf("%s: decode %02X gives %X\n", name, b, nibble);
+}
+
+static void turn(const char *name, uint8_t b)
+{
+    printf("%s: turn %02X gives %02X\n", name, b, guide_turn(b));
+}
+
+int main(void)
+{
+    static const uint8_t images[16] = {
+        0x15, 0x02, 0x49, 0x5E, 0x64, 0x73, 0x38, 0x2F,
+        0xD0, 0xC7, 0x8C, 0x9B, 0xA1, 0xB6, 0xFD, 0xEA,
+    };
+    int decoded = 0, refused = 0, turned_back = 0;
+
+    decode("case A", 0x14);
+    decode("case B", 0x16);
+    decode("case C", 0x00);
+    decode("case D", 0xFF);
+    turn("case E", 0x15);
+    turn("framing", 0x27);
+    for (int i = 0; i < 16; i++)
+        decode("image", images[i]);
+    for (int b = 0; b < 256; b++) {
+        if (guide_decode((uint8_t)b) == GUIDE_UNDECODABLE)
+            refused++;
+        else
+            decoded++;
+        if (guide_turn(guide_turn((uint8_t)b)) == b)
+            turned_back++;
+    }
+    printf("all bytes: %d decode, %d do not\n", decoded, refused);
+    printf("all bytes: %d are themselves when turned twice\n", turned_back);
+    return 0;
+}
