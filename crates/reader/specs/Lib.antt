@@ -5,3 +5,4 @@ pub mod Acting
 pub mod State
 pub mod Feeding
 pub mod Places
+pub mod Holding

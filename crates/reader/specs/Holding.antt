@@ -1,0 +1,64 @@
+-- How the code holds what the definitions speak of: a mode as a run and a store, and what a part of a call adds to what has come so
+-- far. Only private calls cite these.
+use mathlib.Core.Path.{_≡_}
+use mathlib.Core.Bool.{Bool, true, false}
+use mathlib.Core.List.{List}
+use Prim.Native.Nat.{ℕ, _+_, _≤_}
+use lib.ListN.{length, drop}
+use lib.Seq.{sets}
+use Rattle.laws.specs.Pick.{either}
+use Rattle.blocks.specs.Block.{Block, sizeOf, recordsOf}
+use Rattle.reader.specs.declared.Page.{Page}
+use Rattle.reader.specs.declared.Run.{Run}
+use Rattle.reader.specs.declared.Got.{Got}
+use Rattle.reader.specs.declared.Taken.{Taken}
+use Rattle.reader.specs.declared.Ahead.{Ahead}
+use Rattle.reader.specs.declared.Ahead.the-variants.{Nothing, Broken, Cut, Whole}
+use Rattle.reader.specs.Mode.{Mode, off, scan, heading, body, carries}
+use Rattle.reader.specs.State.{storeLength, modeOf, runOf, heldOf}
+use Rattle.reader.specs.Places.{Found, nothing, broken, cut, whole, zeroed}
+
+-- a mode that a reader may be in between two steps
+abbrev pub Good : Mode → Type 0
+Good off = Unit
+Good scan = ⊥
+Good (heading g v) = g ≤ 3
+Good (body h held) = (length held ≤ sizeOf h) × (sizeOf h ≤ storeLength)
+
+-- run and store hold the mode m
+pub record Holds (m : Mode) (r : Run) (store : List ℕ) : Type 0 where
+  pub good : Good m
+  pub run : r ≡ runOf m
+  pub kept : store ≡ zeroed (heldOf m)
+
+-- the mode that run and store hold
+abbrev pub Kept : Run → List ℕ → Type 0
+Kept r store = Holds (modeOf r store) r store
+
+-- what an answer by places says stands ahead in s
+abbrev pub aheadIn : List ℕ → Ahead → Found
+aheadIn s Nothing = nothing
+aheadIn s Broken = broken
+aheadIn s (Cut got bits) = cut got bits
+aheadIn s (Whole head next) = whole head (drop next s)
+
+-- the place past a whole header; the other answers give none
+abbrev pub nextOf : Ahead → ℕ → ℕ
+nextOf Nothing other = other
+nextOf Broken other = other
+nextOf (Cut got bits) other = other
+nextOf (Whole head next) other = next
+
+-- from the mode m the running block has taken its bytes of l, which s ends with, and the rest of them begins at a place of s
+pub record TookIn (m : Mode) (l s : List ℕ) (r : Taken) (store : List ℕ) : Type 0 where
+  pub holds : Holds (carries false m l) (r .run) store
+  pub within : r .next ≤ length s
+  pub rest : carries true m l ≡ carries true (carries false m l) (drop (r .next) s)
+
+-- what stood at a is now at r: the mode m is held, these blocks have gone out, and a block was dropped if d says so
+pub record Went (m : Mode) (bs : List Block) (d : Bool) (a r : Got) (store old new : List ℕ) : Type 0 where
+  pub holds : Holds m (r .run) store
+  pub blocks : r .blocks ≡ a .blocks + length bs
+  pub written : r .written ≡ a .written + length (recordsOf bs)
+  pub dropped : r .dropped ≡ either (a .dropped) d
+  pub out : new ≡ sets old (a .written) (recordsOf bs)
