@@ -8,10 +8,12 @@ use native.Mathlib.Omega.{arith}
 use lib.ListN.{length, getD, take, drop, drop-of-length-le, length-drop}
 use lib.Seq.{drop-cons, drop-drop, getD-drop}
 use lib.Dec.{eqb}
-use borrow.Author.Tests.{eq-eqb, ne-eqb, eqb-false}
+use borrow.Author.Tests.{eq-eqb, ne-eqb, eqb-false, lt-ltb, le-ltb}
 use Rattle.laws.specs.Pick.{pick}
 use Rattle.octet.specs.Decoding.{nib, undecodable}
+use Rattle.octet.proofs.Laws.{nib-le}
 use Rattle.reader.specs.Mode.{filler, shifted}
+use Rattle.reader.specs.Seen.{decodes}
 use Rattle.reader.specs.declared.Ahead.{Ahead}
 use Rattle.reader.specs.declared.Ahead.the-variants.{Nothing, Broken, Cut, Whole}
 use Rattle.reader.specs.Holding.{nextOf}
@@ -115,3 +117,38 @@ module _ (s : List ℕ) (from at : ℕ) (p : at ≡ from + fillers (drop from s)
   pub not-filler : from ≤ length s → at < length s → nib (getD s at 0) ≡ 3 → ⊥
   not-filler f h e =
       past-filler (drop from s) (simp length-drop (omega arith)) (rw (getD-drop, ← p) e)
+
+-- ---- bytes that decode
+
+pub decodes-on :
+    (l : List ℕ) (j k : ℕ) → j < length l → (nib (getD l j 0) ≡ 16 → ⊥)
+    → decodes (suc k) (drop j l) ≡ decodes k (drop (j + 1) l)
+unfolding decodes
+decodes-on l j k h e =
+    let f : nib (getD l j 0) < undecodable = omega (arith, nib-le (getD l j 0)) in
+    rw (drop-cons l j 0, lt-ltb _ _ f, add-one)
+
+pub decodes-not : (l : List ℕ) (j k : ℕ) → j < length l → nib (getD l j 0) ≡ 16 → decodes (suc k) (drop j l) ≡ false
+unfolding decodes
+decodes-not l j k h e =
+    let f : undecodable ≤ nib (getD l j 0) = omega arith in
+    rw (drop-cons l j 0, le-ltb _ _ f)
+
+module _ (s : List ℕ) (from k i : ℕ) where
+  pub readable-on :
+      i < k → from + i < length s → (nib (getD s (from + i) 0) ≡ 16 → ⊥)
+      → decodes (k - (i + 1)) (drop (from + (i + 1)) s) ≡ decodes (k - i) (drop (from + i) s)
+  readable-on h j e =
+      let p : k - i ≡ suc (k - (i + 1)) = omega arith in
+      let q : from + (i + 1) ≡ from + i + 1 = omega arith in
+      rw (p, q) (sym (decodes-on s (from + i) (k - (i + 1)) j e))
+
+  pub unreadable :
+      i < k → from + i < length s → nib (getD s (from + i) 0) ≡ 16 → decodes (k - i) (drop (from + i) s) ≡ false
+  unreadable h j e =
+      let p : k - i ≡ suc (k - (i + 1)) = omega arith in
+      rw p (decodes-not s (from + i) (k - (i + 1)) j e)
+
+  pub readable-all : k ≤ i → decodes (k - i) (drop (from + i) s) ≡ true
+  unfolding decodes
+  readable-all h = let p : k - i ≡ 0 = omega arith in rw p

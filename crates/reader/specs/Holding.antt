@@ -35,6 +35,10 @@ pub record Holds (m : Mode) (r : Run) (store : List ℕ) : Type 0 where
 abbrev pub Kept : Run → List ℕ → Type 0
 Kept r store = Holds (modeOf r store) r store
 
+-- the block of these 16 bits and raw bytes
+abbrev pub blockWith : ℕ → List ℕ → Block
+blockWith h l = record { head = h; raw = l }
+
 -- what an answer by places says stands ahead in s
 abbrev pub aheadIn : List ℕ → Ahead → Found
 aheadIn s Nothing = nothing

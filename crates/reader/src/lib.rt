@@ -3,9 +3,12 @@
 use answer::Refusal;
 ghost use mathlib.Core.Path.{_≡_};
 ghost use Prim.Native.Nat.{_+_, _-_, _≤_};
-ghost use lib.ListN.{length, drop};
+ghost use lib.ListN.{length, take, drop, replicate};
+ghost use lib.Seq.{sets};
+ghost use Rattle.blocks.specs.Block.{recordOf};
+ghost use Rattle.reader.specs.Seen.{decodes};
 ghost use Rattle.reader.specs.Places.{fillers, heads, found};
-ghost use Rattle.reader.specs.Holding.{aheadIn, nextOf};
+ghost use Rattle.reader.specs.Holding.{aheadIn, nextOf, blockWith};
 
 // The page of ours that is open, if one is: how many packets follow its packet 0, and the number of
 // the last one that came.
@@ -145,4 +148,54 @@ fn find(s: &[u8], from: usize) -> Ahead
         return Ahead::Nothing;
     }
     head_on(s, at + 1, 0, 0)
+}
+
+// So many bytes of `src` from `from` on go to `dst` from `to` on.
+fn copy(src: &[u8], from: usize, n: usize, dst: &mut [u8], to: usize)
+    requires { ⌜ (from + n ≤ length (now src)) × (to + n ≤ length (now dst)) ⌝ }
+    ensures { λ _. ⌜ now (dst .exit) ≡ sets (now (dst .entry)) to (take n (drop from (now (src .entry)))) ⌝ }
+{
+    let mut i = 0;
+    while i < n {
+        dst[to + i] = src[from + i];
+        i += 1;
+    }
+}
+
+// The record of a block whose raw bytes are so many of `raw` from `from` on, to the place q of the
+// output.
+fn emit(head: u16, raw: &[u8], from: usize, size: usize, out: &mut [u8], q: usize)
+    requires { ⌜ (from + size ≤ length (now raw)) × (q + 2 + size ≤ length (now out)) ⌝ }
+    ensures { λ _. ⌜ now (out .exit) ≡ sets (now (out .entry)) q (recordOf (blockWith head (take size (drop from (now (raw .entry)))))) ⌝ }
+{
+    out[q] = (head % 256) as u8;
+    out[q + 1] = (head / 256) as u8;
+    copy(raw, from, size, out, q + 2);
+}
+
+// The store without the bytes that it held.
+fn clear(store: &mut [u8; 2047], held: usize)
+    requires { ⌜ (held ≤ 2047) × (length (now store) ≡ 2047) ⌝ }
+    ensures { λ _. ⌜ now (store .exit) ≡ sets (now (store .entry)) 0 (replicate held 0) ⌝ }
+{
+    let mut i = 0;
+    while i < held {
+        store[i] = 0;
+        i += 1;
+    }
+}
+
+// Whether the k bytes from `from` on can all be decoded.
+fn readable(s: &[u8], from: usize, k: usize) -> bool
+    requires { ⌜ from + k ≤ length (now s) ⌝ }
+    ensures { λ r. ⌜ r ≡ decodes k (drop from (now (s .entry))) ⌝ }
+{
+    let mut i = 0;
+    while i < k {
+        if octet::decode(s[from + i]) == 16 {
+            return false;
+        }
+        i += 1;
+    }
+    true
 }
