@@ -2,13 +2,18 @@
 // can't be decoded, and then what was held is dropped: a missing table is fetched at the next repeat.
 use answer::Refusal;
 ghost use mathlib.Core.Path.{_≡_};
+ghost use mathlib.Core.List.{[]};
 ghost use Prim.Native.Nat.{_+_, _-_, _≤_};
 ghost use lib.ListN.{length, take, drop, replicate};
 ghost use lib.Seq.{sets};
 ghost use Rattle.blocks.specs.Block.{recordOf};
 ghost use Rattle.reader.specs.Seen.{decodes};
-ghost use Rattle.reader.specs.Places.{fillers, heads, found};
-ghost use Rattle.reader.specs.Holding.{aheadIn, nextOf, blockWith};
+ghost use Rattle.reader.specs.Places.{fillers, heads, found, zeroed};
+ghost use Rattle.reader.specs.declared.Run.the-variants.{Idle, Head, Body};
+ghost use Rattle.reader.specs.Mode.{body};
+ghost use Rattle.reader.specs.State.{modeOf};
+ghost use Rattle.reader.specs.Acting.{dropIf};
+ghost use Rattle.reader.specs.Holding.{aheadIn, nextOf, blockWith, Holds, Kept, TookIn};
 
 // The page of ours that is open, if one is: how many packets follow its packet 0, and the number of
 // the last one that came.
@@ -198,4 +203,96 @@ fn readable(s: &[u8], from: usize, k: usize) -> bool
         i += 1;
     }
     true
+}
+
+// A block that is held whole goes out, and the store is clear again.
+fn hand_out(head: u16, held: usize, store: &mut [u8; 2047], out: &mut [u8], q: usize)
+    requires { ⌜ Kept (Body head held) (now store) ⌝ }
+    requires { ⌜ q + 2 + held ≤ length (now out) ⌝ }
+    ensures { λ _. ⌜ now (store .exit) ≡ zeroed [] ⌝ }
+    ensures { λ _. ⌜ now (out .exit) ≡ sets (now (out .entry)) q (recordOf (blockWith head (take held (now (store .entry))))) ⌝ }
+{
+    emit(head, &*store, 0, held, out, q);
+    clear(store, held);
+}
+
+// The store without what the running block held.
+fn let_go(run: Run, store: &mut [u8; 2047])
+    requires { ⌜ Kept run (now store) ⌝ }
+    ensures { λ _. ⌜ now (store .exit) ≡ zeroed [] ⌝ }
+{
+    match run {
+        Run::Idle => {}
+        Run::Head { got: _, bits: _ } => {}
+        Run::Body { head: _, held } => clear(store, held),
+    }
+}
+
+// The running block, dropped where the test holds.
+fn drop_if(t: bool, run: Run, store: &mut [u8; 2047]) -> Run
+    requires { ⌜ Kept run (now store) ⌝ }
+    ensures { λ r. ⌜ Holds (dropIf t (modeOf run (now (store .entry)))) r (now (store .exit)) ⌝ }
+{
+    if t {
+        let_go(run, store);
+        return Run::Idle;
+    }
+    run
+}
+
+// A block takes the bytes that it still wants, from `from` on.
+fn body_in(head: u16, held: usize, store: &mut [u8; 2047], s: &[u8], from: usize) -> Taken
+    requires { ⌜ Kept (Body head held) (now store) ⌝ }
+    requires { ⌜ from ≤ length (now s) ⌝ }
+    ensures { λ r. ⌜ TookIn (body head (take held (now (store .entry)))) (drop from (now (s .entry))) (now (s .entry)) r (now (store .exit)) ⌝ }
+{
+    let need = (head / 32) as usize - held;
+    let there = s.len() - from;
+    if need < there {
+        copy(s, from, need, store, held);
+        return Taken {
+            run: Run::Body {
+                head: head,
+                held: held + need,
+            },
+            next: from + need,
+        };
+    }
+    copy(s, from, there, store, held);
+    Taken {
+        run: Run::Body {
+            head: head,
+            held: held + there,
+        },
+        next: from + there,
+    }
+}
+
+// The running block takes its bytes from the front of s.
+fn take_in(run: Run, store: &mut [u8; 2047], s: &[u8]) -> Taken
+    requires { ⌜ Kept run (now store) ⌝ }
+    ensures { λ r. ⌜ TookIn (modeOf run (now (store .entry))) (now (s .entry)) (now (s .entry)) r (now (store .exit)) ⌝ }
+{
+    match run {
+        Run::Idle => Taken {
+            run: Run::Idle,
+            next: 0,
+        },
+        Run::Head { got, bits } => match head_on(s, 0, got, bits) {
+            Ahead::Nothing => Taken {
+                run: Run::Idle,
+                next: 0,
+            },
+            Ahead::Broken => Taken {
+                run: Run::Idle,
+                next: 0,
+            },
+            Ahead::Cut { got: g, bits: v } => Taken {
+                run: Run::Head { got: g, bits: v },
+                next: s.len(),
+            },
+            Ahead::Whole { head, next } => body_in(head, 0, store, s, next),
+        },
+        Run::Body { head, held } => body_in(head, held, store, s, 0),
+    }
 }
