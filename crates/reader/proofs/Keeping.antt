@@ -12,8 +12,10 @@ use Rattle.laws.proofs.Lists.{sets-front}
 use Rattle.blocks.specs.Block.{Block, sizeOf}
 use Rattle.reader.specs.declared.Run.{Run}
 use Rattle.reader.specs.declared.Run.the-variants.{Idle, Head, Body}
-use Rattle.reader.specs.Mode.{Mode, off, scan, heading, body, shifted, carries}
+use Rattle.reader.specs.Mode.{Mode, off, scan, heading, body, shifted, full, carries}
 use Rattle.laws.specs.Pick.{pick}
+use Rattle.laws.proofs.Picks.{same}
+use borrow.Author.Tests.{le-leb}
 use Rattle.octet.specs.Decoding.{nib, undecodable}
 use lib.Dec.{eqb}
 use Rattle.reader.specs.State.{storeLength, modeOf, runOf, heldOf}
@@ -21,7 +23,7 @@ use Rattle.reader.specs.Places.{Found, broken, cut, heads, zeroed}
 use Rattle.reader.specs.declared.Taken.{Taken}
 use Rattle.reader.specs.declared.Ahead.{Ahead}
 use Rattle.reader.specs.declared.Ahead.the-variants.{Nothing, Broken, Cut, Whole}
-use Rattle.reader.specs.Holding.{Good, Holds, Kept, TookIn, aheadIn}
+use Rattle.reader.specs.Holding.{Good, Holds, Kept, TookIn, aheadIn, awaits}
 use Rattle.reader.proofs.Walking.{stays, chunk-carried, carries-off, carried-by, heads-carried}
 
 -- ---- a list of N bytes, zeros past those held
@@ -164,6 +166,14 @@ ended h held l (inl f) = stays h held l f
 ended h held [] (inr e) = refl
 ended h held (b ∷ bs) (inr e) = absurd (omega arith)
 
+-- and then it awaits the pointed byte
+awaited :
+    (h : ℕ) (held l : List ℕ) → (sizeOf h ≤ length held) ⊎ (length l ≡ 0) → carries true (body h held) l ≡ awaits (body h held) l
+unfolding carries
+awaited h held l (inl f) = rw (le-leb _ _ f)
+awaited h held [] (inr e) = sym (same (full h held) refl refl)
+awaited h held (b ∷ bs) (inr e) = absurd (omega arith)
+
 -- a block takes n bytes, all that it wants or all that there are
 pub body-took :
     {h held : ℕ} {store : List ℕ} (s : List ℕ) (from n : ℕ) {after : List ℕ} → Kept (Body h held) store → from + n ≤ length s
@@ -178,17 +188,18 @@ body-took {h} {held} {store} s from n {after} k w f o e =
     → carries p (body h (take held store)) (drop from s)
     ≡ carries p (body h (take held store ++ take n (drop from s))) (drop (from + n) s)
     = λ p. chunk-carried p n h (take held store) (drop from s) (rw (body-length k) f) (omega arith) ∙ rw drop-drop in
+    let done : (sizeOf h ≤ length (take held store ++ take n (drop from s))) ⊎ (length (drop (from + n) s) ≡ 0)
+        = ⊎-elim (λ (q : held + n ≡ sizeOf h). inl (rw y (omega arith)))
+        (λ (q : from + n ≡ length s). inr (rw length-drop (omega arith)))
+        o in
     let all : carries false (body h (take held store)) (drop from s) ≡ body h (take held store ++ take n (drop from s))
-    = more false ∙ ended h (take held store ++ take n (drop from s)) (drop (from + n) s)
-    (⊎-elim (λ (q : held + n ≡ sizeOf h). inl (rw y (omega arith)))
-    (λ (q : from + n ≡ length s). inr (rw length-drop (omega arith)))
-    o) in
+        = more false ∙ ended h (take held store ++ take n (drop from s)) (drop (from + n) s) done in
     record {
       holds =
           rw all
           (record { good = (rw y f, body-size k); run = rw y; kept = e ∙ body-more k (take n (drop from s)) (rw x (omega (arith, body-size k))) });
       within = w;
-      rest = rw all (more true);
+      rest = rw all (more true ∙ awaited h (take held store ++ take n (drop from s)) (drop (from + n) s) done);
     }
 
 -- nothing is running, or no longer
@@ -196,7 +207,7 @@ pub idle-took :
     {m : Mode} (l s : List ℕ) {store : List ℕ} → ((p : Bool) → carries p m l ≡ off) → store ≡ zeroed []
     → TookIn m l s (record { run = Idle; next = 0 }) store
 idle-took l s c e =
-    record { holds = rw (c false) (holds-idle e); within = omega arith; rest = rw (c false) (c true ∙ sym (carries-off true s)) }
+    record { holds = rw (c false) (holds-idle e); within = omega arith; rest = rw (c false) (c true) }
 
 -- the header goes on in the next packet
 pub cut-took :
@@ -207,7 +218,7 @@ cut-took s c h e =
     record {
       holds = rw (c false) (record { good = h; run = refl; kept = e });
       within = omega arith;
-      rest = rw (c false, drop-length) (c true);
+      rest = rw (c false) (c true);
     }
 
 -- past a header it is the block that takes

@@ -1,3 +1,4 @@
+pub mod Going
 pub mod Keeping
 pub mod Stepping
 pub mod Storing

@@ -1,14 +1,15 @@
 -- One turn of each loop that reads: what is left from the next place is what was left from this one. Assumes nothing.
 use mathlib.Core.Path.{_≡_, _∙_, refl, sym, ap}
-use mathlib.Core.Bool.{Bool, true, false}
+use mathlib.Core.Bool.{Bool, true, false, not}
 use mathlib.Core.List.{List, [], _∷_, _++_}
 use Prim.Native.Nat.{ℕ, zero, suc, _+_, _-_, _*_, _/_, _≤_, _<_}
 use native.Mathlib.Numerals.{add-one}
 use native.Mathlib.Omega.{arith}
 use lib.ListN.{length, getD, take, drop, drop-of-length-le, length-drop}
 use lib.Seq.{drop-cons, drop-drop, getD-drop}
-use lib.Dec.{eqb}
-use borrow.Author.Tests.{eq-eqb, ne-eqb, eqb-false, lt-ltb, le-ltb}
+use lib.Dec.{eqb, ltb, leb}
+use borrow.Author.Tests.{eq-eqb, ne-eqb, eqb-false, lt-ltb, le-ltb, lt-leb, le-leb}
+use native.Mathlib.Decide.{decLt}
 use Rattle.laws.specs.Pick.{pick}
 use Rattle.octet.specs.Decoding.{nib, undecodable}
 use Rattle.octet.proofs.Laws.{nib-le}
@@ -117,6 +118,18 @@ module _ (s : List ℕ) (from at : ℕ) (p : at ≡ from + fillers (drop from s)
   pub not-filler : from ≤ length s → at < length s → nib (getD s at 0) ≡ 3 → ⊥
   not-filler f h e =
       past-filler (drop from s) (simp length-drop (omega arith)) (rw (getD-drop, ← p) e)
+
+  -- filler reaches the end, or it stops before
+  pub past-end : from ≤ length s → ltb at (length s) ≡ not (leb (length (drop from s)) (fillers (drop from s)))
+  past-end f =
+      let d : length (drop from s) ≡ length s - from = length-drop from s in
+      elim (decLt at (length s)) [
+        yes h ↦ let x : fillers (drop from s) < length (drop from s) = omega arith in rw (lt-ltb _ _ h, lt-leb _ _ x)
+        | no h ↦
+          let x : length (drop from s) ≤ fillers (drop from s) = omega arith in
+          let y : length s ≤ at = omega arith in
+          rw (le-ltb _ _ y, le-leb _ _ x)
+      ]
 
 -- ---- bytes that decode
 

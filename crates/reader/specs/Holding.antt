@@ -3,20 +3,21 @@
 use mathlib.Core.Path.{_≡_}
 use mathlib.Core.Bool.{Bool, true, false}
 use mathlib.Core.List.{List}
-use Prim.Native.Nat.{ℕ, _+_, _≤_}
+use Prim.Native.Nat.{ℕ, _+_, _*_, _≤_}
 use lib.ListN.{length, drop}
 use lib.Seq.{sets}
-use Rattle.laws.specs.Pick.{either}
-use Rattle.blocks.specs.Block.{Block, sizeOf, recordsOf}
-use Rattle.reader.specs.declared.Page.{Page}
+use lib.Dec.{leb}
+use Rattle.laws.specs.Pick.{pick, both, either}
+use Rattle.blocks.specs.Block.{Block, headLength, sizeOf, recordsOf}
 use Rattle.reader.specs.declared.Run.{Run}
+use Rattle.reader.specs.declared.Run.the-variants.{Idle, Head, Body}
 use Rattle.reader.specs.declared.Got.{Got}
 use Rattle.reader.specs.declared.Taken.{Taken}
 use Rattle.reader.specs.declared.Ahead.{Ahead}
 use Rattle.reader.specs.declared.Ahead.the-variants.{Nothing, Broken, Cut, Whole}
-use Rattle.reader.specs.Mode.{Mode, off, scan, heading, body, carries}
+use Rattle.reader.specs.Mode.{Mode, off, scan, heading, body, full, carries, finished, unfinished}
 use Rattle.reader.specs.State.{storeLength, modeOf, runOf, heldOf}
-use Rattle.reader.specs.Places.{Found, nothing, broken, cut, whole, zeroed}
+use Rattle.reader.specs.Places.{Found, nothing, broken, cut, whole, fillers, zeroed}
 
 -- a mode that a reader may be in between two steps
 abbrev pub Good : Mode → Type 0
@@ -53,11 +54,30 @@ nextOf Broken other = other
 nextOf (Cut got bits) other = other
 nextOf (Whole head next) other = next
 
+-- a running block that has taken its bytes, over those up to the pointed byte
+abbrev pub awaits : Mode → List ℕ → Mode
+awaits off l = off
+awaits scan l = off
+awaits (heading g v) l = heading g v
+awaits (body h held) l = pick (full h held) (carries true (body h held) l) (body h held)
+
+-- a block runs
+abbrev pub runs : Run → Bool
+runs Idle = false
+runs (Head got bits) = true
+runs (Body head held) = true
+
+-- it is held whole, and l is only filler
+abbrev pub stands : Run → List ℕ → Bool
+stands Idle l = false
+stands (Head got bits) l = false
+stands (Body head held) l = both (leb (sizeOf head) held) (leb (length l) (fillers l))
+
 -- from the mode m the running block has taken its bytes of l, which s ends with, and the rest of them begins at a place of s
 pub record TookIn (m : Mode) (l s : List ℕ) (r : Taken) (store : List ℕ) : Type 0 where
   pub holds : Holds (carries false m l) (r .run) store
   pub within : r .next ≤ length s
-  pub rest : carries true m l ≡ carries true (carries false m l) (drop (r .next) s)
+  pub rest : carries true m l ≡ awaits (carries false m l) (drop (r .next) s)
 
 -- what stood at a is now at r: the mode m is held, these blocks have gone out, and a block was dropped if d says so
 pub record Went (m : Mode) (bs : List Block) (d : Bool) (a r : Got) (store old new : List ℕ) : Type 0 where
@@ -66,3 +86,12 @@ pub record Went (m : Mode) (bs : List Block) (d : Bool) (a r : Got) (store old n
   pub written : r .written ≡ a .written + length (recordsOf bs)
   pub dropped : r .dropped ≡ either (a .dropped) d
   pub out : new ≡ sets old (a .written) (recordsOf bs)
+
+-- there is room behind what is written for a block, and each block so far has written its 16 bits at least
+pub record Room (a : Got) (out : List ℕ) : Type 0 where
+  pub long : a .written + (headLength + storeLength) ≤ length out
+  pub few : 2 * a .blocks ≤ a .written
+
+-- a block that is held whole has gone out
+abbrev pub Finished : Mode → Got → Got → List ℕ → List ℕ → List ℕ → Type 0
+Finished m a r store old new = Went (unfinished m) (finished m) false a r store old new

@@ -2,10 +2,12 @@
 // can't be decoded, and then what was held is dropped: a missing table is fetched at the next repeat.
 use answer::Refusal;
 ghost use mathlib.Core.Path.{_≡_};
+ghost use mathlib.Core.Bool.{not};
 ghost use mathlib.Core.List.{[]};
 ghost use Prim.Native.Nat.{_+_, _-_, _≤_};
 ghost use lib.ListN.{length, take, drop, replicate};
 ghost use lib.Seq.{sets};
+ghost use Rattle.laws.specs.Pick.{both as Pick·both, either as Pick·either};
 ghost use Rattle.blocks.specs.Block.{recordOf};
 ghost use Rattle.reader.specs.Seen.{decodes};
 ghost use Rattle.reader.specs.Places.{fillers, heads, found, zeroed};
@@ -13,7 +15,7 @@ ghost use Rattle.reader.specs.declared.Run.the-variants.{Idle, Head, Bod
 ghost use Rattle.reader.specs.Mode.{body};
 ghost use Rattle.reader.specs.State.{modeOf};
 ghost use Rattle.reader.specs.Acting.{dropIf};
-ghost use Rattle.reader.specs.Holding.{aheadIn, nextOf, blockWith, Holds, Kept, TookIn};
+ghost use Rattle.reader.specs.Holding.{aheadIn, nextOf, blockWith, Holds, Kept, TookIn, Room, Finished, runs, stands};
 
 // The page of ours that is open, if one is: how many packets follow its packet 0, and the number of
 // the last one that came.
@@ -294,5 +296,81 @@ fn take_in(run: Run, store: &mut [u8; 2047], s: &[u8]) -> Taken
             Ahead::Whole { head, next } => body_in(head, 0, store, s, next),
         },
         Run::Body { head, held } => body_in(head, held, store, s, 0),
+    }
+}
+
+// Whether a block runs.
+fn is_running(run: Run) -> bool
+    ensures { λ r. ⌜ r ≡ runs run ⌝ }
+{
+    match run {
+        Run::Idle => false,
+        Run::Head { got: _, bits: _ } => true,
+        Run::Body { head: _, held: _ } => true,
+    }
+}
+
+// At least one of two tests.
+fn either(a: bool, b: bool) -> bool
+    ensures { λ r. ⌜ r ≡ Pick·either a b ⌝ }
+{
+    if a {
+        return true;
+    }
+    b
+}
+
+// Both of two tests.
+fn both(a: bool, b: bool) -> bool
+    ensures { λ r. ⌜ r ≡ Pick·both a b ⌝ }
+{
+    if a {
+        return b;
+    }
+    false
+}
+
+// Whether a block that has taken its bytes is lost at the pointed byte: it isn't whole, or more than
+// filler follows it.
+fn falls(run: Run, s: &[u8], next: usize) -> bool
+    requires { ⌜ next ≤ length (now s) ⌝ }
+    ensures { λ r. ⌜ r ≡ not (stands run (drop next (now (s .entry)))) ⌝ }
+{
+    match run {
+        Run::Idle => true,
+        Run::Head { got: _, bits: _ } => true,
+        Run::Body { head, held } => {
+            if held < (head / 32) as usize {
+                return true;
+            }
+            skip(s, next) < s.len()
+        }
+    }
+}
+
+// A block that is held whole goes out.
+fn finish(got: Got, store: &mut [u8; 2047], out: &mut [u8]) -> Got
+    requires { ⌜ Kept (got .run) (now store) ⌝ }
+    requires { ⌜ Room got (now out) ⌝ }
+    ensures { λ r. ⌜ Finished (modeOf (got .run) (now (store .entry))) got r (now (store .exit)) (now (out .entry)) (now (out .exit)) ⌝ }
+{
+    let run = got.run;
+    match run {
+        Run::Idle => got,
+        Run::Head { got: _, bits: _ } => got,
+        Run::Body { head, held } => {
+            if held < (head / 32) as usize {
+                return got;
+            }
+            let q = got.written;
+            let blocks = got.blocks;
+            hand_out(head, held, store, out, q);
+            Got {
+                run: Run::Idle,
+                blocks: blocks + 1,
+                written: q + 2 + held,
+                dropped: got.dropped,
+            }
+        }
     }
 }

@@ -1,0 +1,106 @@
+-- What a part of a call adds to what has come so far, and that one part after the other adds both. Assumes nothing.
+use mathlib.Core.Path.{_≡_, _∙_, refl, sym, ap}
+use mathlib.Core.Bool.{Bool, true, false, not}
+use mathlib.Core.List.{List, [], _∷_, _++_, append-assoc, append-nil}
+use Prim.Native.Nat.{ℕ, zero, suc, _+_, _-_, _*_, _≤_, _<_}
+use native.Mathlib.Omega.{arith}
+use lib.Dec.{leb}
+use lib.ListN.{length, take, drop, length-append}
+use lib.Seq.{sets}
+use borrow.Author.Tests.{le-leb, lt-leb}
+use Rattle.laws.specs.Pick.{pick, both, either}
+use Rattle.laws.proofs.Lists.{sets-append}
+use Rattle.blocks.specs.Block.{Block, sizeOf, recordOf, recordsOf}
+use Rattle.reader.specs.declared.Run.{Run}
+use Rattle.reader.specs.declared.Run.the-variants.{Idle, Head, Body}
+use Rattle.reader.specs.declared.Got.{Got}
+use Rattle.reader.specs.Mode.{Mode, off, scan, heading, body, full, isFull, finished, unfinished, running}
+use Rattle.reader.specs.State.{storeLength, modeOf}
+use Rattle.reader.specs.Places.{zeroed}
+use Rattle.reader.specs.Holding.{Good, Holds, Kept, Went, Finished, blockWith, runs}
+use Rattle.reader.proofs.Keeping.{kept-body, body-length, holds-idle}
+
+pub either-false : (a : Bool) → either a false ≡ a
+either-false true = refl
+either-false false = refl
+
+pub either-assoc : (a b c : Bool) → either (either a b) c ≡ either a (either b c)
+either-assoc true b c = refl
+either-assoc false b c = refl
+
+pub both-true : (a : Bool) → both a true ≡ a
+both-true true = refl
+both-true false = refl
+
+pub both-false : (a : Bool) → both a false ≡ false
+both-false true = refl
+both-false false = refl
+
+pub recordsOf-append : (xs ys : List Block) → recordsOf (xs ++ ys) ≡ recordsOf xs ++ recordsOf ys
+unfolding recordsOf
+recordsOf-append [] ys = refl
+recordsOf-append (x ∷ xs) ys = rw (recordsOf-append xs ys) (sym (append-assoc (recordOf x) (recordsOf xs) (recordsOf ys)))
+
+pub record-one : (b : Block) → recordsOf (b ∷ []) ≡ recordOf b
+unfolding recordsOf
+record-one b = append-nil (recordOf b)
+
+-- nothing was added
+pub went-nowhere : {m : Mode} (a : Got) {store : List ℕ} (out : List ℕ) → Holds m (a .run) store → Went m [] false a a store out out
+unfolding recordsOf
+went-nowhere a out h =
+    record { holds = h; blocks = omega arith; written = omega arith; dropped = sym (either-false (a .dropped)); out = refl }
+
+-- one part after the other
+pub went-on :
+    {m n : Mode} {xs ys : List Block} {d e : Bool} {a b c : Got} {s t o p q : List ℕ} → Went m xs d a b s o p → Went n ys e b c t p q
+    → Went n (xs ++ ys) (either d e) a c t o q
+went-on {m} {n} {xs} {ys} {d} {e} {a} {b} {c} {s} {t} {o} {p} {q} x y =
+    record {
+      holds = y .holds;
+      blocks = y .blocks ∙ rw (x .blocks, length-append) (omega arith);
+      written = y .written ∙ rw (x .written, recordsOf-append, length-append) (omega arith);
+      dropped = y .dropped ∙ rw (x .dropped) (either-assoc (a .dropped) d e);
+      out = y .out ∙ rw (x .out, x .written, recordsOf-append) (sym (sets-append o (a .written) (recordsOf xs) (recordsOf ys)));
+    }
+
+-- ---- a block that is held whole goes out, and another stays
+
+not-full : (m : Mode) → Good m → isFull m ≡ false → (unfinished m ≡ m) × (finished m ≡ [])
+not-full off g e = (refl, refl)
+not-full scan g e = absurd g
+not-full (heading n v) g e = (refl, refl)
+not-full (body h held) g e = (rw e, rw e)
+
+pub stays-running :
+    (a : Got) {store : List ℕ} (out : List ℕ) → Kept (a .run) store → isFull (modeOf (a .run) store) ≡ false
+    → Finished (modeOf (a .run) store) a a store out out
+stays-running a {store} out k e =
+    let n = not-full (modeOf (a .run) store) (k .good) e in
+    rw (n .0, n .1) (went-nowhere a out k)
+
+module _ {r : Run} {store : List ℕ} {h n : ℕ} (k : Kept r store) (e : r ≡ Body h n) where
+  pub body-short : n < sizeOf h → isFull (modeOf r store) ≡ false
+  body-short f = rw (e, body-length (kept-body k e)) (lt-leb _ _ f)
+
+  pub body-full : sizeOf h ≤ n → isFull (modeOf r store) ≡ true
+  body-full f = rw (e, body-length (kept-body k e)) (le-leb _ _ f)
+
+pub goes-out :
+    (a : Got) {store after : List ℕ} (old : List ℕ) {new : List ℕ} {h n : ℕ} → Kept (a .run) store → a .run ≡ Body h n → sizeOf h ≤ n
+    → after ≡ zeroed [] → new ≡ sets old (a .written) (recordOf (blockWith h (take n store)))
+    → Finished (modeOf (a .run) store) a
+    (record { run = Idle; blocks = a .blocks + 1; written = a .written + 2 + n; dropped = a .dropped }) after old new
+goes-out a {store} {after} old {new} {h} {n} k e f c o =
+    let b : Block = blockWith h (take n store) in
+    let l : length (take n store) ≡ n = body-length (kept-body k e) in
+    let w : full h (take n store) ≡ true = rw l (le-leb _ _ f) in
+    let x : length (recordsOf (b ∷ [])) ≡ suc (suc n) = ap length (record-one b) ∙ rw l in
+    rw (e, w)
+    (record {
+      holds = holds-idle c;
+      blocks = omega arith;
+      written = omega (arith, x);
+      dropped = sym (either-false (a .dropped));
+      out = o ∙ ap (λ (r : List ℕ). sets old (a .written) r) (sym (record-one b));
+    })
