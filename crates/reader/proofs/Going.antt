@@ -14,11 +14,16 @@ use Rattle.blocks.specs.Block.{Block, sizeOf, recordOf, recordsOf}
 use Rattle.reader.specs.declared.Run.{Run}
 use Rattle.reader.specs.declared.Run.the-variants.{Idle, Head, Body}
 use Rattle.reader.specs.declared.Got.{Got}
-use Rattle.reader.specs.Mode.{Mode, off, scan, heading, body, full, isFull, finished, unfinished, running}
+use Rattle.reader.specs.declared.Taken.{Taken}
+use Rattle.reader.specs.Mode.{Mode, off, scan, heading, body, full, isFull, finished, unfinished, running, carries}
 use Rattle.reader.specs.State.{storeLength, modeOf}
 use Rattle.reader.specs.Places.{zeroed}
-use Rattle.reader.specs.Holding.{Good, Holds, Kept, Went, Finished, blockWith, runs}
-use Rattle.reader.proofs.Keeping.{kept-body, body-length, holds-idle}
+use Rattle.reader.specs.Holding.{Good, Holds, Kept, Went, Finished, blockWith, runs, awaits, stands, TookIn, CarriedTo, CarriedOn}
+use Rattle.reader.specs.Places.{fillers}
+use Rattle.reader.specs.Acting.{dropIf}
+use native.Mathlib.Decide.{decLt}
+use Rattle.reader.proofs.Walking.{waits, breaks-off}
+use Rattle.reader.proofs.Keeping.{kept-body, body-length, holds-idle, holds-mode}
 
 pub either-false : (a : Bool) → either a false ≡ a
 either-false true = refl
@@ -104,3 +109,95 @@ goes-out a {store} {after} old {new} {h} {n} k e f c o =
       dropped = sym (either-false (a .dropped));
       out = o ∙ ap (λ (r : List ℕ). sets old (a .written) r) (sym (record-one b));
     })
+
+-- ---- what was known of a block when a part began
+
+-- a drop that was noted beforehand
+pub went-noting :
+    {m : Mode} {bs : List Block} {a : Got} (b : Got) {r : Got} {d : Bool} {s o p : List ℕ} → Went m bs false b r s o p
+    → b .blocks ≡ a .blocks → b .written ≡ a .written → b .dropped ≡ either (a .dropped) d → Went m bs d a r s o p
+went-noting b w x y z =
+    record {
+      holds = w .holds;
+      blocks = w .blocks ∙ rw x;
+      written = w .written ∙ rw y;
+      dropped = w .dropped ∙ either-false (b .dropped) ∙ z;
+      out = w .out ∙ rw y;
+    }
+
+pub runs-mode : (r : Run) (store : List ℕ) → running (modeOf r store) ≡ runs r
+runs-mode Idle store = refl
+runs-mode (Head g v) store = refl
+runs-mode (Body h n) store = refl
+
+-- ---- at the pointed byte
+
+-- whether the block stands there
+pub stands-full : (m : Mode) {r : Run} {store : List ℕ} (l : List ℕ) → Holds m r store → isFull (awaits m l) ≡ stands r l
+stands-full off l h = rw (h .run)
+stands-full scan l h = absurd (h .good)
+stands-full (heading g v) l h = rw (h .run)
+stands-full (body x held) l h =
+    rw (h .run)
+    (elim (decLt (length held) (sizeOf x)) [
+      | yes f ↦ rw (lt-leb _ _ f) (lt-leb _ _ f)
+      | no f ↦
+          let g : sizeOf x ≤ length held = omega arith in
+          elim (decLt (fillers l) (length l)) [
+            | yes k ↦ rw (le-leb _ _ g, breaks-off x held l g k, lt-leb _ _ k)
+            | no k ↦
+                let j : length l ≤ fillers l = omega arith in
+                rw (le-leb _ _ g, waits x held l g j, le-leb _ _ j) (le-leb _ _ g)
+          ]
+    ])
+
+-- what is left of it then
+pub lost-or-out :
+    (m : Mode) (l : List ℕ) → Good m
+    → (unfinished (dropIf (not (isFull (awaits m l))) m) ≡ off)
+    × (finished (dropIf (not (isFull (awaits m l))) m) ≡ finished (awaits m l))
+lost-or-out off l g = (refl, refl)
+lost-or-out scan l g = absurd g
+lost-or-out (heading n v) l g = (refl, refl)
+lost-or-out (body x held) l g =
+    elim (decLt (length held) (sizeOf x)) [
+      | yes f ↦ simp (lt-leb _ _ f) (refl, refl)
+      | no f ↦
+          let g : sizeOf x ≤ length held = omega arith in
+          elim (decLt (fillers l) (length l)) [
+            | yes k ↦ rw (le-leb _ _ g, breaks-off x held l g k) (refl, refl)
+            | no k ↦
+                let j : length l ≤ fillers l = omega arith in
+                simp (le-leb _ _ g, waits x held l g j) (refl, refl)
+          ]
+    ]
+
+-- ---- a running block over the bytes of a packet
+
+abbrev pub noted : Got → Run → Bool → Got
+noted a r d = record { run = r; blocks = a .blocks; written = a .written; dropped = d }
+
+module _ (m : Mode) (l : List ℕ) (a : Got) {t : Taken} {store : List ℕ} (took : TookIn m l l t store) where
+  in-mode : modeOf (t .run) store ≡ carries false m l
+  in-mode = holds-mode (carries false m l) (took .holds)
+
+  pub carried-on :
+      {r : Got} {d : Bool} {after old new : List ℕ} → d ≡ either (a .dropped) (both (running m) (not (runs (t .run))))
+      → Finished (modeOf (t .run) store) (noted a (t .run) d) r after old new → CarriedOn m l a r after old new
+  carried-on {r} {d} e f =
+      let x : runs (t .run) ≡ running (carries false m l) = sym (runs-mode (t .run) store) ∙ ap running in-mode in
+      went-noting (noted a (t .run) d) (rw in-mode at f) refl refl (rw x at e)
+
+  pub carried-to :
+      {kept : Run} {r : Got} {d lost : Bool} {between after old new : List ℕ} → lost ≡ not (stands (t .run) (drop (t .next) l))
+      → Holds (dropIf lost (modeOf (t .run) store)) kept between → d ≡ either (a .dropped) (both (running m) lost)
+      → Finished (modeOf kept between) (noted a kept d) r after old new → CarriedTo m l a r after old new
+  carried-to {kept} {r} {d} {lost} {between} {after} {old} {new} x h e f =
+      let rest = drop (t .next) l in
+      let y : lost ≡ not (isFull (awaits (carries false m l) rest))
+      = x ∙ ap not (sym (stands-full (carries false m l) rest (took .holds))) in
+      let z : modeOf kept between ≡ dropIf (not (isFull (awaits (carries false m l) rest))) (carries false m l)
+      = holds-mode (dropIf lost (modeOf (t .run) store)) h ∙ rw (in-mode, y) in
+      let o = lost-or-out (carries false m l) rest (took .holds .good) in
+      let g : Went off (finished (awaits (carries false m l) rest)) false (noted a kept d) r after old new = rw (z, o .0, o .1) at f in
+      rw (took .rest) (went-noting (noted a kept d) g refl refl (rw y at e))

@@ -189,11 +189,11 @@ body-took {h} {held} {store} s from n {after} k w f o e =
     ≡ carries p (body h (take held store ++ take n (drop from s))) (drop (from + n) s)
     = λ p. chunk-carried p n h (take held store) (drop from s) (rw (body-length k) f) (omega arith) ∙ rw drop-drop in
     let done : (sizeOf h ≤ length (take held store ++ take n (drop from s))) ⊎ (length (drop (from + n) s) ≡ 0)
-        = ⊎-elim (λ (q : held + n ≡ sizeOf h). inl (rw y (omega arith)))
-        (λ (q : from + n ≡ length s). inr (rw length-drop (omega arith)))
-        o in
+    = ⊎-elim (λ (q : held + n ≡ sizeOf h). inl (rw y (omega arith)))
+    (λ (q : from + n ≡ length s). inr (rw length-drop (omega arith)))
+    o in
     let all : carries false (body h (take held store)) (drop from s) ≡ body h (take held store ++ take n (drop from s))
-        = more false ∙ ended h (take held store ++ take n (drop from s)) (drop (from + n) s) done in
+    = more false ∙ ended h (take held store ++ take n (drop from s)) (drop (from + n) s) done in
     record {
       holds =
           rw all

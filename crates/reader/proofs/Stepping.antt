@@ -124,11 +124,11 @@ module _ (s : List ℕ) (from at : ℕ) (p : at ≡ from + fillers (drop from s)
   past-end f =
       let d : length (drop from s) ≡ length s - from = length-drop from s in
       elim (decLt at (length s)) [
-        yes h ↦ let x : fillers (drop from s) < length (drop from s) = omega arith in rw (lt-ltb _ _ h, lt-leb _ _ x)
+        | yes h ↦ let x : fillers (drop from s) < length (drop from s) = omega arith in rw (lt-ltb _ _ h, lt-leb _ _ x)
         | no h ↦
-          let x : length (drop from s) ≤ fillers (drop from s) = omega arith in
-          let y : length s ≤ at = omega arith in
-          rw (le-ltb _ _ y, le-leb _ _ x)
+            let x : length (drop from s) ≤ fillers (drop from s) = omega arith in
+            let y : length s ≤ at = omega arith in
+            rw (le-ltb _ _ y, le-leb _ _ x)
       ]
 
 -- ---- bytes that decode

@@ -1,7 +1,7 @@
 -- How the code holds what the definitions speak of: a mode as a run and a store, and what a part of a call adds to what has come so
 -- far. Only private calls cite these.
 use mathlib.Core.Path.{_≡_}
-use mathlib.Core.Bool.{Bool, true, false}
+use mathlib.Core.Bool.{Bool, true, false, not}
 use mathlib.Core.List.{List}
 use Prim.Native.Nat.{ℕ, _+_, _*_, _≤_}
 use lib.ListN.{length, drop}
@@ -15,7 +15,7 @@ use Rattle.reader.specs.declared.Got.{Got}
 use Rattle.reader.specs.declared.Taken.{Taken}
 use Rattle.reader.specs.declared.Ahead.{Ahead}
 use Rattle.reader.specs.declared.Ahead.the-variants.{Nothing, Broken, Cut, Whole}
-use Rattle.reader.specs.Mode.{Mode, off, scan, heading, body, full, carries, finished, unfinished}
+use Rattle.reader.specs.Mode.{Mode, off, scan, heading, body, full, running, isFull, carries, finished, unfinished}
 use Rattle.reader.specs.State.{storeLength, modeOf, runOf, heldOf}
 use Rattle.reader.specs.Places.{Found, nothing, broken, cut, whole, fillers, zeroed}
 
@@ -95,3 +95,11 @@ pub record Room (a : Got) (out : List ℕ) : Type 0 where
 -- a block that is held whole has gone out
 abbrev pub Finished : Mode → Got → Got → List ℕ → List ℕ → List ℕ → Type 0
 Finished m a r store old new = Went (unfinished m) (finished m) false a r store old new
+
+-- the bytes l stand before the pointed byte
+abbrev pub CarriedTo : Mode → List ℕ → Got → Got → List ℕ → List ℕ → List ℕ → Type 0
+CarriedTo m l = Went off (finished (carries true m l)) (both (running m) (not (isFull (carries true m l))))
+
+-- the bytes l are a packet's that points at no start
+abbrev pub CarriedOn : Mode → List ℕ → Got → Got → List ℕ → List ℕ → List ℕ → Type 0
+CarriedOn m l = Went (unfinished (carries false m l)) (finished (carries false m l)) (both (running m) (not (running (carries false m l))))

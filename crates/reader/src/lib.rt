@@ -15,7 +15,7 @@ ghost use Rattle.reader.specs.declared.Run.the-variants.{Idle, Head, Bod
 ghost use Rattle.reader.specs.Mode.{body};
 ghost use Rattle.reader.specs.State.{modeOf};
 ghost use Rattle.reader.specs.Acting.{dropIf};
-ghost use Rattle.reader.specs.Holding.{aheadIn, nextOf, blockWith, Holds, Kept, TookIn, Room, Finished, runs, stands};
+ghost use Rattle.reader.specs.Holding.{aheadIn, nextOf, blockWith, Holds, Kept, TookIn, Room, Finished, CarriedTo, CarriedOn, runs, stands};
 
 // The page of ours that is open, if one is: how many packets follow its packet 0, and the number of
 // the last one that came.
@@ -373,4 +373,51 @@ fn finish(got: Got, store: &mut [u8; 2047], out: &mut [u8]) -> Got
             }
         }
     }
+}
+
+// Up to the pointed byte: the running block is finished by then with only filler between, or it is
+// dropped.
+fn carry_to(got: Got, store: &mut [u8; 2047], s: &[u8], out: &mut [u8]) -> Got
+    requires { ⌜ Kept (got .run) (now store) ⌝ }
+    requires { ⌜ Room got (now out) ⌝ }
+    ensures { λ r. ⌜ CarriedTo (modeOf (got .run) (now (store .entry))) (now (s .entry)) got r (now (store .exit)) (now (out .entry)) (now (out .exit)) ⌝ }
+{
+    let was = got.run;
+    let taken = take_in(was, store, s);
+    let run = taken.run;
+    let lost = falls(run, s, taken.next);
+    let kept = drop_if(lost, run, store);
+    let dropped = either(got.dropped, both(is_running(was), lost));
+    finish(
+        Got {
+            run: kept,
+            blocks: got.blocks,
+            written: got.written,
+            dropped: dropped,
+        },
+        store,
+        out,
+    )
+}
+
+// No start is pointed at: the running block takes what it wants, and what follows it isn't read.
+fn carry_on(got: Got, store: &mut [u8; 2047], s: &[u8], out: &mut [u8]) -> Got
+    requires { ⌜ Kept (got .run) (now store) ⌝ }
+    requires { ⌜ Room got (now out) ⌝ }
+    ensures { λ r. ⌜ CarriedOn (modeOf (got .run) (now (store .entry))) (now (s .entry)) got r (now (store .exit)) (now (out .entry)) (now (out .exit)) ⌝ }
+{
+    let was = got.run;
+    let taken = take_in(was, store, s);
+    let run = taken.run;
+    let dropped = either(got.dropped, both(is_running(was), !is_running(run)));
+    finish(
+        Got {
+            run: run,
+            blocks: got.blocks,
+            written: got.written,
+            dropped: dropped,
+        },
+        store,
+        out,
+    )
 }
