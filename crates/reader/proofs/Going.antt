@@ -6,7 +6,7 @@ use Prim.Native.Nat.{ℕ, zero, suc, _+_, _-_, _*_, _≤_, _<_}
 use native.Mathlib.Omega.{arith}
 use lib.Dec.{leb}
 use lib.ListN.{length, take, drop, length-append}
-use lib.Seq.{sets}
+use lib.Seq.{sets, length-take-le}
 use borrow.Author.Tests.{le-leb, lt-leb}
 use Rattle.laws.specs.Pick.{pick, both, either}
 use Rattle.laws.proofs.Lists.{sets-append}
@@ -17,13 +17,12 @@ use Rattle.reader.specs.declared.Got.{Got}
 use Rattle.reader.specs.declared.Taken.{Taken}
 use Rattle.reader.specs.Mode.{Mode, off, scan, heading, body, full, isFull, finished, unfinished, running, carries}
 use Rattle.reader.specs.State.{storeLength, modeOf}
-use Rattle.reader.specs.Places.{zeroed}
-use Rattle.reader.specs.Holding.{Good, Holds, Kept, Went, Finished, blockWith, runs, awaits, stands, TookIn, CarriedTo, CarriedOn}
-use Rattle.reader.specs.Places.{fillers}
+use Rattle.reader.specs.Places.{Found, nothing, broken, cut, whole, fillers, found, zeroed}
+use Rattle.reader.specs.Holding.{Good, Holds, Kept, Went, Finished, blockWith, runs, awaits, stands, TookIn, CarriedTo, CarriedOn, Flowed}
 use Rattle.reader.specs.Acting.{dropIf}
 use native.Mathlib.Decide.{decLt}
-use Rattle.reader.proofs.Walking.{waits, breaks-off}
-use Rattle.reader.proofs.Keeping.{kept-body, body-length, holds-idle, holds-mode}
+use Rattle.reader.proofs.Walking.{waits, breaks-off, left-by, given-by, spoilt-by, found-left, found-given, found-spoilt, headed-long, headed-short}
+use Rattle.reader.proofs.Keeping.{kept-body, body-length, holds-idle, holds-mode, zeroed-more}
 
 pub either-false : (a : Bool) → either a false ≡ a
 either-false true = refl
@@ -201,3 +200,97 @@ module _ (m : Mode) (l : List ℕ) (a : Got) {t : Taken} {store : List ℕ} (too
       let o = lost-or-out (carries false m l) rest (took .holds .good) in
       let g : Went off (finished (awaits (carries false m l) rest)) false (noted a kept d) r after old new = rw (z, o .0, o .1) at f in
       rw (took .rest) (went-noting (noted a kept d) g refl refl (rw y at e))
+
+-- ---- from the pointed byte on
+
+pub either-true : (a : Bool) → either a true ≡ true
+either-true true = refl
+either-true false = refl
+
+-- no block more
+went-none :
+    {m : Mode} {d : Bool} (a : Got) (r : Run) {x : Bool} {store : List ℕ} (out : List ℕ) → Holds m r store
+    → x ≡ either (a .dropped) d → Went m [] d a (noted a r x) store out out
+unfolding recordsOf
+went-none a r out h e = record { holds = h; blocks = omega arith; written = omega arith; dropped = e; out = refl }
+
+-- one block more
+went-one :
+    (a : Got) (h : ℕ) (raw : List ℕ) {old new : List ℕ} → new ≡ sets old (a .written) (recordOf (blockWith h raw))
+    → Went off (blockWith h raw ∷ []) false a
+    (record { run = Idle; blocks = a .blocks + 1; written = a .written + 2 + length raw; dropped = a .dropped }) (zeroed []) old new
+went-one a h raw {old} {new} e =
+    let x : length (recordsOf (blockWith h raw ∷ [])) ≡ suc (suc (length raw)) = ap length (record-one (blockWith h raw)) in
+    record {
+      holds = holds-idle refl;
+      blocks = omega arith;
+      written = omega (arith, x);
+      dropped = sym (either-false (a .dropped));
+      out = e ∙ ap (λ (r : List ℕ). sets old (a .written) r) (sym (record-one (blockWith h raw)));
+    }
+
+-- by what stands ahead
+module _ (l : List ℕ) (a : Got) {f : Found} (x : found l ≡ f) where
+  by-found :
+      {r : Got} {store old new : List ℕ} → Went (left-by f) (given-by f) (spoilt-by f) a r store old new → Flowed l a r store old new
+  by-found w = rw (found-left l, found-given l, found-spoilt l, x) w
+
+pub flow-nothing :
+    (l : List ℕ) (a : Got) {store : List ℕ} (out : List ℕ) → found l ≡ nothing → store ≡ zeroed []
+    → Flowed l a (noted a Idle (a .dropped)) store out out
+flow-nothing l a out x e = by-found l a x (went-none a Idle out (holds-idle e) (sym (either-false (a .dropped))))
+
+pub flow-broken :
+    (l : List ℕ) (a : Got) {store : List ℕ} (out : List ℕ) → found l ≡ broken → store ≡ zeroed []
+    → Flowed l a (noted a Idle true) store out out
+flow-broken l a out x e = by-found l a x (went-none a Idle out (holds-idle e) (sym (either-true (a .dropped))))
+
+pub flow-cut :
+    (l : List ℕ) (a : Got) {store : List ℕ} (out : List ℕ) {g v : ℕ} → found l ≡ cut g v → g ≤ 3 → store ≡ zeroed []
+    → Flowed l a (noted a (Head g v) (a .dropped)) store out out
+flow-cut l a out {g} {v} x h e =
+    by-found l a x
+    (went-none a (Head g v) out (record { good = h; run = refl; kept = e }) (sym (either-false (a .dropped))))
+
+pub flow-held :
+    (l : List ℕ) (a : Got) {store : List ℕ} (out : List ℕ) {h n : ℕ} {k : List ℕ} → found l ≡ whole h k → length k ≡ n
+    → n < sizeOf h → sizeOf h ≤ storeLength → store ≡ sets (zeroed []) 0 k
+    → Flowed l a (noted a (Body h n) (a .dropped)) store out out
+flow-held l a out {h} {n} {k} x y f g e =
+    let u : length k < sizeOf h = rw y f in
+    let s = headed-short h k u in
+    let z : 0 + length k ≤ storeLength = omega arith in
+    by-found l a x
+    (rw (s .0, s .1, s .2, lt-leb _ _ u)
+    (went-none a (Body h n) out
+    (record { good = (omega arith, g); run = rw y; kept = e ∙ zeroed-more [] k z })
+    (sym (either-false (a .dropped)))))
+
+pub flow-on :
+    (l : List ℕ) (a : Got) {r : Got} {store old mid new : List ℕ} {h : ℕ} {k : List ℕ} → found l ≡ whole h k → sizeOf h ≤ length k
+    → mid ≡ sets old (a .written) (recordOf (blockWith h (take (sizeOf h) k)))
+    → Flowed (drop (sizeOf h) k)
+    (record { run = Idle; blocks = a .blocks + 1; written = a .written + 2 + sizeOf h; dropped = a .dropped }) r store mid new
+    → Flowed l a r store old new
+flow-on l a {r} {store} {old} {mid} {new} {h} {k} x f e w =
+    let s = headed-long h k f in
+    let y : length (take (sizeOf h) k) ≡ sizeOf h = length-take-le (sizeOf h) k f in
+    let o = went-one a h (take (sizeOf h) k) {old = old} {new = mid} e in
+    by-found l a x (rw (s .0, s .1, s .2) (went-on (rw y at o) w))
+
+-- ---- the loop from the pointed byte on
+
+-- what has come so far, where nothing runs
+abbrev pub place : Bool → ℕ → ℕ → Got
+place d blocks written = record { run = Idle; blocks = blocks; written = written; dropped = d }
+
+-- what comes of l′ from b is what comes of l from a
+abbrev pub Leads : List ℕ → Got → List ℕ → List ℕ → Got → List ℕ → Type 0
+Leads l a old l′ b mid = (r : Got) (store new : List ℕ) → Flowed l′ b r store mid new → Flowed l a r store old new
+
+-- which block ran before doesn't count
+pub from-place :
+    {m : Mode} {bs : List Block} {d : Bool} (a : Got) {r : Got} {store old new : List ℕ}
+    → Went m bs d (place (a .dropped) (a .blocks) (a .written)) r store old new → Went m bs d a r store old new
+from-place a w =
+    record { holds = w .holds; blocks = w .blocks; written = w .written; dropped = w .dropped; out = w .out }

@@ -12,14 +12,14 @@ use Rattle.laws.proofs.Lists.{sets-front}
 use Rattle.blocks.specs.Block.{Block, sizeOf}
 use Rattle.reader.specs.declared.Run.{Run}
 use Rattle.reader.specs.declared.Run.the-variants.{Idle, Head, Body}
-use Rattle.reader.specs.Mode.{Mode, off, scan, heading, body, shifted, full, carries}
+use Rattle.reader.specs.Mode.{Mode, off, scan, heading, body, filler, shifted, full, carries}
 use Rattle.laws.specs.Pick.{pick}
 use Rattle.laws.proofs.Picks.{same}
 use borrow.Author.Tests.{le-leb}
 use Rattle.octet.specs.Decoding.{nib, undecodable}
 use lib.Dec.{eqb}
 use Rattle.reader.specs.State.{storeLength, modeOf, runOf, heldOf}
-use Rattle.reader.specs.Places.{Found, broken, cut, heads, zeroed}
+use Rattle.reader.specs.Places.{Found, nothing, broken, cut, heads, found, zeroed}
 use Rattle.reader.specs.declared.Taken.{Taken}
 use Rattle.reader.specs.declared.Ahead.{Ahead}
 use Rattle.reader.specs.declared.Ahead.the-variants.{Nothing, Broken, Cut, Whole}
@@ -245,6 +245,17 @@ cut-le (suc k) v (b ∷ bs) {g} {w} e = go (eqb (nib b) undecodable) (cut-le k (
         (t : Bool) → (heads k (shifted v b) bs ≡ cut g w → g ≤ 3) → pick t broken (heads k (shifted v b) bs) ≡ cut g w → g ≤ 3
     go true r q = let z : _≡_ {A = ℕ} 0 1 = cc in absurd (omega arith)
     go false r q = r q
+
+pub found-cut-le : (l : List ℕ) {g w : ℕ} → found l ≡ cut g w → g ≤ 3
+unfolding found
+found-cut-le [] e = let z : _≡_ {A = ℕ} 0 1 = cc in absurd (omega arith)
+found-cut-le (b ∷ bs) {g} {w} e = go (filler b) (eqb (nib b) 12) (found-cut-le bs) e
+  where
+    go :
+        (t u : Bool) → (found bs ≡ cut g w → g ≤ 3) → pick t (found bs) (pick u (heads 4 0 bs) nothing) ≡ cut g w → g ≤ 3
+    go true u r q = r q
+    go false true r q = cut-le 4 0 bs q
+    go false false r q = let z : _≡_ {A = ℕ} 0 1 = cc in absurd (omega arith)
 
 -- a running header, by the answer to reading it on
 module _ {r : Run} {store : List ℕ} {g v : ℕ} (s : List ℕ) (a : Ahead) (k : Kept r store) (e : r ≡ Head g v)

@@ -109,6 +109,13 @@ next-later Broken x y e h = omega arith
 next-later (Cut g v) x y e h = omega arith
 next-later (Whole h n) x y e k = omega arith
 
+-- the place past a whole header lies so far on, and within the bytes
+pub next-from : (r : Ahead) {h n : ℕ} (x : ℕ) → r ≡ Whole h n → x ≤ nextOf r x → x ≤ n
+next-from r x e l = rw e at l
+
+pub next-within : (r : Ahead) {h n : ℕ} {y : ℕ} → r ≡ Whole h n → nextOf r 0 ≤ y → n ≤ y
+next-within r e l = rw e at l
+
 -- ---- the same from the place that filler leads to
 
 module _ (s : List ℕ) (from at : ℕ) (p : at ≡ from + fillers (drop from s)) where

@@ -15,7 +15,7 @@ use Rattle.reader.specs.declared.Got.{Got}
 use Rattle.reader.specs.declared.Taken.{Taken}
 use Rattle.reader.specs.declared.Ahead.{Ahead}
 use Rattle.reader.specs.declared.Ahead.the-variants.{Nothing, Broken, Cut, Whole}
-use Rattle.reader.specs.Mode.{Mode, off, scan, heading, body, full, running, isFull, carries, finished, unfinished}
+use Rattle.reader.specs.Mode.{Mode, off, scan, heading, body, full, running, isFull, ends, gives, spoils, carries, finished, unfinished}
 use Rattle.reader.specs.State.{storeLength, modeOf, runOf, heldOf}
 use Rattle.reader.specs.Places.{Found, nothing, broken, cut, whole, fillers, zeroed}
 
@@ -103,3 +103,7 @@ CarriedTo m l = Went off (finished (carries true m l)) (both (running m) (not (i
 -- the bytes l are a packet's that points at no start
 abbrev pub CarriedOn : Mode → List ℕ → Got → Got → List ℕ → List ℕ → List ℕ → Type 0
 CarriedOn m l = Went (unfinished (carries false m l)) (finished (carries false m l)) (both (running m) (not (running (carries false m l))))
+
+-- the bytes l stand from the pointed byte on
+abbrev pub Flowed : List ℕ → Got → Got → List ℕ → List ℕ → List ℕ → Type 0
+Flowed l = Went (unfinished (ends scan l)) (gives scan l) (spoils scan l)

@@ -4,7 +4,7 @@ use answer::Refusal;
 ghost use mathlib.Core.Path.{_≡_};
 ghost use mathlib.Core.Bool.{not};
 ghost use mathlib.Core.List.{[]};
-ghost use Prim.Native.Nat.{_+_, _-_, _≤_};
+ghost use Prim.Native.Nat.{_+_, _-_, _*_, _≤_};
 ghost use lib.ListN.{length, take, drop, replicate};
 ghost use lib.Seq.{sets};
 ghost use Rattle.laws.specs.Pick.{both as Pick·both, either as Pick·either};
@@ -15,7 +15,7 @@ ghost use Rattle.reader.specs.declared.Run.the-variants.{Idle, Head, Bod
 ghost use Rattle.reader.specs.Mode.{body};
 ghost use Rattle.reader.specs.State.{modeOf};
 ghost use Rattle.reader.specs.Acting.{dropIf};
-ghost use Rattle.reader.specs.Holding.{aheadIn, nextOf, blockWith, Holds, Kept, TookIn, Room, Finished, CarriedTo, CarriedOn, runs, stands};
+ghost use Rattle.reader.specs.Holding.{aheadIn, nextOf, blockWith, Holds, Kept, TookIn, Room, Finished, CarriedTo, CarriedOn, Flowed, runs, stands};
 
 // The page of ours that is open, if one is: how many packets follow its packet 0, and the number of
 // the last one that came.
@@ -420,4 +420,65 @@ fn carry_on(got: Got, store: &mut [u8; 2047], s: &[u8], out: &mut [u8]) -> Got
         store,
         out,
     )
+}
+
+// From the pointed byte on, where nothing runs: filler is skipped to a start, the block is handed out
+// where all of it is there, and so on to the end. What is left of a block is held.
+fn flow(got: Got, store: &mut [u8; 2047], s: &[u8], out: &mut [u8]) -> Got
+    requires { ⌜ now store ≡ zeroed [] ⌝ }
+    requires { ⌜ (got .written + length (now s) ≤ length (now out)) × (2 * got .blocks ≤ got .written) ⌝ }
+    ensures { λ r. ⌜ Flowed (now (s .entry)) got r (now (store .exit)) (now (out .entry)) (now (out .exit)) ⌝ }
+{
+    let dropped = got.dropped;
+    let mut blocks = got.blocks;
+    let mut q = got.written;
+    let mut at = 0;
+    loop {
+        match find(s, at) {
+            Ahead::Nothing => {
+                return Got {
+                    run: Run::Idle,
+                    blocks: blocks,
+                    written: q,
+                    dropped: dropped,
+                };
+            }
+            Ahead::Broken => {
+                return Got {
+                    run: Run::Idle,
+                    blocks: blocks,
+                    written: q,
+                    dropped: true,
+                };
+            }
+            Ahead::Cut { got: g, bits } => {
+                return Got {
+                    run: Run::Head { got: g, bits: bits },
+                    blocks: blocks,
+                    written: q,
+                    dropped: dropped,
+                };
+            }
+            Ahead::Whole { head, next } => {
+                let size = (head / 32) as usize;
+                let there = s.len() - next;
+                if there < size {
+                    copy(s, next, there, store, 0);
+                    return Got {
+                        run: Run::Body {
+                            head: head,
+                            held: there,
+                        },
+                        blocks: blocks,
+                        written: q,
+                        dropped: dropped,
+                    };
+                }
+                emit(head, s, next, size, out, q);
+                blocks += 1;
+                q = q + 2 + size;
+                at = next + size;
+            }
+        }
+    }
 }
