@@ -2,14 +2,14 @@
 use mathlib.Core.Path.{_≡_, _∙_, refl, sym, ap}
 use mathlib.Core.Bool.{Bool, true, false, not}
 use mathlib.Core.List.{List, [], _∷_, _++_, append-assoc, append-nil}
-use Prim.Native.Nat.{ℕ, zero, suc, _+_, _-_, _*_, _≤_, _<_}
+use Prim.Native.Nat.{ℕ, zero, suc, _+_, _-_, _*_, _^_, _≤_, _<_}
 use native.Mathlib.Omega.{arith}
 use lib.Dec.{leb}
 use lib.ListN.{length, take, drop, length-append}
-use lib.Seq.{sets, length-take-le}
-use borrow.Author.Tests.{le-leb, lt-leb}
+use lib.Seq.{sets, length-take-le, drop-drop}
+use borrow.Author.Tests.{le-leb, lt-leb, eq-eqb, ne-eqb}
 use Rattle.laws.specs.Pick.{pick, both, either}
-use Rattle.laws.proofs.Lists.{sets-append}
+use Rattle.laws.proofs.Lists.{sets-append, part-of, part-rest}
 use Rattle.blocks.specs.Block.{Block, sizeOf, recordOf, recordsOf}
 use Rattle.reader.specs.declared.Run.{Run}
 use Rattle.reader.specs.declared.Run.the-variants.{Idle, Head, Body}
@@ -18,7 +18,7 @@ use Rattle.reader.specs.declared.Taken.{Taken}
 use Rattle.reader.specs.Mode.{Mode, off, scan, heading, body, full, isFull, finished, unfinished, running, carries}
 use Rattle.reader.specs.State.{storeLength, modeOf}
 use Rattle.reader.specs.Places.{Found, nothing, broken, cut, whole, fillers, found, zeroed}
-use Rattle.reader.specs.Holding.{Good, Holds, Kept, Went, Finished, blockWith, runs, awaits, stands, TookIn, CarriedTo, CarriedOn, Flowed}
+use Rattle.reader.specs.Holding.{Good, Holds, Kept, Went, Finished, blockWith, runs, awaits, stands, TookIn, CarriedTo, CarriedOn, Flowed, ReadRow}
 use Rattle.reader.specs.Acting.{dropIf}
 use native.Mathlib.Decide.{decLt}
 use Rattle.reader.proofs.Walking.{waits, breaks-off, left-by, given-by, spoilt-by, found-left, found-given, found-spoilt, headed-long, headed-short}
@@ -246,7 +246,7 @@ pub flow-broken :
 flow-broken l a out x e = by-found l a x (went-none a Idle out (holds-idle e) (sym (either-true (a .dropped))))
 
 pub flow-cut :
-    (l : List ℕ) (a : Got) {store : List ℕ} (out : List ℕ) {g v : ℕ} → found l ≡ cut g v → g ≤ 3 → store ≡ zeroed []
+    (l : List ℕ) (a : Got) {store : List ℕ} (out : List ℕ) {g v : ℕ} → found l ≡ cut g v → (g ≤ 3) × (v < 2 ^ 16) → store ≡ zeroed []
     → Flowed l a (noted a (Head g v) (a .dropped)) store out out
 flow-cut l a out {g} {v} x h e =
     by-found l a x
@@ -294,3 +294,27 @@ pub from-place :
     → Went m bs d (place (a .dropped) (a .blocks) (a .written)) r store old new → Went m bs d a r store old new
 from-place a w =
     record { holds = w .holds; blocks = w .blocks; written = w .written; dropped = w .dropped; out = w .out }
+
+-- ---- the 39 bytes of a packet, by its pointer p; the code lends the parts of the packet, and has p as q
+
+module _ (m : Mode) (p : ℕ) (packet : List ℕ) (a : Got) {q : ℕ} {old : List ℕ} (e : q ≡ p) where
+  pub read-pointed :
+      {b r : Got} {between store mid new : List ℕ} → q ≤ 12 → CarriedTo m (take (3 + 3 * q - 3) (drop 3 packet)) a b between old mid
+      → Flowed (take (length packet - (3 + 3 * q)) (drop (3 + 3 * q) packet)) b r store mid new
+      → ReadRow m p (drop 3 packet) a r store old new
+  read-pointed h x y =
+      rw (← e, le-leb _ _ h, drop-drop)
+      (went-on (rw (part-of 3 (3 * q) packet) at x) (rw (part-rest (3 + 3 * q) packet) at y))
+
+  pub read-unpointed :
+      {r : Got} {store new : List ℕ} → q ≡ 13 → CarriedOn m (take (length packet - 3) (drop 3 packet)) a r store old new
+      → ReadRow m p (drop 3 packet) a r store old new
+  read-unpointed h x =
+      let k : 12 < q = omega arith in
+      rw (← e, lt-leb _ _ k, eq-eqb _ _ h) (rw (part-rest 3 packet) at x)
+
+  pub read-skipped :
+      {d : Bool} {store : List ℕ} → 12 < q → (q ≡ 13 → ⊥) → d ≡ either (a .dropped) (running m) → store ≡ zeroed []
+      → ReadRow m p (drop 3 packet) a (noted a Idle d) store old old
+  read-skipped k n f c =
+      rw (← e, lt-leb _ _ k, ne-eqb _ _ n, both-true) (went-none a Idle old (holds-idle c) f)

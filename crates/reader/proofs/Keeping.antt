@@ -3,7 +3,7 @@ use mathlib.Core.Path.{_≡_, _∙_, refl, sym, ap, subst}
 use mathlib.Core.Bool.{Bool, true, false}
 use mathlib.Core.Logic.{_⊎_, inl, inr, ⊎-elim}
 use mathlib.Core.List.{List, [], _∷_, _++_, append-assoc, append-nil}
-use Prim.Native.Nat.{ℕ, zero, suc, _+_, _-_, _≤_, _<_}
+use Prim.Native.Nat.{ℕ, zero, suc, _+_, _-_, _^_, _≤_, _<_}
 use native.Mathlib.Nat.{add-zero, zero-add}
 use native.Mathlib.Omega.{arith}
 use lib.ListN.{length, getD, take, drop, set, replicate, length-append, length-replicate, length-take, length-drop, drop-of-length-le, replicate-append-replicate}
@@ -132,7 +132,7 @@ module _ {r : Run} {store : List ℕ} (k : Kept r store) where
   kept-head e = (rw e at k) .kept
 
   pub kept-got : {g v : ℕ} → r ≡ Head g v → g ≤ 3
-  kept-got e = (rw e at k) .good
+  kept-got e = (rw e at k) .good .0
 
   pub kept-body : {h n : ℕ} → r ≡ Body h n → Kept (Body h n) store
   kept-body e = rw e at k
@@ -211,7 +211,7 @@ idle-took l s c e =
 
 -- the header goes on in the next packet
 pub cut-took :
-    {m : Mode} (s : List ℕ) {store : List ℕ} {g v : ℕ} → ((p : Bool) → carries p m s ≡ heading g v) → g ≤ 3 → store ≡ zeroed []
+    {m : Mode} (s : List ℕ) {store : List ℕ} {g v : ℕ} → ((p : Bool) → carries p m s ≡ heading g v) → (g ≤ 3) × (v < 2 ^ 16) → store ≡ zeroed []
     → TookIn m s s (record { run = Head g v; next = length s }) store
 unfolding carries
 cut-took s c h e =
@@ -269,8 +269,8 @@ module _ {r : Run} {store : List ℕ} {g v : ℕ} (s : List ℕ) (a : Ahead) (k 
   pub head-broken : a ≡ Broken → TookIn (modeOf r store) s s (record { run = Idle; next = 0 }) store
   head-broken y = idle-took s s (λ p. by-answer p ∙ rw y) (kept-head k e)
 
-  pub head-cut : {n w : ℕ} → a ≡ Cut n w → TookIn (modeOf r store) s s (record { run = Head n w; next = length s }) store
-  head-cut y = cut-took s (λ p. by-answer p ∙ rw y) (cut-le (4 - g) v s (x ∙ ap (aheadIn s) y)) (kept-head k e)
+  pub head-cut : {n w : ℕ} → a ≡ Cut n w → w < 2 ^ 16 → TookIn (modeOf r store) s s (record { run = Head n w; next = length s }) store
+  head-cut y b = cut-took s (λ p. by-answer p ∙ rw y) (cut-le (4 - g) v s (x ∙ ap (aheadIn s) y), b) (kept-head k e)
 
   pub head-whole :
       {h n : ℕ} {t : Taken} {after : List ℕ} → a ≡ Whole h n → TookIn (body h []) (drop n s) s t after

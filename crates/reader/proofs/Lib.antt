@@ -1,5 +1,6 @@
 pub mod Going
 pub mod Keeping
+pub mod Range
 pub mod Stepping
 pub mod Storing
 pub mod Walking

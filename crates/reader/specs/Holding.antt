@@ -3,7 +3,7 @@
 use mathlib.Core.Path.{_≡_}
 use mathlib.Core.Bool.{Bool, true, false, not}
 use mathlib.Core.List.{List}
-use Prim.Native.Nat.{ℕ, _+_, _*_, _≤_}
+use Prim.Native.Nat.{ℕ, _+_, _*_, _^_, _≤_, _<_}
 use lib.ListN.{length, drop}
 use lib.Seq.{sets}
 use lib.Dec.{leb}
@@ -17,13 +17,15 @@ use Rattle.reader.specs.declared.Ahead.{Ahead}
 use Rattle.reader.specs.declared.Ahead.the-variants.{Nothing, Broken, Cut, Whole}
 use Rattle.reader.specs.Mode.{Mode, off, scan, heading, body, full, running, isFull, ends, gives, spoils, carries, finished, unfinished}
 use Rattle.reader.specs.State.{storeLength, modeOf, runOf, heldOf}
+use Rattle.reader.specs.Acting.{readMode, readBlocks, readDrops}
+use Rattle.reader.specs.Feeding.{room}
 use Rattle.reader.specs.Places.{Found, nothing, broken, cut, whole, fillers, zeroed}
 
 -- a mode that a reader may be in between two steps
 abbrev pub Good : Mode → Type 0
 Good off = Unit
 Good scan = ⊥
-Good (heading g v) = g ≤ 3
+Good (heading g v) = (g ≤ 3) × (v < 2 ^ 16)
 Good (body h held) = (length held ≤ sizeOf h) × (sizeOf h ≤ storeLength)
 
 -- run and store hold the mode m
@@ -107,3 +109,12 @@ CarriedOn m l = Went (unfinished (carries false m l)) (finished (carries false m
 -- the bytes l stand from the pointed byte on
 abbrev pub Flowed : List ℕ → Got → Got → List ℕ → List ℕ → List ℕ → Type 0
 Flowed l = Went (unfinished (ends scan l)) (gives scan l) (spoils scan l)
+
+-- there is room for what a packet can give
+pub record RowRoom (a : Got) (out : List ℕ) : Type 0 where
+  pub long : a .written + room ≤ length out
+  pub few : 2 * a .blocks ≤ a .written
+
+-- the packet's pointer is p, and l the 39 bytes after it
+abbrev pub ReadRow : Mode → ℕ → List ℕ → Got → Got → List ℕ → List ℕ → List ℕ → Type 0
+ReadRow m p l = Went (readMode m p l) (readBlocks m p l) (readDrops m p l)

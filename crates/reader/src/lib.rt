@@ -5,17 +5,19 @@ ghost use mathlib.Core.Path.{_≡_};
 ghost use mathlib.Core.Bool.{not};
 ghost use mathlib.Core.List.{[]};
 ghost use Prim.Native.Nat.{_+_, _-_, _*_, _≤_};
-ghost use lib.ListN.{length, take, drop, replicate};
+ghost use lib.ListN.{length, getD, take, drop, replicate};
 ghost use lib.Seq.{sets};
 ghost use Rattle.laws.specs.Pick.{both as Pick·both, either as Pick·either};
+ghost use Rattle.octet.specs.Decoding.{nib};
 ghost use Rattle.blocks.specs.Block.{recordOf};
+ghost use Rattle.guide.specs.Packet.{packetLength};
 ghost use Rattle.reader.specs.Seen.{decodes};
 ghost use Rattle.reader.specs.Places.{fillers, heads, found, zeroed};
 ghost use Rattle.reader.specs.declared.Run.the-variants.{Idle, Head, Body};
 ghost use Rattle.reader.specs.Mode.{body};
 ghost use Rattle.reader.specs.State.{modeOf};
 ghost use Rattle.reader.specs.Acting.{dropIf};
-ghost use Rattle.reader.specs.Holding.{aheadIn, nextOf, blockWith, Holds, Kept, TookIn, Room, Finished, CarriedTo, CarriedOn, Flowed, runs, stands};
+ghost use Rattle.reader.specs.Holding.{aheadIn, nextOf, blockWith, Holds, Kept, TookIn, Room, Finished, CarriedTo, CarriedOn, Flowed, RowRoom, ReadRow, runs, stands};
 
 // The page of ours that is open, if one is: how many packets follow its packet 0, and the number of
 // the last one that came.
@@ -480,5 +482,31 @@ fn flow(got: Got, store: &mut [u8; 2047], s: &[u8], out: &mut [u8]) -> Got
                 at = next + size;
             }
         }
+    }
+}
+
+// The 39 bytes of a packet of our page, by its pointer.
+fn read(got: Got, store: &mut [u8; 2047], packet: &[u8], out: &mut [u8]) -> Got
+    requires { ⌜ Kept (got .run) (now store) ⌝ }
+    requires { ⌜ length (now packet) ≡ packetLength ⌝ }
+    requires { ⌜ RowRoom got (now out) ⌝ }
+    ensures { λ r. ⌜ ReadRow (modeOf (got .run) (now (store .entry))) (nib (getD (now (packet .entry)) 2 0)) (drop 3 (now (packet .entry))) got r (now (store .exit)) (now (out .entry)) (now (out .exit)) ⌝ }
+{
+    let p = octet::decode(packet[2]) as usize;
+    if p <= 12 {
+        let at = 3 + 3 * p;
+        let carried = carry_to(got, store, &packet[3..at], out);
+        return flow(carried, store, &packet[at..], out);
+    }
+    if p == 13 {
+        return carry_on(got, store, &packet[3..], out);
+    }
+    let run = got.run;
+    let_go(run, store);
+    Got {
+        run: Run::Idle,
+        blocks: got.blocks,
+        written: got.written,
+        dropped: either(got.dropped, is_running(run)),
     }
 }

@@ -94,7 +94,7 @@ returns-3 c =
     from-place (a .got)
     (l .inv .5 _ _ _
     (flow-cut (drop (l .at) (now (a .s))) (place (a .got .dropped) (l .blocks) (l .q)) (l .out) x
-    (found-cut-le (drop (l .at) (now (a .s))) x)
+    (found-cut-le (drop (l .at) (now (a .s))) x, omega arith)
     (l .inv .4)))
 
 -- src/lib.rt:462:28

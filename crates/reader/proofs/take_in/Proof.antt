@@ -82,6 +82,7 @@ returns-3 c = head-broken (now (c .before .before .before .before .before .befor
 -- src/lib.rt:272:1
 returns-4 : tie.Need-returns-4
 returns-4 c = head-cut (now (c .before .before .before .before .before .before .before .before .args .s)) (c .before .before .before .head-on .result) (c .before .before .before .before .before .before .before .before .pre) (c .before .before .before .before .before .run .given .1) (c .before .before .before .head-on .ensures .0) (c .before .g .given .1)
+    (omega arith)
 
 -- src/lib.rt:272:1
 returns-5 : tie.Need-returns-5
