@@ -1,4 +1,5 @@
-pub mod Going
+pub mod Adding
+pub mod Judged
 pub mod Keeping
 pub mod Range
 pub mod Stepping

@@ -16,7 +16,7 @@ use Rattle.blocks.specs.Block.{Block, sizeOf, recordOf, recordsOf}
 use Rattle.reader.specs.Mode.{Mode, off, scan, heading, body, filler, shifted, full, headed, step, emitted, ends, gives, behind, carriedHead, carry, carries, finished, unfinished}
 use Rattle.reader.specs.State.{storeLength}
 use Rattle.reader.specs.Holding.{Good, blockWith}
-use Rattle.reader.proofs.Going.{recordsOf-append}
+use Rattle.reader.proofs.Adding.{recordsOf-append}
 
 -- ---- what is held
 

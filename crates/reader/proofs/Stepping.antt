@@ -2,15 +2,15 @@
 use mathlib.Core.Path.{_≡_, _∙_, refl, sym, ap}
 use mathlib.Core.Bool.{Bool, true, false, not}
 use mathlib.Core.List.{List, [], _∷_, _++_}
-use Prim.Native.Nat.{ℕ, zero, suc, _+_, _-_, _*_, _/_, _≤_, _<_}
+use Prim.Native.Nat.{ℕ, zero, suc, _+_, _-_, _*_, _/_, _%_, _≤_, _<_}
 use native.Mathlib.Numerals.{add-one}
 use native.Mathlib.Omega.{arith}
 use lib.ListN.{length, getD, take, drop, drop-of-length-le, length-drop}
 use lib.Seq.{drop-cons, drop-drop, getD-drop}
 use lib.Dec.{eqb, ltb, leb}
-use borrow.Author.Tests.{eq-eqb, ne-eqb, eqb-false, lt-ltb, le-ltb, lt-leb, le-leb}
+use borrow.Author.Tests.{eq-eqb, ne-eqb, eqb-false, ltb-true, lt-ltb, le-ltb, lt-leb, le-leb}
 use native.Mathlib.Decide.{decLt}
-use Rattle.laws.specs.Pick.{pick}
+use Rattle.laws.specs.Pick.{pick, both}
 use Rattle.octet.specs.Decoding.{nib, undecodable}
 use Rattle.octet.proofs.Laws.{nib-le}
 use Rattle.reader.specs.Mode.{filler, shifted}
@@ -172,3 +172,35 @@ module _ (s : List ℕ) (from k i : ℕ) where
   pub readable-all : k ≤ i → decodes (k - i) (drop (from + i) s) ≡ true
   unfolding decodes
   readable-all h = let p : k - i ≡ 0 = omega arith in rw p
+
+-- each of k bytes that decode is a nibble
+pub decodes-at : (k i : ℕ) (l : List ℕ) → true ≡ decodes k l → i < k → nib (getD l i 0) < 16
+unfolding decodes
+decodes-at zero i l e h = absurd (omega arith)
+decodes-at (suc k) zero l e h = go (ltb (nib (getD l 0 0)) undecodable) refl e
+  where
+    go : (t : Bool) → ltb (nib (getD l 0 0)) undecodable ≡ t → true ≡ both t (decodes k (drop 1 l)) → nib (getD l 0 0) < 16
+    go true f q = ltb-true _ _ f
+    go false f q = let z : _≡_ {A = ℕ} 0 1 = cc in absurd (omega arith)
+decodes-at (suc k) (suc i) l e h =
+    rw (getD-suc l i) (decodes-at k i (drop 1 l) (go (ltb (nib (getD l 0 0)) undecodable) e) (omega arith))
+  where
+    go : (t : Bool) → true ≡ both t (decodes k (drop 1 l)) → true ≡ decodes k (drop 1 l)
+    go true q = q
+    go false q = let z : _≡_ {A = ℕ} 0 1 = cc in absurd (omega arith)
+
+    getD-suc : (l : List ℕ) (i : ℕ) → getD l (suc i) 0 ≡ getD (drop 1 l) i 0
+    getD-suc [] i = refl
+    getD-suc (x ∷ xs) i = refl
+
+-- ---- tests of a packet's number and index
+
+pub over : (a b : ℕ) → ltb a b ≡ not (leb b a)
+over a b =
+    elim (decLt a b) [
+      | yes h ↦ rw (lt-ltb _ _ h, lt-leb _ _ h)
+      | no h ↦ let k : b ≤ a = omega arith in rw (le-ltb _ _ k, le-leb _ _ k)
+    ]
+
+pub index-on : (i : ℕ) → (i % 16 + 1) % 16 ≡ (i + 1) % 16
+index-on i = omega arith

@@ -2,7 +2,7 @@
 -- far. Only private calls cite these.
 use mathlib.Core.Path.{_≡_}
 use mathlib.Core.Bool.{Bool, true, false, not}
-use mathlib.Core.List.{List}
+use mathlib.Core.List.{List, []}
 use Prim.Native.Nat.{ℕ, _+_, _*_, _^_, _≤_, _<_}
 use lib.ListN.{length, drop}
 use lib.Seq.{sets}
@@ -11,13 +11,16 @@ use Rattle.laws.specs.Pick.{pick, both, either}
 use Rattle.blocks.specs.Block.{Block, headLength, sizeOf, recordsOf}
 use Rattle.reader.specs.declared.Run.{Run}
 use Rattle.reader.specs.declared.Run.the-variants.{Idle, Head, Body}
+use Rattle.reader.specs.declared.Page.{Page}
 use Rattle.reader.specs.declared.Got.{Got}
+use Rattle.reader.specs.declared.Going.{Going}
 use Rattle.reader.specs.declared.Taken.{Taken}
 use Rattle.reader.specs.declared.Ahead.{Ahead}
 use Rattle.reader.specs.declared.Ahead.the-variants.{Nothing, Broken, Cut, Whole}
 use Rattle.reader.specs.Mode.{Mode, off, scan, heading, body, full, running, isFull, ends, gives, spoils, carries, finished, unfinished}
 use Rattle.reader.specs.State.{storeLength, modeOf, runOf, heldOf}
-use Rattle.reader.specs.Acting.{readMode, readBlocks, readDrops}
+use Rattle.reader.specs.Acting.{State, dropIf, readMode, readBlocks, readDrops, rowState, rowBlocks, rowDrops, act, handed, dropped}
+use Rattle.reader.specs.Seen.{Seen}
 use Rattle.reader.specs.Feeding.{room}
 use Rattle.reader.specs.Places.{Found, nothing, broken, cut, whole, fillers, zeroed}
 
@@ -118,3 +121,25 @@ pub record RowRoom (a : Got) (out : List ℕ) : Type 0 where
 -- the packet's pointer is p, and l the 39 bytes after it
 abbrev pub ReadRow : Mode → ℕ → List ℕ → Got → Got → List ℕ → List ℕ → List ℕ → Type 0
 ReadRow m p l = Went (readMode m p l) (readBlocks m p l) (readDrops m p l)
+
+-- the state that packets have come to
+abbrev pub stateIn : Going → List ℕ → State
+stateIn a store = record { page = a .page; index = a .index; mode = modeOf (a .got .run) store }
+
+-- what stood at a is now at r: the state st is held, these blocks have gone out, and a block was dropped if d says so
+pub record Stepped (st : State) (bs : List Block) (d : Bool) (a r : Going) (store old new : List ℕ) : Type 0 where
+  pub page : r .page ≡ st .page
+  pub index : r .index ≡ st .index
+  pub went : Went (st .mode) bs d (a .got) (r .got) store old new
+
+-- page and index are set anew, and the running block is dropped where the test holds
+abbrev pub Turned : Bool → Page → ℕ → State → Going → Going → List ℕ → List ℕ → List ℕ → Type 0
+Turned t page index st = Stepped (record { page = page; index = index; mode = dropIf t (st .mode) }) [] (both t (running (st .mode)))
+
+-- the packet is seen so
+abbrev pub Acted : Seen → State → Going → Going → List ℕ → List ℕ → List ℕ → Type 0
+Acted seen st = Stepped (act st seen) (handed st seen) (dropped st seen)
+
+-- packet y has come to our page, n packets long, `last` the last that came
+abbrev pub Rowed : ℕ → ℕ → ℕ → ℕ → List ℕ → State → Going → Going → List ℕ → List ℕ → List ℕ → Type 0
+Rowed n last y p l st = Stepped (rowState n last st y p l) (rowBlocks n last st y p l) (rowDrops n last st y p l)

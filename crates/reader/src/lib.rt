@@ -1,23 +1,26 @@
 // The reader of the guide page: packets in, finished blocks out. A packet is lost only where a byte
 // can't be decoded, and then what was held is dropped: a missing table is fetched at the next repeat.
 use answer::Refusal;
+use guide::Setting;
 ghost use mathlib.Core.Path.{_≡_};
 ghost use mathlib.Core.Bool.{not};
-ghost use mathlib.Core.List.{[]};
-ghost use Prim.Native.Nat.{_+_, _-_, _*_, _≤_};
+ghost use mathlib.Core.List.{List, []};
+ghost use Prim.Native.Nat.{ℕ, _+_, _-_, _*_, _%_, _≤_};
+ghost use lib.Dec.{eqb, leb, ltb};
 ghost use lib.ListN.{length, getD, take, drop, replicate};
 ghost use lib.Seq.{sets};
-ghost use Rattle.laws.specs.Pick.{both as Pick·both, either as Pick·either};
+ghost use Rattle.laws.specs.Pick.{pick, both as Pick·both, either as Pick·either};
 ghost use Rattle.octet.specs.Decoding.{nib};
 ghost use Rattle.blocks.specs.Block.{recordOf};
 ghost use Rattle.guide.specs.Packet.{packetLength};
-ghost use Rattle.reader.specs.Seen.{decodes};
+ghost use Rattle.reader.specs.Seen.{decodes, seeZero, see};
 ghost use Rattle.reader.specs.Places.{fillers, heads, found, zeroed};
 ghost use Rattle.reader.specs.declared.Run.the-variants.{Idle, Head, Body};
 ghost use Rattle.reader.specs.Mode.{body};
 ghost use Rattle.reader.specs.State.{modeOf};
-ghost use Rattle.reader.specs.Acting.{dropIf};
-ghost use Rattle.reader.specs.Holding.{aheadIn, nextOf, blockWith, Holds, Kept, TookIn, Room, Finished, CarriedTo, CarriedOn, Flowed, RowRoom, ReadRow, runs, stands};
+ghost use Rattle.reader.specs.Acting.{dropIf, incomplete, wrongY};
+ghost use Rattle.reader.specs.declared.Page.the-variants.{Shut, Open};
+ghost use Rattle.reader.specs.Holding.{aheadIn, nextOf, blockWith, Holds, Kept, TookIn, Room, Finished, CarriedTo, CarriedOn, Flowed, RowRoom, ReadRow, Turned, Acted, Rowed, stateIn, runs, stands};
 
 // The page of ours that is open, if one is: how many packets follow its packet 0, and the number of
 // the last one that came.
@@ -83,6 +86,13 @@ struct Got {
     blocks: usize,
     written: usize,
     dropped: bool,
+}
+
+// What packets taken one after the other have come to.
+struct Going {
+    page: Page,
+    index: u8,
+    got: Got,
 }
 
 // A running block that has taken its bytes, and the place past them.
@@ -508,5 +518,158 @@ fn read(got: Got, store: &mut [u8; 2047], packet: &[u8], out: &mut [u8]) -> Got
         blocks: got.blocks,
         written: got.written,
         dropped: either(got.dropped, is_running(run)),
+    }
+}
+
+// Page and index are set anew, and the running block is dropped where the test holds.
+fn turn(a: Going, t: bool, page: Page, index: u8, store: &mut [u8; 2047]) -> Going
+    requires { ⌜ Kept (a .got .run) (now store) ⌝ }
+    ensures { λ r. ⌜ ((out : List ℕ) → Turned t page index (stateIn a (now (store .entry))) a r (now (store .exit)) out out) ⌝ }
+{
+    let got = a.got;
+    let run = got.run;
+    let kept = drop_if(t, run, store);
+    let dropped = either(got.dropped, both(t, is_running(run)));
+    Going {
+        page: page,
+        index: index,
+        got: Got {
+            run: kept,
+            blocks: got.blocks,
+            written: got.written,
+            dropped: dropped,
+        },
+    }
+}
+
+// Whether our page is open and not complete.
+fn is_incomplete(page: Page) -> bool
+    ensures { λ r. ⌜ r ≡ incomplete page ⌝ }
+{
+    match page {
+        Page::Shut => false,
+        Page::Open { n, last } => last < n,
+    }
+}
+
+// Whether a packet 0 of ours drops the running block: our page isn't complete, n is over 25, or the
+// index isn't one above our last.
+fn is_break(page: Page, last: u8, index: u8, n: u8) -> bool
+    ensures { λ r. ⌜ r ≡ Pick·either (incomplete page) (Pick·either (ltb 25 n) (not (eqb index ((last + 1) % 16)))) ⌝ }
+{
+    if is_incomplete(page) {
+        return true;
+    }
+    if n > 25 {
+        return true;
+    }
+    index != (last % 16 + 1) % 16
+}
+
+// The page that a packet 0 of ours opens.
+fn page_of(n: u8) -> Page
+    ensures { λ r. ⌜ r ≡ pick (leb n 25) (Open n 0) Shut ⌝ }
+{
+    if n > 25 {
+        return Page::Shut;
+    }
+    Page::Open { n: n, last: 0 }
+}
+
+// Whether packet y of our page isn't the one that is due.
+fn is_wrong(n: u8, last: u8, y: u8) -> bool
+    requires { ⌜ 1 ≤ y ⌝ }
+    ensures { λ r. ⌜ r ≡ wrongY n last y ⌝ }
+{
+    if y - 1 != last {
+        return true;
+    }
+    y > n
+}
+
+// A packet 0 of our magazine.
+fn zero(setting: Setting, a: Going, store: &mut [u8; 2047], packet: &[u8]) -> Going
+    requires { ⌜ Kept (a .got .run) (now store) ⌝ }
+    requires { ⌜ length (now packet) ≡ packetLength ⌝ }
+    ensures { λ r. ⌜ ((out : List ℕ) → Acted (seeZero setting (drop 2 (now (packet .entry)))) (stateIn a (now (store .entry))) a r (now (store .exit)) out out) ⌝ }
+{
+    let page = a.page;
+    if !readable(packet, 2, 6) {
+        return turn(a, true, Page::Shut, a.index, store);
+    }
+    let number = octet::decode(packet[2]) + 16 * octet::decode(packet[3]);
+    if number != setting.page {
+        return turn(a, is_incomplete(page), Page::Shut, a.index, store);
+    }
+    if octet::decode(packet[6]) != setting.stream {
+        return turn(a, is_incomplete(page), Page::Shut, a.index, store);
+    }
+    let index = octet::decode(packet[4]);
+    let n = octet::decode(packet[5]) % 8 + 8 * (octet::decode(packet[7]) % 4);
+    turn(
+        a,
+        is_break(page, a.index, index, n),
+        page_of(n),
+        index,
+        store,
+    )
+}
+
+// Packet y of our magazine, our page open.
+fn row(
+    a: Going,
+    n: u8,
+    last: u8,
+    y: u8,
+    store: &mut [u8; 2047],
+    packet: &[u8],
+    out: &mut [u8],
+) -> Going
+    requires { ⌜ Kept (a .got .run) (now store) ⌝ }
+    requires { ⌜ (length (now packet) ≡ packetLength) × (1 ≤ y) ⌝ }
+    requires { ⌜ RowRoom (a .got) (now out) ⌝ }
+    ensures { λ r. ⌜ Rowed n last y (nib (getD (now (packet .entry)) 2 0)) (drop 3 (now (packet .entry))) (stateIn a (now (store .entry))) a r (now (store .exit)) (now (out .entry)) (now (out .exit)) ⌝ }
+{
+    let wrong = is_wrong(n, last, y);
+    if y > n {
+        return turn(a, wrong, Page::Open { n: n, last: last }, a.index, store);
+    }
+    let b = turn(a, wrong, Page::Open { n: n, last: y }, a.index, store);
+    let got = b.got;
+    let page = b.page;
+    let index = b.index;
+    Going {
+        page: page,
+        index: index,
+        got: read(got, store, packet, out),
+    }
+}
+
+// One packet.
+fn step(setting: Setting, a: Going, store: &mut [u8; 2047], packet: &[u8], out: &mut [u8]) -> Going
+    requires { ⌜ Kept (a .got .run) (now store) ⌝ }
+    requires { ⌜ length (now packet) ≡ packetLength ⌝ }
+    requires { ⌜ RowRoom (a .got) (now out) ⌝ }
+    ensures { λ r. ⌜ Acted (see setting (now (packet .entry))) (stateIn a (now (store .entry))) a r (now (store .exit)) (now (out .entry)) (now (out .exit)) ⌝ }
+{
+    if !readable(packet, 0, 2) {
+        return turn(a, true, Page::Shut, a.index, store);
+    }
+    let one = octet::decode(packet[0]);
+    let two = octet::decode(packet[1]);
+    if one % 8 != setting.magazine % 8 {
+        return a;
+    }
+    let y = one / 8 + 2 * two;
+    if y == 0 {
+        return zero(setting, a, store, packet);
+    }
+    if y > 25 {
+        return a;
+    }
+    let page = a.page;
+    match page {
+        Page::Shut => a,
+        Page::Open { n, last } => row(a, n, last, y, store, packet, out),
     }
 }

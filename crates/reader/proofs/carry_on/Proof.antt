@@ -9,7 +9,7 @@ use denote.Ref.{now}
 use Rattle.reader.specs.State.{modeOf}
 use Rattle.reader.specs.Holding.{Room}
 use Rattle.reader.proofs.Keeping.{holds-kept}
-use Rattle.reader.proofs.Going.{carried-on, runs-mode}
+use Rattle.reader.proofs.Adding.{carried-on, runs-mode}
 use Rattle.reader.proofs.carry_on.Statement.{statement}
 use Rattle.reader.proofs.carry_on.Tie as tie
 use Rattle.reader.proofs.carry_on.Reads as reads

@@ -9,7 +9,7 @@ use denote.Ref.{now}
 use Rattle.reader.specs.State.{modeOf}
 use Rattle.reader.specs.Holding.{Room}
 use Rattle.reader.proofs.Keeping.{holds-kept}
-use Rattle.reader.proofs.Going.{carried-to, runs-mode}
+use Rattle.reader.proofs.Adding.{carried-to, runs-mode}
 use Rattle.reader.proofs.carry_to.Statement.{statement}
 use Rattle.reader.proofs.carry_to.Tie as tie
 use Rattle.reader.proofs.carry_to.Reads as reads

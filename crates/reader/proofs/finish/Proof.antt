@@ -7,7 +7,7 @@ use lib.ListN.{length, getD, take, drop, set, replicate, length-set}
 use lib.Seq.{sets, length-sets}
 use denote.Ref.{now}
 use Rattle.reader.proofs.Keeping.{kept-body, body-fits, body-size}
-use Rattle.reader.proofs.Going.{stays-running, body-short, goes-out}
+use Rattle.reader.proofs.Adding.{stays-running, body-short, goes-out}
 use Rattle.reader.proofs.finish.Statement.{statement}
 use Rattle.reader.proofs.finish.Tie as tie
 use Rattle.reader.proofs.finish.Reads as reads

@@ -14,7 +14,7 @@ use Rattle.laws.proofs.Lists.{part-rest}
 use Rattle.reader.proofs.Stepping.{next-from, next-within}
 use Rattle.reader.proofs.Keeping.{zeroed-length, found-cut-le}
 use Rattle.reader.specs.Holding.{aheadIn, nextOf}
-use Rattle.reader.proofs.Going.{place, Leads, from-place, flow-nothing, flow-broken, flow-cut, flow-held, flow-on}
+use Rattle.reader.proofs.Adding.{place, Leads, from-place, flow-nothing, flow-broken, flow-cut, flow-held, flow-on}
 use Rattle.reader.proofs.flow.Statement.{statement}
 use Rattle.reader.proofs.flow.Tie as tie
 use Rattle.reader.proofs.flow.Reads as reads

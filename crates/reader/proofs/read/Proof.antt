@@ -12,7 +12,7 @@ use Rattle.octet.specs.Decoding.{nib}
 use Rattle.reader.specs.Mode.{carries, finished}
 use Rattle.reader.specs.State.{modeOf}
 use Rattle.reader.proofs.Range.{carries-good, finished-room, two-each}
-use Rattle.reader.proofs.Going.{read-pointed, read-unpointed, read-skipped, runs-mode}
+use Rattle.reader.proofs.Adding.{read-pointed, read-unpointed, read-skipped, runs-mode}
 use Rattle.reader.proofs.read.Statement.{statement}
 use Rattle.reader.proofs.read.Tie as tie
 use Rattle.reader.proofs.read.Reads as reads

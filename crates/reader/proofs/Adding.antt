@@ -208,7 +208,7 @@ either-true true = refl
 either-true false = refl
 
 -- no block more
-went-none :
+pub went-none :
     {m : Mode} {d : Bool} (a : Got) (r : Run) {x : Bool} {store : List ℕ} (out : List ℕ) → Holds m r store
     → x ≡ either (a .dropped) d → Went m [] d a (noted a r x) store out out
 unfolding recordsOf
