@@ -15,6 +15,7 @@ use Rattle.octet.specs.Decoding.{nib, undecodable}
 use Rattle.octet.proofs.Laws.{nib-le}
 use Rattle.reader.specs.Mode.{filler, shifted}
 use Rattle.reader.specs.Seen.{decodes}
+use Rattle.reader.specs.State.{zeros}
 use Rattle.reader.specs.declared.Ahead.{Ahead}
 use Rattle.reader.specs.declared.Ahead.the-variants.{Nothing, Broken, Cut, Whole}
 use Rattle.reader.specs.Holding.{nextOf}
@@ -204,3 +205,26 @@ over a b =
 
 pub index-on : (i : ℕ) → (i % 16 + 1) % 16 ≡ (i + 1) % 16
 index-on i = omega arith
+
+-- ---- the store's zeros, by their sum
+
+sum-zero : (s b : ℕ) (z : Bool) → both (eqb (s + b) 0) z ≡ both (eqb s 0) (both (eqb b 0) z)
+sum-zero zero b z = let e : 0 + b ≡ b = omega arith in rw e
+sum-zero (suc s) b z =
+    let n : suc s + b ≡ 0 → ⊥ = λ e. omega arith in
+    let m : suc s ≡ 0 → ⊥ = λ e. omega arith in
+    rw (ne-eqb _ _ n, ne-eqb _ _ m)
+
+pub clear-on :
+    (l : List ℕ) (i s : ℕ) → i < length l
+    → both (eqb (s + getD l i 0) 0) (zeros (drop (i + 1) l)) ≡ both (eqb s 0) (zeros (drop i l))
+unfolding zeros
+clear-on l i s h = rw (drop-cons l i 0, add-one) (sum-zero s (getD l i 0) (zeros (drop (suc i) l)))
+
+pub clear-ends : (l : List ℕ) (i s : ℕ) → length l ≤ i → both (eqb s 0) (zeros (drop i l)) ≡ eqb s 0
+unfolding zeros
+clear-ends l i s h = rw drop-of-length-le (go (eqb s 0))
+  where
+    go : (t : Bool) → both t true ≡ t
+    go true = refl
+    go false = refl

@@ -17,7 +17,7 @@ ghost use Rattle.reader.specs.Seen.{decodes, seeZero, see};
 ghost use Rattle.reader.specs.Places.{fillers, heads, found, zeroed};
 ghost use Rattle.reader.specs.declared.Run.the-variants.{Idle, Head, Body};
 ghost use Rattle.reader.specs.Mode.{body};
-ghost use Rattle.reader.specs.State.{modeOf};
+ghost use Rattle.reader.specs.State.{modeOf, zeros, pageInRange, runInRange, readerInRange, readerOf, freshState};
 ghost use Rattle.reader.specs.Acting.{dropIf, incomplete, wrongY};
 ghost use Rattle.reader.specs.declared.Page.the-variants.{Shut, Open};
 ghost use Rattle.reader.specs.Holding.{aheadIn, nextOf, blockWith, Holds, Kept, TookIn, Room, Finished, CarriedTo, CarriedOn, Flowed, RowRoom, ReadRow, Turned, Acted, Rowed, stateIn, runs, stands};
@@ -671,5 +671,100 @@ fn step(setting: Setting, a: Going, store: &mut [u8; 2047], packet: &[u8], out: 
     match page {
         Page::Shut => a,
         Page::Open { n, last } => row(a, n, last, y, store, packet, out),
+    }
+}
+
+// A byte as a number.
+fn wide(b: u8) -> usize
+    ensures { λ r. ⌜ (r ≡ b) × (r ≤ 255) ⌝ }
+{
+    b as usize
+}
+
+// Whether every byte of the store from `from` on is zero: their sum is, so that no byte ends the loop.
+fn is_clear(store: &[u8; 2047], from: usize) -> bool
+    requires { ⌜ (from ≤ 2047) × (length (now store) ≡ 2047) ⌝ }
+    ensures { λ r. ⌜ r ≡ zeros (drop from (now (store .entry))) ⌝ }
+{
+    let mut sum: usize = 0;
+    let mut i = from;
+    while i < 2047 {
+        sum += wide(store[i]);
+        i += 1;
+    }
+    sum == 0
+}
+
+// Whether the bits of a header are those of the nibbles got and no others.
+fn is_head(got: u8, bits: u16) -> bool
+    ensures { λ r. ⌜ r ≡ runInRange (Head got bits) ⌝ }
+{
+    if got > 3 {
+        return false;
+    }
+    if got == 3 {
+        return bits % 16 == 0;
+    }
+    if got == 2 {
+        return bits % 256 == 0;
+    }
+    if got == 1 {
+        return bits % 4096 == 0;
+    }
+    bits == 0
+}
+
+// Whether an open page is in range.
+fn is_page(page: Page) -> bool
+    ensures { λ r. ⌜ r ≡ pageInRange page ⌝ }
+{
+    match page {
+        Page::Shut => true,
+        Page::Open { n, last } => {
+            if n > 25 {
+                return false;
+            }
+            last <= n
+        }
+    }
+}
+
+// Whether a state is in range.
+fn in_range(page: Page, index: u8, run: Run, store: &[u8; 2047]) -> bool
+    requires { ⌜ length (now store) ≡ 2047 ⌝ }
+    ensures { λ r. ⌜ r ≡ readerInRange (record { page = page; index = index; run = run; store = now (store .entry) }) ⌝ }
+{
+    if !is_page(page) {
+        return false;
+    }
+    if index > 15 {
+        return false;
+    }
+    match run {
+        Run::Idle => is_clear(store, 0),
+        Run::Head { got, bits } => {
+            if !is_head(got, bits) {
+                return false;
+            }
+            is_clear(store, 0)
+        }
+        Run::Body { head, held } => {
+            if held > (head / 32) as usize {
+                return false;
+            }
+            is_clear(store, held)
+        }
+    }
+}
+
+// A fresh reader: no page of ours is open, and nothing runs.
+pub fn fresh() -> Reader
+    ensures { λ r. ⌜ r ≡ readerOf freshState ⌝ }
+{
+    Reader {
+        page: Page::Shut,
+        index: 15,
+        run: Run::Idle,
+        store: [0u8; 2047],
     }
 }
