@@ -1,4 +1,6 @@
 pub mod Adding
+pub mod Answering
+pub mod Holding
 pub mod Judged
 pub mod Keeping
 pub mod Range

@@ -7,7 +7,7 @@ use Prim.Native.Nat.{ℕ, zero, suc, _+_, _-_, _*_, _/_, _%_, _^_, _≤_, _<_}
 use native.Mathlib.Decide.{decLt}
 use native.Mathlib.Omega.{arith}
 use lib.Dec.{eqb, leb, ltb}
-use lib.ListN.{length, take, drop, length-append, length-drop, length-take}
+use lib.ListN.{length, getD, take, drop, length-append, length-drop, length-take}
 use borrow.Author.Tests.{le-leb, lt-leb, lt-ltb, le-ltb, eqb-false, leb-true, leb-false, ltb-true, ltb-false}
 use Rattle.laws.specs.Pick.{pick, both, either}
 use Rattle.octet.specs.Decoding.{nib, undecodable}
@@ -15,6 +15,13 @@ use Rattle.octet.proofs.Laws.{nib-le}
 use Rattle.blocks.specs.Block.{Block, sizeOf, recordOf, recordsOf}
 use Rattle.reader.specs.Mode.{Mode, off, scan, heading, body, filler, shifted, full, headed, step, emitted, ends, gives, behind, carriedHead, carry, carries, finished, unfinished}
 use Rattle.reader.specs.State.{storeLength}
+use Rattle.guide.specs.declared.Setting.{Setting}
+use Rattle.guide.specs.Packet.{packetLength}
+use Rattle.reader.specs.declared.Page.{Page}
+use Rattle.reader.specs.declared.Page.the-variants.{Shut, Open}
+use Rattle.reader.specs.Seen.{Seen, junk, other, foreign, ours, row, decodes, seeZero, seeY, see}
+use Rattle.reader.specs.Acting.{State, dropIf, wrongY, pointed, readBlocks, openBlocks, handed}
+use Rattle.reader.specs.Feeding.{room}
 use Rattle.reader.specs.Holding.{Good, blockWith}
 use Rattle.reader.proofs.Adding.{recordsOf-append}
 
@@ -192,3 +199,88 @@ gives-weigh m (b ∷ bs) =
 pub gives-room : (l : List ℕ) → 3 * length (gives scan l) + length (recordsOf (gives scan l)) ≤ length l
 unfolding weigh
 gives-room l = let h : weigh (gives scan l) ≤ used scan + length l = gives-weigh scan l in omega arith
+
+-- ---- one packet
+
+drop-if-good : (t : Bool) (m : Mode) → Good m → Good (dropIf t m)
+drop-if-good true m g = tt
+drop-if-good false m g = g
+
+-- so many blocks, and so many bytes of records
+abbrev Within : List Block → Type 0
+Within bs = (length bs ≤ 8) × (length (recordsOf bs) ≤ room)
+
+within-none : Within []
+unfolding recordsOf
+within-none = (omega arith, omega arith)
+
+read-room : (m : Mode) (p : ℕ) (l : List ℕ) → Good m → length l ≤ 39 → Within (readBlocks m p l)
+read-room m p l g h = go (leb p 12) (eqb p 13)
+  where
+    pointed-at : Within (finished (carries true m (take (pointed p) l)) ++ gives scan (drop (pointed p) l))
+    pointed-at =
+        let f = finished-room (carries true m (take (pointed p) l)) (carries-good true m (take (pointed p) l) g) in
+        let n = gives-room (drop (pointed p) l) in
+        let t = two-each (gives scan (drop (pointed p) l)) in
+        let d = length-drop (pointed p) l in
+        (simp length-append (omega arith), simp (recordsOf-append, length-append) (omega arith))
+
+    go :
+        (t u : Bool)
+        → Within
+        (pick t (finished (carries true m (take (pointed p) l)) ++ gives scan (drop (pointed p) l))
+        (pick u (finished (carries false m l)) []))
+    go true u = pointed-at
+    go false true = let f = finished-room (carries false m l) (carries-good false m l g) in (omega arith, omega arith)
+    go false false = within-none
+
+-- what a packet of 42 bytes is seen as has 39 bytes at most
+abbrev pub Short : Seen → Type 0
+Short junk = Unit
+Short other = Unit
+Short foreign = Unit
+Short (ours index n) = Unit
+Short (row y p l) = length l ≤ 39
+
+zero-short : (s : Setting) (l : List ℕ) → Short (seeZero s l)
+unfolding seeZero
+zero-short s l = go (decodes 6 l) (both (eqb (nib (getD l 0 0) + 16 * nib (getD l 1 0)) (s .page)) (eqb (nib (getD l 4 0)) (s .stream)))
+  where
+    go : (t u : Bool) → Short (pick t (pick u (ours (nib (getD l 2 0)) (nib (getD l 3 0) % 8 + 8 * (nib (getD l 5 0) % 4))) foreign) junk)
+    go true true = tt
+    go true false = tt
+    go false u = tt
+
+pub see-short : (s : Setting) (p : List ℕ) → length p ≡ packetLength → Short (see s p)
+unfolding see seeY
+see-short s p h =
+    go (decodes 2 p) (eqb (nib (getD p 0 0) % 8) (s .magazine % 8)) (eqb y 0) (leb y 25)
+  where
+    y : ℕ
+    y = nib (getD p 0 0) / 8 + 2 * nib (getD p 1 0)
+
+    go :
+        (t u v w : Bool)
+        → Short (pick t (pick u (pick v (seeZero s (drop 2 p)) (pick w (row y (nib (getD p 2 0)) (drop 3 p)) other)) other) junk)
+    go false u v w = tt
+    go true false v w = tt
+    go true true true w = zero-short s (drop 2 p)
+    go true true false false = tt
+    go true true false true = rw length-drop (omega arith)
+
+-- "at most 8 for one packet", and 2,112 bytes of output are enough
+pub handed-room : (st : State) (x : Seen) → Good (st .mode) → Short x → Within (handed st x)
+unfolding handed
+handed-room st junk g h = within-none
+handed-room st other g h = within-none
+handed-room st foreign g h = within-none
+handed-room st (ours index n) g h = within-none
+handed-room st (row y p l) g h = go (st .page)
+  where
+    up-to : (n last : ℕ) (t : Bool) → Within (pick t (readBlocks (dropIf (wrongY n last y) (st .mode)) p l) [])
+    up-to n last true = read-room (dropIf (wrongY n last y) (st .mode)) p l (drop-if-good (wrongY n last y) (st .mode) g) h
+    up-to n last false = within-none
+
+    go : (page : Page) → Within (openBlocks page st y p l)
+    go Shut = within-none
+    go (Open n last) = up-to n last (leb y n)

@@ -21,6 +21,9 @@ use Rattle.reader.specs.declared.Ahead.the-variants.{Nothing, Broken, Cu
 use Rattle.reader.specs.Holding.{nextOf}
 use Rattle.reader.specs.Places.{Found, nothing, broken, cut, whole, fillers, heads, found}
 
+pub untrue {ℓ} : {A : Type ℓ} → false ≡ true → A
+untrue e = let z : _≡_ {A = ℕ} 0 1 = cc in absurd (omega arith)
+
 -- ---- filler
 
 pub filler-on : (l : List ℕ) (i : ℕ) → i < length l → nib (getD l i 0) ≡ 3 → i + 1 + fillers (drop (i + 1) l) ≡ i + fillers (drop i l)

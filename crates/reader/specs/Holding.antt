@@ -72,6 +72,12 @@ runs Idle = false
 runs (Head got bits) = true
 runs (Body head held) = true
 
+-- its 16 bits are 16 bits, which the run's type alone says
+abbrev pub Sixteen : Run → Type 0
+Sixteen Idle = Unit
+Sixteen (Head got bits) = bits < 2 ^ 16
+Sixteen (Body head held) = head < 2 ^ 16
+
 -- it is held whole, and l is only filler
 abbrev pub stands : Run → List ℕ → Bool
 stands Idle l = false

@@ -3,7 +3,7 @@
 use answer::Refusal;
 use guide::Setting;
 ghost use mathlib.Core.Path.{_≡_};
-ghost use mathlib.Core.Bool.{not};
+ghost use mathlib.Core.Bool.{true, not};
 ghost use mathlib.Core.List.{List, []};
 ghost use Prim.Native.Nat.{ℕ, _+_, _-_, _*_, _%_, _≤_};
 ghost use lib.Dec.{eqb, leb, ltb};
@@ -20,7 +20,8 @@ ghost use Rattle.reader.specs.Mode.{body};
 ghost use Rattle.reader.specs.State.{modeOf, zeros, pageInRange, runInRange, readerInRange, readerOf, freshState};
 ghost use Rattle.reader.specs.Acting.{dropIf, incomplete, wrongY};
 ghost use Rattle.reader.specs.declared.Page.the-variants.{Shut, Open};
-ghost use Rattle.reader.specs.Holding.{aheadIn, nextOf, blockWith, Holds, Kept, TookIn, Room, Finished, CarriedTo, CarriedOn, Flowed, RowRoom, ReadRow, Turned, Acted, Rowed, stateIn, runs, stands};
+ghost use Rattle.reader.specs.Feeding.{feedHeard, feedReader, feedOut};
+ghost use Rattle.reader.specs.Holding.{aheadIn, nextOf, blockWith, Holds, Kept, TookIn, Room, Finished, CarriedTo, CarriedOn, Flowed, RowRoom, ReadRow, Turned, Acted, Rowed, stateIn, runs, Sixteen, stands};
 
 // The page of ours that is open, if one is: how many packets follow its packet 0, and the number of
 // the last one that came.
@@ -733,6 +734,7 @@ fn is_page(page: Page) -> bool
 fn in_range(page: Page, index: u8, run: Run, store: &[u8; 2047]) -> bool
     requires { ⌜ length (now store) ≡ 2047 ⌝ }
     ensures { λ r. ⌜ r ≡ readerInRange (record { page = page; index = index; run = run; store = now (store .entry) }) ⌝ }
+    ensures { λ r. ⌜ (r ≡ true → Sixteen run) ⌝ }
 {
     if !is_page(page) {
         return false;
@@ -766,5 +768,75 @@ pub fn fresh() -> Reader
         index: 15,
         run: Run::Idle,
         store: [0u8; 2047],
+    }
+}
+
+// One packet of 42 bytes. Refused with 16 where the setting or the state is out of range or the packet
+// isn't 42 bytes long, then with 1 where the output is under 2,112 bytes: the output and the reader are
+// then as they were. Else the blocks that the packet finishes stand as records at the front of the
+// output, and the reader has gone on.
+pub fn feed(setting: Setting, reader: Reader, packet: &[u8], out: &mut [u8]) -> Fed
+    ensures { λ r. ⌜ r .heard ≡ feedHeard setting reader (now (packet .entry)) (now (out .entry)) ⌝ }
+    ensures { λ r. ⌜ r .reader ≡ feedReader setting reader (now (packet .entry)) (now (out .entry)) ⌝ }
+    ensures { λ r. ⌜ now (out .exit) ≡ feedOut setting reader (now (packet .entry)) (now (out .entry)) ⌝ }
+{
+    if !guide::is_in_range(setting) {
+        return Fed {
+            heard: Heard::Refused(Refusal { no: 16, at: 0 }),
+            reader: reader,
+        };
+    }
+    let page = reader.page;
+    let run = reader.run;
+    let mut store = reader.store;
+    if !in_range(page, reader.index, run, &store) {
+        return Fed {
+            heard: Heard::Refused(Refusal { no: 16, at: 0 }),
+            reader: reader,
+        };
+    }
+    if packet.len() != 42 {
+        return Fed {
+            heard: Heard::Refused(Refusal { no: 16, at: 0 }),
+            reader: reader,
+        };
+    }
+    if out.len() < 2112 {
+        return Fed {
+            heard: Heard::Refused(Refusal { no: 1, at: 0 }),
+            reader: reader,
+        };
+    }
+    let a = step(
+        setting,
+        Going {
+            page: page,
+            index: reader.index,
+            got: Got {
+                run: run,
+                blocks: 0,
+                written: 0,
+                dropped: false,
+            },
+        },
+        &mut store,
+        packet,
+        out,
+    );
+    let got = a.got;
+    let now_open = a.page;
+    let now_running = got.run;
+    Fed {
+        heard: Heard::Took {
+            blocks: got.blocks,
+            written: got.written,
+            dropped: got.dropped,
+        },
+        reader: Reader {
+            page: now_open,
+            index: a.index,
+            run: now_running,
+            store: store,
+        },
     }
 }

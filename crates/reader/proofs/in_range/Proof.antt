@@ -8,6 +8,7 @@ use lib.Seq.{sets, length-sets}
 use denote.Ref.{now}
 use borrow.Author.Tests.{lt-leb, le-leb, not-true, not-false}
 use Rattle.reader.specs.State.{readerInRange}
+use Rattle.reader.proofs.Stepping.{untrue}
 use Rattle.reader.proofs.in_range.Statement.{statement}
 use Rattle.reader.proofs.in_range.Tie as tie
 use Rattle.reader.proofs.in_range.Reads as reads
@@ -23,12 +24,12 @@ is-page-requires c κs = search needs
 -- src/lib.rt:731:9
 returns : tie.Need-returns
 unfolding readerInRange
-returns c = rw (sym (c .before .is-page .ensures) ∙ not-true _ (c .if1 .taken))
+returns c = (rw (sym (c .before .is-page .ensures) ∙ not-true _ (c .if1 .taken)), λ e. untrue e)
 
 -- src/lib.rt:734:9
 returns-2 : tie.Need-returns-2
 unfolding readerInRange
-returns-2 c = rw (sym (c .before .before .is-page .ensures) ∙ not-false _ (c .before .if1 .left), lt-leb _ _ (c .if2 .taken))
+returns-2 c = (rw (sym (c .before .before .is-page .ensures) ∙ not-false _ (c .before .if1 .left), lt-leb _ _ (c .if2 .taken)), λ e. untrue e)
 
 -- src/lib.rt:737:22
 enum-told : tie.Need-enum-told
@@ -49,7 +50,7 @@ is-head-requires c κs = search needs
 -- src/lib.rt:740:17
 returns-3 : tie.Need-returns-3
 unfolding readerInRange
-returns-3 c = rw (sym (c .before .before .before .before .before .before .before .is-page .ensures) ∙ not-false _ (c .before .before .before .before .before .before .if1 .left), le-leb _ _ (c .before .before .before .before .before .if2 .left), c .before .before .before .run .given .1, sym (c .before .is-head .ensures) ∙ not-true _ (c .if3 .taken))
+returns-3 c = (rw (sym (c .before .before .before .before .before .before .before .is-page .ensures) ∙ not-false _ (c .before .before .before .before .before .before .if1 .left), le-leb _ _ (c .before .before .before .before .before .if2 .left), c .before .before .before .run .given .1, sym (c .before .is-head .ensures) ∙ not-true _ (c .if3 .taken)), λ e. untrue e)
 
 -- src/lib.rt:742:13
 is-clear-requires-2 : tie.Need-is-clear-requires-2
@@ -66,7 +67,7 @@ cast-if4 c = search needs
 -- src/lib.rt:746:17
 returns-4 : tie.Need-returns-4
 unfolding readerInRange
-returns-4 c = rw (sym (c .before .before .before .before .before .before .is-page .ensures) ∙ not-false _ (c .before .before .before .before .before .if1 .left), le-leb _ _ (c .before .before .before .before .if2 .left), c .before .before .run2 .given .1, lt-leb _ _ (c .if4 .taken))
+returns-4 c = (rw (sym (c .before .before .before .before .before .before .is-page .ensures) ∙ not-false _ (c .before .before .before .before .before .if1 .left), le-leb _ _ (c .before .before .before .before .if2 .left), c .before .before .run2 .given .1, lt-leb _ _ (c .if4 .taken)), λ e. untrue e)
 
 -- src/lib.rt:748:13
 is-clear-requires-3 : tie.Need-is-clear-requires-3
@@ -75,17 +76,17 @@ is-clear-requires-3 c κs = search needs
 -- src/lib.rt:726:1
 returns-5 : tie.Need-returns-5
 unfolding readerInRange
-returns-5 c = rw (sym (c .before .before .before .before .before .is-page .ensures) ∙ not-false _ (c .before .before .before .before .if1 .left), le-leb _ _ (c .before .before .before .if2 .left), c .before .enum-told .given .1) (c .is-clear .ensures)
+returns-5 c = (rw (sym (c .before .before .before .before .before .is-page .ensures) ∙ not-false _ (c .before .before .before .before .if1 .left), le-leb _ _ (c .before .before .before .if2 .left), c .before .enum-told .given .1) (c .is-clear .ensures), λ e. rw (c .before .enum-told .given .1) tt)
 
 -- src/lib.rt:726:1
 returns-6 : tie.Need-returns-6
 unfolding readerInRange
-returns-6 c = rw (sym (c .before .before .before .before .before .before .before .before .is-page .ensures) ∙ not-false _ (c .before .before .before .before .before .before .before .if1 .left), le-leb _ _ (c .before .before .before .before .before .before .if2 .left), c .before .before .before .before .run .given .1, sym (c .before .before .is-head .ensures) ∙ not-false _ (c .before .if3 .left)) (c .is-clear2 .ensures)
+returns-6 c = (rw (sym (c .before .before .before .before .before .before .before .before .is-page .ensures) ∙ not-false _ (c .before .before .before .before .before .before .before .if1 .left), le-leb _ _ (c .before .before .before .before .before .before .if2 .left), c .before .before .before .before .run .given .1, sym (c .before .before .is-head .ensures) ∙ not-false _ (c .before .if3 .left)) (c .is-clear2 .ensures), λ e. rw (c .before .before .before .before .run .given .1) (omega arith))
 
 -- src/lib.rt:726:1
 returns-7 : tie.Need-returns-7
 unfolding readerInRange
-returns-7 c = rw (sym (c .before .before .before .before .before .before .before .is-page .ensures) ∙ not-false _ (c .before .before .before .before .before .before .if1 .left), le-leb _ _ (c .before .before .before .before .before .if2 .left), c .before .before .before .run2 .given .1, le-leb _ _ (c .before .if4 .left)) (c .is-clear3 .ensures)
+returns-7 c = (rw (sym (c .before .before .before .before .before .before .before .is-page .ensures) ∙ not-false _ (c .before .before .before .before .before .before .if1 .left), le-leb _ _ (c .before .before .before .before .before .if2 .left), c .before .before .before .run2 .given .1, le-leb _ _ (c .before .if4 .left)) (c .is-clear3 .ensures), λ e. rw (c .before .before .before .run2 .given .1) (omega arith))
 
 pub in-range-spec : {M : Type 1} → statement M
 in-range-spec =
