@@ -1,10 +1,11 @@
 -- `pes::write` meets its contract: a list is refused as it is judged, else for want of room, or its packet is stored from the front
 -- on. Assumes nothing.
 use borrow.Author.Needs.{needs}
-use mathlib.Core.Path.{_≡_, _∙_, sym}
+use mathlib.Core.Path.{_≡_, _∙_, sym, ap}
 use native.Mathlib.Omega.{arith}
 use lib.ListN.{length}
 use denote.Ref.{now}
+use Rattle.answer.specs.declared.Answer.the-variants.{Done}
 use Rattle.answer.specs.Rules.{Every}
 use Rattle.answer.proofs.Steps.{done-every, done-value}
 use Rattle.answer.proofs.Lent.{lent-refused, lent-short, lent-done}
@@ -37,8 +38,10 @@ passed c =
 returns : tie.Need-returns
 returns c =
     let a = c .before .before .before .before .before .before .before .args in
+    let p = passed (c .before .before) in
     lent-short (writeRules (a .data-identifier) (now (a .records))) (packetOf (a .data-identifier) (now (a .records))) (now (a .out))
-    (c .before .before .before .before .judge-records .ensures) (c .before .before .need .given .1) (c .if1 .taken)
+    (length (packetOf (a .data-identifier) (now (a .records))))
+    (c .before .before .before .before .judge-records .ensures) (c .before .before .need .given .1) (omega (arith, p .1, c .if1 .taken))
 
 put-packet-requires : tie.Need-put-packet-requires
 put-packet-requires c κs =
@@ -51,6 +54,7 @@ returns-2 : tie.Need-returns-2
 returns-2 c =
     let a = c .before .before .before .before .before .before .args in
     lent-refused (writeRules (a .data-identifier) (now (a .records))) (packetOf (a .data-identifier) (now (a .records))) (now (a .out))
+    (length (packetOf (a .data-identifier) (now (a .records))))
     (c .before .before .before .judge-records .ensures) (c .before .r .given .1)
 
 same-length : tie.Need-same-length
@@ -60,10 +64,12 @@ returns-3 : tie.Need-returns-3
 returns-3 c =
     let d = c .before .before .before .before in
     let a = d .before .before .before .before .before .before .before .args in
+    let p = passed (d .before .before) in
     let l =
-    lent-done (writeRules (a .data-identifier) (now (a .records))) (packetOf (a .data-identifier) (now (a .records))) (now (a .out))
-    (d .before .before .before .before .judge-records .ensures) (d .before .before .need .given .1) (d .if1 .left) in
-    (l .0, c .before .before .put-packet .ensures ∙ l .1)
+      lent-done (writeRules (a .data-identifier) (now (a .records))) (packetOf (a .data-identifier) (now (a .records))) (now (a .out))
+    (length (packetOf (a .data-identifier) (now (a .records))))
+      (d .before .before .before .before .judge-records .ensures) (d .before .before .need .given .1) (omega (arith, p .1, d .if1 .left)) in
+    (ap Done (p .1) ∙ l .0, c .before .before .put-packet .ensures ∙ l .1)
 
 pub write-spec : {M : Type 1} → statement M
 write-spec =
