@@ -1,18 +1,17 @@
 -- The outcomes of a call that writes bytes, from how its rules are judged: a rule's refusal, the refusal for want of room, and
 -- acceptance; each settles the answer and the output. Assumes nothing.
 use mathlib.Core.Path.{_≡_, _∙_, refl, sym, ap}
-use mathlib.Core.Bool.{Bool, true, false}
+use mathlib.Core.Bool.{true}
 use mathlib.Core.Logic.{⊎-elim}
 use mathlib.Core.List.{List, [], _∷_, _++_}
 use Prim.Native.Nat.{ℕ, _<_, _≤_}
 use native.Mathlib.Omega.{arith}
 use lib.ListN.{length, drop}
 use borrow.Author.Tests.{le-leb, lt-leb}
-use Rattle.laws.specs.Pick.{pick}
 use Rattle.answer.specs.declared.Refusal.{Refusal}
 use Rattle.answer.specs.declared.Answer.{Answer}
 use Rattle.answer.specs.declared.Answer.the-variants.{Done, Refused}
-use Rattle.answer.specs.Rules.{Rule, rule, judged, Every, none, more, First}
+use Rattle.answer.specs.Rules.{Rule, judged, Every, none, more, First}
 use Rattle.answer.specs.Values.{refused}
 use Rattle.answer.specs.Writing.{room, answered, after, left}
 use Rattle.answer.proofs.Judging.{passes, refuses, decided}

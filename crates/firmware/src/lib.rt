@@ -4,6 +4,8 @@
 ghost use mathlib.Core.Path.{_≡_};
 ghost use Rattle.octet.specs.Decoding.{nib};
 ghost use Rattle.octet.specs.Turning.{turned};
+ghost use Rattle.units.specs.Units.{unitAt};
+ghost use Rattle.units.specs.Values.{packed};
 
 // The nibble that a protected byte decodes to, 0 to 15, or 16 where it can't be decoded.
 #[no_mangle]
@@ -19,4 +21,12 @@ pub extern "C" fn guide_turn(b: u8) -> u8
     ensures { λ r. ⌜ r ≡ turned b ⌝ }
 {
     octet::turn(b)
+}
+
+// One step of the unit walk: what begins at a place of a PES packet, as one number.
+#[no_mangle]
+pub extern "C" fn guide_unit_at(pes: &[u8], at: usize) -> u64
+    ensures { λ r. ⌜ r ≡ packed (unitAt (now (pes .entry)) at) ⌝ }
+{
+    units::pack(units::unit_at(pes, at))
 }

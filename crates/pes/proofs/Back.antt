@@ -1,74 +1,26 @@
 -- What is written reads back: the walk along a written packet meets each unit as it was made, first those of the records and then
 -- the stuffing. Assumes nothing.
-use mathlib.Core.Path.{_≡_, _∙_, refl, sym, ap, ap₂, subst}
+use mathlib.Core.Path.{_≡_, _∙_, refl, sym, ap, ap₂}
 use mathlib.Core.Bool.{Bool, true, false}
 use mathlib.Core.List.{List, [], _∷_, _++_, map, flatMap, append-assoc}
-use Prim.Native.Nat.{ℕ, zero, suc, _+_, _-_, _*_, _/_, _%_, _<_, _≤_}
+use Prim.Native.Nat.{ℕ, zero, suc, _+_, _*_, _<_, _≤_}
 use native.Mathlib.Nat.{add-zero, zero-add}
 use native.Mathlib.Numerals.{add-one, add-two}
 use native.Mathlib.Omega.{arith}
-use lib.Dec.{T, eqb, leb, lit<}
+use lib.Dec.{lit<}
 use lib.ListN.{length, getD, take, drop, length-append, length-map, length-take, length-drop}
-use lib.Seq.{drop-cons, take-all, take-add, take-at, drop-at, drop-drop, getD-drop}
-use borrow.Author.Tests.{le-leb, leb-true, eq-eqb, ne-eqb, eqb-true}
-use Rattle.laws.specs.Pick.{pick, both, either}
-use Rattle.laws.proofs.Tests.{both-first, both-second, both-holds}
-use Rattle.answer.specs.Rules.{Rule, Every, none, more}
-use Rattle.answer.proofs.Answering.{every-head, every-tail, every-join}
+use lib.Seq.{drop-cons, take-add, take-at, drop-at, drop-drop, getD-drop}
+use Rattle.laws.proofs.Tests.{both-first, both-second}
+use Rattle.answer.specs.Rules.{Every, none}
+use Rattle.answer.proofs.Answering.{every-join}
 use Rattle.octet.specs.Turning.{turned}
 use Rattle.octet.proofs.Laws.{turned-turned}
-use Rattle.pes.specs.Header.{byteAt, packetLength, headerRules}
-use Rattle.pes.specs.Units.{textId, stuffingId, lineFits, framing, nextUnit, unitRules, textRules, rulesAt, recordAt, givenAt}
-use Rattle.pes.specs.Reading.{places, unitsRules, readRules, recordsOf}
-use Rattle.pes.specs.Writing.{
-  unitCount,
-  packetSize,
-  recordFits,
-  recordsFit,
-  writeRules,
-  headerOf,
-  unitOf,
-  unitsOf,
-  stuffingUnit,
-  stuffingUnits,
-  packetOf,
-}
-use Rattle.pes.proofs.Walk.{from, from-end, from-step, Whole, rest, lawful, rest-end, rest-text, rest-stuffing}
-use Rattle.pes.proofs.Making.{header-length, unit-length, units-length, stuffing-unit-length, packet-length, fits-packet}
-
--- ---- units that are as they should be
-
-text-not-stuffing : (i : ℕ) → textId i ≡ true → stuffingId i ≡ false
-text-not-stuffing i h = ne-eqb i 0xFF (λ e. subst (λ (k : ℕ). T (textId k)) e (subst T (sym h) tt))
-
-pub whole-text :
-    (pes : List ℕ) (at : ℕ) → textId (byteAt pes at) ≡ true → byteAt pes (at + 1) ≡ 44 → lineFits (byteAt pes (at + 2)) ≡ true
-    → byteAt pes (at + 3) ≡ framing → at + 46 ≤ length pes → Whole pes at (at + 46) false
-unfolding unitRules textRules
-whole-text pes at i l b f h =
-    let s = text-not-stuffing (byteAt pes at) i in
-    let n : nextUnit pes at ≡ at + 46 = omega (arith, l) in
-    record {
-      within = omega arith;
-      kind = s;
-      every =
-          every-join (more (le-leb (at + 2) (length pes) (omega arith)) (more (rw i) (more (le-leb (nextUnit pes at) (length pes) (omega (arith, n))) none)))
-          (subst (λ (t : Bool). Every (pick t [] (textRules pes at))) (sym s) (more (eq-eqb _ _ l) (more b (more (eq-eqb _ _ f) none))));
-      after = sym n;
-    }
-
-pub whole-stuffing : (pes : List ℕ) (at : ℕ) → byteAt pes at ≡ 0xFF → at + 2 ≤ length pes → nextUnit pes at ≤ length pes → Whole pes at (nextUnit pes at) true
-unfolding unitRules
-whole-stuffing pes at i h n =
-    let s : stuffingId (byteAt pes at) ≡ true = eq-eqb _ _ i in
-    record {
-      within = omega arith;
-      kind = s;
-      every =
-          every-join (more (le-leb _ _ h) (more (rw i) (more (le-leb _ _ n) none)))
-          (subst (λ (t : Bool). Every (pick t [] (textRules pes at))) (sym s) none);
-      after = refl;
-    }
+use Rattle.units.specs.Units.{byteAt, textId, nextUnit}
+use Rattle.units.proofs.Meets.{Whole, whole-text, whole-stuffing}
+use Rattle.pes.specs.Reading.{recordAt}
+use Rattle.pes.specs.Writing.{recordFits, recordsFit, unitOf, unitsOf, stuffingUnit, stuffingUnits}
+use Rattle.pes.proofs.Walk.{from, from-end, from-step, rest, lawful, rest-end, rest-text, rest-stuffing}
+use Rattle.pes.proofs.Making.{unit-length, stuffing-unit-length}
 
 -- ---- a packet known from a place on
 

@@ -1,17 +1,17 @@
 -- Cases J and K of document 01, from the definitions: they join the one list of all cases in crate `claims`. Assumes nothing.
 use mathlib.Core.Path.{_≡_, refl}
-use mathlib.Core.List.{List, [], _∷_, _++_, map, flatMap}
+use mathlib.Core.List.{List, [], _∷_, flatMap}
 use Prim.Native.Nat.{ℕ}
-use lib.ListN.{length, replicate, set, drop}
+use lib.ListN.{length, replicate, set}
 use Rattle.answer.specs.declared.Answer.{Answer}
 use Rattle.answer.specs.declared.Answer.the-variants.{Done}
 use Rattle.answer.specs.Values.{refused}
 use Rattle.answer.specs.Writing.{answered}
 use Rattle.octet.specs.Bits.{bits, number}
 use Rattle.octet.specs.Turning.{turned}
+use Rattle.units.specs.Units.{unitRules, textRules}
 use Rattle.pes.specs.Header.{headerRules, packetLength}
-use Rattle.pes.specs.Units.{unitRules, textRules, recordAt}
-use Rattle.pes.specs.Reading.{placesFrom, places, unitsRules, readRules, recordsOf}
+use Rattle.pes.specs.Reading.{recordAt, placesFrom, places, unitsRules, readRules, recordsOf}
 use Rattle.pes.specs.Writing.{recordsFit, writeRules, headerOf, unitOf, unitsOf, stuffingUnit, stuffingUnits, packetOf}
 
 -- the answers of the two calls where the output has room

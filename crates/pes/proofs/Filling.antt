@@ -10,9 +10,9 @@ use lib.ListN.{length, length-append}
 use lib.Seq.{sets}
 use Rattle.laws.proofs.Stores.{sets-next}
 use Rattle.answer.specs.Rules.{Every}
-use Rattle.pes.specs.Units.{recordAt}
-use Rattle.pes.specs.Reading.{firstUnit, places, unitsRules, recordsOf}
-use Rattle.pes.proofs.Walk.{Whole, text-unit, record-length, rest, lawful, rest-end, rest-text, rest-stuffing, lawful-next}
+use Rattle.units.proofs.Meets.{Whole, text-unit}
+use Rattle.pes.specs.Reading.{recordAt, firstUnit, places, unitsRules, recordsOf}
+use Rattle.pes.proofs.Walk.{record-length, rest, lawful, rest-end, rest-text, rest-stuffing, lawful-next}
 
 -- at the place `at`, with the records before it stored in front of `to`
 pub record Filled (pes old : List ℕ) (at to : ℕ) (out : List ℕ) : Type 0 where

@@ -1,6 +1,6 @@
 -- The records that reading gives: whole records, each with a text unit's id and a line offset that is taken, and never more than a
 -- packet holds. Assumes nothing.
-use mathlib.Core.Path.{_≡_, _∙_, refl, sym, ap, subst}
+use mathlib.Core.Path.{_≡_, _∙_, refl, subst}
 use mathlib.Core.Bool.{true}
 use mathlib.Core.List.{List, [], _++_}
 use Prim.Native.Nat.{ℕ, zero, suc, _+_, _*_, _≤_}
@@ -10,24 +10,12 @@ use lib.ListN.{length, length-append}
 use lib.Seq.{getD-append-add}
 use Rattle.laws.proofs.Tests.{both-holds}
 use Rattle.answer.specs.Rules.{Every}
-use Rattle.pes.specs.declared.DataUnit.{DataUnit}
-use Rattle.pes.specs.Units.{textId, lineFits, unitAt, recordAt}
-use Rattle.pes.specs.Header.{byteAt}
+use Rattle.units.specs.declared.DataUnit.{DataUnit}
+use Rattle.units.specs.Units.{textId, lineFits, unitAt, byteAt}
+use Rattle.units.proofs.Meets.{Met, met, text-unit, whole-moves}
+use Rattle.pes.specs.Reading.{recordAt}
 use Rattle.pes.specs.Writing.{recordFits, recordsFit}
-use Rattle.pes.proofs.Walk.{
-  Met,
-  met,
-  text-unit,
-  record-length,
-  whole-moves,
-  rest,
-  lawful,
-  rest-end,
-  rest-text,
-  rest-stuffing,
-  lawful-next,
-  lawful-met,
-}
+use Rattle.pes.proofs.Walk.{record-length, rest, lawful, rest-end, rest-text, rest-stuffing, lawful-next, lawful-met}
 
 -- records behind others fit as they do alone
 fit-shift : (u : ℕ) (r g : List ℕ) (i : ℕ) → recordsFit u (r ++ g) (length r + i) ≡ recordsFit u g i

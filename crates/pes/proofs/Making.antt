@@ -1,31 +1,18 @@
 -- The parts of a packet that is written: one unit more, and how long each part is. Assumes nothing.
-use mathlib.Core.Path.{_≡_, _∙_, refl, sym, ap}
+use mathlib.Core.Path.{_≡_, _∙_, refl}
 use mathlib.Core.Bool.{true, false}
-use mathlib.Core.List.{List, [], _∷_, _++_, map}
-use Prim.Native.Nat.{ℕ, zero, suc, _+_, _-_, _*_, _/_, _<_, _≤_}
+use mathlib.Core.List.{List, [], _++_}
+use Prim.Native.Nat.{ℕ, zero, suc, _+_, _-_, _*_, _<_, _≤_}
 use native.Mathlib.Omega.{arith}
 use lib.Dec.{leb}
-use lib.ListN.{length, take, drop, length-append, length-map, length-take, length-drop}
+use lib.ListN.{length, length-append, length-map, length-take, length-drop}
 use lib.Seq.{sets}
 use borrow.Author.Tests.{leb-true}
 use Rattle.laws.proofs.Stores.{sets-next}
 use Rattle.laws.proofs.Tests.{both-first}
 use Rattle.answer.specs.Rules.{Every}
 use Rattle.answer.proofs.Answering.{every-head, every-tail}
-use Rattle.octet.specs.Turning.{turned}
-use Rattle.pes.specs.Writing.{
-  unitCount,
-  packetSize,
-  recordFits,
-  recordsFit,
-  writeRules,
-  headerOf,
-  unitOf,
-  unitsOf,
-  stuffingUnit,
-  stuffingUnits,
-  packetOf,
-}
+use Rattle.pes.specs.Writing.{unitCount, packetSize, recordFits, recordsFit, writeRules, headerOf, unitOf, unitsOf, stuffingUnit, stuffingUnits, packetOf}
 
 -- ---- one more, or none
 

@@ -1,9 +1,9 @@
 -- What the two calls owe each other, from their definitions: what is written reads back as the same records, a written packet has
 -- the shape that document 01 gives it, and reading gives no record that writing would refuse. Assumes nothing.
-use mathlib.Core.Path.{_≡_, _∙_, refl, sym, ap, subst, subst₂}
+use mathlib.Core.Path.{_≡_, refl, sym, subst, subst₂}
 use mathlib.Core.Bool.{true}
-use mathlib.Core.List.{List, [], _∷_, _++_, flatMap}
-use Prim.Native.Nat.{ℕ, _+_, _-_, _*_, _/_, _%_, _≤_}
+use mathlib.Core.List.{List, _++_}
+use Prim.Native.Nat.{ℕ, _+_, _-_, _*_, _%_, _≤_}
 use native.Mathlib.Omega.{arith}
 use lib.Dec.{leb, eqb}
 use lib.ListN.{length, take, drop}
@@ -15,7 +15,8 @@ use Rattle.answer.specs.declared.Answer.the-variants.{Done}
 use Rattle.answer.specs.Rules.{Every, none, more}
 use Rattle.answer.specs.Writing.{answered, left}
 use Rattle.answer.proofs.Answering.{every-head, every-tail, every-join, every-right, settles-done}
-use Rattle.pes.specs.Header.{byteAt, packetLength, lengthFits, headerRules}
+use Rattle.units.specs.Units.{byteAt}
+use Rattle.pes.specs.Header.{packetLength, lengthFits, headerRules}
 use Rattle.pes.specs.Reading.{firstUnit, places, unitsRules, readRules, recordsOf}
 use Rattle.pes.specs.Writing.{unitCount, packetSize, recordsFit, writeRules, headerOf, unitsOf, stuffingUnits, packetOf}
 use Rattle.pes.proofs.Heading.{sized, sized-holds}

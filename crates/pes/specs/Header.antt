@@ -3,13 +3,10 @@ use mathlib.Core.Bool.{Bool}
 use mathlib.Core.List.{List, [], _∷_}
 use Prim.Native.Nat.{ℕ, _+_, _-_, _*_, _/_, _%_}
 use lib.Dec.{eqb, leb}
-use lib.ListN.{length, getD}
+use lib.ListN.{length}
 use Rattle.laws.specs.Pick.{both}
 use Rattle.answer.specs.Rules.{Rule, rule}
-
--- the packet's byte at a place
-abbrev pub byteAt : List ℕ → ℕ → ℕ
-byteAt pes at = getD pes at 0
+use Rattle.units.specs.Units.{byteAt}
 
 -- "00 00 01 BD at the front": packet_start_code_prefix, and the stream_id "private stream 1"
 abbrev pub startsRight : List ℕ → Bool
@@ -21,11 +18,15 @@ startsRight pes =
 abbrev pub packetLength : List ℕ → ℕ
 packetLength pes = byteAt pes 4 * 256 + byteAt pes 5
 
--- "N×184−6 with N from 1 to 356"
+-- PES_packet_length of a packet of N×184 bytes: "N×184−6"
+abbrev pub lengthOf : ℕ → ℕ
+lengthOf n = n * 184 - 6
+
+-- it is that with "N from 1 to 356"
 abbrev pub lengthFits : ℕ → Bool
 lengthFits l =
     let n = (l + 6) / 184 in
-    both (leb 1 n) (both (leb n 356) (eqb l (n * 184 - 6)))
+    both (leb 1 n) (both (leb n 356) (eqb l (lengthOf n)))
 
 -- byte 6: "its leading bits 10" and data_alignment_indicator
 abbrev pub flagsFit : ℕ → Bool

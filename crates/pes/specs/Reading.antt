@@ -1,12 +1,29 @@
 -- Reading a PES packet: its header, then its "units from first to last".
-use mathlib.Core.Bool.{Bool, true, false}
-use mathlib.Core.List.{List, [], _∷_, _++_, flatMap}
+use mathlib.Core.Bool.{true, false}
+use mathlib.Core.List.{List, [], _∷_, _++_, map, flatMap}
 use Prim.Native.Nat.{ℕ, zero, suc, _+_}
 use lib.Dec.{ltb}
-use lib.ListN.{length}
+use lib.ListN.{length, take, drop}
+use Rattle.laws.specs.Pick.{pick}
 use Rattle.answer.specs.Rules.{Rule}
+use Rattle.octet.specs.Turning.{turned}
+use Rattle.units.specs.Units.{byteAt, stuffingId, nextUnit, rulesAt}
 use Rattle.pes.specs.Header.{headerRules}
-use Rattle.pes.specs.Units.{nextUnit, rulesAt, givenAt}
+
+-- the bytes of a text unit after its framing byte
+abbrev pub textBytes : ℕ
+textBytes = 42
+
+abbrev pub recordSize : ℕ
+recordSize = 44
+
+-- "a record of 44 bytes: unit id, line byte, the 42 turned bytes"
+unfoldable pub recordAt : List ℕ → ℕ → List ℕ
+recordAt pes at = byteAt pes at ∷ byteAt pes (at + 2) ∷ map turned (take textBytes (drop (at + 4) pes))
+
+-- what the unit at a place gives: "stuffing gives nothing"
+abbrev pub givenAt : List ℕ → ℕ → List ℕ
+givenAt pes at = pick (stuffingId (byteAt pes at)) [] (recordAt pes at)
 
 -- where the first unit stands: after the header and the data_identifier
 abbrev pub firstUnit : ℕ

@@ -1,6 +1,6 @@
 -- A row of cases, as the unread bytes of the lent space hold it: op (1 byte), room (4 bytes, low byte first), length (4 bytes,
 -- low byte first), then so many bytes, the payload.
-use mathlib.Core.Bool.{Bool, true, false}
+use mathlib.Core.Bool.{Bool}
 use mathlib.Core.List.{List, []}
 use Prim.Native.Nat.{ℕ, _+_, _*_, _-_, _≤_, min}
 use lib.Dec.{leb}

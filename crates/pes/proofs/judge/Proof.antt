@@ -9,7 +9,8 @@ use native.Mathlib.Omega.{arith}
 use lib.Dec.{leb, eqb}
 use lib.ListN.{length}
 use Rattle.laws.specs.Pick.{both}
-use Rattle.pes.specs.Header.{byteAt, startsRight, packetLength, lengthFits, flagsFit, headerRules}
+use Rattle.units.specs.Units.{byteAt}
+use Rattle.pes.specs.Header.{startsRight, packetLength, lengthFits, flagsFit, headerRules}
 use Rattle.pes.specs.Reading.{readRules}
 use Rattle.pes.proofs.Heading.{started, Sized, sized}
 use Rattle.pes.proofs.judge.Statement.{statement}

@@ -5,45 +5,34 @@ use Prim.Native.Nat.{_+_, _*_, _/_}
 use native.Mathlib.Omega.{arith}
 use Rattle.pes.proofs.length_fits.Statement.{statement}
 use Rattle.pes.proofs.length_fits.Tie as tie
-use Rattle.pes.proofs.length_fits.Reads as reads
-use Rattle.pes.proofs.length_fits.Lts as lts
 
--- src/lib.rt:144:16
 mul-size : tie.Need-mul-size
 mul-size c = search needs
 
--- src/lib.rt:144:16
 add-size : tie.Need-add-size
 add-size c = search needs
 
--- src/lib.rt:145:14
 add-n : tie.Need-add-n
 add-n c = search needs
 
--- src/lib.rt:147:9
 returns : tie.Need-returns
 returns c = rw (lt-leb _ _ (c .if1 .taken))
 
--- src/lib.rt:149:16
 mul-if2 : tie.Need-mul-if2
 mul-if2 c = search needs
 
--- src/lib.rt:149:16
 sub-if2 : tie.Need-sub-if2
 sub-if2 c = search needs
 
--- src/lib.rt:150:9
 returns-2 : tie.Need-returns-2
 returns-2 c =
     let a = c .before .before .args in
     let n = (a .high * 256 + a .low + 6) / 184 in
     rw (le-leb 1 n (c .before .if1 .left), le-leb n 356 (omega arith), ne-eqb _ _ (c .if2 .taken))
 
--- src/lib.rt:152:5
 add-result : tie.Need-add-result
 add-result c = search needs
 
--- src/lib.rt:141:1
 returns-3 : tie.Need-returns-3
 returns-3 c =
     let a = c .before .before .args in

@@ -2,12 +2,12 @@
 -- what is left of the packet. Assumes nothing.
 use borrow.Author.Needs.{needs}
 use mathlib.Core.Bool.{true, false}
-use Prim.Native.Nat.{_+_, _-_, _≤_}
+use Prim.Native.Nat.{_-_}
 use native.Mathlib.Omega.{arith}
 use lib.ListN.{length}
 use denote.Ref.{now}
-use Rattle.pes.specs.declared.DataUnit.{DataUnit}
-use Rattle.pes.proofs.Walk.{Whole, met-by, whole-moves, text-next, text-unit, lawful-met}
+use Rattle.units.proofs.Meets.{Whole, met-by, whole-moves, text-next, text-unit}
+use Rattle.pes.proofs.Walk.{lawful-met}
 use Rattle.pes.proofs.Filling.{Filled, filled-start, filled-end, filled-stuffing, filled-room, filled-text}
 use Rattle.pes.proofs.put_records.Statement.{statement}
 use Rattle.pes.proofs.put_records.Tie as tie

@@ -10,7 +10,7 @@ use Rattle.laws.proofs.Lists.{sets-front}
 use Rattle.answer.specs.Rules.{Every}
 use Rattle.answer.proofs.Answering.{every-right, accepted, settles-refused, settles-short, settles-done}
 use Rattle.pes.specs.Header.{headerRules}
-use Rattle.pes.specs.Reading.{unitsRules, readRules, recordsOf}
+use Rattle.pes.specs.Reading.{readRules, recordsOf}
 use Rattle.pes.proofs.read.Statement.{statement}
 use Rattle.pes.proofs.read.Tie as tie
 

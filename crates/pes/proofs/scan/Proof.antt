@@ -10,14 +10,12 @@ use lib.ListN.{length}
 use Rattle.answer.specs.declared.Answer.the-variants.{Done}
 use Rattle.answer.specs.Rules.{judged}
 use Rattle.answer.specs.Values.{refused}
-use Rattle.pes.specs.declared.DataUnit.{DataUnit}
+use Rattle.units.specs.declared.DataUnit.{DataUnit}
+use Rattle.units.proofs.Meets.{Whole, met-by, whole-moves, text-next}
 use Rattle.pes.specs.Reading.{places, unitsRules, recordsOf}
-use Rattle.pes.proofs.Walk.{Whole, met-by, whole-moves, text-next, scanned, scan-step}
+use Rattle.pes.proofs.Walk.{scanned, scan-step}
 use Rattle.pes.proofs.scan.Statement.{statement}
 use Rattle.pes.proofs.scan.Tie as tie
-use Rattle.pes.proofs.scan.Reads as reads
-use Rattle.pes.proofs.scan.Lts as lts
-use Rattle.pes.proofs.unit_at.Reads as unit-at-reads
 
 abbrev Inv-loop : tie.InvT-loop
 Inv-loop pes at₀ given₀ at given =

@@ -2,14 +2,14 @@
 -- on. Assumes nothing.
 use borrow.Author.Needs.{needs}
 use mathlib.Core.Path.{_≡_, _∙_, sym}
-use Prim.Native.Nat.{_/_, _*_, _+_, _≤_, _<_}
+use Prim.Native.Nat.{_≤_, _<_}
 use native.Mathlib.Omega.{arith}
 use lib.ListN.{length}
 use denote.Ref.{now}
 use Rattle.laws.proofs.Lists.{sets-front}
 use Rattle.answer.specs.Rules.{Every}
 use Rattle.answer.proofs.Answering.{accepted, settles-refused, settles-short, settles-done}
-use Rattle.pes.specs.Writing.{unitCount, packetSize, writeRules, packetOf}
+use Rattle.pes.specs.Writing.{unitCount, writeRules, packetOf}
 use Rattle.pes.proofs.Making.{packet-length, fits-packet}
 use Rattle.pes.proofs.write.Statement.{statement}
 use Rattle.pes.proofs.write.Tie as tie

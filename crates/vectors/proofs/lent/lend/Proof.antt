@@ -2,7 +2,6 @@
 -- Assumes nothing.
 use mathlib.Core.Path.{_≡_, _∙_, sym, ap}
 use Prim.Native.Nat.{ℕ, _-_, _≤_}
-use native.Mathlib.Omega.{arith}
 use lib.ListN.{length, length-set, take, replicate}
 use lib.Seq.{length-take-le}
 use borrow.Author.Needs.{needs}

@@ -1,15 +1,17 @@
 -- A data unit, "id, length, that many bytes", and the data field of a text unit: EN 300 472, tables 1, 2, 4 and 5.
 use mathlib.Core.Bool.{Bool}
-use mathlib.Core.List.{List, [], _∷_, _++_, map}
+use mathlib.Core.List.{List, [], _∷_, _++_}
 use Prim.Native.Nat.{ℕ, _+_, _%_}
 use lib.Dec.{eqb, leb, ltb}
-use lib.ListN.{length, take, drop}
+use lib.ListN.{length, getD}
 use Rattle.laws.specs.Pick.{pick, both, either}
 use Rattle.answer.specs.Rules.{Rule, rule, judged}
 use Rattle.answer.specs.Values.{refusal}
-use Rattle.octet.specs.Turning.{turned}
-use Rattle.pes.specs.declared.DataUnit.{DataUnit}
-use Rattle.pes.specs.Header.{byteAt}
+use Rattle.units.specs.declared.DataUnit.{DataUnit}
+
+-- the packet's byte at a place
+abbrev pub byteAt : List ℕ → ℕ → ℕ
+byteAt pes at = getD pes at 0
 
 -- table 4: EBU Teletext non-subtitle data, EBU Teletext subtitle data
 abbrev pub textId : ℕ → Bool
@@ -63,11 +65,3 @@ unfoldable pub unitAt : List ℕ → ℕ → DataUnit
 unitAt pes at =
     let found = pick (stuffingId (byteAt pes at)) (DataUnit.Stuffing (nextUnit pes at)) (DataUnit.Text (nextUnit pes at)) in
     pick (ltb at (length pes)) (judged badUnit (rulesAt pes at) found) DataUnit.End
-
--- "a record of 44 bytes: unit id, line byte, the 42 turned bytes"
-unfoldable pub recordAt : List ℕ → ℕ → List ℕ
-recordAt pes at = byteAt pes at ∷ byteAt pes (at + 2) ∷ map turned (take 42 (drop (at + 4) pes))
-
--- what the unit at a place gives: "stuffing gives nothing"
-abbrev pub givenAt : List ℕ → ℕ → List ℕ
-givenAt pes at = pick (stuffingId (byteAt pes at)) [] (recordAt pes at)

@@ -1,13 +1,13 @@
--- `pes::unit_at` meets its contract: each test is a rule of the unit's, and they come in their order. Assumes nothing.
+-- `units::unit_at` meets its contract: each test is a rule of the unit's, and they come in their order. Assumes nothing.
 use borrow.Author.Needs.{needs}
 use borrow.Author.Tests.{lt-ltb, le-ltb, le-leb, lt-leb, eq-eqb, ne-eqb, not-true, not-false}
 use denote.Ref.{now}
 use lib.ListN.{length}
 use Prim.Native.Nat.{_+_}
 use native.Mathlib.Omega.{arith}
-use Rattle.pes.specs.Units.{unitAt, unitRules}
-use Rattle.pes.proofs.unit_at.Statement.{statement}
-use Rattle.pes.proofs.unit_at.Tie as tie
+use Rattle.units.specs.Units.{unitAt, unitRules}
+use Rattle.units.proofs.unit_at.Statement.{statement}
+use Rattle.units.proofs.unit_at.Tie as tie
 
 returns : tie.Need-returns
 unfolding unitAt

@@ -1,7 +1,7 @@
--- `pes::is_unit` meets its contract, by its two tests. Assumes nothing.
+-- `units::is_unit` meets its contract, by its two tests. Assumes nothing.
 use borrow.Author.Needs.{needs}
-use Rattle.pes.proofs.is_unit.Statement.{statement}
-use Rattle.pes.proofs.is_unit.Tie as tie
+use Rattle.units.proofs.is_unit.Statement.{statement}
+use Rattle.units.proofs.is_unit.Tie as tie
 
 is-text-requires : tie.Need-is-text-requires
 is-text-requires c κs = search needs

@@ -1,12 +1,12 @@
--- `pes::text_at` meets its contract: each test is a rule of `textRules`, and they come in its order. Assumes nothing.
+-- `units::text_at` meets its contract: each test is a rule of `textRules`, and they come in its order. Assumes nothing.
 use borrow.Author.Needs.{needs}
 use borrow.Author.Tests.{eq-eqb, ne-eqb, not-true, not-false}
 use mathlib.Core.Path.{ap}
 use native.Mathlib.Omega.{arith}
-use Rattle.pes.specs.declared.DataUnit.{DataUnit}
-use Rattle.pes.specs.Units.{textRules}
-use Rattle.pes.proofs.text_at.Statement.{statement}
-use Rattle.pes.proofs.text_at.Tie as tie
+use Rattle.units.specs.declared.DataUnit.{DataUnit}
+use Rattle.units.specs.Units.{textRules}
+use Rattle.units.proofs.text_at.Statement.{statement}
+use Rattle.units.proofs.text_at.Tie as tie
 
 add-size : tie.Need-add-size
 add-size c = search needs

@@ -1,7 +1,7 @@
--- `pes::line_fits` meets its contract, by its three tests. Assumes nothing.
+-- `units::line_fits` meets its contract, by its three tests. Assumes nothing.
 use borrow.Author.Tests.{eq-eqb, ne-eqb, lt-leb, le-leb}
-use Rattle.pes.proofs.line_fits.Statement.{statement}
-use Rattle.pes.proofs.line_fits.Tie as tie
+use Rattle.units.proofs.line_fits.Statement.{statement}
+use Rattle.units.proofs.line_fits.Tie as tie
 
 returns : tie.Need-returns
 returns c = rw (eq-eqb _ _ (c .if1 .taken))

@@ -1,0 +1,121 @@
+// The data units of a PES packet of teletext, one at a time: EN 300 472, clauses 4.3 and 4.4. Every public
+// function takes any bytes and answers; nothing is kept between calls.
+//
+// The definitions are in specs/Units.antt. What a unit that is met tells is in proofs/Meets.antt.
+use answer::Refusal;
+ghost use mathlib.Core.Path.{_≡_};
+ghost use Prim.Native.Nat.{_+_, _*_, _%_, _^_, _≤_};
+ghost use lib.ListN.{length};
+ghost use Rattle.laws.specs.Pick.{either};
+ghost use Rattle.answer.specs.Rules.{judged};
+ghost use Rattle.units.specs.Units.{textId, stuffingId, lineFits, nextUnit, textRules, badUnit, unitAt};
+ghost use Rattle.units.specs.Values.{packed};
+
+// What the unit walk finds at a place of a packet. Offsets and places count from the packet's first
+// byte.
+pub enum DataUnit {
+    // No byte is left.
+    End,
+    // A text unit begins there, and the next unit at the place held.
+    Text(usize),
+    // A stuffing unit, the same.
+    Stuffing(usize),
+    // The unit is refused.
+    Refused(Refusal),
+}
+
+// One step of the unit walk: the unit that begins at `at`. Total over any bytes and any place.
+pub fn unit_at(pes: &[u8], at: usize) -> DataUnit
+    ensures { λ r. ⌜ r ≡ unitAt (now (pes .entry)) at ⌝ }
+{
+    if pes.len() <= at {
+        return DataUnit::End;
+    }
+    if pes.len() - at < 2 {
+        return DataUnit::Refused(Refusal { no: 6, at });
+    }
+    let id = pes[at];
+    let next = at + 2 + (pes[at + 1] as usize);
+    if !is_unit(id) {
+        return DataUnit::Refused(Refusal { no: 7, at });
+    }
+    if pes.len() < next {
+        return DataUnit::Refused(Refusal { no: 6, at });
+    }
+    if id == 0xFF {
+        return DataUnit::Stuffing(next);
+    }
+    text_at(pes, at)
+}
+
+// What the walk finds as one number, for C: specs/Values.antt has its layout.
+pub fn pack(unit: DataUnit) -> u64
+    ensures { λ r. ⌜ r ≡ packed unit ⌝ }
+{
+    match unit {
+        DataUnit::End => 0,
+        DataUnit::Text(next) => joined(254, next),
+        DataUnit::Stuffing(next) => joined(255, next),
+        DataUnit::Refused(r) => joined(r.no, r.at),
+    }
+}
+
+fn joined(code: u8, place: usize) -> u64
+    ensures { λ r. ⌜ r ≡ code + 256 * (place % 2 ^ 56) ⌝ }
+{
+    (code as u64) + 256 * ((place as u64) % 0x0100_0000_0000_0000)
+}
+
+// The text unit at `at`, which doesn't run past the end.
+fn text_at(pes: &[u8], at: usize) -> DataUnit
+    requires { ⌜ nextUnit (now pes) at ≤ length (now pes) ⌝ }
+    ensures { λ r. ⌜ r ≡ judged badUnit (textRules (now (pes .entry)) at) (DataUnit.Text (nextUnit (now (pes .entry)) at)) ⌝ }
+{
+    let size = pes[at + 1];
+    if size != 0x2C {
+        return DataUnit::Refused(Refusal { no: 8, at });
+    }
+    let line = at + 2;
+    if !line_fits(pes[line]) {
+        return DataUnit::Refused(Refusal { no: 9, at: line });
+    }
+    let framing = at + 3;
+    if pes[framing] != 0xE4 {
+        return DataUnit::Refused(Refusal { no: 9, at: framing });
+    }
+    DataUnit::Text(at + 46)
+}
+
+// Whether an id is a text unit's: non-subtitle or subtitle data.
+pub fn is_text(id: u8) -> bool
+    ensures { λ r. ⌜ r ≡ textId id ⌝ }
+{
+    if id == 0x02 {
+        return true;
+    }
+    id == 0x03
+}
+
+// Whether an id is a text unit's or that of stuffing.
+fn is_unit(id: u8) -> bool
+    ensures { λ r. ⌜ r ≡ either (textId id) (stuffingId id) ⌝ }
+{
+    if is_text(id) {
+        return true;
+    }
+    id == 0xFF
+}
+
+// Whether the line offset of a line byte is 0 or from 07 to 16 hex.
+pub fn line_fits(b: u8) -> bool
+    ensures { λ r. ⌜ r ≡ lineFits b ⌝ }
+{
+    let offset = b % 32;
+    if offset == 0 {
+        return true;
+    }
+    if offset < 0x07 {
+        return false;
+    }
+    offset <= 0x16
+}
