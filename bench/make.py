@@ -5,7 +5,10 @@ dense.t42  a multiple of sixteen pages of tables and nothing else, so that it ca
            be repeated and the running number goes on
 mixed.t42  the same pages, after each three pages of other magazines
 lines.pes  PES packets of fifteen lines, with the time stamp that libzvbi waits for
-many.t42   mixed.t42 repeated, some two million packets"""
+many.t42   mixed.t42 repeated, some two million packets
+
+And cases with the model's answers, for the plain C loader: guide.in and guide.txt,
+table.in and table.txt."""
 
 import pathlib
 import sys
@@ -15,7 +18,9 @@ HERE = pathlib.Path(__file__).resolve().parent
 sys.path[:0] = [str(HERE.parent / "tests"), str(HERE.parent / "tests" / "judge")]
 
 import samples
-from cases.form import Dice
+from cases import reader as reader_cases
+from cases import table as table_cases
+from cases.form import Dice, Script, line
 from cases.reader import Air
 from model import guide, pes
 from model.listing import DESK
@@ -53,6 +58,30 @@ def lines(dice):
     return b"".join(stamped(pes.write(0x10, frame)) for frame in frames)
 
 
+class Readers:
+    """Op 20: a fresh reader, kept for the ops 21 that follow."""
+
+    def fresh(self, payload, room):
+        self.reader = guide.Reader(guide.Setting(*payload[:4]))
+        return line(lambda: b"")
+
+    def feed(self, payload, room):
+        heard = guide.Heard(b"", 0, False)
+
+        def call():
+            nonlocal heard
+            heard = self.reader.feed(payload, room)
+            return heard.records
+        return line(call) + f" blocks={heard.blocks} dropped={'yes' if heard.dropped else 'no'}"
+
+
+def reader_script():
+    readers = Readers()
+    script = Script({20: (4, readers.fresh), 21: (0, readers.feed)})
+    reader_cases.all_cases(script, Dice(5), 4)
+    return script
+
+
 def main():
     folder, dice = pathlib.Path(sys.argv[1]), Dice(12)
     ours = dense()
@@ -60,6 +89,9 @@ def main():
     (folder / "dense.t42").write_bytes(b"".join(ours))
     (folder / "mixed.t42").write_bytes(others)
     (folder / "lines.pes").write_bytes(lines(dice))
+    for name, script in ("guide", reader_script()), ("table", table_cases.script_of(Dice(5), 4)):
+        (folder / f"{name}.in").write_bytes(script.stdin)
+        (folder / f"{name}.txt").write_text(script.stdout())
     with open(folder / "many.t42", "wb") as many:
         for _ in range(MANY * guide.PACKET // len(others)):
             many.write(others)
