@@ -17,7 +17,7 @@ pub extern "C" fn bench_decode(s: &[u8]) -> u8
     let mut mix = 0u8;
     let mut i = 0;
     while i < s.len() {
-        mix = mix ^ octet::decode(s[i]);
+        mix = mix ^ quick::decode(s[i]);
         i += 1;
     }
     mix
@@ -31,7 +31,7 @@ pub extern "C" fn bench_turn(s: &[u8]) -> u8
     let mut mix = 0u8;
     let mut i = 0;
     while i < s.len() {
-        mix = mix ^ octet::turn(s[i]);
+        mix = mix ^ quick::turn(s[i]);
         i += 1;
     }
     mix
