@@ -4,6 +4,7 @@ pub mod Holding
 pub mod Judged
 pub mod Keeping
 pub mod Range
+pub mod Running
 pub mod Stepping
 pub mod Storing
 pub mod Walking

@@ -3,9 +3,9 @@
 use answer::Refusal;
 use guide::Setting;
 ghost use mathlib.Core.Path.{_≡_};
-ghost use mathlib.Core.Bool.{true, not};
+ghost use mathlib.Core.Bool.{true, false, not};
 ghost use mathlib.Core.List.{List, []};
-ghost use Prim.Native.Nat.{ℕ, _+_, _-_, _*_, _%_, _≤_};
+ghost use Prim.Native.Nat.{ℕ, _+_, _-_, _*_, _/_, _%_, _≤_};
 ghost use lib.Dec.{eqb, leb, ltb};
 ghost use lib.ListN.{length, getD, take, drop, replicate};
 ghost use lib.Seq.{sets};
@@ -20,8 +20,8 @@ ghost use Rattle.reader.specs.Mode.{body};
 ghost use Rattle.reader.specs.State.{modeOf, zeros, pageInRange, runInRange, readerInRange, readerOf, freshState};
 ghost use Rattle.reader.specs.Acting.{dropIf, incomplete, wrongY};
 ghost use Rattle.reader.specs.declared.Page.the-variants.{Shut, Open};
-ghost use Rattle.reader.specs.Feeding.{feedHeard, feedReader, feedOut};
-ghost use Rattle.reader.specs.Holding.{aheadIn, nextOf, blockWith, Holds, Kept, TookIn, Room, Finished, CarriedTo, CarriedOn, Flowed, RowRoom, ReadRow, Turned, Acted, Rowed, stateIn, runs, Sixteen, stands};
+ghost use Rattle.reader.specs.Feeding.{feedHeard, feedReader, feedOut, begun, run};
+ghost use Rattle.reader.specs.Holding.{aheadIn, nextOf, blockWith, Holds, Kept, TookIn, Room, Finished, CarriedTo, CarriedOn, Flowed, RowRoom, ReadRow, Turned, Acted, Rowed, RanTo, stateIn, runs, Sixteen, stands};
 
 // The page of ours that is open, if one is: how many packets follow its packet 0, and the number of
 // the last one that came.
@@ -94,6 +94,12 @@ struct Going {
     page: Page,
     index: u8,
     got: Got,
+}
+
+// The same, and how many packets.
+struct Taking {
+    going: Going,
+    packets: usize,
 }
 
 // A running block that has taken its bytes, and the place past them.
@@ -838,5 +844,41 @@ pub fn feed(setting: Setting, reader: Reader, packet: &[u8], out: &mut [u8]) -> 
             run: now_running,
             store: store,
         },
+    }
+}
+
+// Packets of 42 bytes one after the other, while there is room for what one can give.
+fn take_all(
+    setting: Setting,
+    from: Going,
+    store: &mut [u8; 2047],
+    packets: &[u8],
+    out: &mut [u8],
+) -> Taking
+    requires { ⌜ Kept (from .got .run) (now store) ⌝ }
+    requires { ⌜ length (now packets) % packetLength ≡ 0 ⌝ }
+    requires { ⌜ (from .got .blocks ≡ 0) × (from .got .written ≡ 0) × (from .got .dropped ≡ false) ⌝ }
+    ensures { λ r. ⌜ RanTo (run setting (length (now (out .entry))) (length (now (packets .entry)) / packetLength) (begun (stateIn from (now (store .entry)))) (now (packets .entry))) r (now (store .exit)) (now (out .entry)) (now (out .exit)) ⌝ }
+{
+    let mut a = from;
+    let mut at = 0;
+    let mut count = 0;
+    while at < packets.len() {
+        let got = a.got;
+        let q = got.written;
+        if out.len() - q < 2112 {
+            return Taking {
+                going: a,
+                packets: count,
+            };
+        }
+        let end = at + 42;
+        a = step(setting, a, store, &packets[at..end], out);
+        at = end;
+        count += 1;
+    }
+    Taking {
+        going: a,
+        packets: count,
     }
 }
