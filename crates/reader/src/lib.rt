@@ -20,7 +20,7 @@ ghost use Rattle.reader.specs.Mode.{body};
 ghost use Rattle.reader.specs.State.{modeOf, zeros, pageInRange, runInRange, readerInRange, readerOf, freshState};
 ghost use Rattle.reader.specs.Acting.{dropIf, incomplete, wrongY};
 ghost use Rattle.reader.specs.declared.Page.the-variants.{Shut, Open};
-ghost use Rattle.reader.specs.Feeding.{feedHeard, feedReader, feedOut, begun, run};
+ghost use Rattle.reader.specs.Feeding.{feedHeard, feedReader, feedOut, begun, run, feedAllHeard, feedAllReader, feedAllOut};
 ghost use Rattle.reader.specs.Holding.{aheadIn, nextOf, blockWith, Holds, Kept, TookIn, Room, Finished, CarriedTo, CarriedOn, Flowed, RowRoom, ReadRow, Turned, Acted, Rowed, RanTo, stateIn, runs, Sixteen, stands};
 
 // The page of ours that is open, if one is: how many packets follow its packet 0, and the number of
@@ -859,6 +859,7 @@ fn take_all(
     requires { ⌜ length (now packets) % packetLength ≡ 0 ⌝ }
     requires { ⌜ (from .got .blocks ≡ 0) × (from .got .written ≡ 0) × (from .got .dropped ≡ false) ⌝ }
     ensures { λ r. ⌜ RanTo (run setting (length (now (out .entry))) (length (now (packets .entry)) / packetLength) (begun (stateIn from (now (store .entry)))) (now (packets .entry))) r (now (store .exit)) (now (out .entry)) (now (out .exit)) ⌝ }
+    ensures { λ r. ⌜ r .going .got .written ≤ length (now (out .entry)) ⌝ }
 {
     let mut a = from;
     let mut at = 0;
@@ -880,5 +881,71 @@ fn take_all(
     Taking {
         going: a,
         packets: count,
+    }
+}
+
+// A row of packets of 42 bytes, taken as by `feed` one after the other, while at least 2,112 bytes of
+// the output are left. Refused with 16 where the setting or the state is out of range or the row isn't
+// whole packets: the output and the reader are then as they were. The state is tested once, and it is
+// copied in and out once.
+pub fn feed_all(setting: Setting, reader: Reader, packets: &[u8], out: &mut [u8]) -> FedAll
+    ensures { λ r. ⌜ r .heard ≡ feedAllHeard setting reader (now (packets .entry)) (now (out .entry)) ⌝ }
+    ensures { λ r. ⌜ r .reader ≡ feedAllReader setting reader (now (packets .entry)) (now (out .entry)) ⌝ }
+    ensures { λ r. ⌜ now (out .exit) ≡ feedAllOut setting reader (now (packets .entry)) (now (out .entry)) ⌝ }
+{
+    if !guide::is_in_range(setting) {
+        return FedAll {
+            heard: HeardAll::RefusedAll(Refusal { no: 16, at: 0 }),
+            reader: reader,
+        };
+    }
+    let page = reader.page;
+    let run = reader.run;
+    let mut store = reader.store;
+    if !in_range(page, reader.index, run, &store) {
+        return FedAll {
+            heard: HeardAll::RefusedAll(Refusal { no: 16, at: 0 }),
+            reader: reader,
+        };
+    }
+    if packets.len() % 42 != 0 {
+        return FedAll {
+            heard: HeardAll::RefusedAll(Refusal { no: 16, at: 0 }),
+            reader: reader,
+        };
+    }
+    let t = take_all(
+        setting,
+        Going {
+            page: page,
+            index: reader.index,
+            got: Got {
+                run: run,
+                blocks: 0,
+                written: 0,
+                dropped: false,
+            },
+        },
+        &mut store,
+        packets,
+        out,
+    );
+    let a = t.going;
+    let got = a.got;
+    let now_open = a.page;
+    let now_running = got.run;
+    FedAll {
+        heard: HeardAll::TookAll {
+            packets: t.packets,
+            blocks: got.blocks,
+            written: got.written,
+            dropped: got.dropped,
+        },
+        reader: Reader {
+            page: now_open,
+            index: a.index,
+            run: now_running,
+            store: store,
+        },
     }
 }

@@ -60,7 +60,7 @@ returns c =
     let b = l .inv .6 .0 in
     let w = l .inv .6 .1 in
     let e = run-full (a .setting) (length (now (a .out))) (now (a .packets)) (l .at) b (omega (arith, w .written, l .inv .2)) in
-    rw (sym (e ∙ l .inv .6 .2)) w
+    (rw (sym (e ∙ l .inv .6 .2)) w, l .inv .3)
 
 -- src/lib.rt:869:19
 add-end : tie.Need-add-end Inv-loop μ-loop
@@ -134,7 +134,7 @@ returns-2 c =
     let l = c .before .loop in
     let b = l .inv .6 .0 in
     let e = run-out (a .setting) (length (now (a .out))) (now (a .packets)) (l .at) b (omega arith) in
-    rw (sym (e ∙ l .inv .6 .2)) (l .inv .6 .1)
+    (rw (sym (e ∙ l .inv .6 .2)) (l .inv .6 .1), l .inv .3)
 
 pub take-all-spec : {M : Type 1} → statement M
 take-all-spec =
