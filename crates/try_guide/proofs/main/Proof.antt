@@ -6,13 +6,16 @@ use Rattle.try_guide.proofs.main.Statement.{statement}
 use Rattle.try_guide.proofs.main.Tie as tie
 
 abbrev Inv-loop : tie.InvT-loop
-Inv-loop space₀ out₀ text₀ input₀ turns₀ space out text input turns = Unit {0}
+Inv-loop space₀ out₀ text₀ input₀ kept₀ turns₀ space out text input kept turns = Unit {0}
 
 abbrev μ-loop : tie.MeasureT-loop
-μ-loop space₀ out₀ text₀ input₀ turns₀ space out text input turns = turns
+μ-loop space₀ out₀ text₀ input₀ kept₀ turns₀ space out text input kept turns = turns
 
 start-requires : tie.Need-start-requires Inv-loop μ-loop
 start-requires c κs = tt
+
+fresh-requires : tie.Need-fresh-requires Inv-loop μ-loop
+fresh-requires c κs = tt
 
 loop-holds : tie.Need-loop-holds Inv-loop μ-loop
 loop-holds c = tt
@@ -48,6 +51,7 @@ main-spec =
     Inv-loop
     μ-loop
     start-requires
+    fresh-requires
     loop-holds
     sub-turns
     step-requires
