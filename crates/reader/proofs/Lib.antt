@@ -1,3 +1,13 @@
-pub mod Ranging
+pub mod Adding
+pub mod Answering
 pub mod Bounding
+pub mod Holding
+pub mod Judged
+pub mod Keeping
+pub mod Range
+pub mod Ranging
+pub mod Running
 pub mod Sizing
+pub mod Stepping
+pub mod Storing
+pub mod Walking
