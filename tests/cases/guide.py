@@ -1,39 +1,13 @@
-"""try_guide: the reader's cases, then the writer's."""
+"""try_guide: the writer's cases."""
 
-from model import guide
-from model.guide import Setting
-
-from . import reader as hearing
 from . import writer
 from .form import Script, line
 
 
-class Readers:
-    """Op 20: a fresh reader, kept for the ops 21 that follow."""
-
-    def fresh(self, payload, room):
-        self.reader = guide.Reader(Setting(*payload[:4]))
-        return line(lambda: b"")
-
-    def feed(self, payload, room):
-        heard = guide.Heard(b"", 0, False)
-
-        def call():
-            nonlocal heard
-            heard = self.reader.feed(payload, room)
-            return heard.records
-        answer = line(call)
-        return answer + f" blocks={heard.blocks} dropped={'yes' if heard.dropped else 'no'}"
-
-
 def script_of(dice, size):
-    readers = Readers()
     script = Script({
-        20: (4, readers.fresh),
-        21: (0, readers.feed),
         22: (5, lambda payload, room: line(writer.cut_call, payload, room)),
     })
-    hearing.all_cases(script, dice, size)
     writer.all_cases(script, dice, size)
     for op in (0, 19, 23, 30, 255):
         script.case(op, 3000, bytes(42))

@@ -15,38 +15,37 @@ use Rattle.answer.specs.Writing.{room, answered, after, left}
 use Rattle.answer.proofs.Judging.{passes}
 use Rattle.answer.proofs.Steps.{judged-append, ends, goes-on, done-value, done-every, first-holds, others-hold}
 
-module _ (rules : List Rule) (bytes old : List ℕ) {first : Answer} (judges : first ≡ judged refused rules (Done (length bytes))) where
+module _ (rules : List Rule) (bytes old : List ℕ) (n : ℕ) {first : Answer} (judges : first ≡ judged refused rules (Done n)) where
+  pub lent-value : {m : ℕ} → first ≡ Done m → m ≡ n
+  lent-value {m} e = done-value rules n m (sym judges ∙ e)
+
   -- a rule refuses
   pub lent-refused : {w : Refusal} → first ≡ Refused w → (Refused w ≡ answered rules bytes old) × (old ≡ left rules bytes old)
   lent-refused e =
-      let a = ends rules (room bytes old ∷ []) (length bytes) judges (Done (length bytes)) e in
+      let a = ends rules (room bytes old ∷ []) n judges (Done (length bytes)) e in
       (a, ap (λ (x : Answer). after x bytes old) a)
 
   on : {m : ℕ} → first ≡ Done m → judged refused (room bytes old ∷ []) (Done (length bytes)) ≡ answered rules bytes old
-  on e = goes-on rules (room bytes old ∷ []) (length bytes) judges (Done (length bytes)) e
-
-  pub lent-need : {m : ℕ} → first ≡ Done m → m ≡ length bytes
-  lent-need {m} e = done-value rules (length bytes) m (sym judges ∙ e)
+  on e = goes-on rules (room bytes old ∷ []) n judges (Done (length bytes)) e
 
   -- no rule refuses, and the output is too short
   pub lent-short :
-      {m : ℕ} → first ≡ Done m → length old < m → (refused 1 0 ≡ answered rules bytes old) × (old ≡ left rules bytes old)
+      {m : ℕ} → first ≡ Done m → length old < length bytes → (refused 1 0 ≡ answered rules bytes old) × (old ≡ left rules bytes old)
   lent-short {m} e h =
       let r : refused 1 0 ≡ judged refused (room bytes old ∷ []) (Done (length bytes)) =
-      rw (lt-leb (length bytes) (length old) (rw (lent-need e) at h)) refl in
+      rw (lt-leb (length bytes) (length old) h) refl in
       let a = r ∙ on e in
       (a, ap (λ (x : Answer). after x bytes old) a)
 
   -- accepted
   pub lent-done :
-      {m : ℕ} → first ≡ Done m → m ≤ length old
-      → (Done m ≡ answered rules bytes old) × (sets old 0 bytes ≡ left rules bytes old)
+      {m : ℕ} → first ≡ Done m → length bytes ≤ length old
+      → (Done (length bytes) ≡ answered rules bytes old) × (sets old 0 bytes ≡ left rules bytes old)
   lent-done {m} e h =
-      let h′ : length bytes ≤ length old = rw (lent-need e) at h in
       let r : Done (length bytes) ≡ judged refused (room bytes old ∷ []) (Done (length bytes)) =
-      rw (le-leb (length bytes) (length old) h′) refl in
+      rw (le-leb (length bytes) (length old) h) refl in
       let a = r ∙ on e in
-      (ap Done (lent-need e) ∙ a, sets-front old bytes h′ ∙ ap (λ (x : Answer). after x bytes old) a)
+      (a, sets-front old bytes h ∙ ap (λ (x : Answer). after x bytes old) a)
 
 -- ---- accepted exactly when every rule holds and there is room
 

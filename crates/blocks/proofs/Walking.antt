@@ -10,18 +10,11 @@ use lib.Dec.{leb, eqb}
 use lib.ListN.{length, drop, length-drop}
 use lib.Seq.{drop-drop}
 use borrow.Author.Tests.{eq-eqb, ne-eqb, lt-leb, leb-true, eqb-true, eqb-false}
+use Rattle.laws.proofs.Tests.{both-first, both-second}
 use Rattle.laws.specs.Pick.{pick, both, either}
 use Rattle.blocks.specs.declared.Found.the-variants.{End, Record, Broken}
 use Rattle.blocks.specs.Place.{foundAt}
 use Rattle.blocks.specs.Block.{Block, headLength, headOf, recordLength, begins, blockOf, wholeWithin, whole, blocksWithin, blocks}
-
-both-first : (a b : Bool) → both a b ≡ true → a ≡ true
-both-first true b e = refl
-both-first false b e = e
-
-both-second : (a b : Bool) → both a b ≡ true → b ≡ true
-both-second true b e = e
-both-second false b e = cc
 
 -- a whole record has its head, and its bytes are there
 pub begins-head : (l : List ℕ) → begins l ≡ true → headLength ≤ length l

@@ -28,7 +28,7 @@ use Rattle.reader.specs.Mode.{Mode, off, scan, gives}
 use Rattle.reader.specs.Seen.{Seen, junk, other, ours, row, see}
 use Rattle.reader.specs.Acting.{State, incomplete, breaks, dropIf, wrongY, readMode, readBlocks, act, handed}
 use Rattle.reader.specs.State.{freshState}
-use Rattle.claims.specs.Noise.{Near, Elsewhere, Aired, ended, sent, between, Came, over, Alike, Each, Fits}
+use Rattle.claims.specs.Noise.{Hears, Near, Elsewhere, Aired, ended, sent, between, Came, over, Alike, Each, Fits}
 use Rattle.claims.specs.Carrying.{heardBlocks}
 use Rattle.claims.proofs.Losing.{lost-all, came-append}
 use Rattle.claims.proofs.Walking.{Plain, sentEnds, sentGives, Blocks}
@@ -40,15 +40,15 @@ use Rattle.claims.proofs.Sending.{Sends, stream-sends, Grabbed, grabbed
 -- ---- where the reader stands
 
 -- before a packet 0 with this index: no page of ours is incomplete, and the index follows ours, or nothing can be dropped by it
-record Ready (d : ℕ) (m : Mode) (index : ℕ) (st : State) : Type 0 where
+record Ready (R : ℕ → ℕ → Type 0) (L : Type 0) (m : Mode) (index : ℕ) (st : State) : Type 0 where
   whole : incomplete (st .page) ≡ false
-  mode : Between d m (st .mode)
+  mode : Between R L m (st .mode)
   follows : (st .mode ≡ off) ⊎ ((st .index + 1) % 16 ≡ index)
 
 -- in a page of k packets with this index, after packet `last`; or, where loss is allowed, the page was dropped
-data Inside (d k : ℕ) (m : Mode) (index last : ℕ) (st : State) : Type 0 where
-  opened : st .page ≡ Open k last → st .index ≡ index → Between d m (st .mode) → Inside d k m index last st
-  shut : 2 ≤ d → st .page ≡ Shut → st .mode ≡ off → Inside d k m index last st
+data Inside (R : ℕ → ℕ → Type 0) (L : Type 0) (k : ℕ) (m : Mode) (index last : ℕ) (st : State) : Type 0 where
+  opened : st .page ≡ Open k last → st .index ≡ index → Between R L m (st .mode) → Inside R L k m index last st
+  shut : L → st .page ≡ Shut → st .mode ≡ off → Inside R L k m index last st
 
 -- ---- what the packets do
 
@@ -60,30 +60,30 @@ act-other : (st : State) → act st other ≡ st
 unfolding act
 act-other st = refl
 
-ready-junk : {d : ℕ} {m : Mode} {index : ℕ} (st : State) → 2 ≤ d → Ready d m index (act st junk)
+ready-junk : {R : ℕ → ℕ → Type 0} {L : Type 0} {m : Mode} {index : ℕ} (st : State) → L → Ready R L m index (act st junk)
 ready-junk st x = rw act-junk (record { whole = refl; mode = gone x; follows = inl refl })
 
-inside-junk : {d k : ℕ} {m : Mode} {index last : ℕ} (st : State) → 2 ≤ d → Inside d k m index last (act st junk)
+inside-junk : {R : ℕ → ℕ → Type 0} {L : Type 0} {k : ℕ} {m : Mode} {index last : ℕ} (st : State) → L → Inside R L k m index last (act st junk)
 inside-junk st x = rw act-junk (shut x refl refl)
 
 -- a page that is full, or was dropped, is ready for the next
 next-ready :
-    {d : ℕ} (k : ℕ) {m : Mode} {index : ℕ} (st : State) → Inside d k m index k st → Ready d m ((index + 1) % 16) st
+    {R : ℕ → ℕ → Type 0} {L : Type 0} (k : ℕ) {m : Mode} {index : ℕ} (st : State) → Inside R L k m index k st → Ready R L m ((index + 1) % 16) st
 next-ready k st (opened p i b) =
     record { whole = rw p (le-ltb k k (omega arith)); mode = b; follows = inr (ap (λ (x : ℕ). (x + 1) % 16) i) }
 next-ready k st (shut x p o) = record { whole = rw p refl; mode = rw o (gone x); follows = inl o }
 
 -- our packet 0 opens the page
 act-ours :
-    {d : ℕ} (k : ℕ) {m : Mode} (index : ℕ) (st : State) → k ≤ 25 → Ready d m index st → Inside d k m index 0 (act st (ours index k))
+    {R : ℕ → ℕ → Type 0} {L : Type 0} (k : ℕ) {m : Mode} (index : ℕ) (st : State) → k ≤ 25 → Ready R L m index st → Inside R L k m index 0 (act st (ours index k))
 unfolding act
-act-ours {d} k {m} index st small r = opened (rw (le-leb k 25 small)) refl (go (r .follows))
+act-ours {R} {L} k {m} index st small r = opened (rw (le-leb k 25 small)) refl (go (r .follows))
   where
     dropped-off : (t : Bool) → dropIf t off ≡ off
     dropped-off true = refl
     dropped-off false = refl
 
-    go : (st .mode ≡ off) ⊎ ((st .index + 1) % 16 ≡ index) → Between d m (dropIf (breaks st index k) (st .mode))
+    go : (st .mode ≡ off) ⊎ ((st .index + 1) % 16 ≡ index) → Between R L m (dropIf (breaks st index k) (st .mode))
     go (inl e) = rw (e, dropped-off (breaks st index k)) (rw e at (r .mode))
     go (inr e) = rw (r .whole, le-ltb 25 k small, e, eq-eqb index index refl) (r .mode)
 
@@ -121,26 +121,26 @@ unfolding handed
 handed-ours st index n = refl
 
 -- the state after a packet, and what came of the blocks that the clean walk gives in it
-record Took (d : ℕ) (P : State → Type 0) (a : List Block) (st : State) (x : Seen) : Type 0 where
+record Took (R : ℕ → ℕ → Type 0) (L : Type 0) (P : State → Type 0) (a : List Block) (st : State) (x : Seen) : Type 0 where
   state : P (act st x)
-  blocks : Blocks d a (handed st x)
+  blocks : Blocks R L a (handed st x)
 
-module _ (d : ℕ) (small : d ≤ 2) (s : Setting) where
+module _ (R : ℕ → ℕ → Type 0) (L : Type 0) (hears : Hears R L) (s : Setting) where
   -- a packet of another magazine leaves the reader where it stands, or, unreadable, drops
   elsewhere-takes :
-      (P : State → Type 0) → ((st : State) → 2 ≤ d → P (act st junk)) → (st : State) {q : List ℕ} → Elsewhere d s q → P st
-      → Took d P [] st (see s q)
-  elsewhere-takes P drops st {q} e r = go (elsewhere-heard d small s e)
+      (P : State → Type 0) → ((st : State) → L → P (act st junk)) → (st : State) {q : List ℕ} → Elsewhere R s q → P st
+      → Took R L P [] st (see s q)
+  elsewhere-takes P drops st {q} e r = go (elsewhere-heard R L hears s e)
     where
-      go : (see s q ≡ other) ⊎ ((see s q ≡ junk) × (2 ≤ d)) → Took d P [] st (see s q)
+      go : (see s q ≡ other) ⊎ ((see s q ≡ junk) × L) → Took R L P [] st (see s q)
       go (inl f) = rw f (record { state = rw act-other r; blocks = rw handed-other over })
       go (inr w) = rw (w .0) (record { state = drops st (w .1); blocks = rw handed-junk over })
 
   -- the packets of other magazines before the next of ours
   strip :
-      (P : State → Type 0) → ((st : State) → 2 ≤ d → P (act st junk)) → {p : List ℕ} {ps qs : List (List ℕ)} (bs : List Block)
-      → ((st : State) (q : List ℕ) (qs : List (List ℕ)) → P st → Near d p q → Aired d s ps qs → Blocks d bs (heardBlocks s st (q ∷ qs)))
-      → (st : State) → P st → Aired d s (p ∷ ps) qs → Blocks d bs (heardBlocks s st qs)
+      (P : State → Type 0) → ((st : State) → L → P (act st junk)) → {p : List ℕ} {ps qs : List (List ℕ)} (bs : List Block)
+      → ((st : State) (q : List ℕ) (qs : List (List ℕ)) → P st → Near R p q → Aired R s ps qs → Blocks R L bs (heardBlocks s st (q ∷ qs)))
+      → (st : State) → P st → Aired R s (p ∷ ps) qs → Blocks R L bs (heardBlocks s st qs)
   unfolding heardBlocks
   strip P drops bs next st r (sent {q = q} {qs = qs} n a) = next st q qs r n a
   strip P drops bs next st r (between {q = q} e a) =
@@ -148,7 +148,7 @@ module _ (d : ℕ) (small : d ≤ 2) (s : Setting) where
       came-append (t .blocks) (strip P drops bs next (act st (see s q)) (t .state) a)
 
   -- after the last packet of ours
-  quiet : (st : State) {qs : List (List ℕ)} → Aired d s [] qs → Blocks d [] (heardBlocks s st qs)
+  quiet : (st : State) {qs : List (List ℕ)} → Aired R s [] qs → Blocks R L [] (heardBlocks s st qs)
   unfolding heardBlocks
   quiet st ended = over
   quiet st (between {q = q} e a) =
@@ -157,33 +157,33 @@ module _ (d : ℕ) (small : d ≤ 2) (s : Setting) where
 
   module _ (page : s .page < 256) (stream : s .stream < 16) (k : ℕ) (most : k ≤ 25) where
     zero-takes :
-        (m : Mode) (index : ℕ) → index < 16 → (st : State) {q : List ℕ} → Ready d m index st → Near d (packetZero s index k) q
-        → Took d (Inside d k m index 0) [] st (see s q)
-    zero-takes m index h st {q} r n = go (zero-heard s page stream index k h most d small n)
+        (m : Mode) (index : ℕ) → index < 16 → (st : State) {q : List ℕ} → Ready R L m index st → Near R (packetZero s index k) q
+        → Took R L (Inside R L k m index 0) [] st (see s q)
+    zero-takes m index h st {q} r n = go (zero-heard s page stream index k h most R L hears n)
       where
-        go : (see s q ≡ ours index k) ⊎ ((see s q ≡ junk) × (2 ≤ d)) → Took d (Inside d k m index 0) [] st (see s q)
+        go : (see s q ≡ ours index k) ⊎ ((see s q ≡ junk) × L) → Took R L (Inside R L k m index 0) [] st (see s q)
         go (inl e) = rw e (record { state = act-ours k index st most r; blocks = rw handed-ours over })
         go (inr w) = rw (w .0) (record { state = inside-junk st (w .1); blocks = rw handed-junk over })
 
     -- packet last + 1 with the next symbols of the stream
     row-takes :
         (m : Mode) (index last : ℕ) (ss : List Symbol) (st : State) {q : List ℕ} → suc last ≤ k → Celled ss
-        → Plain m (grab perPacket ss) → Inside d k m index last st → Near d (rowOf s (suc last) ss) q
-        → Took d (Inside d k (sentEnds m (grab perPacket ss)) index (suc last)) (sentGives m (grab perPacket ss)) st (see s q)
+        → Plain m (grab perPacket ss) → Inside R L k m index last st → Near R (rowOf s (suc last) ss) q
+        → Took R L (Inside R L k (sentEnds m (grab perPacket ss)) index (suc last)) (sentGives m (grab perPacket ss)) st (see s q)
     row-takes m index last ss st {q} h celled plain r n =
         let p : pointerOf (grab perPacket ss) < 16 = omega (arith, before-le (grab perPacket ss), length-grab perPacket ss) in
-        go r (row-heard d small s (suc last) (pointerOf (grab perPacket ss)) _ (omega arith) (omega arith) p n)
+        go r (row-heard R L hears s (suc last) (pointerOf (grab perPacket ss)) _ (omega arith) (omega arith) p n)
       where
         sy : List Symbol
         sy = grab perPacket ss
 
         Goal : Type 0
-        Goal = Took d (Inside d k (sentEnds m sy) index (suc last)) (sentGives m sy) st (see s q)
+        Goal = Took R L (Inside R L k (sentEnds m sy) index (suc last)) (sentGives m sy) st (see s q)
 
-        lost-it : 2 ≤ d → see s q ≡ junk → Goal
+        lost-it : L → see s q ≡ junk → Goal
         lost-it x e = rw e (record { state = inside-junk st x; blocks = rw handed-junk (lost-all x (sentGives m sy)) })
 
-        dropped : (p : ℕ) (cs : List ℕ) → 2 ≤ d → st .page ≡ Shut → st .mode ≡ off → see s q ≡ row (suc last) p cs → Goal
+        dropped : (p : ℕ) (cs : List ℕ) → L → st .page ≡ Shut → st .mode ≡ off → see s q ≡ row (suc last) p cs → Goal
         dropped p cs x z o e =
             rw e
             (record {
@@ -193,7 +193,7 @@ module _ (d : ℕ) (small : d ≤ 2) (s : Setting) where
 
         taken :
             (p : ℕ) (cs : List ℕ) → st .page ≡ Open k last → st .index ≡ index
-            → Heard d m sy (readMode (st .mode) p cs) (readBlocks (st .mode) p cs) → see s q ≡ row (suc last) p cs → Goal
+            → Heard R L m sy (readMode (st .mode) p cs) (readBlocks (st .mode) p cs) → see s q ≡ row (suc last) p cs → Goal
         taken p cs z i t e =
             rw e
             (record {
@@ -202,12 +202,12 @@ module _ (d : ℕ) (small : d ≤ 2) (s : Setting) where
             })
 
         go :
-            Inside d k m index last st
-            → RowHeard d s (suc last) (pointerOf sy) (map byteOf sy) q → Goal
+            Inside R L k m index last st
+            → RowHeard R L s (suc last) (pointerOf sy) (map byteOf sy) q → Goal
         go (opened z i b) (read {cs} near e) =
             taken (pointerOf sy) cs z i
-            (heard-row d small m (st .mode) sy cs plain near b (length-grab perPacket ss) (celled-aligned celled)) e
-        go (opened z i b) (skipped {cs} x e) = taken undecodable cs z i (lost-row d m (st .mode) sy cs x) e
+            (heard-row R L hears m (st .mode) sy cs plain near b (length-grab perPacket ss) (celled-aligned celled)) e
+        go (opened z i b) (skipped {cs} x e) = taken undecodable cs z i (lost-row R L m (st .mode) sy cs x) e
         go (opened z i b) (unread x e) = lost-it x e
         go (shut x z o) (read {cs} near e) = dropped (pointerOf sy) cs x z o e
         go (shut x z o) (skipped {cs} y e) = dropped undecodable cs x z o e
@@ -216,12 +216,12 @@ module _ (d : ℕ) (small : d ≤ 2) (s : Setting) where
     -- our next packet, a packet 0, and what follows it
     zero-then :
         (m : Mode) (index : ℕ) (bs : List Block) {ps : List (List ℕ)} → index < 16
-        → ((st : State) (qs : List (List ℕ)) → Inside d k m index 0 st → Aired d s ps qs → Blocks d bs (heardBlocks s st qs))
-        → (st : State) {qs : List (List ℕ)} → Ready d m index st → Aired d s (packetZero s index k ∷ ps) qs
-        → Blocks d bs (heardBlocks s st qs)
+        → ((st : State) (qs : List (List ℕ)) → Inside R L k m index 0 st → Aired R s ps qs → Blocks R L bs (heardBlocks s st qs))
+        → (st : State) {qs : List (List ℕ)} → Ready R L m index st → Aired R s (packetZero s index k ∷ ps) qs
+        → Blocks R L bs (heardBlocks s st qs)
     unfolding heardBlocks
     zero-then m index bs h next st r a =
-        strip (Ready d m index) ready-junk bs
+        strip (Ready R L m index) ready-junk bs
         (λ st q qs r n a. let t = zero-takes m index h st r n in came-append (t .blocks) (next (act st (see s q)) qs (t .state) a))
         st r a
 
@@ -229,14 +229,14 @@ module _ (d : ℕ) (small : d ≤ 2) (s : Setting) where
     row-then :
         (m : Mode) (index last : ℕ) (ss : List Symbol) (bs : List Block) {ps : List (List ℕ)} → suc last ≤ k → Celled ss
         → (g : Grabbed m perPacket ss bs)
-        → ((st : State) (qs : List (List ℕ)) → Inside d k (sentEnds m (grab perPacket ss)) index (suc last) st → Aired d s ps qs
-        → Blocks d (g .rest) (heardBlocks s st qs))
-        → (st : State) {qs : List (List ℕ)} → Inside d k m index last st → Aired d s (rowOf s (suc last) ss ∷ ps) qs
-        → Blocks d bs (heardBlocks s st qs)
+        → ((st : State) (qs : List (List ℕ)) → Inside R L k (sentEnds m (grab perPacket ss)) index (suc last) st → Aired R s ps qs
+        → Blocks R L (g .rest) (heardBlocks s st qs))
+        → (st : State) {qs : List (List ℕ)} → Inside R L k m index last st → Aired R s (rowOf s (suc last) ss ∷ ps) qs
+        → Blocks R L bs (heardBlocks s st qs)
     unfolding heardBlocks
     row-then m index last ss bs h celled g next st i a =
         rw (g .gives)
-        (strip (Inside d k m index last) inside-junk (sentGives m (grab perPacket ss) ++ g .rest)
+        (strip (Inside R L k m index last) inside-junk (sentGives m (grab perPacket ss) ++ g .rest)
         (λ st q qs i n a.
         let t = row-takes m index last ss st h celled (g .plain) i n in
         came-append (t .blocks) (next (act st (see s q)) qs (t .state) a))
@@ -250,34 +250,37 @@ module _ (d : ℕ) (small : d ≤ 2) (s : Setting) where
         (w last index p : ℕ) (m : Mode) (ss : List Symbol) (bs : List Block) (st : State) (qs : List (List ℕ)) → last + w ≡ k → Celled ss
         → length ss ≤ w * perPacket + p * (k * perPacket) → Sends m ss bs
         → ((m : Mode) (ss : List Symbol) (bs : List Block) (st : State) (qs : List (List ℕ)) → Celled ss → length ss ≤ p * (k * perPacket)
-        → Sends m ss bs → Ready d m ((index + 1) % 16) st → Aired d s (pages s k p ((index + 1) % 16) ss) qs
-        → Blocks d bs (heardBlocks s st qs))
-        → Inside d k m index last st → Aired d s (rows s w (suc last) ss ++ pages s k p ((index + 1) % 16) (afterRows w ss)) qs
-        → Blocks d bs (heardBlocks s st qs)
+        → Sends m ss bs → Ready R L m ((index + 1) % 16) st → Aired R s (pages s k p ((index + 1) % 16) ss) qs
+        → Blocks R L bs (heardBlocks s st qs))
+        → Inside R L k m index last st → Aired R s (rows s w (suc last) ss ++ pages s k p ((index + 1) % 16) (afterRows w ss)) qs
+        → Blocks R L bs (heardBlocks s st qs)
     unfolding rows
     rows-carried zero last index p m ss bs st qs e celled fits r next inside a =
         let full : last ≡ k = omega arith in
         next m ss bs st qs celled (omega arith) r
-        (next-ready k st (subst (λ (x : ℕ). Inside d k m index x st) full inside)) a
+        (next-ready k st (subst (λ (x : ℕ). Inside R L k m index x st) full inside)) a
     rows-carried (suc w) last index p m ss bs st qs e celled fits r next inside a =
         let g = grabbed m perPacket ss bs r in
-        row-then m index last ss bs (omega arith) celled g
+        let within : suc last ≤ k = omega arith in
+        let on : suc last + w ≡ k = omega arith in
+        let left : length (drop perPacket ss) ≤ w * perPacket + p * (k * perPacket) = rw length-drop (omega arith) in
+        row-then m index last ss bs within celled g
         (λ st qs i a.
-        rows-carried w (suc last) index p (sentEnds m (grab perPacket ss)) (drop perPacket ss) (g .rest) st qs (omega arith)
-        (after-celled 1 celled) (rw length-drop (omega arith)) (g .sends) next i
+        rows-carried w (suc last) index p (sentEnds m (grab perPacket ss)) (drop perPacket ss) (g .rest) st qs on
+        (after-celled 1 celled) left (g .sends) next i
         (subst
         (λ (l : List Symbol).
-        Aired d s (rows s w (suc (suc last)) (drop perPacket ss) ++ pages s k p ((index + 1) % 16) l) qs)
+        Aired R s (rows s w (suc (suc last)) (drop perPacket ss) ++ pages s k p ((index + 1) % 16) l) qs)
         (after-one w ss) a))
         st inside a
 
     pages-carried :
         (p index : ℕ) → index < 16 → (m : Mode) (ss : List Symbol) (bs : List Block) (st : State) (qs : List (List ℕ)) → Celled ss
-        → length ss ≤ p * (k * perPacket) → Sends m ss bs → Ready d m index st → Aired d s (pages s k p index ss) qs
-        → Blocks d bs (heardBlocks s st qs)
+        → length ss ≤ p * (k * perPacket) → Sends m ss bs → Ready R L m index st → Aired R s (pages s k p index ss) qs
+        → Blocks R L bs (heardBlocks s st qs)
     unfolding pages gives
     pages-carried zero index h m [] bs st qs celled fits r ready a =
-        subst (λ (l : List Block). Blocks d l (heardBlocks s st qs)) (r .gives) (quiet st a)
+        subst (λ (l : List Block). Blocks R L l (heardBlocks s st qs)) (r .gives) (quiet st a)
     pages-carried zero index h m (x ∷ ss) bs st qs celled fits r ready a = absurd (omega (arith, zero-mul (k * 39)))
     pages-carried (suc p) index h m ss bs st qs celled fits r ready a =
         zero-then m index bs h
@@ -291,10 +294,10 @@ abbrev pub sentBlocks : Setting → ℕ → ℕ → List Block → List (List �
 sentBlocks s index k bs = pages s k (pagesFor k (length (streamOf bs))) index (streamOf bs)
 
 pub carried-blocks :
-    (d : ℕ) → d ≤ 2 → (s : Setting) → s .page < 256 → s .stream < 16 → (index k : ℕ) → index < 16 → 1 ≤ k → k ≤ 25
-    → {bs : List Block} → Each Fits bs → {qs : List (List ℕ)} → Aired d s (sentBlocks s index k bs) qs
-    → Came (2 ≤ d) (Alike d) bs (heardBlocks s freshState qs)
-carried-blocks d small s page stream index k h least most {bs} fits {qs} a =
-    pages-carried d small s page stream k most (pagesFor k (length (streamOf bs))) index h scan (streamOf bs) bs freshState qs
+    (R : ℕ → ℕ → Type 0) (L : Type 0) → Hears R L → (s : Setting) → s .page < 256 → s .stream < 16 → (index k : ℕ) → index < 16 → 1 ≤ k → k ≤ 25
+    → {bs : List Block} → Each Fits bs → {qs : List (List ℕ)} → Aired R s (sentBlocks s index k bs) qs
+    → Came L (Alike R) bs (heardBlocks s freshState qs)
+carried-blocks R L hears s page stream index k h least most {bs} fits {qs} a =
+    pages-carried R L hears s page stream k most (pagesFor k (length (streamOf bs))) index h scan (streamOf bs) bs freshState qs
     (stream-celled bs) (covered bs k least) (stream-sends fits)
     (record { whole = refl; mode = idle; follows = inl refl }) a

@@ -13,12 +13,11 @@ use borrow.Author.Tests.{lt-ltb, le-ltb, eq-eqb, ne-eqb, le-leb, leb-true}
 use Rattle.laws.specs.Pick.{pick, both}
 use Rattle.octet.specs.Image.{image}
 use Rattle.octet.specs.Decoding.{nib, undecodable}
-use Rattle.octet.proofs.Laws.{near as Laws·near}
 use Rattle.guide.specs.declared.Setting.{Setting}
 use Rattle.guide.specs.Setting.{inRange}
 use Rattle.guide.specs.Packet.{address, packetZero, packetOf}
 use Rattle.reader.specs.Seen.{Seen, junk, other, ours, row, decodes, see, seeY, seeZero}
-use Rattle.claims.specs.Noise.{Near, none, more, Each, nil, and, Elsewhere}
+use Rattle.claims.specs.Noise.{Hears, Near, none, more, Each, nil, and, Elsewhere}
 use Rattle.claims.proofs.Losing.{near-drop}
 
 -- l begins with bytes that decode to these nibbles
@@ -40,16 +39,16 @@ reads-decodes (and {a = n} h t) (reads {b = b} e r) =
 
 -- images with noise are read, or, with two flips, one of them can't be
 nibbles-heard :
-    (d : ℕ) → d ≤ 2 → (ns rest : List ℕ) {q : List ℕ} → Each (λ n. n < 16) ns → Near d (map image ns ++ rest) q
-    → Reads ns q ⊎ ((decodes (length ns) q ≡ false) × (2 ≤ d))
+    (R : ℕ → ℕ → Type 0) (L : Type 0) → Hears R L → (ns rest : List ℕ) {q : List ℕ} → Each (λ n. n < 16) ns → Near R (map image ns ++ rest) q
+    → Reads ns q ⊎ ((decodes (length ns) q ≡ false) × L)
 unfolding decodes
-nibbles-heard d small [] rest nil n = inl done
-nibbles-heard d small (n ∷ ns) rest (and h t) (more {b = b} f k) = go (Laws·near d n b small h f) (nibbles-heard d small ns rest t k)
+nibbles-heard R L hears [] rest nil n = inl done
+nibbles-heard R L hears (n ∷ ns) rest (and h t) (more {b = b} f k) = go (hears n b h f) (nibbles-heard R L hears ns rest t k)
   where
     go :
-        {q : List ℕ} → (nib b ≡ n) ⊎ ((nib b ≡ undecodable) × (2 ≤ d))
-        → Reads ns q ⊎ ((decodes (length ns) q ≡ false) × (2 ≤ d))
-        → Reads (n ∷ ns) (b ∷ q) ⊎ ((decodes (suc (length ns)) (b ∷ q) ≡ false) × (2 ≤ d))
+        {q : List ℕ} → (nib b ≡ n) ⊎ ((nib b ≡ undecodable) × L)
+        → Reads ns q ⊎ ((decodes (length ns) q ≡ false) × L)
+        → Reads (n ∷ ns) (b ∷ q) ⊎ ((decodes (suc (length ns)) (b ∷ q) ≡ false) × L)
     go (inl e) (inl r) = inl (reads e r)
     go (inl e) (inr w) = inr (rw (lt-ltb (nib b) 16 (rw e h)) (w .0), w .1)
     go (inr w) r = inr (rw (w .0), w .1)
@@ -95,18 +94,18 @@ see-junk s q e = rw e
 
 -- the address with noise is read, or, with two flips, can't be
 address-heard :
-    (d : ℕ) → d ≤ 2 → (magazine y : ℕ) (rest : List ℕ) {q : List ℕ} → y < 32 → Near d (address magazine y ++ rest) q
-    → Reads (addressed magazine y) q ⊎ ((decodes 2 q ≡ false) × (2 ≤ d))
-address-heard d small magazine y rest h n =
-    nibbles-heard d small (addressed magazine y) rest (addressed-nibbles magazine y h) n
+    (R : ℕ → ℕ → Type 0) (L : Type 0) → Hears R L → (magazine y : ℕ) (rest : List ℕ) {q : List ℕ} → y < 32 → Near R (address magazine y ++ rest) q
+    → Reads (addressed magazine y) q ⊎ ((decodes 2 q ≡ false) × L)
+address-heard R L hears magazine y rest h n =
+    nibbles-heard R L hears (addressed magazine y) rest (addressed-nibbles magazine y h) n
 
 pub elsewhere-heard :
-    (d : ℕ) → d ≤ 2 → (s : Setting) {q : List ℕ} → Elsewhere d s q → (see s q ≡ other) ⊎ ((see s q ≡ junk) × (2 ≤ d))
-elsewhere-heard d small s {q} e = go (address-heard d small (e .magazine) (e .y) (e .rest) (e .number) (e .near))
+    (R : ℕ → ℕ → Type 0) (L : Type 0) → Hears R L → (s : Setting) {q : List ℕ} → Elsewhere R s q → (see s q ≡ other) ⊎ ((see s q ≡ junk) × L)
+elsewhere-heard R L hears s {q} e = go (address-heard R L hears (e .magazine) (e .y) (e .rest) (e .number) (e .near))
   where
     go :
-        Reads (addressed (e .magazine) (e .y)) q ⊎ ((decodes 2 q ≡ false) × (2 ≤ d))
-        → (see s q ≡ other) ⊎ ((see s q ≡ junk) × (2 ≤ d))
+        Reads (addressed (e .magazine) (e .y)) q ⊎ ((decodes 2 q ≡ false) × L)
+        → (see s q ≡ other) ⊎ ((see s q ≡ junk) × L)
     go (inl r) = inl (see-elsewhere s (e .magazine) (e .y) (e .number) (e .differs) r)
     go (inr w) = inr (see-junk s q (w .0), w .1)
 
@@ -153,16 +152,16 @@ module _ (s : Setting) (page : s .page < 256) (stream : s .stream < 16) (index n
   seeY-zero q = refl
 
   pub zero-heard :
-      (d : ℕ) → d ≤ 2 → {q : List ℕ} → Near d (packetZero s index n) q → (see s q ≡ ours index n) ⊎ ((see s q ≡ junk) × (2 ≤ d))
+      (R : ℕ → ℕ → Type 0) (L : Type 0) → Hears R L → {q : List ℕ} → Near R (packetZero s index n) q → (see s q ≡ ours index n) ⊎ ((see s q ≡ junk) × L)
   unfolding packetZero
-  zero-heard d small {q} near =
-      go (address-heard d small (s .magazine) 0 _ (omega arith) near)
-      (nibbles-heard d small (sixOf s index n) _ six-nibbles (near-drop 2 near))
+  zero-heard R L hears {q} near =
+      go (address-heard R L hears (s .magazine) 0 _ (omega arith) near)
+      (nibbles-heard R L hears (sixOf s index n) _ six-nibbles (near-drop 2 near))
     where
       go :
-          Reads (addressed (s .magazine) 0) q ⊎ ((decodes 2 q ≡ false) × (2 ≤ d))
-          → Reads (sixOf s index n) (drop 2 q) ⊎ ((decodes 6 (drop 2 q) ≡ false) × (2 ≤ d))
-          → (see s q ≡ ours index n) ⊎ ((see s q ≡ junk) × (2 ≤ d))
+          Reads (addressed (s .magazine) 0) q ⊎ ((decodes 2 q ≡ false) × L)
+          → Reads (sixOf s index n) (drop 2 q) ⊎ ((decodes 6 (drop 2 q) ≡ false) × L)
+          → (see s q ≡ ours index n) ⊎ ((see s q ≡ junk) × L)
       go (inr w) r = inr (see-junk s q (w .0), w .1)
       go (inl a) (inl r) = inl (see-ours s 0 (omega arith) a ∙ seeY-zero q ∙ zero-seen r)
       go (inl a) (inr w) = inr (see-ours s 0 (omega arith) a ∙ seeY-zero q ∙ zero-junk (drop 2 q) (w .0), w .1)
@@ -170,24 +169,24 @@ module _ (s : Setting) (page : s .page < 256) (stream : s .stream < 16) (index n
 -- ---- packets 1 to 25
 
 -- what becomes of a packet y with pointer p and these bytes
-pub data RowHeard (d : ℕ) (s : Setting) (y p : ℕ) (bytes q : List ℕ) : Type 0 where
-  read : {cs : List ℕ} → Near d bytes cs → see s q ≡ row y p cs → RowHeard d s y p bytes q
-  skipped : {cs : List ℕ} → 2 ≤ d → see s q ≡ row y undecodable cs → RowHeard d s y p bytes q
-  unread : 2 ≤ d → see s q ≡ junk → RowHeard d s y p bytes q
+pub data RowHeard (R : ℕ → ℕ → Type 0) (L : Type 0) (s : Setting) (y p : ℕ) (bytes q : List ℕ) : Type 0 where
+  read : {cs : List ℕ} → Near R bytes cs → see s q ≡ row y p cs → RowHeard R L s y p bytes q
+  skipped : {cs : List ℕ} → L → see s q ≡ row y undecodable cs → RowHeard R L s y p bytes q
+  unread : L → see s q ≡ junk → RowHeard R L s y p bytes q
 
 seeY-row : (s : Setting) (y : ℕ) (q : List ℕ) → 1 ≤ y → y ≤ 25 → seeY s y q ≡ row y (nib (getD q 2 0)) (drop 3 q)
 unfolding seeY
 seeY-row s y q h k = rw (ne-eqb y 0 (λ e. omega arith), le-leb y 25 k)
 
 pub row-heard :
-    (d : ℕ) → d ≤ 2 → (s : Setting) (y p : ℕ) (bytes : List ℕ) {q : List ℕ} → 1 ≤ y → y ≤ 25 → p < 16
-    → Near d (packetOf s y p bytes) q → RowHeard d s y p bytes q
+    (R : ℕ → ℕ → Type 0) (L : Type 0) → Hears R L → (s : Setting) (y p : ℕ) (bytes : List ℕ) {q : List ℕ} → 1 ≤ y → y ≤ 25 → p < 16
+    → Near R (packetOf s y p bytes) q → RowHeard R L s y p bytes q
 unfolding packetOf
-row-heard d small s y p bytes {q} least most h near =
-    go (address-heard d small (s .magazine) y _ (omega arith) near) (pointer-heard (near-drop 2 near))
+row-heard R L hears s y p bytes {q} least most h near =
+    go (address-heard R L hears (s .magazine) y _ (omega arith) near) (pointer-heard (near-drop 2 near))
   where
-    pointer-heard : {l : List ℕ} → Near d (image p ∷ bytes) l → (nib (getD l 0 0) ≡ p) ⊎ ((nib (getD l 0 0) ≡ undecodable) × (2 ≤ d))
-    pointer-heard (more {b = b} f n) = Laws·near d p b small h f
+    pointer-heard : {l : List ℕ} → Near R (image p ∷ bytes) l → (nib (getD l 0 0) ≡ p) ⊎ ((nib (getD l 0 0) ≡ undecodable) × L)
+    pointer-heard (more {b = b} f n) = hears p b h f
 
     seen : Reads (addressed (s .magazine) y) q → see s q ≡ row y (nib (getD q 2 0)) (drop 3 q)
     seen a = see-ours s y (omega arith) a ∙ seeY-row s y q least most
@@ -196,9 +195,9 @@ row-heard d small s y p bytes {q} least most h near =
     at-two = ap nib (getD-drop 2 q 0 0)
 
     go :
-        Reads (addressed (s .magazine) y) q ⊎ ((decodes 2 q ≡ false) × (2 ≤ d))
-        → (nib (getD (drop 2 q) 0 0) ≡ p) ⊎ ((nib (getD (drop 2 q) 0 0) ≡ undecodable) × (2 ≤ d))
-        → RowHeard d s y p bytes q
+        Reads (addressed (s .magazine) y) q ⊎ ((decodes 2 q ≡ false) × L)
+        → (nib (getD (drop 2 q) 0 0) ≡ p) ⊎ ((nib (getD (drop 2 q) 0 0) ≡ undecodable) × L)
+        → RowHeard R L s y p bytes q
     go (inr w) r = unread (w .1) (see-junk s q (w .0))
     go (inl a) (inl e) = read (near-drop 3 near) (seen a ∙ ap (λ (x : ℕ). row y x (drop 3 q)) (sym at-two ∙ e))
     go (inl a) (inr w) = skipped (w .1) (seen a ∙ ap (λ (x : ℕ). row y x (drop 3 q)) (sym at-two ∙ w .0))

@@ -9,4 +9,7 @@ pub mod March
 pub mod Settled
 pub mod Fed
 pub mod Tables
+pub mod Blocks
 pub mod Demands
+pub mod Marked
+pub mod Wrong

@@ -3,28 +3,27 @@ use mathlib.Core.Path.{_≡_, refl, sym, ap, ap₂, subst}
 use mathlib.Core.List.{List, [], _∷_, _++_}
 use Prim.Native.Nat.{ℕ, zero, suc, _≤_}
 use lib.ListN.{length, take, drop}
-use Rattle.octet.specs.Bits.{flips}
 use Rattle.claims.specs.Noise.{Near, none, more, Came, over, kept, lost}
-use Rattle.claims.specs.Lists.{Among}
+use Rattle.claims.specs.Lists.{Among, Paired}
 use Rattle.claims.specs.Lists
 
-pub near-length : {d : ℕ} {l m : List ℕ} → Near d l m → length l ≡ length m
+pub near-length : {R : ℕ → ℕ → Type 0} {l m : List ℕ} → Near R l m → length l ≡ length m
 near-length none = refl
 near-length (more h n) = ap suc (near-length n)
 
-pub near-append : {d : ℕ} {l m l′ m′ : List ℕ} → Near d l m → Near d l′ m′ → Near d (l ++ l′) (m ++ m′)
+pub near-append : {R : ℕ → ℕ → Type 0} {l m l′ m′ : List ℕ} → Near R l m → Near R l′ m′ → Near R (l ++ l′) (m ++ m′)
 near-append none n = n
 near-append (more h k) n = more h (near-append k n)
 
-pub near-snoc : {d : ℕ} (a b : ℕ) {l m : List ℕ} → Near d l m → flips a b ≤ d → Near d (l ++ a ∷ []) (m ++ b ∷ [])
+pub near-snoc : {R : ℕ → ℕ → Type 0} (a b : ℕ) {l m : List ℕ} → Near R l m → R a b → Near R (l ++ a ∷ []) (m ++ b ∷ [])
 near-snoc a b n h = near-append n (more h none)
 
-pub near-drop : {d : ℕ} {l m : List ℕ} (n : ℕ) → Near d l m → Near d (drop n l) (drop n m)
+pub near-drop : {R : ℕ → ℕ → Type 0} {l m : List ℕ} (n : ℕ) → Near R l m → Near R (drop n l) (drop n m)
 near-drop zero k = k
 near-drop (suc n) none = none
 near-drop (suc n) (more h k) = near-drop n k
 
-pub near-take : {d : ℕ} {l m : List ℕ} (n : ℕ) → Near d l m → Near d (take n l) (take n m)
+pub near-take : {R : ℕ → ℕ → Type 0} {l m : List ℕ} (n : ℕ) → Near R l m → Near R (take n l) (take n m)
 near-take zero k = none
 near-take (suc n) none = none
 near-take (suc n) (more h k) = more h (near-take n k)
@@ -39,6 +38,12 @@ module _ {ℓ} {A B : Type ℓ} {L : Type 0} {R : A → B → Type 0} where
   came-append over n = n
   came-append (kept r k) n = kept r (came-append k n)
   came-append (lost x k) n = lost x (came-append k n)
+
+-- where nothing may be lost, what comes is one to one with what was sent
+pub came-paired {ℓ} : {A B : Type ℓ} {L : Type 0} {R : A → B → Type 0} → (L → ⊥) → {l : List A} {m : List B} → Came L R l m → Paired R l m
+came-paired never over = Lists.both-end
+came-paired never (kept r k) = Lists.with r (came-paired never k)
+came-paired never (lost x k) = absurd (never x)
 
 -- ---- in the customer's words, where what is kept is the very thing that was sent
 

@@ -4,16 +4,25 @@
 use mathlib.Core.Path.{_≡_, _∙_, refl, sym, ap, ap₂}
 use mathlib.Core.Bool.{Bool, true, false}
 use mathlib.Core.List.{List, [], _∷_, _++_}
-use Prim.Native.Nat.{ℕ}
+use Prim.Native.Nat.{ℕ, _%_}
+use lib.ListN.{getD}
+use borrow.Author.Tests.{eq-eqb}
 use Rattle.laws.specs.Pick.{pick}
+use Rattle.octet.specs.Decoding.{nib}
 use Rattle.blocks.specs.Block.{Block}
 use Rattle.guide.specs.declared.Setting.{Setting}
+use Rattle.guide.specs.Setting.{inRange}
+use Rattle.guide.proofs.Numbering.{FortyTwo, more}
 use Rattle.reader.specs.declared.Page.the-variants.{Shut}
 use Rattle.reader.specs.Mode.{off}
-use Rattle.reader.specs.Seen.{Seen, junk, other, foreign, ours, row, see}
+use Rattle.reader.specs.Seen.{Seen, junk, other, foreign, ours, row, see, seeY, seeZero}
 use Rattle.reader.specs.Acting.{State, dropIf, breaks, act, handed}
-use Rattle.reader.specs.State.{freshState}
+use Rattle.reader.specs.State.{readerOf, freshState}
+use Rattle.reader.proofs.Ranging.{Sound, sound-fresh}
 use Rattle.claims.specs.Carrying.{heardBlocks}
+use Rattle.claims.specs.Feeding.{Call, packetsOf, comesOut}
+use Rattle.claims.specs.March.{Unreadable, address, zero}
+use Rattle.claims.proofs.Fed.{fed-blocks}
 
 -- a reader with no page open and nothing running; of any index
 abbrev idleAt : ℕ → State
@@ -55,7 +64,23 @@ after-junk : (st : State) (x : Seen) → x ≡ junk → act st x ≡ idleAt (st 
 unfolding act
 after-junk st x e = rw e
 
-pub march :
+after-unread :
     (s : Setting) (st : State) (q : List ℕ) → see s q ≡ junk → (qs : List (List ℕ))
-    → heardBlocks s (act st (see s q)) qs ≡ heardBlocks s freshState qs
-march s st q e qs = rw (after-junk st (see s q) e) (same-blocks s qs both-idle)
+    → heardBlocks s st (q ∷ qs) ≡ heardBlocks s freshState qs
+unfolding heardBlocks handed
+after-unread s st q e qs = rw (e, after-junk st junk refl) (same-blocks s qs both-idle)
+
+unreadable-junk : (s : Setting) (q : List ℕ) → Unreadable s q → see s q ≡ junk
+unfolding see seeY seeZero
+unreadable-junk s q (address e) = rw e
+unreadable-junk s q (zero a m y e) = rw (a, eq-eqb (nib (getD q 0 0) % 8) (s .magazine % 8) m, y, e)
+
+-- whatever a reader holds, once a packet can't be read its calls write what a fresh reader's would, whatever comes
+pub march :
+    (s : Setting) → inRange s ≡ true → (st : State) → Sound st → (c : Call) → Unreadable s (c .packet) → (cs : List Call)
+    → FortyTwo (packetsOf (c ∷ cs)) → comesOut s (readerOf st) (c ∷ cs) ≡ comesOut s (readerOf freshState) cs
+unfolding packetsOf
+march s a st r c u cs (more l f) =
+    fed-blocks s a st r (c ∷ cs) (more l f)
+    ∙ after-unread s st (c .packet) (unreadable-junk s (c .packet) u) (packetsOf cs)
+    ∙ sym (fed-blocks s a freshState sound-fresh cs f)

@@ -14,7 +14,7 @@ use Rattle.blocks.specs.Block.{Block}
 use Rattle.guide.specs.Stream.{Symbol, start, fill, bits, raw, byteOf, beforeStart, pointerOf}
 use Rattle.reader.specs.Mode.{Mode, off, scan, step, emitted, ends, gives, carries, finished, unfinished}
 use Rattle.reader.specs.Acting.{readMode, readBlocks}
-use Rattle.claims.specs.Noise.{Near, Came, over}
+use Rattle.claims.specs.Noise.{Hears, Near, Came, over}
 use Rattle.claims.proofs.Losing.{near-take, near-drop, lost-all, came-append}
 use Rattle.claims.proofs.Walking.{Fit, opens, Plain, sentEnds, sentGives, full-near, Sim, scans, heads, bodies, gone, Blocks, Follows, flow-follows}
 use Rattle.claims.proofs.Carrying.{Carried, Between, carries-follows, out-of, runs-on}
@@ -87,7 +87,7 @@ at-start m (bits n ∷ ss) t h = at-start (step m (byteOf (bits n))) ss (t .1) (
 at-start m (raw b ∷ ss) t h = at-start (step m b) ss (t .1) (omega arith)
 
 -- what the flow leaves at the packet's end goes on running
-sim-between : {d : ℕ} {m k : Mode} → Sim d m k → Between d m (unfinished k)
+sim-between : {R : ℕ → ℕ → Type 0} {L : Type 0} {m k : Mode} → Sim R L m k → Between R L m (unfinished k)
 sim-between scans = Carrying.idle
 sim-between heads = Carrying.heads
 sim-between (bodies {h} n e) = rw (full-near h n, e) (Carrying.bodies n e)
@@ -96,52 +96,52 @@ sim-between (gone x) = Carrying.gone x
 -- ---- the packet
 
 -- the mode after the packet beside that along what was sent, and what came of the blocks
-pub record Heard (d : ℕ) (m : Mode) (ss : List Symbol) (k : Mode) (out : List Block) : Type 0 where
-  pub mode : Between d (sentEnds m ss) k
-  pub blocks : Blocks d (sentGives m ss) out
+pub record Heard (R : ℕ → ℕ → Type 0) (L : Type 0) (m : Mode) (ss : List Symbol) (k : Mode) (out : List Block) : Type 0 where
+  pub mode : Between R L (sentEnds m ss) k
+  pub blocks : Blocks R L (sentGives m ss) out
 
 -- a pointer that can't be decoded
-pub lost-row : (d : ℕ) (m k : Mode) (ss : List Symbol) (cs : List ℕ) → 2 ≤ d → Heard d m ss (readMode k 16 cs) (readBlocks k 16 cs)
-lost-row d m k ss cs x = record { mode = Carrying.gone x; blocks = lost-all x (sentGives m ss) }
+pub lost-row : (R : ℕ → ℕ → Type 0) (L : Type 0) (m k : Mode) (ss : List Symbol) (cs : List ℕ) → L → Heard R L m ss (readMode k 16 cs) (readBlocks k 16 cs)
+lost-row R L m k ss cs x = record { mode = Carrying.gone x; blocks = lost-all x (sentGives m ss) }
 
 -- the running block along xs, where no start is, and the flow from ys on
 split-heard :
-    (d : ℕ) → d ≤ 2 → (m k : Mode) (xs ys : List Symbol) (cs es : List ℕ) → Plain m (xs ++ ys) → beforeStart xs ≡ length xs
-    → sentEnds m xs ≡ scan → Near d (map byteOf xs) cs → Near d (map byteOf ys) es → Between d m k
-    → Heard d m (xs ++ ys) (unfinished (ends scan es)) (finished (carries true k cs) ++ gives scan es)
-split-heard d small m k xs ys cs es plain none-before e near-xs near-ys held =
-    let c = carries-follows d small true xs (plain-left m xs ys plain) none-before near-xs held in
-    let f = flow-follows d small ys (subst (λ (x : Mode). Plain x ys) e (plain-right m xs ys plain)) near-ys scans in
+    (R : ℕ → ℕ → Type 0) (L : Type 0) → Hears R L → (m k : Mode) (xs ys : List Symbol) (cs es : List ℕ) → Plain m (xs ++ ys) → beforeStart xs ≡ length xs
+    → sentEnds m xs ≡ scan → Near R (map byteOf xs) cs → Near R (map byteOf ys) es → Between R L m k
+    → Heard R L m (xs ++ ys) (unfinished (ends scan es)) (finished (carries true k cs) ++ gives scan es)
+split-heard R L hears m k xs ys cs es plain none-before e near-xs near-ys held =
+    let c = carries-follows R L hears true xs (plain-left m xs ys plain) none-before near-xs held in
+    let f = flow-follows R L hears ys (subst (λ (x : Mode). Plain x ys) e (plain-right m xs ys plain)) near-ys scans in
     record {
       mode = rw (sentEnds-append m xs ys, e) (sim-between (f .mode));
       blocks = rw (sentGives-append m xs ys, e) (came-append (out-of c) (f .blocks));
     }
 
-module _ (d : ℕ) (small : d ≤ 2) (m k : Mode) (ss : List Symbol) (cs : List ℕ)
-    (plain : Plain m ss) (near : Near d (map byteOf ss) cs) (held : Between d m k) where
+module _ (R : ℕ → ℕ → Type 0) (L : Type 0) (hears : Hears R L) (m k : Mode) (ss : List Symbol) (cs : List ℕ)
+    (plain : Plain m ss) (near : Near R (map byteOf ss) cs) (held : Between R L m k) where
   -- with a start in the packet
   to-start :
       beforeStart ss < length ss
-      → Heard d m ss
+      → Heard R L m ss
       (unfinished (ends scan (drop (beforeStart ss) cs)))
       (finished (carries true k (take (beforeStart ss) cs)) ++ gives scan (drop (beforeStart ss) cs))
   to-start h =
       let n = beforeStart ss in
       subst
-      (λ (l : List Symbol). Heard d m l (unfinished (ends scan (drop n cs))) (finished (carries true k (take n cs)) ++ gives scan (drop n cs)))
+      (λ (l : List Symbol). Heard R L m l (unfinished (ends scan (drop n cs))) (finished (carries true k (take n cs)) ++ gives scan (drop n cs)))
       (take-append-drop n ss)
-      (split-heard d small m k (take n ss) (drop n ss) (take n cs) (drop n cs)
+      (split-heard R L hears m k (take n ss) (drop n ss) (take n cs) (drop n cs)
       (rw take-append-drop plain) (before-take ss) (at-start m ss plain h)
       (rw (map-take byteOf) (near-take n near)) (rw (map-drop byteOf) (near-drop n near)) held)
 
   -- with none
-  no-start : beforeStart ss ≡ length ss → Heard d m ss (unfinished (carries false k cs)) (finished (carries false k cs))
+  no-start : beforeStart ss ≡ length ss → Heard R L m ss (unfinished (carries false k cs)) (finished (carries false k cs))
   no-start e =
-      let c = carries-follows d small false ss plain e near held in
+      let c = carries-follows R L hears false ss plain e near held in
       record { mode = runs-on c; blocks = out-of c }
 
   pub heard-row :
-      length ss ≡ 39 → 3 * pointerOf ss ≡ beforeStart ss → Heard d m ss (readMode k (pointerOf ss) cs) (readBlocks k (pointerOf ss) cs)
+      length ss ≡ 39 → 3 * pointerOf ss ≡ beforeStart ss → Heard R L m ss (readMode k (pointerOf ss) cs) (readBlocks k (pointerOf ss) cs)
   heard-row long aligned =
       elim (decLt (beforeStart ss) (length ss)) [
         | yes h ↦

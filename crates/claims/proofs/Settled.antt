@@ -1,11 +1,70 @@
--- Each call's statement settles its outcome: any two outcomes that it allows are equal. The statements are the contracts themselves,
--- as the checker reads them (`Post`: of the arguments, the result and the parameters at exit). Assumes nothing.
+-- Each call's statement settles its outcome: any two outcomes that it allows are equal, the answer and every lent byte. The statements
+-- are the contracts themselves, as the checker reads them (`Post`: of the arguments, the result and the parameters at exit). Assumes
+-- nothing.
 use mathlib.Core.Path.{_≡_, _∙_, sym}
-use Rattle.octet.proofs.decode.Reads as decode
+use denote.Ref.{now}
+use Rattle.octet.proofs.image.Reads as octet·image
+use Rattle.octet.proofs.decode.Reads as octet·decode
+use Rattle.octet.proofs.fault_place.Reads as octet·fault-place
+use Rattle.octet.proofs.turn.Reads as octet·turn
+use Rattle.units.proofs.unit_at.Reads as units·unit-at
+use Rattle.pes.proofs.read.Reads as pes·read
+use Rattle.pes.proofs.write.Reads as pes·write
+use Rattle.blocks.proofs.record_at.Reads as blocks·record-at
+use Rattle.guide.proofs.is_in_range.Reads as guide·is-in-range
+use Rattle.guide.proofs.cut.Reads as guide·cut
+use Rattle.guide.proofs.cut_pages.Reads as guide·cut-pages
+use Rattle.table.proofs.read_block.Reads as table·read-block
+use Rattle.firmware.proofs.guide_decode.Reads as firmware·guide-decode
+use Rattle.firmware.proofs.guide_turn.Reads as firmware·guide-turn
 
 -- two things that are both equal to a third
 same {ℓ} : {A : Type ℓ} {x y z : A} → x ≡ z → y ≡ z → x ≡ y
 same p q = p ∙ sym q
 
-pub decode-settled : (κs : _) (a : _) (x y : _) (s t : _) → decode.Post κs a x s → decode.Post κs a y t → x ≡ y
-decode-settled κs a x y s t p q = same p q
+pub octet·image-settled : (κs : _) (a : _) (x y : _) (s t : _) → octet·image.Post κs a x s → octet·image.Post κs a y t → x ≡ y
+octet·image-settled κs a x y s t p q = same p q
+
+pub octet·decode-settled : (κs : _) (a : _) (x y : _) (s t : _) → octet·decode.Post κs a x s → octet·decode.Post κs a y t → x ≡ y
+octet·decode-settled κs a x y s t p q = same p q
+
+pub octet·fault-place-settled : (κs : _) (a : _) (x y : _) (s t : _) → octet·fault-place.Post κs a x s → octet·fault-place.Post κs a y t → x ≡ y
+octet·fault-place-settled κs a x y s t p q = same p q
+
+pub octet·turn-settled : (κs : _) (a : _) (x y : _) (s t : _) → octet·turn.Post κs a x s → octet·turn.Post κs a y t → x ≡ y
+octet·turn-settled κs a x y s t p q = same p q
+
+pub units·unit-at-settled : (κs : _) (a : _) (x y : _) (s t : _) → units·unit-at.Post κs a x s → units·unit-at.Post κs a y t → x ≡ y
+units·unit-at-settled κs a x y s t p q = same p q
+
+pub pes·read-settled :
+    (κs : _) (a : _) (x y : _) (s t : _) → pes·read.Post κs a x s → pes·read.Post κs a y t → (x ≡ y) × (now (s .1 .0) ≡ now (t .1 .0))
+pes·read-settled κs a x y s t p q = (same (p .0) (q .0), same (p .1) (q .1))
+
+pub pes·write-settled :
+    (κs : _) (a : _) (x y : _) (s t : _) → pes·write.Post κs a x s → pes·write.Post κs a y t → (x ≡ y) × (now (s .1 .1 .0) ≡ now (t .1 .1 .0))
+pes·write-settled κs a x y s t p q = (same (p .0) (q .0), same (p .1) (q .1))
+
+pub blocks·record-at-settled : (κs : _) (a : _) (x y : _) (s t : _) → blocks·record-at.Post κs a x s → blocks·record-at.Post κs a y t → x ≡ y
+blocks·record-at-settled κs a x y s t p q = same p q
+
+pub guide·is-in-range-settled : (κs : _) (a : _) (x y : _) (s t : _) → guide·is-in-range.Post κs a x s → guide·is-in-range.Post κs a y t → x ≡ y
+guide·is-in-range-settled κs a x y s t p q = same p q
+
+pub guide·cut-settled :
+    (κs : _) (a : _) (x y : _) (s t : _) → guide·cut.Post κs a x s → guide·cut.Post κs a y t → (x ≡ y) × (now (s .1 .1 .1 .0) ≡ now (t .1 .1 .1 .0))
+guide·cut-settled κs a x y s t p q = (same (p .0) (q .0), same (p .1) (q .1))
+
+pub guide·cut-pages-settled :
+    (κs : _) (a : _) (x y : _) (s t : _) → guide·cut-pages.Post κs a x s → guide·cut-pages.Post κs a y t → (x ≡ y) × (now (s .1 .1 .1 .1 .0) ≡ now (t .1 .1 .1 .1 .0))
+guide·cut-pages-settled κs a x y s t p q = (same (p .0) (q .0), same (p .1) (q .1))
+
+pub table·read-block-settled :
+    (κs : _) (a : _) (x y : _) (s t : _) → table·read-block.Post κs a x s → table·read-block.Post κs a y t → (x ≡ y) × (now (s .1 .1 .0) ≡ now (t .1 .1 .0))
+table·read-block-settled κs a x y s t p q = (same (p .0) (q .0), same (p .1) (q .1))
+
+pub firmware·guide-decode-settled : (κs : _) (a : _) (x y : _) (s t : _) → firmware·guide-decode.Post κs a x s → firmware·guide-decode.Post κs a y t → x ≡ y
+firmware·guide-decode-settled κs a x y s t p q = same p q
+
+pub firmware·guide-turn-settled : (κs : _) (a : _) (x y : _) (s t : _) → firmware·guide-turn.Post κs a x s → firmware·guide-turn.Post κs a y t → x ≡ y
+firmware·guide-turn-settled κs a x y s t p q = same p q

@@ -9,7 +9,6 @@ use native.Mathlib.Omega.{arith}
 use lib.ListN.{length, length-map, getD, take, drop}
 use Rattle.octet.specs.Image.{image}
 use Rattle.octet.specs.Decoding.{nib, undecodable}
-use Rattle.octet.proofs.Laws.{near}
 use Rattle.blocks.specs.Block.{Block, sizeOf, blocks, recordOf as Block·recordOf, recordsOf as Block·recordsOf}
 use Rattle.blocks.specs.Sizes.{Sized}
 use Rattle.blocks.specs.Sizes
@@ -23,7 +22,7 @@ use Rattle.table.specs.Writing.{recordWith, recordOf}
 use Rattle.table.proofs.Inverse.{Sendable, sendable}
 use Rattle.table.proofs.Back.{nibbles-back, writes-back}
 use Rattle.table.proofs.Noise.{reads-alike, broken-refused}
-use Rattle.claims.specs.Noise.{Near, none, more, Came, over, kept, lost, Alike, Each, nil, and, Fits}
+use Rattle.claims.specs.Noise.{Hears, Near, none, more, Came, over, kept, lost, Alike, Each, nil, and, Fits}
 use Rattle.claims.specs.Tables.{recordsOf, taken, tablesOf}
 
 -- the nibbles of a table's block as it is written
@@ -88,19 +87,19 @@ blocks-written application {ts} f = ap blocks (records-same application ts) ∙ 
 -- ---- with noise
 
 -- the nibbles of what arrives are those that were sent, or one of them can't be had
-data Nibbles (d : ℕ) (ns cs : List ℕ) : Type 0 where
-  right : map nib cs ≡ ns → Nibbles d ns cs
-  broken : 2 ≤ d → (j : ℕ) → j < length (map nib cs) → 16 ≤ getD (map nib cs) j 0 → Nibbles d ns cs
+data Nibbles (L : Type 0) (ns cs : List ℕ) : Type 0 where
+  right : map nib cs ≡ ns → Nibbles L ns cs
+  broken : L → (j : ℕ) → j < length (map nib cs) → 16 ≤ getD (map nib cs) j 0 → Nibbles L ns cs
 
-module _ (d : ℕ) (small : d ≤ 2) where
-  parts-heard : (k n : ℕ) {cs : List ℕ} → Near d (map image (parts 4 k n)) cs → Nibbles d (parts 4 k n) cs
+module _ (R : ℕ → ℕ → Type 0) (L : Type 0) (hears : Hears R L) where
+  parts-heard : (k n : ℕ) {cs : List ℕ} → Near R (map image (parts 4 k n)) cs → Nibbles L (parts 4 k n) cs
   unfolding parts
   parts-heard zero n none = right refl
-  parts-heard (suc k) n (more {b = c} {m = cs} f r) = go (near d (n % 16) c small (omega arith) f) (parts-heard k (n / 16) r)
+  parts-heard (suc k) n (more {b = c} {m = cs} f r) = go (hears (n % 16) c (omega arith) f) (parts-heard k (n / 16) r)
     where
       go :
-          (nib c ≡ n % 16) ⊎ ((nib c ≡ undecodable) × (2 ≤ d)) → Nibbles d (parts 4 k (n / 16)) cs
-          → Nibbles d (n % 16 ∷ parts 4 k (n / 16)) (c ∷ cs)
+          (nib c ≡ n % 16) ⊎ ((nib c ≡ undecodable) × L) → Nibbles L (parts 4 k (n / 16)) cs
+          → Nibbles L (n % 16 ∷ parts 4 k (n / 16)) (c ∷ cs)
       go (inr w) r = broken (w .1) 0 (omega arith) (rw (w .0) (omega arith))
       go (inl e) (right q) = right (ap₂ (λ (x : ℕ) (l : List ℕ). x ∷ l) e q)
       go (inl e) (broken x j h b) = broken x (suc j) (omega arith) b
@@ -108,15 +107,15 @@ module _ (d : ℕ) (small : d ≤ 2) where
   -- what is read of a table's block that arrives
   data Read (application : ℕ) (t : Table) (b : Block) : Type 0 where
     itself : readBlock application (Block·recordOf b) ≡ accepted t → Read application t b
-    refuses : 2 ≤ d → ((u : Table) → readBlock application (Block·recordOf b) ≡ accepted u → ⊥) → Read application t b
+    refuses : L → ((u : Table) → readBlock application (Block·recordOf b) ≡ accepted u → ⊥) → Read application t b
 
   read-heard :
-      (application : ℕ) (t : Table) (b : Block) → application < 32 → fits t ≡ true → Alike d (tableBlock application t) b
+      (application : ℕ) (t : Table) (b : Block) → application < 32 → fits t ≡ true → Alike R (tableBlock application t) b
       → Read application t b
   unfolding nibbles nibblesOf
   read-heard application t b a f r = go (parts-heard (size t) _ (r .raw))
     where
-      go : Nibbles d (nibblesFor application t) (b .raw) → Read application t b
+      go : Nibbles L (nibblesFor application t) (b .raw) → Read application t b
       go (broken x j h n) = refuses x (λ u e. broken-refused application j (Block·recordOf b) u h n e)
       go (right e) =
           itself
@@ -132,14 +131,14 @@ module _ (d : ℕ) (small : d ≤ 2) where
   -- blocks that arrive are read as the tables that were sent, or, where two flips are allowed, are lost
   pub tables-came :
       (application : ℕ) → application < 32 → (ts : List Table) {bs : List Block} → Each (λ t. fits t ≡ true) ts
-      → Came (2 ≤ d) (Alike d) (map (tableBlock application) ts) bs → Came (2 ≤ d) _≡_ ts (tablesOf application bs)
+      → Came L (Alike R) (map (tableBlock application) ts) bs → Came L _≡_ ts (tablesOf application bs)
   unfolding tablesOf
   tables-came application a [] nil over = over
   tables-came application a (t ∷ ts) (and f r) (kept {b = b} k c) = go (read-heard application t b a f k) (tables-came application a ts r c)
     where
       go :
-          {us : List Table} → Read application t b → Came (2 ≤ d) _≡_ ts us
-          → Came (2 ≤ d) _≡_ (t ∷ ts) (taken (readBlock application (Block·recordOf b)) ++ us)
+          {us : List Table} → Read application t b → Came L _≡_ ts us
+          → Came L _≡_ (t ∷ ts) (taken (readBlock application (Block·recordOf b)) ++ us)
       go (itself e) c = rw e (kept refl c)
       go (refuses x z) c = rw (not-taken (readBlock application (Block·recordOf b)) z) (lost x c)
   tables-came application a (t ∷ ts) (and f r) (lost x c) = lost x (tables-came application a ts r c)

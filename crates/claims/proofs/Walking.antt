@@ -12,14 +12,13 @@ use lib.Dec.{eqb, leb, ltb, lit<}
 use lib.ListN.{length, length-append}
 use borrow.Author.Tests.{ne-eqb}
 use Rattle.laws.specs.Pick.{pick}
-use Rattle.octet.specs.Bits.{flips}
 use Rattle.octet.specs.Image.{image}
 use Rattle.octet.specs.Decoding.{nib, undecodable}
-use Rattle.octet.proofs.Laws.{near, nib-image}
+use Rattle.octet.proofs.Laws.{nib-image}
 use Rattle.blocks.specs.Block.{Block, sizeOf}
 use Rattle.guide.specs.Stream.{Symbol, start, fill, bits, raw, byteOf}
 use Rattle.reader.specs.Mode.{Mode, off, scan, heading, body, shifted, full, headed, step, emitted, ends, gives}
-use Rattle.claims.specs.Noise.{Near, none, more, Came, over, kept, lost, Alike}
+use Rattle.claims.specs.Noise.{Hears, Near, none, more, Came, over, kept, lost, Alike}
 use Rattle.claims.proofs.Losing.{near-length, near-snoc, lost-all, came-append}
 
 -- ---- what the modes do along what was sent
@@ -55,101 +54,101 @@ nib-sent n h = nib-image n ∙ mod-eq-of-lt h
 
 -- ---- the same along what arrives
 
--- the mode along what arrives, beside the mode along what was sent; d is the number of flips
-pub data Sim (d : ℕ) : Mode → Mode → Type 0 where
-  scans : Sim d scan scan
-  heads : {g v : ℕ} → Sim d (heading g v) (heading g v)
-  bodies : {h : ℕ} {l m : List ℕ} → Near d l m → full h l ≡ false → Sim d (body h l) (body h m)
-  gone : {m : Mode} → 2 ≤ d → Sim d m off
+-- the mode along what arrives, beside the mode along what was sent; L allows loss
+pub data Sim (R : ℕ → ℕ → Type 0) (L : Type 0) : Mode → Mode → Type 0 where
+  scans : Sim R L scan scan
+  heads : {g v : ℕ} → Sim R L (heading g v) (heading g v)
+  bodies : {h : ℕ} {l m : List ℕ} → Near R l m → full h l ≡ false → Sim R L (body h l) (body h m)
+  gone : {m : Mode} → L → Sim R L m off
 
-abbrev pub Blocks : ℕ → List Block → List Block → Type 0
-Blocks d = Came (2 ≤ d) (Alike d)
+abbrev pub Blocks : (ℕ → ℕ → Type 0) → Type 0 → List Block → List Block → Type 0
+Blocks R L = Came L (Alike R)
 
 -- where a walk is and what it has given, beside the one along what was sent
-pub record Follows (d : ℕ) (m : Mode) (a : List Block) (k : Mode) (b : List Block) : Type 0 where
-  pub mode : Sim d m k
-  pub blocks : Blocks d a b
+pub record Follows (R : ℕ → ℕ → Type 0) (L : Type 0) (m : Mode) (a : List Block) (k : Mode) (b : List Block) : Type 0 where
+  pub mode : Sim R L m k
+  pub blocks : Blocks R L a b
 
-abbrev pub same-block : (d h : ℕ) {l m : List ℕ} → Near d l m → Blocks d (record { head = h; raw = l } ∷ []) (record { head = h; raw = m } ∷ [])
-same-block d h n = kept (record { head = refl; raw = n }) over
+abbrev pub same-block : (R : ℕ → ℕ → Type 0) (L : Type 0) (h : ℕ) {l m : List ℕ} → Near R l m → Blocks R L (record { head = h; raw = l } ∷ []) (record { head = h; raw = m } ∷ [])
+same-block R L h n = kept (record { head = refl; raw = n }) over
 
-pub full-near : {d : ℕ} (h : ℕ) {l m : List ℕ} → Near d l m → full h m ≡ full h l
+pub full-near : {R : ℕ → ℕ → Type 0} (h : ℕ) {l m : List ℕ} → Near R l m → full h m ≡ full h l
 full-near h n = ap (λ (x : ℕ). leb (sizeOf h) x) (sym (near-length n))
 
-module _ (d : ℕ) (small : d ≤ 2) where
-  dropped-here : {m : Mode} (a : List Block) → 2 ≤ d → Follows d m a off []
+module _ (R : ℕ → ℕ → Type 0) (L : Type 0) (hears : Hears R L) where
+  dropped-here : {m : Mode} (a : List Block) → L → Follows R L m a off []
   dropped-here a x = record { mode = gone x; blocks = lost-all x a }
 
-  scan-fill : (c : ℕ) → flips (image 3) c ≤ d → Follows d (step scan (image 3)) (emitted scan (image 3)) (step scan c) (emitted scan c)
+  scan-fill : (c : ℕ) → R (image 3) c → Follows R L (step scan (image 3)) (emitted scan (image 3)) (step scan c) (emitted scan c)
   unfolding step emitted
-  scan-fill c f = go (near d 3 c small (lit< tt) f)
+  scan-fill c f = go (hears 3 c (lit< tt) f)
     where
       go :
-          (nib c ≡ 3) ⊎ ((nib c ≡ undecodable) × (2 ≤ d))
-          → Follows d (step scan (image 3)) (emitted scan (image 3)) (step scan c) (emitted scan c)
+          (nib c ≡ 3) ⊎ ((nib c ≡ undecodable) × L)
+          → Follows R L (step scan (image 3)) (emitted scan (image 3)) (step scan c) (emitted scan c)
       go (inl e) = rw (nib-image 3, e) (record { mode = scans; blocks = over })
       go (inr w) = rw (nib-image 3, w .0) (dropped-here [] (w .1))
 
-  scan-start : (c : ℕ) → flips (image 12) c ≤ d → Follows d (step scan (image 12)) (emitted scan (image 12)) (step scan c) (emitted scan c)
+  scan-start : (c : ℕ) → R (image 12) c → Follows R L (step scan (image 12)) (emitted scan (image 12)) (step scan c) (emitted scan c)
   unfolding step emitted
-  scan-start c f = go (near d 12 c small (lit< tt) f)
+  scan-start c f = go (hears 12 c (lit< tt) f)
     where
       go :
-          (nib c ≡ 12) ⊎ ((nib c ≡ undecodable) × (2 ≤ d))
-          → Follows d (step scan (image 12)) (emitted scan (image 12)) (step scan c) (emitted scan c)
+          (nib c ≡ 12) ⊎ ((nib c ≡ undecodable) × L)
+          → Follows R L (step scan (image 12)) (emitted scan (image 12)) (step scan c) (emitted scan c)
       go (inl e) = rw (nib-image 12, e) (record { mode = heads; blocks = over })
       go (inr w) = rw (nib-image 12, w .0) (dropped-here [] (w .1))
 
   -- past a nibble that was heard right
   headed-same : (g w : ℕ) (t u : Bool) → full w [] ≡ u →
-      Follows d
+      Follows R L
       (pick t (heading (suc g) w) (pick u scan (body w [])))
       (pick t [] (pick u (record { head = w; raw = [] } ∷ []) []))
       (pick t (heading (suc g) w) (pick u scan (body w [])))
       (pick t [] (pick u (record { head = w; raw = [] } ∷ []) []))
   headed-same g w true u e = record { mode = heads; blocks = over }
-  headed-same g w false true e = record { mode = scans; blocks = same-block d w none }
+  headed-same g w false true e = record { mode = scans; blocks = same-block R L w none }
   headed-same g w false false e = record { mode = bodies none e; blocks = over }
 
   head-nibble :
-      (g v n c : ℕ) → n < 16 → flips (image n) c ≤ d
-      → Follows d (step (heading g v) (image n)) (emitted (heading g v) (image n)) (step (heading g v) c) (emitted (heading g v) c)
+      (g v n c : ℕ) → n < 16 → R (image n) c
+      → Follows R L (step (heading g v) (image n)) (emitted (heading g v) (image n)) (step (heading g v) c) (emitted (heading g v) c)
   unfolding step emitted
-  head-nibble g v n c h f = go (near d n c small h f)
+  head-nibble g v n c h f = go (hears n c h f)
     where
       read : eqb n undecodable ≡ false
       read = ne-eqb n undecodable (λ e. omega arith)
 
       go :
-          (nib c ≡ n) ⊎ ((nib c ≡ undecodable) × (2 ≤ d))
-          → Follows d (step (heading g v) (image n)) (emitted (heading g v) (image n)) (step (heading g v) c) (emitted (heading g v) c)
+          (nib c ≡ n) ⊎ ((nib c ≡ undecodable) × L)
+          → Follows R L (step (heading g v) (image n)) (emitted (heading g v) (image n)) (step (heading g v) c) (emitted (heading g v) c)
       go (inl e) =
           rw (nib-sent n h, e, read) (headed-same g (v / 16 + n * 4096) (ltb g 3) (full (v / 16 + n * 4096) []) refl)
       go (inr w) = rw (w .0) (dropped-here (emitted (heading g v) (image n)) (w .1))
 
   body-byte :
-      (h b c : ℕ) {l m : List ℕ} → flips b c ≤ d → Near d l m
-      → Follows d (step (body h l) b) (emitted (body h l) b) (step (body h m) c) (emitted (body h m) c)
+      (h b c : ℕ) {l m : List ℕ} → R b c → Near R l m
+      → Follows R L (step (body h l) b) (emitted (body h l) b) (step (body h m) c) (emitted (body h m) c)
   unfolding step emitted
   body-byte h b c {l} {m} f n = rw (full-near h (near-snoc b c n f)) (go (full h (l ++ b ∷ [])) refl)
     where
       go :
           (t : Bool) → full h (l ++ b ∷ []) ≡ t
-          → Follows d
+          → Follows R L
           (pick t scan (body h (l ++ b ∷ [])))
           (pick t (record { head = h; raw = l ++ b ∷ [] } ∷ []) [])
           (pick t scan (body h (m ++ c ∷ [])))
           (pick t (record { head = h; raw = m ++ c ∷ [] } ∷ []) [])
-      go true e = record { mode = scans; blocks = same-block d h (near-snoc b c n f) }
+      go true e = record { mode = scans; blocks = same-block R L h (near-snoc b c n f) }
       go false e = record { mode = bodies (near-snoc b c n f) e; blocks = over }
 
-  gone-step : (m : Mode) (a : List Block) (c : ℕ) → 2 ≤ d → Follows d m a (step off c) (emitted off c)
+  gone-step : (m : Mode) (a : List Block) (c : ℕ) → L → Follows R L m a (step off c) (emitted off c)
   unfolding step emitted
   gone-step m a c x = dropped-here a x
 
   step-follows :
-      {m k : Mode} {s : Symbol} (c : ℕ) → Fit m s → flips (byteOf s) c ≤ d → Sim d m k
-      → Follows d (step m (byteOf s)) (emitted m (byteOf s)) (step k c) (emitted k c)
+      {m k : Mode} {s : Symbol} (c : ℕ) → Fit m s → R (byteOf s) c → Sim R L m k
+      → Follows R L (step m (byteOf s)) (emitted m (byteOf s)) (step k c) (emitted k c)
   step-follows c skips f scans = scan-fill c f
   step-follows c skips f (gone x) = gone-step _ _ c x
   step-follows c opens f scans = scan-start c f
@@ -161,8 +160,8 @@ module _ (d : ℕ) (small : d ≤ 2) where
 
   -- along any bytes
   pub flow-follows :
-      {m k : Mode} (ss : List Symbol) {cs : List ℕ} → Plain m ss → Near d (map byteOf ss) cs → Sim d m k
-      → Follows d (sentEnds m ss) (sentGives m ss) (ends k cs) (gives k cs)
+      {m k : Mode} (ss : List Symbol) {cs : List ℕ} → Plain m ss → Near R (map byteOf ss) cs → Sim R L m k
+      → Follows R L (sentEnds m ss) (sentGives m ss) (ends k cs) (gives k cs)
   unfolding ends gives
   flow-follows [] t none r = record { mode = r; blocks = over }
   flow-follows (s ∷ ss) t (more {b = c} h n) r =

@@ -3,3 +3,5 @@ pub mod Carrying
 pub mod Feeding
 pub mod Lists
 pub mod Tables
+pub mod Carries
+pub mod March

@@ -1,33 +1,44 @@
 -- What noise may do to packets, and what may come of what was sent.
 use mathlib.Core.Path.{_≡_}
+use mathlib.Core.Logic.{_⊎_}
 use mathlib.Core.List.{List, [], _∷_, _++_}
 use Prim.Native.Nat.{ℕ, _%_, _<_, _≤_}
 use lib.ListN.{length}
 use Rattle.octet.specs.Bits.{flips}
+use Rattle.octet.specs.Image.{image}
+use Rattle.octet.specs.Decoding.{nib, undecodable}
 use Rattle.blocks.specs.Block.{Block, sizeOf}
 use Rattle.guide.specs.declared.Setting.{Setting}
 use Rattle.guide.specs.Packet.{address}
 
--- "at most one flipped bit in each byte", "up to two": each byte of the second list is at most d flips from that of the first
-pub data Near (d : ℕ) : List ℕ → List ℕ → Type 0 where
-  none : Near d [] []
-  more : {a b : ℕ} {l m : List ℕ} → flips a b ≤ d → Near d l m → Near d (a ∷ l) (b ∷ m)
+-- "at most one flipped bit in each byte", "up to two": the byte b that arrives is at most d flips from the byte a that was sent
+abbrev pub Flipped : ℕ → ℕ → ℕ → Type 0
+Flipped d a b = flips a b ≤ d
+
+-- what arrives of an image is heard as that nibble, or, where L allows it, can't be decoded
+abbrev pub Hears : (ℕ → ℕ → Type 0) → Type 0 → Type 0
+Hears R L = (n b : ℕ) → n < 16 → R (image n) b → (nib b ≡ n) ⊎ ((nib b ≡ undecodable) × L)
+
+-- each byte that arrives is to the one that was sent as R says
+pub data Near (R : ℕ → ℕ → Type 0) : List ℕ → List ℕ → Type 0 where
+  none : Near R [] []
+  more : {a b : ℕ} {l m : List ℕ} → R a b → Near R l m → Near R (a ∷ l) (b ∷ m)
 
 -- a packet of 42 bytes, rightly addressed to another magazine, with noise
-pub record Elsewhere (d : ℕ) (s : Setting) (q : List ℕ) : Type 0 where
+pub record Elsewhere (R : ℕ → ℕ → Type 0) (s : Setting) (q : List ℕ) : Type 0 where
   pub magazine : ℕ
   pub y : ℕ
   pub number : y < 32
   pub rest : List ℕ
   pub long : length rest ≡ 40
   pub differs : magazine % 8 ≡ s .magazine % 8 → ⊥
-  pub near : Near d (address magazine y ++ rest) q
+  pub near : Near R (address magazine y ++ rest) q
 
 -- "all packets fed in order to one fresh reader, other magazines between": what arrives of the packets that were sent
-pub data Aired (d : ℕ) (s : Setting) : List (List ℕ) → List (List ℕ) → Type 0 where
-  ended : Aired d s [] []
-  sent : {p q : List ℕ} {ps qs : List (List ℕ)} → Near d p q → Aired d s ps qs → Aired d s (p ∷ ps) (q ∷ qs)
-  between : {q : List ℕ} {ps qs : List (List ℕ)} → Elsewhere d s q → Aired d s ps qs → Aired d s ps (q ∷ qs)
+pub data Aired (R : ℕ → ℕ → Type 0) (s : Setting) : List (List ℕ) → List (List ℕ) → Type 0 where
+  ended : Aired R s [] []
+  sent : {p q : List ℕ} {ps qs : List (List ℕ)} → Near R p q → Aired R s ps qs → Aired R s (p ∷ ps) (q ∷ qs)
+  between : {q : List ℕ} {ps qs : List (List ℕ)} → Elsewhere R s q → Aired R s ps qs → Aired R s ps (q ∷ qs)
 
 -- what comes out of what was sent: each is kept, and related to what was sent by R, or lost, and that only where L allows it; the
 -- order stays, and nothing comes twice
@@ -36,10 +47,10 @@ pub data Came {ℓ} {A B : Type ℓ} (L : Type 0) (R : A → B → Type 0) : Lis
   kept : {a : A} {b : B} {l : List A} {m : List B} → R a b → Came L R l m → Came L R (a ∷ l) (b ∷ m)
   lost : {a : A} {l : List A} {m : List B} → L → Came L R l m → Came L R (a ∷ l) m
 
--- the same 16 bits, and raw bytes with at most d flips in each
-pub record Alike (d : ℕ) (a b : Block) : Type 0 where
+-- the same 16 bits, and raw bytes that are to those sent as R says
+pub record Alike (R : ℕ → ℕ → Type 0) (a b : Block) : Type 0 where
   pub head : a .head ≡ b .head
-  pub raw : Near d (a .raw) (b .raw)
+  pub raw : Near R (a .raw) (b .raw)
 
 -- a block whose 16 bits are 16 bits and say how many raw bytes there are
 pub record Fits (b : Block) : Type 0 where

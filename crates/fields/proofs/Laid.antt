@@ -1,9 +1,9 @@
 -- Laws of fields, parts and the numbers that they make, each over the width. Assumes nothing.
 use mathlib.Core.Path.{_≡_, _∙_, refl, sym, ap, ap₂, subst}
-use mathlib.Core.Bool.{Bool, true, false}
+use mathlib.Core.Bool.{true}
 use mathlib.Core.List.{List, [], _∷_, _++_, map}
 use Prim.Native.Nat.{ℕ, zero, suc, _+_, _-_, _*_, _/_, _%_, _^_, _≤_, _<_}
-use native.Mathlib.Nat.{add-zero, zero-add, add-comm, add-assoc, suc-mul, zero-mul, mod-lt, mod-mod, mod-eq-of-lt, div-one, zero-div, mod-one, zero-mod}
+use native.Mathlib.Nat.{add-zero, zero-add, add-comm, add-assoc, add-mul, mul-one, mul-assoc, suc-add, suc-mul, zero-mul, mod-lt, mod-mod, mod-eq-of-lt, div-one, zero-div, mod-one, zero-mod}
 use native.Mathlib.Omega.{arith}
 use borrow.Author.Tests.{ltb-true, lt-ltb}
 use lib.Dec.{ltb}
@@ -91,12 +91,43 @@ laid-lt (f ∷ fs) rest v h =
     e : v + width fs + f .0 ≡ v + (f .0 + width fs)
     e = omega arith
 
+-- what stands above the fields is added to them
+pub laid-above : (fs : List Field) (rest : ℕ) → laid fs rest ≡ rest * 2 ^ width fs + laid fs 0
+unfolding laid width
+laid-above [] rest = sym (add-zero (rest * 1) ∙ mul-one rest)
+laid-above (f ∷ fs) rest =
+    let m = 2 ^ f .0 in
+    let v = f .1 % 2 ^ f .0 in
+    ap (λ (x : ℕ). x * m + v) (laid-above fs rest)
+    ∙ ap (λ (x : ℕ). x + v) (add-mul (rest * 2 ^ width fs) (laid fs 0) m)
+    ∙ add-assoc (rest * 2 ^ width fs * m) (laid fs 0 * m) v
+    ∙ ap (λ (x : ℕ). x + (laid fs 0 * m + v)) (mul-assoc rest (2 ^ width fs) m ∙ ap (λ (x : ℕ). rest * x) (sym (pow-add 2 (width fs) (f .0)) ∙ ap (λ (x : ℕ). 2 ^ x) (add-comm (width fs) (f .0))))
+
 -- ---- parts of a number, and the number that parts make
 
 pub length-parts : (w k n : ℕ) → length (parts w k n) ≡ k
 unfolding parts
 length-parts w zero n = refl
 length-parts w (suc k) n = ap suc (length-parts w k (n / 2 ^ w))
+
+-- parts in a row, from where the first end
+pub parts-append : (w a b n : ℕ) → parts w (a + b) n ≡ parts w a n ++ parts w b (n / 2 ^ (a * w))
+unfolding parts
+parts-append w zero b n = rw (zero-add, zero-mul, div-one)
+parts-append w (suc a) b n =
+    rw (suc-add, parts-append w a b (n / 2 ^ w), shr-shr, suc-mul, add-comm (a * w) w)
+
+-- only the bits that parts take count
+pub parts-same : (w k m n : ℕ) → m % 2 ^ (k * w) ≡ n % 2 ^ (k * w) → parts w k m ≡ parts w k n
+unfolding parts
+parts-same w zero m n e = refl
+parts-same w (suc k) m n e =
+    let wide : suc k * w ≡ k * w + w = suc-mul k w in
+    let e′ : m % 2 ^ (k * w + w) ≡ n % 2 ^ (k * w + w) = subst (λ (x : ℕ). m % 2 ^ x ≡ n % 2 ^ x) wide e in
+    ap₂ (λ (x : ℕ) (xs : List ℕ). x ∷ xs)
+    (sym (mod-mod-pow m (k * w) w) ∙ ap (λ (x : ℕ). x % 2 ^ w) e′ ∙ mod-mod-pow n (k * w) w)
+    (parts-same w k (m / 2 ^ w) (n / 2 ^ w)
+    (sym (Pow.field m (k * w) w) ∙ ap (λ (x : ℕ). x / 2 ^ w) e′ ∙ Pow.field n (k * w) w))
 
 pub whole-lt : (w : ℕ) (xs : List ℕ) → whole w xs < 2 ^ (length xs * w)
 unfolding whole

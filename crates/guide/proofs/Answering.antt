@@ -9,12 +9,12 @@ use native.Mathlib.Omega.{arith}
 use lib.Dec.{leb}
 use lib.ListN.{length}
 use lib.Seq.{sets}
-use borrow.Author.Tests.{le-leb, lt-leb, leb-true}
+use borrow.Author.Tests.{leb-true}
 use Rattle.laws.specs.Pick.{both}
-use Rattle.laws.proofs.Lists.{sets-front}
 use Rattle.answer.specs.declared.Answer.{Answer}
 use Rattle.answer.specs.declared.Answer.the-variants.{Done}
 use Rattle.answer.specs.Values.{refused}
+use Rattle.answer.proofs.Lent.{lent-short, lent-done}
 use Rattle.answer.specs.Writing.{answered, left}
 use Rattle.blocks.specs.Block.{whole, blocks}
 use Rattle.guide.specs.declared.Setting.{Setting}
@@ -30,8 +30,7 @@ pub short-of-room :
     (bytes old : List ℕ) (count size : ℕ) → length bytes ≡ count * size → 0 < size → length old / size < count
     → (refused 1 0 ≡ answered [] bytes old) × (old ≡ left [] bytes old)
 short-of-room bytes old count size n p h =
-    let g : length old < length bytes = omega (arith, div-lt-iff-lt-mul p .0 h) in
-    (rw (lt-leb (length bytes) (length old) g), rw (lt-leb (length bytes) (length old) g))
+    lent-short [] bytes old {first = Done (length bytes)} refl refl (omega (arith, div-lt-iff-lt-mul p .0 h))
 
 pub fits-room : (n count size : ℕ) → 0 < size → count ≤ n / size → count * size ≤ n
 fits-room n count size p h = le-div-iff-mul-le p .0 h
@@ -40,8 +39,8 @@ pub room-enough :
     (bytes old out : List ℕ) (count size : ℕ) → length bytes ≡ count * size → 0 < size → count ≤ length old / size
     → out ≡ sets old 0 bytes → (Done (count * size) ≡ answered [] bytes old) × (out ≡ left [] bytes old)
 room-enough bytes old out count size n p h e =
-    let g : length bytes ≤ length old = omega (arith, fits-room (length old) count size p h) in
-    (rw (le-leb (length bytes) (length old) g, n), rw (le-leb (length bytes) (length old) g) (e ∙ sets-front old bytes g))
+    let d = lent-done [] bytes old {first = Done (length bytes)} refl refl (omega (arith, fits-room (length old) count size p h)) in
+    (rw (← n) (d .0), e ∙ d .1)
 
 -- ---- the records
 

@@ -8,7 +8,7 @@ use native.Mathlib.Numerals.{add-one}
 use native.Mathlib.Omega.{arith}
 use lib.ListN.{length, drop, length-append, length-map}
 use lib.Seq.{sets, length-sets, drop-drop}
-use Rattle.laws.proofs.Lists.{sets-append}
+use Rattle.laws.proofs.Stores.{sets-next}
 use Rattle.blocks.specs.Block.{blocks, blockOf}
 use Rattle.guide.specs.declared.Setting.{Setting}
 use Rattle.guide.specs.declared.Pen.{Pen}
@@ -26,12 +26,6 @@ zero-length s index n = refl
 pub row-length : (s : Setting) (y : ℕ) (ss : List Symbol) → length (rowOf s y ss) ≡ packetLength
 unfolding packetOf
 row-length s y ss = omega (arith, length-map (grab perPacket ss) byteOf, length-grab perPacket ss)
-
--- once a part of n is stored, the rest stands n further on
-stored-part :
-    (out out′ : List ℕ) (to n : ℕ) (p rest : List ℕ) → length p ≡ n → out′ ≡ sets out to p
-    → sets out′ (to + n) rest ≡ sets out to (p ++ rest)
-stored-part out out′ to n p rest h e = rw (e, ← h) (sym (sets-append out to p rest))
 
 -- ---- the packets of a page
 
@@ -78,7 +72,7 @@ rowed-more {s} {k} {l} {pen} {entry} {q} {out} {at} {to} {y} r h out′ at′ e 
       bytes =
           let m : suc (suc k - suc y) ≡ suc k - y = omega arith in
           rw (add-one y, g .rest)
-          (stored-part out out′ to packetLength (rowOf s y (restOf l at)) (joined (rows s (suc k - suc y) (suc y) (drop perPacket (restOf l at)))) (row-length s y (restOf l at)) e
+          (sets-next out out′ to packetLength (rowOf s y (restOf l at)) (joined (rows s (suc k - suc y) (suc y) (drop perPacket (restOf l at)))) _ refl (row-length s y (restOf l at)) e
           ∙ ap (λ (n : ℕ). sets out to (joined (rows s n y (restOf l at)))) m ∙ r .bytes);
     }
 
@@ -112,7 +106,7 @@ pub page-laid :
     → out ≡ sets m (q + packetLength) (joined (rows s k 1 ss)) → out ≡ sets entry q (joined (pageOf s k index ss))
 unfolding joined
 page-laid s k index ss entry m out q em e =
-    e ∙ stored-part entry m q packetLength (packetZero s index k) (joined (rows s k 1 ss)) (zero-length s index k) em
+    e ∙ sets-next entry m q packetLength (packetZero s index k) (joined (rows s k 1 ss)) _ refl (zero-length s index k) em
 
 -- ---- pages
 
@@ -180,7 +174,7 @@ paged-more {s} {k} {l} {entry} {whole} {out} {at} {next} {to} {left} r h out′ 
       stands = g .stands;
       bytes =
           rw (g .rest)
-          (stored-part out out′ to (pageLength k) (joined (pageOf s k next (restOf l at))) (joined others) (page-length s k next (restOf l at)) e
+          (sets-next out out′ to (pageLength k) (joined (pageOf s k next (restOf l at))) (joined others) _ refl (page-length s k next (restOf l at)) e
           ∙ ap (sets out to) (sym (joined-append (pageOf s k next (restOf l at)) others))
           ∙ ap (λ (i : ℕ). sets out to (joined (pages s k i next (restOf l at)))) (sym m)
           ∙ r .bytes);

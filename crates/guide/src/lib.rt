@@ -8,11 +8,9 @@ use answer::Refusal;
 use blocks::Found;
 ghost use mathlib.Core.Path.{_≡_};
 ghost use mathlib.Core.List.{[], map};
-ghost use Prim.Native.Nat.{_+_, _-_, _*_, _/_, _^_, _≤_, _<_, min};
-ghost use lib.Dec.{leb};
-ghost use lib.ListN.{length, getD, take, drop, replicate};
+ghost use Prim.Native.Nat.{_+_, _*_, _/_, _^_, _≤_, _<_};
+ghost use lib.ListN.{length, getD, replicate};
 ghost use lib.Seq.{sets};
-ghost use Rattle.laws.specs.Pick.{pick, both};
 ghost use Rattle.answer.specs.Writing.{answered, left};
 ghost use Rattle.blocks.specs.Block.{blocks as Block·blocks};
 ghost use Rattle.guide.specs.Setting.{inRange};
@@ -30,20 +28,31 @@ pub struct Setting {
     pub application: u8,
 }
 
-// How many packets a page has unless told otherwise.
+// How many packets a page has unless told otherwise, and at most.
 const USUAL_PAGE: u8 = 25;
 
-const PACKET: usize = 42;
-// The bytes after a packet's pointer.
-const PER_PACKET: usize = 39;
+const MOST: u8 = 25;
 
+const PACKET: usize = 42;
+
+// A packet's cells, and the bytes after its pointer.
 const CELL: usize = 3;
+
+const CELLS: usize = 13;
+
+const PER_PACKET: usize = CELLS * CELL;
+
 // A block's start and the four nibbles of its 16 bits.
 const LEAD: usize = 5;
 
 const START: u8 = 12;
 
 const FILLER: u8 = 3;
+
+// Packet 0's characters.
+const CHARACTERS: usize = 32;
+
+const BLANK: u8 = 0x20;
 
 // Where the writer stands: at which record, and how many of its symbols are sent.
 struct Pen {
@@ -90,8 +99,10 @@ pub fn is_in_range(s: Setting) -> bool
     true
 }
 
-// Cuts a list of records into packets, in pages of 25 packets, the first with the given index: an
-// empty list gives no packet. The packets stand one after the other at the front of `out`.
+// Cuts a list of records into packets, one after the other at the front of `out`: pages of 25
+// packets and a packet 0, the first page with the given index. An empty list gives no packet.
+// Refused are 16 a setting or an index out of range, 13 a list that isn't whole records, 1 an output
+// that is shorter than the packets.
 pub fn cut(s: Setting, index: u8, records: &[u8], out: &mut [u8]) -> Answer
     ensures answer { λ r. ⌜ r ≡ answered (cutRules s index usualPage (now (records .entry))) (cutBytes s index usualPage (now (records .entry))) (now (out .entry)) ⌝ }
     ensures bytes { λ r. ⌜ now (out .exit) ≡ left (cutRules s index usualPage (now (records .entry))) (cutBytes s index usualPage (now (records .entry))) (now (out .entry)) ⌝ }
@@ -99,7 +110,7 @@ pub fn cut(s: Setting, index: u8, records: &[u8], out: &mut [u8]) -> Answer
     cut_pages(s, index, USUAL_PAGE, records, out)
 }
 
-// The same in pages of k packets, 1 to 25.
+// The same in pages of k packets; a k that isn't 1 to 25 is 16 too.
 pub fn cut_pages(s: Setting, index: u8, k: u8, records: &[u8], out: &mut [u8]) -> Answer
     ensures answer { λ r. ⌜ r ≡ answered (cutRules s index k (now (records .entry))) (cutBytes s index k (now (records .entry))) (now (out .entry)) ⌝ }
     ensures bytes { λ r. ⌜ now (out .exit) ≡ left (cutRules s index k (now (records .entry))) (cutBytes s index k (now (records .entry))) (now (out .entry)) ⌝ }
@@ -126,34 +137,10 @@ fn takes(s: Setting, index: u8, k: u8) -> bool
     if k < 1 {
         return false;
     }
-    k <= 25
+    k <= MOST
 }
 
-// How many pages of k packets so many cells need.
-fn pages_for(cells: usize, k: u8) -> usize
-    requires { ⌜ (1 ≤ k) × (cells < 2 ^ 63) ⌝ }
-    ensures { λ r. ⌜ r ≡ pagesFor k (cells * cell) ⌝ }
-{
-    let rows = (cells + 12) / 13;
-    let per_page = k as usize;
-    (rows + (per_page - 1)) / per_page
-}
-
-// Writes so many pages, where they have room.
-fn write_all(s: Setting, index: u8, k: u8, count: usize, records: &[u8], out: &mut [u8]) -> Answer
-    requires { ⌜ (k ≤ 25) × (index < 16) ⌝ }
-    ensures { λ r. ⌜ r ≡ answered [] (pagesBytes s index k count (now (records .entry))) (now (out .entry)) ⌝ }
-    ensures { λ r. ⌜ now (out .exit) ≡ left [] (pagesBytes s index k count (now (records .entry))) (now (out .entry)) ⌝ }
-{
-    let size = PACKET * (k as usize + 1);
-    if out.len() / size < count {
-        return Answer::Refused(Refusal { no: 1, at: 0 });
-    }
-    write_pages(s, index, k, count, records, out);
-    Answer::Done(count * size)
-}
-
-// How many cells the blocks of a list of records take.
+// How many cells the blocks of a list of records take: never more than the list has bytes.
 fn measure(records: &[u8]) -> Measured
     ensures { λ r. ⌜ r ≡ measureOf (now (records .entry)) ⌝ }
 {
@@ -179,21 +166,118 @@ fn cells_of(size: usize) -> usize
     (size + LEAD + CELL - 1) / CELL
 }
 
-// Nibble i of a block's 16 bits, the lowest first.
-fn nibble(head: u16, i: usize) -> u8
-    requires { ⌜ i < 4 ⌝ }
-    ensures { λ r. ⌜ r ≡ nibbleOf i head ⌝ }
+// How many pages of k packets so many cells need.
+fn pages_for(cells: usize, k: u8) -> usize
+    requires { ⌜ (1 ≤ k) × (cells < 2 ^ 63) ⌝ }
+    ensures { λ r. ⌜ r ≡ pagesFor k (cells * cell) ⌝ }
 {
-    if i == 0 {
-        return (head % 16) as u8;
+    let rows = (cells + CELLS - 1) / CELLS;
+    let per_page = k as usize;
+    (rows + (per_page - 1)) / per_page
+}
+
+// Writes so many pages, where they have room. The room is divided, since the need may be more than
+// a usize holds.
+fn write_all(s: Setting, index: u8, k: u8, count: usize, records: &[u8], out: &mut [u8]) -> Answer
+    requires { ⌜ (k ≤ 25) × (index < 16) ⌝ }
+    ensures { λ r. ⌜ r ≡ answered [] (pagesBytes s index k count (now (records .entry))) (now (out .entry)) ⌝ }
+    ensures { λ r. ⌜ now (out .exit) ≡ left [] (pagesBytes s index k count (now (records .entry))) (now (out .entry)) ⌝ }
+{
+    let size = PACKET * (k as usize + 1);
+    if out.len() / size < count {
+        return Answer::Refused(Refusal { no: 1, at: 0 });
     }
-    if i == 1 {
-        return (head / 16 % 16) as u8;
+    write_pages(s, index, k, count, records, out);
+    Answer::Done(count * size)
+}
+
+// Writes so many pages of k packets at the front, from the first record on.
+fn write_pages(s: Setting, index: u8, k: u8, count: usize, records: &[u8], out: &mut [u8])
+    requires { ⌜ (k ≤ 25) × (index < 16) × (count * pageLength k ≤ length (now out)) ⌝ }
+    ensures { λ r. ⌜ now (out .exit) ≡ sets (now (out .entry)) 0 (joined (pages s k count index (streamOf (Block·blocks (now (records .entry)))))) ⌝ }
+{
+    let size = PACKET * (k as usize + 1);
+    let mut at = Pen { at: 0, sent: 0 };
+    let mut next = index;
+    let mut to = 0;
+    let mut left = count;
+    while left > 0 {
+        at = write_page(s, next, k, records, at, out, to);
+        next = (next + 1) % 16;
+        to += size;
+        left -= 1;
     }
-    if i == 2 {
-        return (head / 16 / 16 % 16) as u8;
+}
+
+// Writes a page of k packets and its packet 0 at q.
+fn write_page(
+    s: Setting,
+    index: u8,
+    k: u8,
+    records: &[u8],
+    pen: Pen,
+    out: &mut [u8],
+    q: usize,
+) -> Pen
+    requires { ⌜ (k ≤ 25) × (q + pageLength k ≤ length (now out)) × Within (now records) pen ⌝ }
+    ensures { λ r. ⌜ now (out .exit) ≡ sets (now (out .entry)) q (joined (pageOf s k index (restOf (now (records .entry)) pen))) ⌝ }
+    ensures { λ r. ⌜ Goes (now (records .entry)) pen (k * perPacket) r ⌝ }
+{
+    write_zero(s, index, k, out, q);
+    let mut at = pen;
+    let mut to = q + PACKET;
+    let mut y = 1;
+    while y <= k {
+        at = write_row(s, y, records, at, out, to);
+        to += PACKET;
+        y += 1;
     }
-    (head / 16 / 16 / 16 % 16) as u8
+    at
+}
+
+// Writes packet y at q: its address, its pointer and its 39 bytes.
+fn write_row(s: Setting, y: u8, records: &[u8], pen: Pen, out: &mut [u8], q: usize) -> Pen
+    requires { ⌜ (q + packetLength ≤ length (now out)) × Within (now records) pen ⌝ }
+    ensures { λ r. ⌜ now (out .exit) ≡ sets (now (out .entry)) q (rowOf s y (restOf (now (records .entry)) pen)) ⌝ }
+    ensures { λ r. ⌜ Goes (now (records .entry)) pen perPacket r ⌝ }
+{
+    write_address(s.magazine, y, out, q);
+    let row = write_symbols(records, pen, out, q + 3);
+    out[q + 2] = octet::image((row.before / CELL) as u8);
+    row.pen
+}
+
+// Writes the 39 bytes that follow a packet's pointer, at q.
+fn write_symbols(records: &[u8], pen: Pen, out: &mut [u8], q: usize) -> Row
+    requires { ⌜ (q + perPacket ≤ length (now out)) × Within (now records) pen ⌝ }
+    ensures { λ r. ⌜ now (out .exit) ≡ sets (now (out .entry)) q (map byteOf (grab perPacket (restOf (now (records .entry)) pen))) ⌝ }
+    ensures { λ r. ⌜ r .before ≡ beforeStart (grab perPacket (restOf (now (records .entry)) pen)) ⌝ }
+    ensures { λ r. ⌜ Goes (now (records .entry)) pen perPacket (r .pen) ⌝ }
+{
+    let mut at = pen;
+    let mut before = PER_PACKET;
+    let mut i = 0;
+    while i < PER_PACKET {
+        let sent = step(records, at);
+        out[q + i] = sent.byte;
+        before = first(before, sent.starts, i);
+        at = sent.pen;
+        i += 1;
+    }
+    Row { before, pen: at }
+}
+
+// The place of the first start up to place i.
+fn first(before: usize, starts: bool, i: usize) -> usize
+    ensures { λ r. ⌜ r ≡ firstOf before starts i ⌝ }
+{
+    if !starts {
+        return before;
+    }
+    if i < before {
+        return i;
+    }
+    before
 }
 
 // The symbol that stands at the pen, and the pen behind it: filler where there is no record.
@@ -242,6 +326,23 @@ fn byte_at(records: &[u8], head: u16, raw: usize, next: usize, i: usize) -> u8
     octet::image(FILLER)
 }
 
+// Nibble i of a block's 16 bits, the lowest first.
+fn nibble(head: u16, i: usize) -> u8
+    requires { ⌜ i < 4 ⌝ }
+    ensures { λ r. ⌜ r ≡ nibbleOf i head ⌝ }
+{
+    if i == 0 {
+        return (head % 16) as u8;
+    }
+    if i == 1 {
+        return (head / 16 % 16) as u8;
+    }
+    if i == 2 {
+        return (head / 16 / 16 % 16) as u8;
+    }
+    (head / 16 / 16 / 16 % 16) as u8
+}
+
 // The pen behind one more symbol of a block of so many raw bytes, whose next record is at next.
 fn moved(pen: Pen, size: usize, next: usize) -> Pen
     requires { ⌜ (size < 2 ^ 63) × (pen .sent < (size + 7) / 3 * 3) ⌝ }
@@ -252,51 +353,6 @@ fn moved(pen: Pen, size: usize, next: usize) -> Pen
         return Pen { at: pen.at, sent };
     }
     Pen { at: next, sent: 0 }
-}
-
-// Writes the 39 bytes that follow a packet's pointer, at q.
-fn write_symbols(records: &[u8], pen: Pen, out: &mut [u8], q: usize) -> Row
-    requires { ⌜ (q + perPacket ≤ length (now out)) × Within (now records) pen ⌝ }
-    ensures { λ r. ⌜ now (out .exit) ≡ sets (now (out .entry)) q (map byteOf (grab perPacket (restOf (now (records .entry)) pen))) ⌝ }
-    ensures { λ r. ⌜ r .before ≡ beforeStart (grab perPacket (restOf (now (records .entry)) pen)) ⌝ }
-    ensures { λ r. ⌜ Goes (now (records .entry)) pen perPacket (r .pen) ⌝ }
-{
-    let mut at = pen;
-    let mut before = PER_PACKET;
-    let mut i = 0;
-    while i < PER_PACKET {
-        let sent = step(records, at);
-        out[q + i] = sent.byte;
-        before = first(before, sent.starts, i);
-        at = sent.pen;
-        i += 1;
-    }
-    Row { before, pen: at }
-}
-
-// The place of the first start up to place i.
-fn first(before: usize, starts: bool, i: usize) -> usize
-    ensures { λ r. ⌜ r ≡ firstOf before starts i ⌝ }
-{
-    if !starts {
-        return before;
-    }
-    if i < before {
-        return i;
-    }
-    before
-}
-
-// Writes packet y at q: its address, its pointer and its 39 bytes.
-fn write_row(s: Setting, y: u8, records: &[u8], pen: Pen, out: &mut [u8], q: usize) -> Pen
-    requires { ⌜ (q + packetLength ≤ length (now out)) × Within (now records) pen ⌝ }
-    ensures { λ r. ⌜ now (out .exit) ≡ sets (now (out .entry)) q (rowOf s y (restOf (now (records .entry)) pen)) ⌝ }
-    ensures { λ r. ⌜ Goes (now (records .entry)) pen perPacket r ⌝ }
-{
-    write_address(s.magazine, y, out, q);
-    let row = write_symbols(records, pen, out, q + 3);
-    out[q + 2] = octet::image((row.before / CELL) as u8);
-    row.pen
 }
 
 // Writes packet 0 of a page of n packets at q.
@@ -340,52 +396,8 @@ fn write_blanks(out: &mut [u8], q: usize)
     ensures { λ r. ⌜ now (out .exit) ≡ sets (now (out .entry)) q (replicate 32 0x20) ⌝ }
 {
     let mut i = 0;
-    while i < 32 {
-        out[q + i] = 0x20;
+    while i < CHARACTERS {
+        out[q + i] = BLANK;
         i += 1;
-    }
-}
-
-// Writes a page of k packets and its packet 0 at q.
-fn write_page(
-    s: Setting,
-    index: u8,
-    k: u8,
-    records: &[u8],
-    pen: Pen,
-    out: &mut [u8],
-    q: usize,
-) -> Pen
-    requires { ⌜ (k ≤ 25) × (q + pageLength k ≤ length (now out)) × Within (now records) pen ⌝ }
-    ensures { λ r. ⌜ now (out .exit) ≡ sets (now (out .entry)) q (joined (pageOf s k index (restOf (now (records .entry)) pen))) ⌝ }
-    ensures { λ r. ⌜ Goes (now (records .entry)) pen (k * perPacket) r ⌝ }
-{
-    write_zero(s, index, k, out, q);
-    let mut at = pen;
-    let mut to = q + PACKET;
-    let mut y = 1;
-    while y <= k {
-        at = write_row(s, y, records, at, out, to);
-        to += PACKET;
-        y += 1;
-    }
-    at
-}
-
-// Writes so many pages of k packets at the front, from the first record on.
-fn write_pages(s: Setting, index: u8, k: u8, count: usize, records: &[u8], out: &mut [u8])
-    requires { ⌜ (k ≤ 25) × (index < 16) × (count * pageLength k ≤ length (now out)) ⌝ }
-    ensures { λ r. ⌜ now (out .exit) ≡ sets (now (out .entry)) 0 (joined (pages s k count index (streamOf (Block·blocks (now (records .entry)))))) ⌝ }
-{
-    let size = PACKET * (k as usize + 1);
-    let mut at = Pen { at: 0, sent: 0 };
-    let mut next = index;
-    let mut to = 0;
-    let mut left = count;
-    while left > 0 {
-        at = write_page(s, next, k, records, at, out, to);
-        next = (next + 1) % 16;
-        to += size;
-        left -= 1;
     }
 }

@@ -106,7 +106,7 @@ near d n b hd hn h =
     (within near-test near-holds n b hn))
 
 -- an image decodes to its nibble
-flips-self : (k a : ℕ) → differing k a a ≡ 0
+pub flips-self : (k a : ℕ) → differing k a a ≡ 0
 unfolding differing
 flips-self zero a = refl
 flips-self (suc k) a = rw (eq-eqb (a % 2) (a % 2) refl, flips-self k (a / 2))

@@ -18,11 +18,15 @@ startsRight pes =
 abbrev pub packetLength : List ℕ → ℕ
 packetLength pes = byteAt pes 4 * 256 + byteAt pes 5
 
--- "N×184−6 with N from 1 to 356"
+-- PES_packet_length of a packet of N×184 bytes: "N×184−6"
+abbrev pub lengthOf : ℕ → ℕ
+lengthOf n = n * 184 - 6
+
+-- it is that with "N from 1 to 356"
 abbrev pub lengthFits : ℕ → Bool
 lengthFits l =
     let n = (l + 6) / 184 in
-    both (leb 1 n) (both (leb n 356) (eqb l (n * 184 - 6)))
+    both (leb 1 n) (both (leb n 356) (eqb l (lengthOf n)))
 
 -- byte 6: "its leading bits 10" and data_alignment_indicator
 abbrev pub flagsFit : ℕ → Bool

@@ -10,9 +10,16 @@ use Rattle.octet.specs.Turning.{turned}
 use Rattle.units.specs.Units.{byteAt, stuffingId, nextUnit, rulesAt}
 use Rattle.pes.specs.Header.{headerRules}
 
+-- the bytes of a text unit after its framing byte
+abbrev pub textBytes : ℕ
+textBytes = 42
+
+abbrev pub recordSize : ℕ
+recordSize = 44
+
 -- "a record of 44 bytes: unit id, line byte, the 42 turned bytes"
 unfoldable pub recordAt : List ℕ → ℕ → List ℕ
-recordAt pes at = byteAt pes at ∷ byteAt pes (at + 2) ∷ map turned (take 42 (drop (at + 4) pes))
+recordAt pes at = byteAt pes at ∷ byteAt pes (at + 2) ∷ map turned (take textBytes (drop (at + 4) pes))
 
 -- what the unit at a place gives: "stuffing gives nothing"
 abbrev pub givenAt : List ℕ → ℕ → List ℕ

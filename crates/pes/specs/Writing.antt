@@ -8,11 +8,12 @@ use Rattle.laws.specs.Pick.{both}
 use Rattle.answer.specs.Rules.{Rule, rule}
 use Rattle.octet.specs.Turning.{turned}
 use Rattle.units.specs.Units.{byteAt, textId, lineFits, textLength, framing}
-use Rattle.pes.specs.Header.{ebuData}
+use Rattle.pes.specs.Header.{lengthOf, ebuData}
+use Rattle.pes.specs.Reading.{textBytes, recordSize}
 
--- how many records of 44 bytes a list of bytes holds: a unit is written for each
+-- how many records a list of bytes holds: a unit is written for each
 abbrev pub unitCount : List ℕ → ℕ
-unitCount rs = length rs / 44
+unitCount rs = length rs / recordSize
 
 -- "the least N that holds them (N=1 for none)", where "a packet of N×184 bytes holds 4N−1 units"
 abbrev pub packetSize : ℕ → ℕ
@@ -25,34 +26,34 @@ recordFits rs at = both (textId (byteAt rs at)) (lineFits (byteAt rs (at + 1)))
 -- each of the u records from a place on is
 unfoldable pub recordsFit : ℕ → List ℕ → ℕ → Bool
 recordsFit zero rs at = true
-recordsFit (suc u) rs at = both (recordFits rs at) (recordsFit u rs (at + 44))
+recordsFit (suc u) rs at = both (recordFits rs at) (recordsFit u rs (at + recordSize))
 
 -- "16, 13, 15", each at offset 0; 1,423 units are what N = 356 holds
 unfoldable pub writeRules : ℕ → List ℕ → List Rule
 writeRules d rs =
     rule (ebuData d) 16 0
-    ∷ rule (eqb (length rs % 44) 0) 13 0
+    ∷ rule (eqb (length rs % recordSize) 0) 13 0
     ∷ rule (both (leb (unitCount rs) 1423) (recordsFit (unitCount rs) rs 0)) 15 0
     ∷ []
 
--- the header with PES_packet_length N×184−6: "bytes 6 to 8 are 84 00 24, then 36 bytes of FF. Then data_identifier"
+-- the header, "bytes 6 to 8 are 84 00 24, then 36 bytes of FF. Then data_identifier"
 unfoldable pub headerOf : ℕ → ℕ → List ℕ
 headerOf n d =
-    0x00 ∷ 0x00 ∷ 0x01 ∷ 0xBD ∷ (n * 184 - 6) / 256 ∷ (n * 184 - 6) % 256 ∷ 0x84 ∷ 0x00 ∷ 0x24
+    0x00 ∷ 0x00 ∷ 0x01 ∷ 0xBD ∷ lengthOf n / 256 ∷ lengthOf n % 256 ∷ 0x84 ∷ 0x00 ∷ 0x24
     ∷ (replicate 36 0xFF ++ d ∷ [])
 
 -- the text unit of the record at a place: the line byte as it is, and "every byte from the framing on is bit-reversed"
 unfoldable pub unitOf : List ℕ → ℕ → List ℕ
-unitOf rs at = byteAt rs at ∷ textLength ∷ byteAt rs (at + 1) ∷ framing ∷ map turned (take 42 (drop (at + 2) rs))
+unitOf rs at = byteAt rs at ∷ textLength ∷ byteAt rs (at + 1) ∷ framing ∷ map turned (take textBytes (drop (at + 2) rs))
 
 -- the units of the u records from a place on
 unfoldable pub unitsOf : ℕ → List ℕ → ℕ → List ℕ
 unitsOf zero rs at = []
-unitsOf (suc u) rs at = unitOf rs at ++ unitsOf u rs (at + 44)
+unitsOf (suc u) rs at = unitOf rs at ++ unitsOf u rs (at + recordSize)
 
 -- "stuffing units of length 0x2C, all FF"
 unfoldable pub stuffingUnit : List ℕ
-stuffingUnit = 0xFF ∷ 0x2C ∷ replicate 44 0xFF
+stuffingUnit = 0xFF ∷ 0x2C ∷ replicate textLength 0xFF
 
 unfoldable pub stuffingUnits : ℕ → List ℕ
 stuffingUnits zero = []

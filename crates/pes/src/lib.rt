@@ -23,6 +23,20 @@ ghost use Rattle.pes.specs.Header.{startsRight, lengthFits, flagsFit, eb
 ghost use Rattle.pes.specs.Reading.{recordAt, unitsRules, readRules, recordsOf};
 ghost use Rattle.pes.specs.Writing.{unitCount, packetSize, recordsFit, writeRules, headerOf, unitOf, unitsOf, stuffingUnit, stuffingUnits, packetOf};
 
+// A record's bytes: a unit's id, its line byte, and TEXT bytes.
+const RECORD: usize = 44;
+
+const TEXT: usize = 42;
+
+// A unit's bytes as it is written: id, length, and as many as the length 2C says.
+const UNIT: usize = 46;
+
+// Where the first unit stands: after the header and data_identifier.
+const FIRST: usize = 46;
+
+// A packet's length is a multiple of this, what one transport packet carries.
+const PART: usize = 184;
+
 // The records of a PES packet, 44 bytes for each text unit in order, into the front of `out`. Goes
 // along the packet twice, to judge it and to write, and holds nothing but its place.
 pub fn read(pes: &[u8], out: &mut [u8]) -> Answer
@@ -41,40 +55,6 @@ pub fn read(pes: &[u8], out: &mut [u8]) -> Answer
     }
 }
 
-// Writes the records of a packet that is accepted, where they have room.
-fn put_records(pes: &[u8], out: &mut [u8])
-    requires { ⌜ Every (unitsRules (now pes)) × (length (recordsOf (now pes)) ≤ length (now out)) ⌝ }
-    ensures { λ r. ⌜ now (out .exit) ≡ sets (now (out .entry)) 0 (recordsOf (now (pes .entry))) ⌝ }
-{
-    let mut at = 46;
-    let mut to = 0;
-    loop {
-        match units::unit_at(pes, at) {
-            DataUnit::End => return,
-            DataUnit::Text(next) => {
-                put_record(pes, at, out, to);
-                to += 44;
-                at = next;
-            }
-            DataUnit::Stuffing(next) => {
-                at = next;
-            }
-            DataUnit::Refused(_) => return,
-        }
-    }
-}
-
-// Writes the record of the text unit at `at`: its id, its line byte as it is, and its 42 bytes turned.
-fn put_record(pes: &[u8], at: usize, out: &mut [u8], to: usize)
-    requires { ⌜ (at + 46 ≤ length (now pes)) × (to + 44 ≤ length (now out)) ⌝ }
-    ensures { λ r. ⌜ now (out .exit) ≡ sets (now (out .entry)) to (recordAt (now (pes .entry)) at) ⌝ }
-{
-    let line = pes[at + 2];
-    out[to] = pes[at];
-    out[to + 1] = line;
-    turn_run(pes, at + 4, out, to + 2);
-}
-
 // One PES packet that holds the records, with the least N, filled up with stuffing units. Writes each
 // byte of it once.
 pub fn write(data_identifier: u8, records: &[u8], out: &mut [u8]) -> Answer
@@ -84,170 +64,13 @@ pub fn write(data_identifier: u8, records: &[u8], out: &mut [u8]) -> Answer
     match judge_records(data_identifier, records) {
         Answer::Refused(r) => Answer::Refused(r),
         Answer::Done(units) => {
-            let need = (units / 4 + 1) * 184;
+            let need = (units / 4 + 1) * PART;
             if out.len() < need {
                 return Answer::Refused(Refusal { no: 1, at: 0 });
             }
             put_packet(data_identifier, records, out);
             Answer::Done(need)
         }
-    }
-}
-
-// Judges what is to be written, writing nothing: its refusal, or how many units it makes.
-fn judge_records(d: u8, records: &[u8]) -> Answer
-    ensures { λ r. ⌜ r ≡ judged refused (writeRules d (now (records .entry))) (Answer.Done (unitCount (now (records .entry)))) ⌝ }
-{
-    if !is_ebu(d) {
-        return Answer::Refused(Refusal { no: 16, at: 0 });
-    }
-    if records.len() % 44 != 0 {
-        return Answer::Refused(Refusal { no: 13, at: 0 });
-    }
-    let units = records.len() / 44;
-    if 1423 < units {
-        return Answer::Refused(Refusal { no: 15, at: 0 });
-    }
-    if !records_fit(records, units) {
-        return Answer::Refused(Refusal { no: 15, at: 0 });
-    }
-    Answer::Done(units)
-}
-
-// Whether each of the records is one that reading gives.
-fn records_fit(records: &[u8], units: usize) -> bool
-    requires { ⌜ 44 * units ≤ length (now records) ⌝ }
-    ensures { λ r. ⌜ r ≡ recordsFit units (now (records .entry)) 0 ⌝ }
-{
-    let mut at = 0;
-    let mut more = units;
-    while 0 < more {
-        if !record_fits(records[at], records[at + 1]) {
-            return false;
-        }
-        at += 44;
-        more -= 1;
-    }
-    true
-}
-
-// Whether an id and a line byte are those of a text unit that reading takes.
-fn record_fits(id: u8, line: u8) -> bool
-    ensures { λ r. ⌜ r ≡ both (textId id) (lineFits line) ⌝ }
-{
-    if !units::is_text(id) {
-        return false;
-    }
-    units::line_fits(line)
-}
-
-// Writes the whole packet, where it has room.
-fn put_packet(d: u8, records: &[u8], out: &mut [u8])
-    requires { ⌜ (unitCount (now records) ≤ 1423) × (packetSize (unitCount (now records)) * 184 ≤ length (now out)) ⌝ }
-    ensures { λ r. ⌜ now (out .exit) ≡ sets (now (out .entry)) 0 (packetOf d (now (records .entry))) ⌝ }
-{
-    let units = records.len() / 44;
-    let n = units / 4 + 1;
-    put_header(n, d, out);
-    put_units(records, units, out);
-    put_stuffing(46 + 46 * units, 4 * n - 1 - units, out);
-}
-
-// Writes the header of a packet of N×184 bytes, and its data_identifier.
-fn put_header(n: usize, d: u8, out: &mut [u8])
-    requires { ⌜ (1 ≤ n) × (n ≤ 356) × (46 ≤ length (now out)) ⌝ }
-    ensures { λ r. ⌜ now (out .exit) ≡ sets (now (out .entry)) 0 (headerOf n d) ⌝ }
-{
-    let size = n * 184 - 6;
-    let high = (size / 256) as u8;
-    let low = (size % 256) as u8;
-    out[0] = 0x00;
-    out[1] = 0x00;
-    out[2] = 0x01;
-    out[3] = 0xBD;
-    out[4] = high;
-    out[5] = low;
-    out[6] = 0x84;
-    out[7] = 0x00;
-    out[8] = 0x24;
-    fill(9, 36, out);
-    out[45] = d;
-}
-
-// Writes the units of the records, from the packet's first unit on.
-fn put_units(records: &[u8], units: usize, out: &mut [u8])
-    requires { ⌜ (44 * units ≤ length (now records)) × (46 + 46 * units ≤ length (now out)) ⌝ }
-    ensures { λ r. ⌜ now (out .exit) ≡ sets (now (out .entry)) 46 (unitsOf units (now (records .entry)) 0) ⌝ }
-{
-    let mut at = 0;
-    let mut to = 46;
-    let mut more = units;
-    while 0 < more {
-        put_unit(records, at, out, to);
-        at += 44;
-        to += 46;
-        more -= 1;
-    }
-}
-
-// Writes the unit of the record at `at`: its id and line byte as they are, and its 42 bytes turned.
-fn put_unit(records: &[u8], at: usize, out: &mut [u8], to: usize)
-    requires { ⌜ (at + 44 ≤ length (now records)) × (to + 46 ≤ length (now out)) ⌝ }
-    ensures { λ r. ⌜ now (out .exit) ≡ sets (now (out .entry)) to (unitOf (now (records .entry)) at) ⌝ }
-{
-    let line = records[at + 1];
-    out[to] = records[at];
-    out[to + 1] = 0x2C;
-    out[to + 2] = line;
-    out[to + 3] = 0xE4;
-    turn_run(records, at + 2, out, to + 4);
-}
-
-// Writes so many stuffing units.
-fn put_stuffing(from: usize, units: usize, out: &mut [u8])
-    requires { ⌜ from + 46 * units ≤ length (now out) ⌝ }
-    ensures { λ r. ⌜ now (out .exit) ≡ sets (now (out .entry)) from (stuffingUnits units) ⌝ }
-{
-    let mut to = from;
-    let mut more = units;
-    while 0 < more {
-        put_stuffing_unit(to, out);
-        to += 46;
-        more -= 1;
-    }
-}
-
-// Writes one stuffing unit.
-fn put_stuffing_unit(to: usize, out: &mut [u8])
-    requires { ⌜ to + 46 ≤ length (now out) ⌝ }
-    ensures { λ r. ⌜ now (out .exit) ≡ sets (now (out .entry)) to stuffingUnit ⌝ }
-{
-    out[to] = 0xFF;
-    out[to + 1] = 0x2C;
-    fill(to + 2, 44, out);
-}
-
-// Writes so many bytes of FF.
-fn fill(from: usize, count: usize, out: &mut [u8])
-    requires { ⌜ from + count ≤ length (now out) ⌝ }
-    ensures { λ r. ⌜ now (out .exit) ≡ sets (now (out .entry)) from (replicate count 0xFF) ⌝ }
-{
-    let mut i = 0;
-    while i < count {
-        out[from + i] = 0xFF;
-        i += 1;
-    }
-}
-
-// Writes 42 bytes of `src`, from `from` on, each turned.
-fn turn_run(src: &[u8], from: usize, out: &mut [u8], to: usize)
-    requires { ⌜ (from + 42 ≤ length (now src)) × (to + 42 ≤ length (now out)) ⌝ }
-    ensures { λ r. ⌜ now (out .exit) ≡ sets (now (out .entry)) to (map turned (take 42 (drop from (now (src .entry))))) ⌝ }
-{
-    let mut i = 0;
-    while i < 42 {
-        out[to + i] = octet::turn(src[from + i]);
-        i += 1;
     }
 }
 
@@ -277,13 +100,13 @@ fn judge(pes: &[u8]) -> Answer
 fn scan(pes: &[u8]) -> Answer
     ensures { λ r. ⌜ r ≡ judged refused (unitsRules (now (pes .entry))) (Answer.Done (length (recordsOf (now (pes .entry))))) ⌝ }
 {
-    let mut at = 46;
+    let mut at = FIRST;
     let mut given = 0;
     loop {
         match units::unit_at(pes, at) {
             DataUnit::End => return Answer::Done(given),
             DataUnit::Text(next) => {
-                given += 44;
+                given += RECORD;
                 at = next;
             }
             DataUnit::Stuffing(next) => {
@@ -319,11 +142,11 @@ fn length_fits(high: u8, low: u8, whole: usize) -> bool
     ensures { λ r. ⌜ r ≡ both (lengthFits (high * 256 + low)) (eqb (high * 256 + low + 6) whole) ⌝ }
 {
     let size = (high as usize) * 256 + (low as usize);
-    let n = (size + 6) / 184;
+    let n = (size + 6) / PART;
     if n < 1 {
         return false;
     }
-    if size != n * 184 - 6 {
+    if size != n * PART - 6 {
         return false;
     }
     size + 6 == whole
@@ -339,6 +162,173 @@ fn flags_fit(b: u8) -> bool
     b / 4 % 2 == 1
 }
 
+// Writes the records of a packet that is accepted, where they have room.
+fn put_records(pes: &[u8], out: &mut [u8])
+    requires { ⌜ Every (unitsRules (now pes)) × (length (recordsOf (now pes)) ≤ length (now out)) ⌝ }
+    ensures { λ r. ⌜ now (out .exit) ≡ sets (now (out .entry)) 0 (recordsOf (now (pes .entry))) ⌝ }
+{
+    let mut at = FIRST;
+    let mut to = 0;
+    loop {
+        match units::unit_at(pes, at) {
+            DataUnit::End => return,
+            DataUnit::Text(next) => {
+                put_record(pes, at, out, to);
+                to += RECORD;
+                at = next;
+            }
+            DataUnit::Stuffing(next) => {
+                at = next;
+            }
+            DataUnit::Refused(_) => return,
+        }
+    }
+}
+
+// Writes the record of the text unit at `at`: its id, its line byte as it is, and its 42 bytes turned.
+fn put_record(pes: &[u8], at: usize, out: &mut [u8], to: usize)
+    requires { ⌜ (at + 46 ≤ length (now pes)) × (to + 44 ≤ length (now out)) ⌝ }
+    ensures { λ r. ⌜ now (out .exit) ≡ sets (now (out .entry)) to (recordAt (now (pes .entry)) at) ⌝ }
+{
+    let line = pes[at + 2];
+    out[to] = pes[at];
+    out[to + 1] = line;
+    turn_run(pes, at + 4, out, to + 2);
+}
+
+// Judges what is to be written, writing nothing: its refusal, or how many units it makes.
+fn judge_records(d: u8, records: &[u8]) -> Answer
+    ensures { λ r. ⌜ r ≡ judged refused (writeRules d (now (records .entry))) (Answer.Done (unitCount (now (records .entry)))) ⌝ }
+{
+    if !is_ebu(d) {
+        return Answer::Refused(Refusal { no: 16, at: 0 });
+    }
+    if records.len() % RECORD != 0 {
+        return Answer::Refused(Refusal { no: 13, at: 0 });
+    }
+    let units = records.len() / RECORD;
+    if 1423 < units {
+        return Answer::Refused(Refusal { no: 15, at: 0 });
+    }
+    if !records_fit(records, units) {
+        return Answer::Refused(Refusal { no: 15, at: 0 });
+    }
+    Answer::Done(units)
+}
+
+// Whether each of the records is one that reading gives.
+fn records_fit(records: &[u8], units: usize) -> bool
+    requires { ⌜ 44 * units ≤ length (now records) ⌝ }
+    ensures { λ r. ⌜ r ≡ recordsFit units (now (records .entry)) 0 ⌝ }
+{
+    let mut at = 0;
+    let mut more = units;
+    while 0 < more {
+        if !record_fits(records[at], records[at + 1]) {
+            return false;
+        }
+        at += RECORD;
+        more -= 1;
+    }
+    true
+}
+
+// Whether an id and a line byte are those of a text unit that reading takes.
+fn record_fits(id: u8, line: u8) -> bool
+    ensures { λ r. ⌜ r ≡ both (textId id) (lineFits line) ⌝ }
+{
+    if !units::is_text(id) {
+        return false;
+    }
+    units::line_fits(line)
+}
+
+// Writes the whole packet, where it has room.
+fn put_packet(d: u8, records: &[u8], out: &mut [u8])
+    requires { ⌜ (unitCount (now records) ≤ 1423) × (packetSize (unitCount (now records)) * 184 ≤ length (now out)) ⌝ }
+    ensures { λ r. ⌜ now (out .exit) ≡ sets (now (out .entry)) 0 (packetOf d (now (records .entry))) ⌝ }
+{
+    let units = records.len() / RECORD;
+    let n = units / 4 + 1;
+    put_header(n, d, out);
+    put_units(records, units, out);
+    put_stuffing(FIRST + UNIT * units, 4 * n - 1 - units, out);
+}
+
+// Writes the header of a packet of N×184 bytes, and its data_identifier.
+fn put_header(n: usize, d: u8, out: &mut [u8])
+    requires { ⌜ (1 ≤ n) × (n ≤ 356) × (46 ≤ length (now out)) ⌝ }
+    ensures { λ r. ⌜ now (out .exit) ≡ sets (now (out .entry)) 0 (headerOf n d) ⌝ }
+{
+    let size = n * PART - 6;
+    let high = (size / 256) as u8;
+    let low = (size % 256) as u8;
+    out[0] = 0x00;
+    out[1] = 0x00;
+    out[2] = 0x01;
+    out[3] = 0xBD;
+    out[4] = high;
+    out[5] = low;
+    out[6] = 0x84;
+    out[7] = 0x00;
+    out[8] = 0x24;
+    fill(9, 36, out);
+    out[45] = d;
+}
+
+// Writes the units of the records, from the packet's first unit on.
+fn put_units(records: &[u8], units: usize, out: &mut [u8])
+    requires { ⌜ (44 * units ≤ length (now records)) × (46 + 46 * units ≤ length (now out)) ⌝ }
+    ensures { λ r. ⌜ now (out .exit) ≡ sets (now (out .entry)) 46 (unitsOf units (now (records .entry)) 0) ⌝ }
+{
+    let mut at = 0;
+    let mut to = FIRST;
+    let mut more = units;
+    while 0 < more {
+        put_unit(records, at, out, to);
+        at += RECORD;
+        to += UNIT;
+        more -= 1;
+    }
+}
+
+// Writes the unit of the record at `at`: its id and line byte as they are, and its 42 bytes turned.
+fn put_unit(records: &[u8], at: usize, out: &mut [u8], to: usize)
+    requires { ⌜ (at + 44 ≤ length (now records)) × (to + 46 ≤ length (now out)) ⌝ }
+    ensures { λ r. ⌜ now (out .exit) ≡ sets (now (out .entry)) to (unitOf (now (records .entry)) at) ⌝ }
+{
+    let line = records[at + 1];
+    out[to] = records[at];
+    out[to + 1] = 0x2C;
+    out[to + 2] = line;
+    out[to + 3] = 0xE4;
+    turn_run(records, at + 2, out, to + 4);
+}
+
+// Writes so many stuffing units.
+fn put_stuffing(from: usize, units: usize, out: &mut [u8])
+    requires { ⌜ from + 46 * units ≤ length (now out) ⌝ }
+    ensures { λ r. ⌜ now (out .exit) ≡ sets (now (out .entry)) from (stuffingUnits units) ⌝ }
+{
+    let mut to = from;
+    let mut more = units;
+    while 0 < more {
+        put_stuffing_unit(to, out);
+        to += UNIT;
+        more -= 1;
+    }
+}
+
+// Writes one stuffing unit.
+fn put_stuffing_unit(to: usize, out: &mut [u8])
+    requires { ⌜ to + 46 ≤ length (now out) ⌝ }
+    ensures { λ r. ⌜ now (out .exit) ≡ sets (now (out .entry)) to stuffingUnit ⌝ }
+{
+    out[to] = 0xFF;
+    out[to + 1] = 0x2C;
+    fill(to + 2, 0x2C, out);
+}
+
 // Whether a data_identifier is from 0x10 to 0x1F.
 fn is_ebu(d: u8) -> bool
     ensures { λ r. ⌜ r ≡ ebuData d ⌝ }
@@ -347,4 +337,28 @@ fn is_ebu(d: u8) -> bool
         return false;
     }
     d <= 0x1F
+}
+
+// Writes 42 bytes of `src`, from `from` on, each turned.
+fn turn_run(src: &[u8], from: usize, out: &mut [u8], to: usize)
+    requires { ⌜ (from + 42 ≤ length (now src)) × (to + 42 ≤ length (now out)) ⌝ }
+    ensures { λ r. ⌜ now (out .exit) ≡ sets (now (out .entry)) to (map turned (take 42 (drop from (now (src .entry))))) ⌝ }
+{
+    let mut i = 0;
+    while i < TEXT {
+        out[to + i] = octet::turn(src[from + i]);
+        i += 1;
+    }
+}
+
+// Writes so many bytes of FF.
+fn fill(from: usize, count: usize, out: &mut [u8])
+    requires { ⌜ from + count ≤ length (now out) ⌝ }
+    ensures { λ r. ⌜ now (out .exit) ≡ sets (now (out .entry)) from (replicate count 0xFF) ⌝ }
+{
+    let mut i = 0;
+    while i < count {
+        out[from + i] = 0xFF;
+        i += 1;
+    }
 }

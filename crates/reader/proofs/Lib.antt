@@ -1,3 +1,12 @@
-pub mod Ranging
+pub mod Adding
+pub mod Answering
 pub mod Bounding
+pub mod Holding
+pub mod Judged
+pub mod Keeping
+pub mod Range
+pub mod Ranging
 pub mod Sizing
+pub mod Stepping
+pub mod Storing
+pub mod Walking

@@ -4,3 +4,5 @@ pub mod Seen
 pub mod Acting
 pub mod State
 pub mod Feeding
+pub mod Places
+pub mod Holding

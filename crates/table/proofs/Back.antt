@@ -1,28 +1,27 @@
 -- What is written reads back as the same table, and what is read can be written. Assumes nothing.
-use mathlib.Core.Path.{_≡_, _∙_, refl, sym, ap, ap₂, subst}
-use mathlib.Core.Bool.{Bool, true, false}
-use mathlib.Core.List.{List, [], _∷_, _++_, map, map-map}
-use Prim.Native.Nat.{ℕ, zero, suc, _+_, _-_, _*_, _/_, _%_, _^_, _≤_, _<_}
-use native.Mathlib.Nat.{mod-eq-of-lt, mod-mod, le-refl}
+use mathlib.Core.Path.{_≡_, _∙_, refl, sym, ap, ap₂}
+use mathlib.Core.Bool.{true}
+use mathlib.Core.List.{List, _∷_, _++_, map}
+use Prim.Native.Nat.{ℕ, zero, suc, _/_, _%_, _^_, _<_}
+use native.Mathlib.Nat.{mod-eq-of-lt, mod-mod}
 use native.Mathlib.Omega.{arith}
-use borrow.Author.Tests.{ltb-true, lt-ltb, leb-true, le-leb, eqb-true, eq-eqb}
-use lib.Dec.{ltb, eqb, leb}
-use lib.ListN.{length, getD, take, drop, length-map}
+use borrow.Author.Tests.{ltb-true, lt-ltb, le-leb, eqb-true, eq-eqb}
+use lib.ListN.{length, getD}
 use lib.Pow.{pow-pos}
 use lib.Seq.{take-at, drop-at}
-use Rattle.answer.specs.Rules.{Rule, Every, none, more}
+use Rattle.answer.specs.Rules.{Every, none, more}
 use Rattle.answer.proofs.Steps.{first-holds, others-hold}
 use Rattle.octet.specs.Image.{image}
 use Rattle.octet.specs.Decoding.{nib}
 use Rattle.octet.proofs.Laws.{nib-image}
 use Rattle.fields.specs.Fields.{laid, parts, whole}
 use Rattle.fields.proofs.Laid.{length-parts, whole-parts}
-use Rattle.table.specs.Tables.{Table, known, bits, control, fill, size, fits}
+use Rattle.table.specs.Tables.{Table, known, fill, size, fits}
 use Rattle.table.specs.Form.{form, openingOf, tableIn}
 use Rattle.table.specs.Block.{header, headOf, nibblesOf, nibbles, checksumOf, Says}
 use Rattle.table.specs.Reading.{accepted, readBlock}
-use Rattle.table.specs.Writing.{recordWith, recordOf, writeRules}
-use Rattle.table.proofs.Inverse.{Sendable, sendable, sends}
+use Rattle.table.specs.Writing.{recordWith, recordOf, formRules, writeRules}
+use Rattle.table.proofs.Inverse.{sendable}
 use Rattle.table.proofs.Measures.{length-form}
 use Rattle.table.proofs.Exact.{reads-exactly}
 use Rattle.table.proofs.Forms.{Bytes, form-in, in-form}
@@ -46,7 +45,7 @@ body-back : (h : ℕ) (rest : List ℕ) → nibblesOf (parts 8 2 h ++ rest) ≡ 
 unfolding nibblesOf
 body-back h rest = ap (map nib) (drop-at (parts 8 2 h) rest 2 (length-parts 8 2 h))
 
-nibbles-again :
+pub nibbles-again :
     (sum reserved filling : ℕ) (t : Table)
     → map nib (map image (nibbles sum reserved filling t)) ≡ nibbles sum reserved filling t
 unfolding nibbles
@@ -91,7 +90,7 @@ writes-back application t a f = reads-any application 0 0 t a f (omega arith) (p
 pub writes-back-form :
     (application : ℕ) (f : List ℕ) → Bytes f → Every (writeRules application f)
     → (readBlock application (recordOf application (tableIn f)) ≡ accepted (tableIn f)) × (form (tableIn f) ≡ f)
-unfolding writeRules
+unfolding formRules
 writes-back-form application f b e₀ =
     let e₃ = others-hold (others-hold (others-hold e₀)) in
     let a : application < 32 = ltb-true application 32 (first-holds e₀) in
@@ -102,7 +101,7 @@ writes-back-form application f b e₀ =
 pub accepted-writable :
     (application : ℕ) (r : List ℕ) (t : Table) → readBlock application r ≡ accepted t
     → Every (writeRules application (form t)) × (tableIn (form t) ≡ t)
-unfolding writeRules
+unfolding formRules
 accepted-writable application r t e =
     let s = reads-exactly application r t .0 e in
     let can = sendable t (s .sendable) in

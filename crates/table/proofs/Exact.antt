@@ -3,25 +3,25 @@
 use mathlib.Core.Path.{_≡_, _∙_, refl, sym, ap, ap₂, subst}
 use mathlib.Core.Bool.{Bool, true, false}
 use mathlib.Core.Logic.{_↔_}
-use mathlib.Core.List.{List, [], _∷_, _++_, map}
+use mathlib.Core.List.{List, [], _∷_, map}
 use Prim.Native.Nat.{ℕ, zero, suc, _+_, _-_, _*_, _/_, _%_, _^_, _≤_, _<_}
 use native.Mathlib.Nat.{mod-eq-of-lt, le-of-suc-le-suc, not-suc-le-zero}
 use native.Mathlib.Omega.{arith}
-use borrow.Author.Tests.{ltb-true, lt-ltb, leb-true, le-leb, eqb-true, eq-eqb}
-use lib.Dec.{ltb, eqb, leb}
+use borrow.Author.Tests.{ltb-true, lt-ltb, le-leb, eqb-true, eq-eqb}
+use lib.Dec.{ltb, eqb}
 use lib.ListN.{length, getD, take, drop, length-map, length-drop}
 use lib.Pow.{shr-lt, shr-shr}
-use Rattle.laws.specs.Pick.{pick, both}
+use Rattle.laws.specs.Pick.{pick}
 use Rattle.laws.proofs.Tests.{both-true, both-holds}
 use Rattle.answer.specs.Rules.{Rule, judged, Every, none, more}
 use Rattle.answer.proofs.Judging.{passes}
 use Rattle.answer.proofs.Steps.{first-holds, others-hold}
 use Rattle.octet.specs.Decoding.{nib}
-use Rattle.fields.specs.Fields.{Field, row, width, laid, fitting, field, parts, whole}
+use Rattle.fields.specs.Fields.{width, laid, field, parts, whole}
 use Rattle.fields.proofs.Laid.{laid-lt, laid-next, field-lt, length-parts, whole-lt, whole-parts, parts-whole}
-use Rattle.table.specs.Tables.{Table, known, loops, fields, bits, control, fill, size, fits}
+use Rattle.table.specs.Tables.{Table, known, fields, bits, control, fill, size}
 use Rattle.table.specs.Block.{header, headOf, nibblesOf, total, checksum, nibbles, checksumOf, Says}
-use Rattle.table.specs.Reading.{Outcome, accepted, refused, sound, frameRules, frontRules, wholeRules, lengthRules, readRules, tableOf, tableRead, readBlock}
+use Rattle.table.specs.Reading.{accepted, refused, sound, frameRules, frontRules, wholeRules, lengthRules, readRules, tableOf, tableRead, readBlock}
 use Rattle.table.proofs.Inverse.{Sendable, sendable, sends, relaid, read-sendable, reread, at-sum, at-control, at-access}
 use Rattle.table.proofs.Measures.{bits-of}
 
@@ -87,7 +87,7 @@ unfolding parts
 drop-parts k n = ap (parts 4 k) (shr-shr n 4 4)
 
 -- the nibbles behind the checksum's two are those of the other fields
-behind-sum :
+pub behind-sum :
     (sum reserved filling : ℕ) (t : Table)
     → drop 2 (nibbles sum reserved filling t)
     ≡ parts 4 (size t - 2) (laid (drop 1 (fields 0 (control t) reserved t)) filling)
@@ -167,7 +167,7 @@ nibbles-sound : (sum reserved filling : ℕ) (t : Table) → sound (nibbles sum 
 unfolding nibbles
 nibbles-sound sum reserved filling t = parts-sound (size t) _
 
-checksum-lt : (head : ℕ) (ns : List ℕ) → checksum head ns < 256
+pub checksum-lt : (head : ℕ) (ns : List ℕ) → checksum head ns < 256
 unfolding checksum
 checksum-lt head ns = omega arith
 

@@ -3,20 +3,20 @@ use mathlib.Core.Path.{_≡_, _∙_, refl, sym, ap, ap₂, subst}
 use mathlib.Core.Bool.{Bool, true, false}
 use mathlib.Core.List.{List, [], _∷_, _++_}
 use Prim.Native.Nat.{ℕ, zero, suc, _+_, _-_, _*_, _/_, _%_, _^_, _≤_, _<_}
-use native.Mathlib.Nat.{mod-eq-of-lt, mul-comm, mul-div-cancel-left, not-suc-le-zero}
+use native.Mathlib.Nat.{add-zero, mod-eq-of-lt, mul-comm, mul-div-cancel-left}
 use native.Mathlib.Omega.{arith}
-use borrow.Author.Tests.{ltb-true, eqb-true}
+use borrow.Author.Tests.{ltb-true, lt-ltb, eqb-true, eq-eqb}
 use lib.Dec.{ltb, eqb}
-use lib.ListN.{length, getD, take, drop, length-append, length-drop, take-append-drop}
+use lib.ListN.{length, getD, take, drop, length-drop, take-append-drop}
 use lib.Seq.{drop-drop, drop-at, drop-cons, getD-drop}
-use Rattle.laws.specs.Pick.{both}
+use Rattle.laws.specs.Pick.{both, either}
 use Rattle.laws.proofs.Tests.{both-true}
-use Rattle.fields.specs.Fields.{Field, row, fitting, parts, whole}
-use Rattle.fields.proofs.Laid.{fitting-append, whole-parts, whole-first, whole-next}
-use Rattle.table.specs.Tables.{Descriptor, Table, per, entries, loops, entire}
+use Rattle.fields.specs.Fields.{row, fitting, parts, whole}
+use Rattle.fields.proofs.Laid.{fitting-append, whole-parts, whole-first, whole-next, whole-lt}
+use Rattle.table.specs.Tables.{Descriptor, Table, TI, LI, known, per, entries, loops, bits, entire, fits}
 use Rattle.table.specs.Form.{spelled, listed, openingOf, form, wordsIn, descriptorsIn, tableIn}
-use Rattle.table.proofs.Inverse.{Sendable, entries-whole}
-use Rattle.table.proofs.Measures.{per-pos, length-spelled, length-listed, length-form}
+use Rattle.table.proofs.Inverse.{Sendable, sendable, sends, entries-whole}
+use Rattle.table.proofs.Measures.{per-pos, length-spelled, length-listed, length-form, bits-of, eights}
 
 -- ---- the table out of its form
 
@@ -69,12 +69,12 @@ form-in t s =
 
 -- ---- the form out of its table
 
-length-in : (each k : ℕ) (f : List ℕ) → length (descriptorsIn each k f) ≡ k
+pub length-in : (each k : ℕ) (f : List ℕ) → length (descriptorsIn each k f) ≡ k
 unfolding descriptorsIn
 length-in each zero f = refl
 length-in each (suc k) f = ap suc (length-in each k _)
 
-length-words : (k : ℕ) (f : List ℕ) → length (wordsIn k f) ≡ k
+pub length-words : (k : ℕ) (f : List ℕ) → length (wordsIn k f) ≡ k
 unfolding wordsIn
 length-words zero f = refl
 length-words (suc k) f = ap suc (length-words k (drop 3 f))
@@ -169,3 +169,169 @@ in-form f b h =
     whole-next 8 (getD f 2 0) (getD f 3 0 ∷ []) ∙ one-byte (getD f 3 0) (b 3) in
     let rest : listed kind ds ≡ more = listed-back kind k more (bytes-drop 6 f b) (length-drop 6 f ∙ omega arith) in
     rw (low, high, count, rest) (six f (omega arith))
+
+-- ---- a walk along a form
+
+-- one descriptor on, at the place `at`
+pub form-on :
+    (kind left at c words whole : ℕ) (f : List ℕ) → 0 < left → c ≡ getD f (at + 1) 0 → words ≡ per kind * c
+    → at + length (listed kind (descriptorsIn (per kind) left (drop at f))) ≡ whole
+    → at + (2 + 3 * words) + length (listed kind (descriptorsIn (per kind) (left - 1) (drop (at + (2 + 3 * words)) f))) ≡ whole
+form-on kind left at c words whole f h e₁ e₂ inv =
+    let e : left ≡ suc (left - 1) = omega arith in
+    let one = subst (λ (k : ℕ). at + length (listed kind (descriptorsIn (per kind) k (drop at f))) ≡ whole) e inv in
+    let w : per kind * getD (drop at f) 1 0 ≡ words =
+    ap (λ (x : ℕ). per kind * x) (getD-drop at f 1 0 ∙ sym e₁) ∙ sym e₂ in
+    let two =
+    listed-step kind (per kind) (left - 1) (drop at f)
+    ∙ ap (λ (x : ℕ). 2 + 3 * x + length (listed kind (descriptorsIn (per kind) (left - 1) (drop (2 + 3 * x) (drop at f))))) w
+    ∙ ap (λ (l : List ℕ). 2 + 3 * words + length (listed kind (descriptorsIn (per kind) (left - 1) l))) (drop-drop (2 + 3 * words) at f) in
+    omega (arith, one, two)
+
+pub form-end :
+    (kind left at whole : ℕ) (f : List ℕ) → left ≤ 0
+    → at + length (listed kind (descriptorsIn (per kind) left (drop at f))) ≡ whole
+    → at ≡ whole
+unfolding descriptorsIn listed
+form-end kind left at whole f h inv =
+    let e : left ≡ 0 = omega arith in
+    sym (add-zero at) ∙ subst (λ (k : ℕ). at + length (listed kind (descriptorsIn (per kind) k (drop at f))) ≡ whole) e inv
+
+-- words of three bytes always fit
+words-fit : (k : ℕ) (f : List ℕ) → fitting (row 24 (wordsIn k f)) ≡ true
+unfolding fitting row wordsIn
+words-fit zero f = refl
+words-fit (suc k) f =
+    rw (lt-ltb (whole 8 (getD f 2 0 ∷ getD f 1 0 ∷ getD f 0 0 ∷ [])) (2 ^ 24) (whole-lt 8 (getD f 2 0 ∷ getD f 1 0 ∷ getD f 0 0 ∷ [])))
+    (words-fit k (drop 3 f))
+
+-- what of a descriptor can be out of its field: its id and its number of entries
+fits-step :
+    (kind k : ℕ) (f : List ℕ)
+    → fitting (loops kind (descriptorsIn (per kind) (suc k) f))
+    ≡ both (ltb (getD f 0 0) 64)
+    (both (ltb (getD f 1 0) 16)
+    (fitting (loops kind (descriptorsIn (per kind) k (drop (2 + 3 * (per kind * getD f 1 0)) f)))))
+unfolding fitting loops descriptorsIn
+fits-step kind k f =
+    let words = per kind * getD f 1 0 in
+    let rest = loops kind (descriptorsIn (per kind) k (drop (2 + 3 * words) f)) in
+    let count : entries kind (wordsIn words (drop 2 f)) ≡ getD f 1 0 =
+    ap (λ (n : ℕ). n / per kind) (length-words words (drop 2 f)) ∙ mul-div-cancel-left (getD f 1 0) (per-pos kind) in
+    ap₂ (λ (n : ℕ) (b : Bool). both (ltb (getD f 0 0) 64) (both (ltb n 16) b)) count
+    (fitting-append (row 24 (wordsIn words (drop 2 f))) rest ∙ ap (λ (b : Bool). both b (fitting rest)) (words-fit words (drop 2 f)))
+
+-- the same at the place `at`
+pub fits-on :
+    (kind left at id c words : ℕ) (f : List ℕ) → 0 < left → id ≡ getD f at 0 → c ≡ getD f (at + 1) 0 → words ≡ per kind * c
+    → fitting (loops kind (descriptorsIn (per kind) left (drop at f)))
+    ≡ both (ltb id 64)
+    (both (ltb c 16) (fitting (loops kind (descriptorsIn (per kind) (left - 1) (drop (at + (2 + 3 * words)) f)))))
+fits-on kind left at id c words f h e₀ e₁ e₂ =
+    let e : left ≡ suc (left - 1) = omega arith in
+    let i : getD (drop at f) 0 0 ≡ id = getD-drop at f 0 0 ∙ ap (λ (x : ℕ). getD f x 0) (add-zero at) ∙ sym e₀ in
+    let n : getD (drop at f) 1 0 ≡ c = getD-drop at f 1 0 ∙ sym e₁ in
+    let r : drop (2 + 3 * (per kind * getD (drop at f) 1 0)) (drop at f) ≡ drop (at + (2 + 3 * words)) f =
+    ap (λ (x : ℕ). drop (2 + 3 * x) (drop at f)) (ap (λ (x : ℕ). per kind * x) n ∙ sym e₂)
+    ∙ drop-drop (2 + 3 * words) at f in
+    ap (λ (k : ℕ). fitting (loops kind (descriptorsIn (per kind) k (drop at f)))) e
+    ∙ fits-step kind (left - 1) (drop at f)
+    ∙ ap
+    (λ (l : List ℕ).
+    both (ltb (getD (drop at f) 0 0) 64)
+    (both (ltb (getD (drop at f) 1 0) 16) (fitting (loops kind (descriptorsIn (per kind) (left - 1) l)))))
+    r
+    ∙ ap₂
+    (λ (a b : ℕ).
+    both (ltb a 64)
+    (both (ltb b 16) (fitting (loops kind (descriptorsIn (per kind) (left - 1) (drop (at + (2 + 3 * words)) f))))))
+    i n
+
+pub fits-end :
+    (kind left at : ℕ) (f : List ℕ) → left ≤ 0 → fitting (loops kind (descriptorsIn (per kind) left (drop at f))) ≡ true
+unfolding descriptorsIn loops fitting
+fits-end kind left at f h =
+    let e : left ≡ 0 = omega arith in
+    ap (λ (k : ℕ). fitting (loops kind (descriptorsIn (per kind) k (drop at f)))) e
+
+-- ---- what of a form can be out of its field
+
+entire-in : (kind k : ℕ) (f : List ℕ) → entire kind (descriptorsIn (per kind) k f) ≡ true
+unfolding entire descriptorsIn
+entire-in kind zero f = refl
+entire-in kind (suc k) f =
+    let c = getD f 1 0 in
+    let ws = wordsIn (per kind * c) (drop 2 f) in
+    let e : entries kind ws * per kind ≡ length ws =
+    ap (λ (n : ℕ). n / per kind * per kind) (length-words (per kind * c) (drop 2 f))
+    ∙ ap (λ (n : ℕ). n * per kind) (mul-div-cancel-left c (per-pos kind))
+    ∙ mul-comm c (per kind)
+    ∙ sym (length-words (per kind * c) (drop 2 f)) in
+    rw (eq-eqb (entries kind ws * per kind) (length ws) e) (entire-in kind k _)
+
+known-small : (kind : ℕ) → known kind ≡ true → kind < 64
+known-small kind e = go (eqb kind TI) refl (eqb kind LI) refl e
+  where
+    go : (a : Bool) → eqb kind TI ≡ a → (b : Bool) → eqb kind LI ≡ b → either a b ≡ true → kind < 64
+    go true p b q h = let k = eqb-true kind TI p in omega arith
+    go false p true q h = let k = eqb-true kind LI q in omega arith
+    go false p false q h = absurd (let z : _≡_ {A = ℕ} 0 1 = cc in omega arith)
+
+-- of a form of bytes, whose kind is known
+module _ (f : List ℕ) (b : Bytes f) (k : known (getD f 0 0) ≡ true) where
+  pub in-sendable :
+      getD f 1 0 < 2 → getD f 5 0 < 64 → fitting (loops (tableIn f .kind) (tableIn f .descriptors)) ≡ true → bits (tableIn f) ≤ 8184
+      → fits (tableIn f) ≡ true
+  unfolding tableIn
+  in-sendable one few small short =
+      sends (tableIn f)
+      (record {
+        kind-known = k;
+        entire-all = entire-in (getD f 0 0) (getD f 5 0) (drop 6 f);
+        control-fits = omega (arith, short);
+        kind-fits = known-small (getD f 0 0) k;
+        copyright-fits = one;
+        block-fits = whole-lt 8 (getD f 2 0 ∷ getD f 3 0 ∷ []);
+        network-fits = b 4;
+        count-fits = rw (length-in (per (getD f 0 0)) (getD f 5 0) (drop 6 f)) few;
+        loops-fit = small;
+      })
+
+unfit : (t : Table) → (Sendable t → ⊥) → fits t ≡ false
+unfit t h = go (fits t) refl
+  where
+    go : (b : Bool) → fits t ≡ b → b ≡ false
+    go true e = absurd (h (sendable t e))
+    go false e = refl
+
+pub out-copyright : (f : List ℕ) → 1 < getD f 1 0 → fits (tableIn f) ≡ false
+unfolding tableIn
+out-copyright f h = unfit (tableIn f) (λ s. let k = s .copyright-fits in omega arith)
+
+pub out-count : (f : List ℕ) → 63 < getD f 5 0 → fits (tableIn f) ≡ false
+unfolding tableIn
+out-count f h =
+    unfit (tableIn f) (λ s. omega (arith, s .count-fits, length-in (per (getD f 0 0)) (getD f 5 0) (drop 6 f)))
+
+pub out-loops : (f : List ℕ) → fitting (loops (tableIn f .kind) (tableIn f .descriptors)) ≡ false → fits (tableIn f) ≡ false
+out-loops f h =
+    unfit (tableIn f) (λ s. let k = s .loops-fit in let z : _≡_ {A = ℕ} 0 1 = cc in omega arith)
+
+pub out-bits : (f : List ℕ) → 8184 < bits (tableIn f) → fits (tableIn f) ≡ false
+out-bits f h = unfit (tableIn f) (λ s. let k = s .control-fits in omega arith)
+
+-- the bits of a form's table by the form's length
+pub bits-in :
+    (f : List ℕ) → length f ≡ length (form (tableIn f)) → 58 + 8 * (length f - 6) - 6 * getD f 5 0 ≡ bits (tableIn f)
+unfolding tableIn
+bits-in f h =
+    let kind = getD f 0 0 in
+    let ds = descriptorsIn (per kind) (getD f 5 0) (drop 6 f) in
+    omega (arith, h, length-form (tableIn f), bits-of (tableIn f), eights kind ds, length-in (per kind) (getD f 5 0) (drop 6 f))
+
+pub count-room : (f : List ℕ) → length f ≡ length (form (tableIn f)) → 6 * getD f 5 0 ≤ 8 * (length f - 6)
+unfolding tableIn
+count-room f h =
+    let kind = getD f 0 0 in
+    let ds = descriptorsIn (per kind) (getD f 5 0) (drop 6 f) in
+    omega (arith, h, length-form (tableIn f), eights kind ds, length-in (per kind) (getD f 5 0) (drop 6 f))

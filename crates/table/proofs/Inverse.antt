@@ -1,19 +1,17 @@
 -- Tables 15 and 17 read and laid are each other's inverse. Assumes nothing.
-use mathlib.Core.Path.{_≡_, _∙_, refl, sym, ap, ap₂, subst}
-use mathlib.Core.Bool.{Bool, true, false}
+use mathlib.Core.Path.{_≡_, _∙_, refl, sym, ap, ap₂}
+use mathlib.Core.Bool.{true}
 use mathlib.Core.List.{List, [], _∷_, _++_}
-use Prim.Native.Nat.{ℕ, zero, suc, _+_, _-_, _*_, _/_, _%_, _^_, _≤_, _<_}
+use Prim.Native.Nat.{ℕ, zero, suc, _+_, _*_, _/_, _%_, _^_, _<_}
 use native.Mathlib.Nat.{div-one, mod-eq-of-lt, mul-comm, mul-div-cancel-left}
-use native.Mathlib.Omega.{arith}
 use borrow.Author.Tests.{ltb-true, lt-ltb, eqb-true, eq-eqb}
 use lib.Dec.{ltb, eqb}
 use lib.ListN.{length}
 use lib.Pow.{shr-shr}
-use Rattle.laws.specs.Pick.{both}
-use Rattle.laws.proofs.Tests.{both-true, both-assoc}
+use Rattle.laws.proofs.Tests.{both-true}
 use Rattle.fields.specs.Fields.{Field, row, width, laid, fitting, field, parts}
-use Rattle.fields.proofs.Laid.{lay, lay-parts, parts-laid, laid-append, laid-past, laid-drop, laid-at, laid-first, laid-next, length-parts, width-row, fitting-append, fitting-parts, field-first, field-lt, field-past}
-use Rattle.table.specs.Tables.{Descriptor, Table, TI, known, per, entries, loops, fields, bits, control, entire, fits}
+use Rattle.fields.proofs.Laid.{lay, lay-parts, parts-laid, laid-append, laid-past, laid-drop, laid-at, laid-first, length-parts, width-row, fitting-append, fitting-parts, field-first, field-lt}
+use Rattle.table.specs.Tables.{Descriptor, Table, known, per, entries, loops, fields, bits, control, entire, fits}
 use Rattle.table.specs.Reading.{descriptorsOf, tableOf}
 use Rattle.table.proofs.Measures.{per-pos, width-loops, bits-of, length-descriptors}
 

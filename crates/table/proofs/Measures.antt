@@ -1,9 +1,9 @@
 -- How many bits and bytes a table takes, and how a walk along its loops counts them. Assumes nothing.
 use mathlib.Core.Path.{_≡_, _∙_, refl, sym, ap, subst}
-use mathlib.Core.List.{List, [], _∷_, map}
+use mathlib.Core.List.{List, [], _∷_}
 use mathlib.Core.Bool.{Bool, true, false}
-use Prim.Native.Nat.{ℕ, zero, suc, _+_, _-_, _*_, _/_, _^_, _≤_, _<_}
-use native.Mathlib.Nat.{add-zero}
+use Prim.Native.Nat.{ℕ, zero, suc, _+_, _-_, _*_, _/_, _%_, _^_, _≤_, _<_}
+use native.Mathlib.Nat.{add-zero, mod-eq-of-lt}
 use native.Mathlib.Omega.{arith}
 use lib.Dec.{eqb}
 use lib.ListN.{length, length-append}
@@ -22,6 +22,10 @@ per-pos kind = go (eqb kind TI)
     go : (b : Bool) → 0 < pick b 2 1
     go true = omega arith
     go false = omega arith
+
+-- what `words_of` answers, of a count below 256
+pub words-counted : (kind c e r : ℕ) → r ≡ per kind * (c % 256) → c < 256 → c ≡ e → r ≡ per kind * e
+words-counted kind c e r h l q = h ∙ ap (λ (x : ℕ). per kind * x) (mod-eq-of-lt l ∙ q)
 
 -- ---- bits
 

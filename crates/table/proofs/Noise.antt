@@ -1,21 +1,14 @@
 -- What damage to a record's bytes can do: block reading goes by the head and by what the other bytes decode to, and a byte that
 -- can't be decoded is never passed over. Assumes nothing.
-use mathlib.Core.Path.{_≡_, _∙_, refl, sym, ap, ap₂}
-use mathlib.Core.Bool.{Bool, true, false}
-use mathlib.Core.List.{List, [], _∷_, map}
-use Prim.Native.Nat.{ℕ, zero, suc, _+_, _≤_, _<_}
-use native.Mathlib.Nat.{le-of-suc-le-suc, not-suc-le-zero}
+use mathlib.Core.Path.{_≡_, _∙_, sym, ap, ap₂}
+use mathlib.Core.List.{List}
+use Prim.Native.Nat.{ℕ, _+_, _≤_, _<_}
 use native.Mathlib.Omega.{arith}
-use borrow.Author.Tests.{ltb-true, le-ltb}
-use lib.Dec.{ltb}
 use lib.ListN.{length, getD, take, drop, length-map, length-append, take-append-drop}
-use Rattle.laws.specs.Pick.{pick}
-use Rattle.answer.specs.Rules.{judged}
 use Rattle.octet.specs.Decoding.{nib}
-use Rattle.fields.specs.Fields.{whole}
 use Rattle.table.specs.Tables.{Table}
 use Rattle.table.specs.Block.{headSize, headOf, nibblesOf}
-use Rattle.table.specs.Reading.{Outcome, accepted, refused, sound, rulesFor, tableOf, readBlock}
+use Rattle.table.specs.Reading.{accepted, readBlock}
 use Rattle.table.proofs.Exact.{sound-at, decodes-all}
 
 -- a record's length by its head and its nibbles

@@ -1,25 +1,27 @@
 // Subtitle and Language blocks.
+ghost use mathlib.Core.Bool.{true};
 ghost use mathlib.Core.Path.{_≡_};
 ghost use mathlib.Core.List.{map, _∷_, []};
 ghost use Prim.Native.Nat.{_+_, _-_, _*_, _/_, _%_, _^_, _<_, _≤_, min};
 ghost use lib.ListN.{length, getD, take, drop};
 ghost use lib.Seq.{sets};
-ghost use Rattle.answer.specs.Rules.{judged};
+ghost use Rattle.answer.specs.Rules.{rule, judged};
 ghost use Rattle.answer.specs.Values.{refused};
 ghost use Rattle.answer.specs.Writing.{answered, left};
 ghost use Rattle.answer.specs.declared.Answer.the-variants.{Done};
 ghost use Rattle.octet.specs.Decoding.{nib};
-ghost use Rattle.fields.specs.Fields.{field, parts};
-ghost use Rattle.table.specs.Tables.{per, bits, known as knownKind};
-ghost use Rattle.table.specs.Form.{form, spelled, listed, openingOf};
+ghost use Rattle.fields.specs.Fields.{field, fitting, parts};
+ghost use Rattle.table.specs.Tables.{per, bits, loops, fits, known as Tables·known};
+ghost use Rattle.table.specs.Form.{form, spelled, listed, openingOf, tableIn};
 ghost use Rattle.fields.specs.Compound.{compound};
 ghost use Rattle.table.specs.Block.{headOf, checksum as checksumOf};
 ghost use Rattle.table.specs.Reading.{frameRules, frontRules, wholeRules, lengthRules, bodyRules, readRules, tableOf, tableRead, sound as soundOf};
+ghost use Rattle.table.specs.Writing.{formRules};
 use answer::Answer;
 use answer::Refusal;
 
 // The bytes of a record before its block: the block's 16 bits, low byte first.
-const HEAD: usize = 2;
+pub const HEAD: usize = 2;
 
 const TI: usize = 8;
 
@@ -47,27 +49,15 @@ pub fn read_block(application: u8, rec: &[u8], out: &mut [u8]) -> Answer
     }
 }
 
-fn refuse(no: u8, at: usize) -> Answer
-    ensures { λ r. ⌜ r ≡ refused no at ⌝ }
+// All rules but the room; where they hold, the bytes of the table's form.
+fn judge(application: u8, rec: &[u8]) -> Answer
+    ensures { λ r.
+        ⌜ r ≡ judged refused (readRules application (now (rec .entry))) (Done (length (form (tableRead (now (rec .entry)))))) ⌝ }
 {
-    Answer::Refused(Refusal { no, at })
-}
-
-// The byte i; 0 past the end.
-fn byte_at(s: &[u8], i: usize) -> usize
-    ensures { λ r. ⌜ (r ≡ getD (now (s .entry)) i 0) × (r < 256) ⌝ }
-{
-    if i < s.len() {
-        return s[i] as usize;
+    match judge_frame(application, rec) {
+        Answer::Refused(why) => Answer::Refused(why),
+        Answer::Done(head) => judge_body(head, &rec[HEAD..]),
     }
-    0
-}
-
-// The 16 bits of a record's head.
-fn head_of(rec: &[u8]) -> usize
-    ensures { λ r. ⌜ (r ≡ headOf (now (rec .entry))) × (r < 65536) ⌝ }
-{
-    byte_at(rec, 0) + 256 * byte_at(rec, 1)
 }
 
 // 16, 13, 12, 13: the record as it is lent. Where it is taken, the head's 16 bits.
@@ -93,41 +83,28 @@ fn judge_frame(application: u8, rec: &[u8]) -> Answer
     Answer::Done(head)
 }
 
-// How many bytes come before the first that can't be decoded.
-fn sound(s: &[u8]) -> usize
-    ensures { λ r. ⌜ r ≡ soundOf (map nib (now (s .entry))) ⌝ }
+// The 16 bits of a record's head.
+fn head_of(rec: &[u8]) -> usize
+    ensures { λ r. ⌜ (r ≡ headOf (now (rec .entry))) × (r < 65536) ⌝ }
 {
-    let mut i = 0;
-    while i < s.len() {
-        if 15 < octet::decode(s[i]) {
-            return i;
-        }
-        i += 1;
-    }
-    i
+    byte_at(rec, 0) + 256 * byte_at(rec, 1)
 }
 
-// 11.1.2: the checksum of a block with this head, whose first two bytes are the checksum's own.
-fn checksum(head: usize, body: &[u8]) -> usize
-    ensures { λ r. ⌜ r ≡ checksumOf head (map nib (now (body .entry))) ⌝ }
+// The rules after those of the frame; where all hold, the bytes of the table's form.
+fn judge_body(head: usize, body: &[u8]) -> Answer
+    requires { ⌜ 8 ≤ length (now body) ⌝ }
+    ensures { λ r.
+        ⌜ r
+        ≡ judged refused (bodyRules head (map nib (now (body .entry))))
+        (Done (length (form (tableOf (compound (now (body .entry))))))) ⌝ }
 {
-    let mut sum = head % 16 + head / 16 % 16 + head / 16 / 16 % 16 + head / 16 / 16 / 16 % 16;
-    let mut i = 2;
-    while i < body.len() {
-        sum = (sum + octet::decode(body[i]) as usize) % 256;
-        i += 1;
+    match judge_front(head / 32, body) {
+        Answer::Refused(why) => Answer::Refused(why),
+        Answer::Done(_) => match judge_whole(head, body) {
+            Answer::Refused(why) => Answer::Refused(why),
+            Answer::Done(_) => judge_lengths(head / 32, body),
+        },
     }
-    (256 - sum) % 256
-}
-
-// TI or LI.
-fn known(kind: usize) -> bool
-    ensures { λ r. ⌜ r ≡ knownKind kind ⌝ }
-{
-    if kind == TI {
-        return true;
-    }
-    kind == LI
 }
 
 // 10 over the first 8 bytes, 12, 13: what can be said of a block before it is read whole.
@@ -152,30 +129,18 @@ fn judge_front(size: usize, body: &[u8]) -> Answer
     Answer::Done(0)
 }
 
-// The words that so many entries of a kind have.
-fn words_of(kind: usize, entries: usize) -> usize
-    requires { ⌜ entries < 256 ⌝ }
-    ensures { λ r. ⌜ (r ≡ per kind * entries) × (r ≤ 2 * entries) ⌝ }
+// 10 over the rest, 11.
+fn judge_whole(head: usize, body: &[u8]) -> Answer
+    ensures { λ r. ⌜ r ≡ judged refused (wholeRules head (map nib (now (body .entry)))) (Done 0) ⌝ }
 {
-    if kind == TI {
-        return 2 * entries;
+    let good = sound(body);
+    if good != body.len() {
+        return refuse(10, HEAD + good);
     }
-    entries
-}
-
-// The bits of the table that a block holds, by its counts as they stand.
-fn measure(body: &[u8]) -> usize
-    ensures { λ r. ⌜ (r ≡ bits (tableOf (compound (now (body .entry))))) × (r ≤ 46048) ⌝ }
-{
-    let kind = fields::field_at(body, 18, 6);
-    let mut left = fields::field_at(body, 52, 6);
-    let mut at = 58;
-    while 0 < left {
-        let words = words_of(kind, fields::field_at(body, at + 6, 4));
-        at += 10 + 24 * words;
-        left -= 1;
+    if fields::field_at(body, 0, 8) != checksum(head, body) {
+        return refuse(11, 0);
     }
-    at
+    Answer::Done(0)
 }
 
 // 14: where loops, control size and fill fit, the bytes of the table's form.
@@ -196,46 +161,46 @@ fn judge_lengths(size: usize, body: &[u8]) -> Answer
     Answer::Done(6 + (bits - 58 + 6 * fields::field_at(body, 52, 6)) / 8)
 }
 
-// 10 over the rest, 11.
-fn judge_whole(head: usize, body: &[u8]) -> Answer
-    ensures { λ r. ⌜ r ≡ judged refused (wholeRules head (map nib (now (body .entry)))) (Done 0) ⌝ }
+// The bits of the table that a block holds, by its counts as they stand.
+fn measure(body: &[u8]) -> usize
+    ensures { λ r. ⌜ (r ≡ bits (tableOf (compound (now (body .entry))))) × (r ≤ 46048) ⌝ }
 {
-    let good = sound(body);
-    if good != body.len() {
-        return refuse(10, HEAD + good);
+    let kind = fields::field_at(body, 18, 6);
+    let mut left = fields::field_at(body, 52, 6);
+    let mut at = 58;
+    while 0 < left {
+        let words = words_of(kind, fields::field_at(body, at + 6, 4));
+        at += 10 + 24 * words;
+        left -= 1;
     }
-    if fields::field_at(body, 0, 8) != checksum(head, body) {
-        return refuse(11, 0);
-    }
-    Answer::Done(0)
+    at
 }
 
-// The rules after those of the frame; where all hold, the bytes of the table's form.
-fn judge_body(head: usize, body: &[u8]) -> Answer
-    requires { ⌜ 8 ≤ length (now body) ⌝ }
-    ensures { λ r.
-        ⌜ r
-        ≡ judged refused (bodyRules head (map nib (now (body .entry))))
-        (Done (length (form (tableOf (compound (now (body .entry))))))) ⌝ }
+// 11.1.2: the checksum of a block with this head, whose first two bytes are the checksum's own.
+pub fn checksum(head: usize, body: &[u8]) -> usize
+    ensures { λ r. ⌜ r ≡ checksumOf head (map nib (now (body .entry))) ⌝ }
 {
-    match judge_front(head / 32, body) {
-        Answer::Refused(why) => Answer::Refused(why),
-        Answer::Done(_) => match judge_whole(head, body) {
-            Answer::Refused(why) => Answer::Refused(why),
-            Answer::Done(_) => judge_lengths(head / 32, body),
-        },
+    let mut sum = head % 16 + head / 16 % 16 + head / 16 / 16 % 16 + head / 16 / 16 / 16 % 16;
+    let mut i = 2;
+    while i < body.len() {
+        sum = (sum + octet::decode(body[i]) as usize) % 256;
+        i += 1;
     }
+    (256 - sum) % 256
 }
 
-// All rules but the room; where they hold, the bytes of the table's form.
-fn judge(application: u8, rec: &[u8]) -> Answer
-    ensures { λ r.
-        ⌜ r ≡ judged refused (readRules application (now (rec .entry))) (Done (length (form (tableRead (now (rec .entry)))))) ⌝ }
+// How many bytes come before the first that can't be decoded.
+fn sound(s: &[u8]) -> usize
+    ensures { λ r. ⌜ r ≡ soundOf (map nib (now (s .entry))) ⌝ }
 {
-    match judge_frame(application, rec) {
-        Answer::Refused(why) => Answer::Refused(why),
-        Answer::Done(head) => judge_body(head, &rec[HEAD..]),
+    let mut i = 0;
+    while i < s.len() {
+        if 15 < octet::decode(s[i]) {
+            return i;
+        }
+        i += 1;
     }
+    i
 }
 
 // The form of the table that a block holds.
@@ -308,19 +273,6 @@ fn write_descriptor(body: &[u8], kind: usize, at: usize, out: &mut [u8], q: usiz
     words
 }
 
-// A word, high byte first.
-fn write_word(w: usize, out: &mut [u8], q: usize)
-    requires { ⌜ q + 3 ≤ length (now out) ⌝ }
-    ensures { λ _. ⌜ now (out .exit) ≡ sets (now (out .entry)) q (spelled (w ∷ [])) ⌝ }
-{
-    let high = (w / 256 / 256 % 256) as u8;
-    let middle = (w / 256 % 256) as u8;
-    let low = (w % 256) as u8;
-    out[q] = high;
-    out[q + 1] = middle;
-    out[q + 2] = low;
-}
-
 // The k words of a block from the place `from` on.
 fn write_words(body: &[u8], from: usize, k: usize, out: &mut [u8], q: usize)
     requires { ⌜ (q + 3 * k ≤ length (now out)) × (from + 24 * k < 65536) ⌝ }
@@ -337,4 +289,132 @@ fn write_words(body: &[u8], from: usize, k: usize, out: &mut [u8], q: usize)
         p += 3;
         left -= 1;
     }
+}
+
+// A word, high byte first.
+fn write_word(w: usize, out: &mut [u8], q: usize)
+    requires { ⌜ q + 3 ≤ length (now out) ⌝ }
+    ensures { λ _. ⌜ now (out .exit) ≡ sets (now (out .entry)) q (spelled (w ∷ [])) ⌝ }
+{
+    let high = (w / 256 / 256 % 256) as u8;
+    let middle = (w / 256 % 256) as u8;
+    let low = (w % 256) as u8;
+    out[q] = high;
+    out[q + 1] = middle;
+    out[q + 2] = low;
+}
+
+// 13, 15: whether a form is one that can be written; where it is, the bits that its table takes.
+pub fn judge_form(table: &[u8]) -> Answer
+    ensures { λ r. ⌜ r ≡ judged refused (formRules (now (table .entry))) (Done (bits (tableIn (now (table .entry))))) ⌝ }
+{
+    if table.len() < 6 {
+        return refuse(13, 0);
+    }
+    if !known(byte_at(table, 0)) {
+        return refuse(15, 0);
+    }
+    if table.len() != form_size(table) {
+        return refuse(13, 0);
+    }
+    judge_values(table)
+}
+
+// The length of a form by its counts as they stand.
+fn form_size(table: &[u8]) -> usize
+    ensures { λ r. ⌜ (r ≡ length (form (tableIn (now (table .entry))))) × (r ≤ 390666) ⌝ }
+{
+    let kind = byte_at(table, 0);
+    let mut left = byte_at(table, 5);
+    let mut at = 6;
+    while 0 < left {
+        at += 2 + 3 * words_of(kind, byte_at(table, at + 1));
+        left -= 1;
+    }
+    at
+}
+
+// 15: each value fits its field. Blocks, networks and words always do.
+fn judge_values(table: &[u8]) -> Answer
+    requires { ⌜ (Tables·known (getD (now table) 0 0) ≡ true)
+        × (length (now table) ≡ length (form (tableIn (now table))))
+        × (length (now table) ≤ 390666) ⌝ }
+    ensures { λ r.
+        ⌜ r
+        ≡ judged refused (rule (fits (tableIn (now (table .entry)))) 15 0 ∷ []) (Done (bits (tableIn (now (table .entry))))) ⌝ }
+{
+    let count = byte_at(table, 5);
+    if 1 < byte_at(table, 1) {
+        return refuse(15, 0);
+    }
+    if 63 < count {
+        return refuse(15, 0);
+    }
+    if !loops_fit(table) {
+        return refuse(15, 0);
+    }
+    let bits = 58 + 8 * (table.len() - 6) - 6 * count;
+    if 8184 < bits {
+        return refuse(15, 0);
+    }
+    Answer::Done(bits)
+}
+
+// Whether each descriptor's id and number of entries fit their fields.
+fn loops_fit(table: &[u8]) -> bool
+    ensures { λ r.
+        ⌜ r ≡ fitting (loops (tableIn (now (table .entry)) .kind) (tableIn (now (table .entry)) .descriptors)) ⌝ }
+{
+    let kind = byte_at(table, 0);
+    let mut left = byte_at(table, 5);
+    let mut at = 6;
+    while 0 < left {
+        let entries = byte_at(table, at + 1);
+        if 63 < byte_at(table, at) {
+            return false;
+        }
+        if 15 < entries {
+            return false;
+        }
+        at += 2 + 3 * words_of(kind, entries);
+        left -= 1;
+    }
+    true
+}
+
+// TI or LI.
+pub fn known(kind: usize) -> bool
+    ensures { λ r. ⌜ r ≡ Tables·known kind ⌝ }
+{
+    if kind == TI {
+        return true;
+    }
+    kind == LI
+}
+
+// The words that so many entries of a kind have. Only a byte's worth of entries counts.
+pub fn words_of(kind: usize, entries: usize) -> usize
+    ensures { λ r. ⌜ (r ≡ per kind * (entries % 256)) × (r ≤ 2 * (entries % 256)) ⌝ }
+{
+    let n = entries % 256;
+    if kind == TI {
+        return 2 * n;
+    }
+    n
+}
+
+// The byte i; 0 past the end.
+pub fn byte_at(s: &[u8], i: usize) -> usize
+    ensures { λ r. ⌜ (r ≡ getD (now (s .entry)) i 0) × (r < 256) ⌝ }
+{
+    if i < s.len() {
+        return s[i] as usize;
+    }
+    0
+}
+
+fn refuse(no: u8, at: usize) -> Answer
+    ensures { λ r. ⌜ r ≡ refused no at ⌝ }
+{
+    Answer::Refused(Refusal { no, at })
 }

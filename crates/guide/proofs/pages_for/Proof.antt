@@ -9,6 +9,9 @@ use Rattle.guide.proofs.pages_for.Tie as tie
 add-rows : tie.Need-add-rows
 add-rows c = search needs
 
+sub-rows : tie.Need-sub-rows
+sub-rows c = search needs
+
 sub-result : tie.Need-sub-result
 sub-result c = search needs
 
@@ -22,4 +25,4 @@ returns : tie.Need-returns
 returns c = ap (λ (n : ℕ). (n + (c .args .k - 1)) / c .args .k) (omega arith)
 
 pub pages-for-spec : {M : Type 1} → statement M
-pages-for-spec = tie.close (tie.spec add-rows sub-result add-result div-result returns)
+pages-for-spec = tie.close (tie.spec add-rows sub-rows sub-result add-result div-result returns)

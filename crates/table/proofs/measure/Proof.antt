@@ -1,7 +1,7 @@
 -- `table::measure` meets its contract: the bits passed and those of the descriptors left make the table's bits. The measure is
 -- the descriptors left. Assumes nothing.
 use borrow.Author.Needs.{needs}
-use mathlib.Core.Path.{_≡_, sym}
+use mathlib.Core.Path.{refl, _≡_, sym}
 use Prim.Native.Nat.{_+_, _*_, _/_, _^_, _≤_}
 use native.Mathlib.Omega.{arith}
 use denote.Ref.{now}
@@ -9,7 +9,7 @@ use Rattle.fields.specs.Fields.{width}
 use Rattle.table.specs.Tables.{bits, per, loops}
 use Rattle.fields.specs.Compound.{compound}
 use Rattle.table.specs.Reading.{tableOf, descriptorsOf}
-use Rattle.table.proofs.Measures.{bits-of, walk-on, walk-end}
+use Rattle.table.proofs.Measures.{words-counted, bits-of, walk-on, walk-end}
 use Rattle.table.proofs.measure.Statement.{statement}
 use Rattle.table.proofs.measure.Tie as tie
 
@@ -41,7 +41,7 @@ field-at-requires-3 : tie.Need-field-at-requires-3 Inv-loop μ-loop
 field-at-requires-3 c κs = search needs
 
 words-of-requires : tie.Need-words-of-requires Inv-loop μ-loop
-words-of-requires c κs = omega (arith, c .field-at3 .ensures .1)
+words-of-requires c κs = search needs
 
 mul-at : tie.Need-mul-at Inv-loop μ-loop
 mul-at c = omega (arith, c .words-of .ensures .1, c .before .field-at3 .ensures .1)
@@ -64,7 +64,8 @@ loop-again c =
     let n = compound (now (c .before .before .before .before .before .before .before .args .body)) in (
       omega (arith, c .words-of .ensures .1, c .before .field-at3 .ensures .1),
       walk-on (c .before .before .before .before .before .field-at .result) (l .left) n (l .at) (c .before .field-at3 .result)
-          (c .words-of .result) (bits (tableOf n)) (search needs) (c .before .field-at3 .ensures .0) (c .words-of .ensures .0) (l .inv .1),
+          (c .words-of .result) (bits (tableOf n)) (search needs) (c .before .field-at3 .ensures .0)
+          (words-counted _ _ _ _ (c .words-of .ensures .0) (omega (arith, c .before .field-at3 .ensures .1)) refl) (l .inv .1),
     )
 
 returns : tie.Need-returns Inv-loop μ-loop

@@ -8,13 +8,14 @@ use native.Mathlib.Omega.{arith}
 use lib.Seq.{sets}
 use denote.Ref.{now}
 use Rattle.laws.proofs.Lists.{part-rest}
-use Rattle.answer.proofs.Lent.{lent-refused, lent-need, lent-short, lent-done}
+use Rattle.answer.proofs.Lent.{lent-refused, lent-short, lent-done, lent-value}
 use Rattle.octet.specs.Decoding.{nib}
 use Rattle.fields.specs.Fields.{whole}
 use Rattle.table.specs.Form.{form}
 use Rattle.table.specs.Block.{nibblesOf}
 use Rattle.table.specs.Reading.{readRules, tableOf, tableRead}
 use Rattle.table.proofs.Judging.{long-enough}
+use Rattle.answer.specs.declared.Answer.the-variants.{Done}
 use Rattle.table.proofs.read_block.Statement.{statement}
 use Rattle.table.proofs.read_block.Tie as tie
 
@@ -34,7 +35,9 @@ returns : tie.Need-returns
 returns c =
     let a = c .before .before .before .before .before .before .before .before .args in
     let r = now (a .rec) in
-    let p = lent-short (readRules (a .application) r) (form (tableRead r)) (now (a .out)) (c .before .before .before .before .before .judge .ensures) (c .before .before .before .need .given .1) (search needs) in
+    let j = c .before .before .before .before .before .judge .ensures in
+    let e = lent-value (readRules (a .application) r) (form (tableRead r)) (now (a .out)) _ j (c .before .before .before .need .given .1) in
+    let p = lent-short (readRules (a .application) r) (form (tableRead r)) (now (a .out)) _ j (c .before .before .before .need .given .1) (omega (arith, e)) in
     (c .refuse .ensures ∙ p .0, p .1)
 
 sub-write-form : tie.Need-sub-write-form
@@ -55,14 +58,14 @@ unfolding nibblesOf
 write-form-requires c κs =
     let a = c .before .before .before .before .before .before .before .before .before .args in
     let r = now (a .rec) in
-    let e = lent-need (readRules (a .application) r) (form (tableRead r)) (now (a .out)) (c .before .before .before .before .before .before .judge .ensures) (c .before .before .before .before .need .given .1) in
+    let e = lent-value (readRules (a .application) r) (form (tableRead r)) (now (a .out)) _ (c .before .before .before .before .before .before .judge .ensures) (c .before .before .before .before .need .given .1) in
     rw (part-rest 2 r) (omega (arith, e))
 
 returns-2 : tie.Need-returns-2
 returns-2 c =
     let a = c .before .before .before .before .before .before .args in
     let r = now (a .rec) in
-    lent-refused (readRules (a .application) r) (form (tableRead r)) (now (a .out)) (c .before .before .before .judge .ensures) (c .before .why .given .1)
+    lent-refused (readRules (a .application) r) (form (tableRead r)) (now (a .out)) _ (c .before .before .before .judge .ensures) (c .before .why .given .1)
 
 same-length : tie.Need-same-length
 same-length c = search needs
@@ -72,8 +75,10 @@ unfolding nibblesOf
 returns-3 c =
     let a = c .before .before .before .before .before .before .before .before .before .before .before .before .args in
     let r = now (a .rec) in
-    let p = lent-done (readRules (a .application) r) (form (tableRead r)) (now (a .out)) (c .before .before .before .before .before .before .before .before .before .judge .ensures) (c .before .before .before .before .before .before .before .need .given .1) (search needs) in (
-      p .0,
+    let j = c .before .before .before .before .before .before .before .before .before .judge .ensures in
+    let e = lent-value (readRules (a .application) r) (form (tableRead r)) (now (a .out)) _ j (c .before .before .before .before .before .before .before .need .given .1) in
+    let p = lent-done (readRules (a .application) r) (form (tableRead r)) (now (a .out)) _ j (c .before .before .before .before .before .before .before .need .given .1) (omega (arith, e)) in (
+      ap Done e ∙ p .0,
       c .before .before .write-form .ensures
           ∙ ap (λ (l : List ℕ). sets (now (a .out)) 0 (form (tableOf (whole 4 (map nib l))))) (part-rest 2 r)
           ∙ p .1,

@@ -1,13 +1,14 @@
 -- `table::write_descriptor` meets its contract: two stores, then its words. Assumes nothing.
 use borrow.Author.Needs.{needs}
-use mathlib.Core.Path.{_≡_, _∙_, ap}
-use Prim.Native.Nat.{ℕ, _*_, _+_, _%_, _/_, _^_}
+use mathlib.Core.Path.{_≡_, _∙_}
+use Prim.Native.Nat.{_*_, _+_, _%_, _/_, _^_}
 use native.Mathlib.Omega.{arith}
 use lib.ListN.{length-set}
 use denote.Ref.{now}
 use Rattle.fields.specs.Compound.{compound}
 use Rattle.fields.specs.Fields.{field, parts}
 use Rattle.table.specs.Tables.{per}
+use Rattle.table.proofs.Measures.{words-counted}
 use Rattle.table.proofs.Written.{two-stores}
 use Rattle.table.specs.Form.{spelled}
 use Rattle.table.proofs.write_descriptor.Statement.{statement}
@@ -50,7 +51,7 @@ write-words-requires : tie.Need-write-words-requires
 write-words-requires c κs =
     let a = c .before .before .before .before .before .before .args in
     let e : c .before .words-of .result ≡ per (a .kind) * field (a .at + 6) 4 (compound (now (a .body))) =
-    c .before .words-of .ensures .0 ∙ ap (λ (x : ℕ). per (a .kind) * x) (c .before .before .field-at2 .ensures .0) in
+    words-counted _ _ _ _ (c .before .words-of .ensures .0) (omega (arith, c .before .before .field-at2 .ensures .1)) (c .before .before .field-at2 .ensures .0) in
     simp length-set
     (omega (arith, c .before .words-of .ensures .1, c .before .before .field-at2 .ensures .1, c .before .before .before .before .before .before .pre))
 
@@ -65,7 +66,7 @@ returns c =
     let g = c .before .before .before .before .before .field-at2 in
     let w = c .before .before .before .before .words-of in
     let e : w .result ≡ per (a .kind) * field (a .at + 6) 4 n =
-    w .ensures .0 ∙ ap (λ (x : ℕ). per (a .kind) * x) (g .ensures .0) in
+    words-counted _ _ _ _ (w .ensures .0) (omega (arith, g .ensures .1)) (g .ensures .0) in
     let ef : f .result % 256 ≡ field (a .at) 6 n = omega (arith, f .ensures) in
     let eg : g .result % 256 ≡ field (a .at + 6) 4 n = omega (arith, g .ensures) in (
       e,

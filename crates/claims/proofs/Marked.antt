@@ -1,0 +1,52 @@
+-- The marked cases A to K of document 01, from the definitions, as one list under one claim. Assumes nothing.
+use mathlib.Core.Path.{_≡_, refl, subst, sym}
+use mathlib.Core.Bool.{true, false}
+use mathlib.Core.List.{List, [], _∷_}
+use Prim.Native.Nat.{ℕ}
+use Rattle.octet.specs.Bits.{number}
+use Rattle.octet.specs.Image.{image, withParity}
+use Rattle.octet.proofs.Cases.{CasesAtoE, cases-a-to-e, TheImages, the-images}
+use Rattle.guide.proofs.Cases.{CaseF, case-f, CaseG, recordG, case-g}
+use Rattle.pes.proofs.Cases.{CaseJ, case-j, CaseK, case-k}
+use Rattle.fields.specs.Fields.{row, width, laid, parts}
+use Rattle.table.specs.Tables.{Table, per, loops, fields, bits, fill, size, fits}
+use Rattle.table.specs.Block.{header, total, checksum, nibbles, checksumOf}
+use Rattle.table.specs.Writing.{recordOf, recordWith}
+use Rattle.table.proofs.Cases.{G, H, I, case-G, case-H, case-I}
+
+-- G's record, as block writing makes it, is the one whose packets case G shows
+record-g : recordOf 1 G ≡ recordG
+unfolding recordWith laid parts row width fields loops per nibbles checksumOf checksum total image withParity number
+record-g = refl
+
+pub record Marked : Type 0 where
+  -- A 14 gives 0, B 16 is refused, C 00 gives 1, D FF gives E, E turning 15 gives A8
+  pub a-to-e : CasesAtoE
+  pub images : TheImages
+  -- F application 1, size 30: 02 A1 5E 15
+  pub f : CaseF
+  -- G's block: 116 bits, fill 4, size 30; its packets
+  pub g-block : (bits G ≡ 116) × (fill G ≡ 4) × (size G ≡ 30)
+  pub g-packets : CaseG (recordOf 1 G)
+  -- H no descriptors: 58 bits, fill 6, size 16
+  pub h : (bits H ≡ 58) × (fill H ≡ 6) × (size H ≡ 16)
+  -- I eleven descriptors of 15 subtitles: 8,088 bits, size 2,022; twelve don't fit: 15
+  pub i : (bits (I 11) ≡ 8088) × (size (I 11) ≡ 2022) × (fits (I 11) ≡ true) × (fits (I 12) ≡ false)
+  -- J N=1: 184 bytes, length 178, three units
+  pub j : CaseJ
+  -- K line offset 06 refused, 07 and 16 taken, 17 refused
+  pub k : CaseK
+
+pub marked : Marked
+marked =
+    record {
+      a-to-e = cases-a-to-e;
+      images = the-images;
+      f = case-f;
+      g-block = case-G;
+      g-packets = subst CaseG (sym record-g) case-g;
+      h = case-H;
+      i = case-I;
+      j = case-j;
+      k = case-k;
+    }

@@ -1,0 +1,71 @@
+-- The answer of the call for one packet, from its tests in order and from what the packet did. Assumes nothing.
+use mathlib.Core.Path.{_≡_, _∙_, refl, sym, ap}
+use mathlib.Core.Bool.{Bool, true, false}
+use mathlib.Core.List.{List, [], _∷_, _++_}
+use Prim.Native.Nat.{ℕ, zero, suc, _+_, _-_, _*_, _≤_, _<_}
+use native.Mathlib.Nat.{zero-add}
+use native.Mathlib.Omega.{arith}
+use lib.Dec.{eqb, leb}
+use lib.ListN.{length, take, drop}
+use lib.Seq.{sets}
+use borrow.Author.Tests.{le-leb, lt-leb, eq-eqb, ne-eqb}
+use Rattle.laws.specs.Pick.{pick, both, either}
+use Rattle.laws.proofs.Lists.{sets-front}
+use Rattle.blocks.specs.Block.{Block, recordsOf}
+use Rattle.guide.specs.declared.Setting.{Setting}
+use Rattle.guide.specs.Setting.{inRange}
+use Rattle.guide.specs.Packet.{packetLength}
+use Rattle.reader.specs.declared.Reader.{Reader}
+use Rattle.reader.specs.declared.Heard.{Heard}
+use Rattle.reader.specs.declared.Heard.the-variants.{Took, Refused}
+use Rattle.reader.specs.declared.Got.{Got}
+use Rattle.reader.specs.declared.Going.{Going}
+use Rattle.reader.specs.Seen.{see}
+use Rattle.reader.specs.Acting.{State, act, handed, dropped}
+use Rattle.reader.specs.State.{stateOf, readerOf, readerInRange}
+use Rattle.reader.specs.Feeding.{room, feedHeard, feedReader, feedOut, refusedHeard}
+use Rattle.reader.specs.Places.{zeroed}
+use Rattle.reader.specs.Holding.{Good, Stepped, Acted}
+use Rattle.reader.proofs.Range.{see-short, handed-room}
+
+-- the answer, the reader and the output are these
+abbrev pub Answers : Setting → Reader → List ℕ → List ℕ → Heard → Reader → List ℕ → Type 0
+Answers s r p old h after new = (h ≡ feedHeard s r p old) × ((after ≡ feedReader s r p old) × (new ≡ feedOut s r p old))
+
+module _ (s : Setting) (r : Reader) (p old : List ℕ) where
+  pub no-setting : inRange s ≡ false → Answers s r p old (refusedHeard 16 0) r old
+  no-setting a = rw a (refl, (refl, refl))
+
+  module _ (a : inRange s ≡ true) where
+    pub no-state : readerInRange r ≡ false → Answers s r p old (refusedHeard 16 0) r old
+    no-state b = rw (a, b) (refl, (refl, refl))
+
+    module _ (b : readerInRange r ≡ true) where
+      pub no-packet : (length p ≡ packetLength → ⊥) → Answers s r p old (refusedHeard 16 0) r old
+      no-packet d = rw (a, b, ne-eqb _ _ d) (refl, (refl, refl))
+
+      module _ (d : length p ≡ packetLength) where
+        pub no-room : length old < room → Answers s r p old (refusedHeard 1 0) r old
+        no-room h = rw (a, b, eq-eqb _ _ d, lt-leb _ _ h) (refl, (refl, refl))
+
+        -- the reader that what has come is handed back as
+        handed-back :
+            {st : State} {bs : List Block} {x : Bool} {g t : Going} {store o new : List ℕ} → Stepped st bs x g t store o new
+            → record { page = t .page; index = t .index; run = t .got .run; store = store } ≡ readerOf st
+        unfolding zeroed
+        handed-back w = rw (w .page, w .index, w .went .holds .run, w .went .holds .kept)
+
+        pub taken :
+            {t : Going} {store new : List ℕ} → room ≤ length old → Good (stateOf r .mode)
+            → Acted (see s p) (stateOf r)
+            (record { page = r .page; index = r .index; got = record { run = r .run; blocks = 0; written = 0; dropped = false } }) t store
+            old new
+            → Answers s r p old (Took (t .got .blocks) (t .got .written) (t .got .dropped))
+            (record { page = t .page; index = t .index; run = t .got .run; store = store }) new
+        taken {t} h g w =
+            let f = handed-room (stateOf r) (see s p) g (see-short s p d) in
+            let bs : List Block = handed (stateOf r) (see s p) in
+            let x : t .got .blocks ≡ length bs = w .went .blocks ∙ zero-add (length bs) in
+            let y : t .got .written ≡ length (recordsOf bs) = w .went .written ∙ zero-add (length (recordsOf bs)) in
+            rw (a, b, eq-eqb _ _ d, le-leb _ _ h)
+            (rw (x, y, w .went .dropped), (handed-back w, w .went .out ∙ sets-front old (recordsOf bs) (omega arith)))

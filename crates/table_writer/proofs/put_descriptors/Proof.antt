@@ -1,0 +1,187 @@
+-- `table_writer::put_descriptors` meets its contract: the descriptors laid from here make those laid from the start. The measure
+-- is the descriptors left. Assumes nothing.
+use borrow.Author.Needs.{needs}
+use mathlib.Core.Path.{_≡_, _∙_, refl, sym, ap}
+use mathlib.Core.Bool.{true}
+use mathlib.Core.List.{List}
+use Prim.Native.Nat.{ℕ, _+_, _*_, _≤_, _<_}
+use native.Mathlib.Nat.{le-trans, le-of-eq}
+use native.Mathlib.Omega.{arith}
+use lib.ListN.{length, drop}
+use denote.Ref.{now}
+use Rattle.fields.specs.Fields.{Field, fitting}
+use Rattle.table.specs.Tables.{per, loops}
+use Rattle.table.specs.Form.{descriptorsIn, tableIn}
+use Rattle.table.proofs.Measures.{words-counted}
+use Rattle.table_writer.specs.Ink.{inked, moved, Fine}
+use Rattle.table_writer.proofs.Inking.{room-on, none-left, none-inked}
+use Rattle.table_writer.proofs.Rows.{loops-end}
+use Rattle.table_writer.proofs.Descriptors.{heading-lt, few-words, fit-on, room-heading, fine-heading, room-words, fine-descriptor, on-descriptor, inked-descriptor}
+use Rattle.table_writer.proofs.put_descriptors.Statement.{statement}
+use Rattle.table_writer.proofs.put_descriptors.Tie as tie
+
+abbrev Inv-loop : tie.InvT-loop
+Inv-loop table out₀ kind left₀ p₀ i₀ out left p i =
+    Fine p × (length out ≡ length out₀) × (i + 1532 * left ≤ 390666)
+    × (fitting (loops kind (descriptorsIn (per kind) left (drop i table))) ≡ true)
+    × (moved p (loops kind (descriptorsIn (per kind) left (drop i table))) ≡ moved p₀ (loops (tableIn table .kind) (tableIn table .descriptors)))
+    × (inked p (loops kind (descriptorsIn (per kind) left (drop i table))) out ≡ inked p₀ (loops (tableIn table .kind) (tableIn table .descriptors)) out₀)
+
+abbrev μ-loop : tie.MeasureT-loop
+μ-loop table out₀ kind left₀ p₀ i₀ out left p i = left
+
+byte-at-requires : tie.Need-byte-at-requires Inv-loop μ-loop
+byte-at-requires c κs = search needs
+
+byte-at-requires-2 : tie.Need-byte-at-requires-2 Inv-loop μ-loop
+byte-at-requires-2 c κs = search needs
+
+loop-holds : tie.Need-loop-holds Inv-loop μ-loop
+unfolding tableIn
+loop-holds c =
+    let s = c .before .before .before .before in
+    let e = c .before .byte-at .ensures .0 in
+    let n = c .byte-at2 .ensures .0 in
+    (s .pre .0, refl, omega (arith, c .byte-at2 .ensures .1), rw (e, n) (s .pre .1), rw (e, n) refl, rw (e, n) refl)
+
+byte-at-requires-3 : tie.Need-byte-at-requires-3 Inv-loop μ-loop
+byte-at-requires-3 c κs = search needs
+
+add-byte-at : tie.Need-add-byte-at Inv-loop μ-loop
+add-byte-at c = search needs
+
+byte-at-requires-4 : tie.Need-byte-at-requires-4 Inv-loop μ-loop
+byte-at-requires-4 c κs = search needs
+
+words-of-requires : tie.Need-words-of-requires Inv-loop μ-loop
+words-of-requires c κs = search needs
+
+mul-put : tie.Need-mul-put Inv-loop μ-loop
+mul-put c = omega (arith, c .before .byte-at4 .ensures .1)
+
+add-put : tie.Need-add-put Inv-loop μ-loop
+add-put c = omega (arith, c .before .byte-at4 .ensures .1, c .before .before .byte-at3 .ensures .1)
+
+put-requires : tie.Need-put-requires Inv-loop μ-loop
+put-requires c κs =
+    let l = c .before .before .before .before .before .loop in
+    let s = c .before .before .before .before .before .before .before .before .before .before in
+    let f : List ℕ = now (s .args .table) in
+    let kind = c .before .before .before .before .before .before .before .byte-at .result in
+    let d = c .before .before .before .byte-at3 in
+    let n = c .before .before .byte-at4 in
+    let w = c .before .words-of in
+    let e₂ = words-counted _ _ _ _ (w .ensures .0) (n .ensures .1) refl in
+    let room =
+    room-on (l .p) (s .args .pen) (loops kind (descriptorsIn (per kind) (l .left) (drop (l .i) f)))
+    (loops (tableIn f .kind) (tableIn f .descriptors)) (length (now (s .args .out))) (l .inv .4) (s .pre .2) in (
+      l .inv .0,
+      search needs,
+      heading-lt kind (l .left) (l .i) (d .result) (n .result) (w .result) f (search needs) (d .ensures .0) (n .ensures .0) e₂ (l .inv .3),
+      room-heading kind (l .left) (l .i) (d .result) (n .result) (w .result) f (search needs) (d .ensures .0) (n .ensures .0) e₂ (l .inv .3) (l .p) _ (rw (l .inv .1) room),
+    )
+
+add-put-words : tie.Need-add-put-words Inv-loop μ-loop
+add-put-words c = omega (arith, c .before .before .before .before .before .before .before .before .loop .inv .2)
+
+put-words-requires : tie.Need-put-words-requires Inv-loop μ-loop
+put-words-requires c κs =
+    let l = c .before .before .before .before .before .before .before .before .before .loop in
+    let s = c .before .before .before .before .before .before .before .before .before .before .before .before .before .before in
+    let f : List ℕ = now (s .args .table) in
+    let kind = c .before .before .before .before .before .before .before .before .before .before .before .byte-at .result in
+    let d = c .before .before .before .before .before .before .before .byte-at3 in
+    let n = c .before .before .before .before .before .before .byte-at4 in
+    let w = c .before .before .before .before .before .words-of in
+    let q = c .before .before .before .put in
+    let e₂ = words-counted _ _ _ _ (w .ensures .0) (n .ensures .1) refl in
+    let pos : 0 < l .left = c .before .before .before .before .before .before .before .before .loop-test .taken in
+    let room =
+    room-on (l .p) (s .args .pen) (loops kind (descriptorsIn (per kind) (l .left) (drop (l .i) f)))
+    (loops (tableIn f .kind) (tableIn f .descriptors)) (length (now (s .args .out))) (l .inv .4) (s .pre .2) in (
+      fine-heading kind (l .left) (l .i) (d .result) (n .result) (w .result) f pos (d .ensures .0) (n .ensures .0) e₂ (l .inv .3) (l .p) _ room (q .ensures .0),
+      omega (arith, l .inv .2, w .ensures .1, n .ensures .1),
+      le-trans
+          (room-words kind (l .left) (l .i) (d .result) (n .result) (w .result) f pos (d .ensures .0) (n .ensures .0) e₂ (l .inv .3) (l .p) _ room (q .ensures .0))
+          (le-of-eq (sym (q .kept .1 .1 .1 .0 ∙ l .inv .1))),
+    )
+
+mul-i : tie.Need-mul-i Inv-loop μ-loop
+mul-i c = omega (arith, c .before .before .before .before .before .before .before .before .words-of .ensures .1)
+
+add-i : tie.Need-add-i Inv-loop μ-loop
+add-i c = omega (arith, c .before .before .before .before .before .before .before .before .words-of .ensures .1)
+
+add-i-2 : tie.Need-add-i-2 Inv-loop μ-loop
+add-i-2 c = omega (arith, c .before .before .before .before .before .before .before .before .words-of .ensures .1, c .before .before .before .before .before .before .before .before .before .before .before .before .loop .inv .2)
+
+sub-left : tie.Need-sub-left Inv-loop μ-loop
+sub-left c = search needs
+
+loop-less : tie.Need-loop-less Inv-loop μ-loop
+loop-less c = search needs
+
+loop-again : tie.Need-loop-again Inv-loop μ-loop
+loop-again c =
+    let l = c .before .before .before .before .before .before .before .before .before .before .before .before .loop in
+    let s = c .before .before .before .before .before .before .before .before .before .before .before .before .before .before .before .before .before in
+    let f : List ℕ = now (s .args .table) in
+    let kind = c .before .before .before .before .before .before .before .before .before .before .before .before .before .before .byte-at .result in
+    let d = c .before .before .before .before .before .before .before .before .before .before .byte-at3 in
+    let n = c .before .before .before .before .before .before .before .before .before .byte-at4 in
+    let w = c .before .before .before .before .before .before .before .before .words-of in
+    let q = c .before .before .before .before .before .before .put in
+    let r = c .before .before .put-words in
+    let e₂ = words-counted _ _ _ _ (w .ensures .0) (n .ensures .1) refl in
+    let pos : 0 < l .left = c .before .before .before .before .before .before .before .before .before .before .before .loop-test .taken in
+    let room =
+    room-on (l .p) (s .args .pen) (loops kind (descriptorsIn (per kind) (l .left) (drop (l .i) f)))
+    (loops (tableIn f .kind) (tableIn f .descriptors)) (length (now (s .args .out))) (l .inv .4) (s .pre .2) in (
+      fine-descriptor kind (l .left) (l .i) (d .result) (n .result) (w .result) f pos (d .ensures .0) (n .ensures .0) e₂ (l .inv .3) (l .p) _ room (q .ensures .0) (r .ensures .0),
+      r .kept .1 .1 .1 .1 .0 ∙ q .kept .1 .1 .1 .0 ∙ l .inv .1,
+      omega (arith, l .inv .2, w .ensures .1, few-words kind (l .left) (l .i) (d .result) (n .result) (w .result) f pos (d .ensures .0) (n .ensures .0) e₂ (l .inv .3)),
+      fit-on kind (l .left) (l .i) (d .result) (n .result) (w .result) f pos (d .ensures .0) (n .ensures .0) e₂ (l .inv .3),
+      on-descriptor kind (l .left) (l .i) (d .result) (n .result) (w .result) f pos (d .ensures .0) (n .ensures .0) e₂ (l .inv .3) (l .p) _ room (q .ensures .0) (r .ensures .0) ∙ l .inv .4,
+      inked-descriptor kind (l .left) (l .i) (d .result) (n .result) (w .result) f pos (d .ensures .0) (n .ensures .0) e₂ (l .inv .3) (l .p) _ room (q .ensures .0) (r .ensures .0) (l .out) (q .ensures .1) (r .ensures .1) ∙ l .inv .5,
+    )
+
+same-length : tie.Need-same-length Inv-loop μ-loop
+same-length c = c .before .loop .inv .1
+
+returns : tie.Need-returns Inv-loop μ-loop
+returns c =
+    let l = c .before .loop in
+    let s = c .before .before .before .before .before .before in
+    let f : List ℕ = now (s .args .table) in
+    let kind = c .before .before .before .byte-at .result in
+    let e = loops-end kind (l .left) (l .i) f (search needs) in (
+      sym (none-left (l .p) (l .inv .0)) ∙ sym (ap (moved (l .p)) e) ∙ l .inv .4,
+      sym (none-inked (l .p) (l .inv .0) (l .out)) ∙ sym (ap (λ (x : List Field). inked (l .p) x (l .out)) e) ∙ l .inv .5,
+    )
+
+pub put-descriptors-spec : {M : Type 1} → statement M
+put-descriptors-spec =
+    tie.close
+    (tie.spec
+    Inv-loop
+    μ-loop
+    byte-at-requires
+    byte-at-requires-2
+    loop-holds
+    byte-at-requires-3
+    add-byte-at
+    byte-at-requires-4
+    words-of-requires
+    mul-put
+    add-put
+    put-requires
+    add-put-words
+    put-words-requires
+    mul-i
+    add-i
+    add-i-2
+    sub-left
+    loop-less
+    loop-again
+    same-length
+    returns)

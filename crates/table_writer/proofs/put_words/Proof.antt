@@ -1,0 +1,101 @@
+-- `table_writer::put_words` meets its contract: the words laid from here make those laid from the start. The measure is the words
+-- left. Assumes nothing.
+use borrow.Author.Needs.{needs}
+use mathlib.Core.Path.{_≡_, _∙_, refl, sym, ap}
+use mathlib.Core.List.{List, [], _∷_}
+use Prim.Native.Nat.{ℕ, _+_, _-_, _*_, _<_}
+use lib.ListN.{length, drop}
+use denote.Ref.{now}
+use Rattle.fields.specs.Fields.{Field, row}
+use Rattle.table.specs.Form.{wordsIn}
+use Rattle.table_writer.specs.Ink.{inked, moved, Fine}
+use Rattle.table_writer.proofs.Inking.{room-first, room-on, on-moved, on-inked, on-fine, none-left, none-inked}
+use Rattle.table_writer.proofs.Rows.{row-on, row-end}
+use Rattle.table_writer.proofs.put_words.Statement.{statement}
+use Rattle.table_writer.proofs.put_words.Tie as tie
+
+abbrev Inv-loop : tie.InvT-loop
+Inv-loop table from k out₀ p₀ i₀ left₀ out p i left =
+    Fine p × (length out ≡ length out₀) × (i + 3 * left < 400000)
+    × (moved p (row 24 (wordsIn left (drop i table))) ≡ moved p₀ (row 24 (wordsIn k (drop from table))))
+    × (inked p (row 24 (wordsIn left (drop i table))) out ≡ inked p₀ (row 24 (wordsIn k (drop from table))) out₀)
+
+abbrev μ-loop : tie.MeasureT-loop
+μ-loop table from k out₀ p₀ i₀ left₀ out p i left = left
+
+loop-holds : tie.Need-loop-holds Inv-loop μ-loop
+loop-holds c = (c .before .before .pre .0, refl, search needs, refl, refl)
+
+word-at-requires : tie.Need-word-at-requires Inv-loop μ-loop
+word-at-requires c κs = search needs
+
+put-requires : tie.Need-put-requires Inv-loop μ-loop
+put-requires c κs =
+    let l = c .before .before .before .loop in
+    let s = c .before .before .before .before .before .before in
+    let f : List ℕ = now (s .args .table) in
+    let w = c .before .word-at in
+    let rest : List Field = row 24 (wordsIn (l .left - 1) (drop (l .i + 3) f)) in
+    let now-left : List Field = row 24 (wordsIn (l .left) (drop (l .i) f)) in
+    let e = row-on (l .left) (l .i) (w .result) f (search needs) (w .ensures .0) in
+    let room = room-on (l .p) (s .args .pen) now-left (row 24 (wordsIn (s .args .k) (drop (s .args .from) f))) (length (now (s .args .out))) (l .inv .3) (s .pre .2) in (
+      l .inv .0,
+      search needs,
+      w .ensures .1,
+      room-first (l .p) ((24, w .result) ∷ []) rest _ (rw (← e) (rw (l .inv .1) room)),
+    )
+
+add-i : tie.Need-add-i Inv-loop μ-loop
+add-i c = search needs
+
+sub-left : tie.Need-sub-left Inv-loop μ-loop
+sub-left c = search needs
+
+loop-less : tie.Need-loop-less Inv-loop μ-loop
+loop-less c = search needs
+
+loop-again : tie.Need-loop-again Inv-loop μ-loop
+loop-again c =
+    let l = c .before .before .before .before .before .before .loop in
+    let s = c .before .before .before .before .before .before .before .before .before in
+    let f : List ℕ = now (s .args .table) in
+    let w = c .before .before .before .before .word-at in
+    let d = c .before .before .put in
+    let rest : List Field = row 24 (wordsIn (l .left - 1) (drop (l .i + 3) f)) in
+    let now-left : List Field = row 24 (wordsIn (l .left) (drop (l .i) f)) in
+    let e = row-on (l .left) (l .i) (w .result) f (search needs) (w .ensures .0) in (
+      on-fine (l .p) ((24, w .result) ∷ []) rest now-left e (d .ensures .0),
+      d .kept .1 .1 .1 .0 ∙ l .inv .1,
+      search needs,
+      on-moved (l .p) ((24, w .result) ∷ []) rest now-left e (d .ensures .0) ∙ l .inv .3,
+      on-inked (l .p) ((24, w .result) ∷ []) rest now-left e (d .ensures .0) (l .out) (d .ensures .1) ∙ l .inv .4,
+    )
+
+same-length : tie.Need-same-length Inv-loop μ-loop
+same-length c = c .before .loop .inv .1
+
+returns : tie.Need-returns Inv-loop μ-loop
+returns c =
+    let l = c .before .loop in
+    let s = c .before .before .before .before in
+    let f : List ℕ = now (s .args .table) in
+    let e = row-end (l .left) (l .i) f (search needs) in (
+      sym (none-left (l .p) (l .inv .0)) ∙ sym (ap (moved (l .p)) e) ∙ l .inv .3,
+      sym (none-inked (l .p) (l .inv .0) (l .out)) ∙ sym (ap (λ (x : List Field). inked (l .p) x (l .out)) e) ∙ l .inv .4,
+    )
+
+pub put-words-spec : {M : Type 1} → statement M
+put-words-spec =
+    tie.close
+    (tie.spec
+    Inv-loop
+    μ-loop
+    loop-holds
+    word-at-requires
+    put-requires
+    add-i
+    sub-left
+    loop-less
+    loop-again
+    same-length
+    returns)

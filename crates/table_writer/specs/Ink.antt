@@ -1,0 +1,34 @@
+-- A pen that lays fields, lowest bit first, as protected nibbles: it stands at a place of the output and holds the bits, fewer
+-- than four, that don't make a nibble yet.
+use mathlib.Core.List.{List, _∷_, map}
+use Prim.Native.Nat.{ℕ, _+_, _*_, _/_, _%_, _^_, _<_}
+use lib.Seq.{sets}
+use Rattle.octet.specs.Image.{image}
+use Rattle.fields.specs.Fields.{Field, width, laid, parts}
+use Rattle.table_writer.specs.declared.Pen.{Pen}
+
+-- the bits that a pen has once fields are laid: those it held, then theirs
+abbrev pub inHand : Pen → List Field → ℕ
+inHand p fs = laid ((p .held, p .bits) ∷ fs) 0
+
+-- how many whole nibbles these are
+abbrev pub ready : Pen → List Field → ℕ
+ready p fs = (p .held + width fs) / 4
+
+-- the output once fields are laid: each whole nibble as its image
+unfoldable pub inked : Pen → List Field → List ℕ → List ℕ
+inked p fs out = sets out (p .at) (map image (parts 4 (ready p fs) (inHand p fs)))
+
+-- and the pen: past those, with the bits left
+unfoldable pub moved : Pen → List Field → Pen
+moved p fs =
+    record {
+      at = p .at + ready p fs;
+      held = (p .held + width fs) % 4;
+      bits = inHand p fs / 2 ^ (4 * ready p fs);
+    }
+
+-- a pen that holds fewer than four bits, and no others
+pub record Fine (p : Pen) : Type 0 where
+  pub few : p .held < 4
+  pub low : p .bits < 2 ^ p .held

@@ -1,0 +1,83 @@
+// Runs cases of the guide page's packets: op 22 cuts records into packets.
+use guide::Setting;
+use vectors::Found;
+use vectors::Input;
+
+fn main() {
+    let mut space = [0u8; 131200];
+    let mut out = [0u8; 65536];
+    let mut text = [0u8; 131200];
+    let mut input = vectors::start();
+    let mut turns = u64::MAX;
+    while turns > 0 {
+        turns -= 1;
+        let found = step(input, &mut space, &mut out, &mut text);
+        match found {
+            Found::Whole(case) => {
+                input = case.rest;
+            }
+            Found::Ended(_) => {
+                return;
+            }
+        }
+    }
+}
+
+// One turn: the next case is read and run, or the end is told.
+fn step(
+    input: Input,
+    space: &mut [u8; 131200],
+    out: &mut [u8; 65536],
+    text: &mut [u8; 131200],
+) -> Found {
+    let read = vectors::fill(input, space);
+    let found = vectors::next(read, space);
+    match found {
+        Found::Whole(case) => {
+            let payload = vectors::payload(case, space);
+            run(case.op, case.room, payload, out, text);
+        }
+        Found::Ended(left) => {
+            lines::ended(left, text);
+        }
+    }
+    found
+}
+
+// A case: the call is lent as much output as it has room.
+fn run(op: u8, room: usize, payload: &[u8], out: &mut [u8], text: &mut [u8]) {
+    call(op, payload, vectors::lend(out, room), text);
+}
+
+// The call that op names.
+fn call(op: u8, payload: &[u8], out: &mut [u8], text: &mut [u8]) {
+    match op {
+        22 => cut(op, payload, out, text),
+        _ => {
+            lines::unknown(op, text);
+        }
+    }
+}
+
+// Op 22: magazine, page, stream, first index, packets a page (0: none named), then records.
+fn cut(op: u8, payload: &[u8], out: &mut [u8], text: &mut [u8]) {
+    if payload.len() < 5 {
+        lines::unknown(op, text);
+        return;
+    }
+    let s = Setting {
+        magazine: payload[0],
+        page: payload[1],
+        stream: payload[2],
+        application: 0,
+    };
+    let index = payload[3];
+    let k = payload[4];
+    if k == 0 {
+        let answer = guide::cut(s, index, &payload[5..], out);
+        lines::report_answer(op, answer, out, text);
+        return;
+    }
+    let answer = guide::cut_pages(s, index, k, &payload[5..], out);
+    lines::report_answer(op, answer, out, text);
+}
