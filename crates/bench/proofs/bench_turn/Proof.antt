@@ -1,0 +1,58 @@
+-- `bench::bench_turn` meets its contract: what is still to be mixed, mixed into what is there, gives the whole. The measure is
+-- what is left of the length. Assumes nothing.
+use borrow.Author.Needs.{needs}
+use mathlib.Core.Path.{_≡_, _∙_, sym}
+use Prim.Native.Nat.{_-_, _≤_}
+use lib.ListN.{length, drop}
+use denote.Ref.{now}
+use Rattle.octet.specs.Turning.{turned}
+use Rattle.bench.specs.Mixing.{mixed}
+use Rattle.bench.proofs.Mixing.{mix-step, mix-end}
+use Rattle.bench.proofs.bench_turn.Statement.{statement}
+use Rattle.bench.proofs.bench_turn.Tie as tie
+
+abbrev Inv-loop : tie.InvT-loop
+Inv-loop s mix₀ i₀ mix i = mixed turned (drop i s) mix ≡ mixed turned s 0
+
+abbrev μ-loop : tie.MeasureT-loop
+μ-loop s mix₀ i₀ mix i = length s - i
+
+loop-holds : tie.Need-loop-holds Inv-loop μ-loop
+loop-holds c = search needs
+
+shared-slice-read-turn : tie.Need-shared-slice-read-turn Inv-loop μ-loop
+shared-slice-read-turn c = search needs
+
+turn-requires : tie.Need-turn-requires Inv-loop μ-loop
+turn-requires c κs = search needs
+
+add-i : tie.Need-add-i Inv-loop μ-loop
+add-i c = search needs
+
+loop-less : tie.Need-loop-less Inv-loop μ-loop
+loop-less c = search needs
+
+loop-again : tie.Need-loop-again Inv-loop μ-loop
+loop-again c =
+    let l = c .before .before .before .loop in
+    let a = c .before .before .before .before .before .args in
+    mix-step turned (now (a .s)) (l .i) (l .mix) (c .turn .result) (search needs) (c .turn .ensures) ∙ l .inv
+
+returns : tie.Need-returns Inv-loop μ-loop
+returns c =
+    let l = c .before .loop in
+    sym (mix-end turned (now (c .before .before .before .args .s)) (l .i) (l .mix) (search needs)) ∙ l .inv
+
+pub bench-turn-spec : {M : Type 1} → statement M
+bench-turn-spec =
+    tie.close
+    (tie.spec
+    Inv-loop
+    μ-loop
+    loop-holds
+    shared-slice-read-turn
+    turn-requires
+    add-i
+    loop-less
+    loop-again
+    returns)

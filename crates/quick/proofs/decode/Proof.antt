@@ -1,0 +1,32 @@
+-- `quick::decode` meets its contract: the entry of each byte in its row is the rule there, as antt computes it over all bytes.
+-- Assumes nothing.
+use borrow.Author.Needs.{needs}
+use Rattle.octet.specs.Bits.{number, differing}
+use Rattle.octet.specs.Image.{image, withParity}
+use Rattle.octet.specs.Decoding.{nib, nibbleFrom}
+use Rattle.quick.specs.Packing.{packed}
+use Rattle.quick.proofs.Rows.{entry-at}
+use Rattle.quick.proofs.decode.Statement.{statement}
+use Rattle.quick.proofs.decode.Tie as tie
+
+decode-row-requires : tie.Need-decode-row-requires
+decode-row-requires c κs = search needs
+
+mul-result : tie.Need-mul-result
+mul-result c = search needs
+
+cast-result : tie.Need-cast-result
+cast-result c = search needs
+
+shr-result : tie.Need-shr-result
+shr-result c = search needs
+
+cast-result-2 : tie.Need-cast-result-2
+cast-result-2 c = search needs
+
+returns : tie.Need-returns
+unfolding packed nib nibbleFrom image withParity differing number
+returns c = entry-at nib tt (c .decode-row .result) (c .before .args .b) (search needs) (c .decode-row .ensures)
+
+pub decode-spec : {M : Type 1} → statement M
+decode-spec = tie.close (tie.spec decode-row-requires mul-result cast-result shr-result cast-result-2 returns)
