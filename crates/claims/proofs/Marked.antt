@@ -1,17 +1,20 @@
 -- The marked cases A to K of document 01, from the definitions, as one list under one claim. Assumes nothing.
 use mathlib.Core.Path.{_≡_, refl, subst, sym}
-use mathlib.Core.Bool.{true, false}
 use mathlib.Core.List.{List, [], _∷_}
 use Prim.Native.Nat.{ℕ}
+use Rattle.answer.specs.declared.Answer.the-variants.{Done}
+use Rattle.answer.specs.Rules.{judged}
+use Rattle.answer.specs.Values.{refused}
 use Rattle.octet.specs.Bits.{number}
 use Rattle.octet.specs.Image.{image, withParity}
 use Rattle.octet.proofs.Cases.{CasesAtoE, cases-a-to-e, TheImages, the-images}
 use Rattle.guide.proofs.Cases.{CaseF, case-f, CaseG, recordG, case-g}
 use Rattle.pes.proofs.Cases.{CaseJ, case-j, CaseK, case-k}
 use Rattle.fields.specs.Fields.{row, width, laid, parts}
-use Rattle.table.specs.Tables.{Table, per, loops, fields, bits, fill, size, fits}
+use Rattle.table.specs.Tables.{Table, per, loops, fields, bits, fill, size}
 use Rattle.table.specs.Block.{header, total, checksum, nibbles, checksumOf}
-use Rattle.table.specs.Writing.{recordOf, recordWith}
+use Rattle.table.specs.Form.{form}
+use Rattle.table.specs.Writing.{recordOf, recordWith, writeRules}
 use Rattle.table.proofs.Cases.{G, H, I, case-G, case-H, case-I}
 
 -- G's record, as block writing makes it, is the one whose packets case G shows
@@ -30,8 +33,12 @@ pub record Marked : Type 0 where
   pub g-packets : CaseG (recordOf 1 G)
   -- H no descriptors: 58 bits, fill 6, size 16
   pub h : (bits H ≡ 58) × (fill H ≡ 6) × (size H ≡ 16)
-  -- I eleven descriptors of 15 subtitles: 8,088 bits, size 2,022; twelve don't fit: 15
-  pub i : (bits (I 11) ≡ 8088) × (size (I 11) ≡ 2022) × (fits (I 11) ≡ true) × (fits (I 12) ≡ false)
+  -- I eleven descriptors of 15 subtitles: 8,088 bits, size 2,022; twelve: 15
+  pub i :
+      (bits (I 11) ≡ 8088)
+      × (size (I 11) ≡ 2022)
+      × (judged refused (writeRules 1 (form (I 11))) (Done 0) ≡ Done 0)
+      × (judged refused (writeRules 1 (form (I 12))) (Done 0) ≡ refused 15 0)
   -- J N=1: 184 bytes, length 178, three units
   pub j : CaseJ
   -- K line offset 06 refused, 07 and 16 taken, 17 refused

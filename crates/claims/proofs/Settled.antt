@@ -1,6 +1,6 @@
--- Each call's statement settles its outcome: any two outcomes that it allows are equal, the answer and every lent byte. The statements
--- are the contracts themselves, as the checker reads them (`Post`: of the arguments, the result and the parameters at exit). Assumes
--- nothing.
+-- Each call's statement settles its outcome: any two outcomes that it allows are equal, the answer, the state handed back and every
+-- lent byte. The statements are the contracts themselves, as the checker reads them (`Post`: of the arguments, the result and the
+-- parameters at exit). Assumes nothing.
 use mathlib.Core.Path.{_≡_, _∙_, sym}
 use denote.Ref.{now}
 use Rattle.octet.proofs.image.Reads as octet·image
@@ -8,15 +8,28 @@ use Rattle.octet.proofs.decode.Reads as octet·decode
 use Rattle.octet.proofs.fault_place.Reads as octet·fault-place
 use Rattle.octet.proofs.turn.Reads as octet·turn
 use Rattle.units.proofs.unit_at.Reads as units·unit-at
+use Rattle.units.proofs.pack.Reads as units·pack
+use Rattle.units.proofs.is_text.Reads as units·is-text
+use Rattle.units.proofs.line_fits.Reads as units·line-fits
 use Rattle.pes.proofs.read.Reads as pes·read
 use Rattle.pes.proofs.write.Reads as pes·write
 use Rattle.blocks.proofs.record_at.Reads as blocks·record-at
 use Rattle.guide.proofs.is_in_range.Reads as guide·is-in-range
 use Rattle.guide.proofs.cut.Reads as guide·cut
 use Rattle.guide.proofs.cut_pages.Reads as guide·cut-pages
+use Rattle.reader.proofs.fresh.Reads as reader·fresh
+use Rattle.reader.proofs.feed.Reads as reader·feed
+use Rattle.reader.proofs.feed_all.Reads as reader·feed-all
 use Rattle.table.proofs.read_block.Reads as table·read-block
+use Rattle.table.proofs.judge_form.Reads as table·judge-form
+use Rattle.table.proofs.checksum.Reads as table·checksum
+use Rattle.table.proofs.known.Reads as table·known
+use Rattle.table.proofs.byte_at.Reads as table·byte-at
+use Rattle.listing.proofs.list_table.Reads as listing·list-table
+use Rattle.table_writer.proofs.write_block.Reads as table-writer·write-block
 use Rattle.firmware.proofs.guide_decode.Reads as firmware·guide-decode
 use Rattle.firmware.proofs.guide_turn.Reads as firmware·guide-turn
+use Rattle.firmware.proofs.guide_unit_at.Reads as firmware·guide-unit-at
 
 -- two things that are both equal to a third
 same {ℓ} : {A : Type ℓ} {x y z : A} → x ≡ z → y ≡ z → x ≡ y
@@ -36,6 +49,15 @@ octet·turn-settled κs a x y s t p q = same p q
 
 pub units·unit-at-settled : (κs : _) (a : _) (x y : _) (s t : _) → units·unit-at.Post κs a x s → units·unit-at.Post κs a y t → x ≡ y
 units·unit-at-settled κs a x y s t p q = same p q
+
+pub units·pack-settled : (κs : _) (a : _) (x y : _) (s t : _) → units·pack.Post κs a x s → units·pack.Post κs a y t → x ≡ y
+units·pack-settled κs a x y s t p q = same p q
+
+pub units·is-text-settled : (κs : _) (a : _) (x y : _) (s t : _) → units·is-text.Post κs a x s → units·is-text.Post κs a y t → x ≡ y
+units·is-text-settled κs a x y s t p q = same p q
+
+pub units·line-fits-settled : (κs : _) (a : _) (x y : _) (s t : _) → units·line-fits.Post κs a x s → units·line-fits.Post κs a y t → x ≡ y
+units·line-fits-settled κs a x y s t p q = same p q
 
 pub pes·read-settled :
     (κs : _) (a : _) (x y : _) (s t : _) → pes·read.Post κs a x s → pes·read.Post κs a y t → (x ≡ y) × (now (s .1 .0) ≡ now (t .1 .0))
@@ -59,12 +81,48 @@ pub guide·cut-pages-settled :
     (κs : _) (a : _) (x y : _) (s t : _) → guide·cut-pages.Post κs a x s → guide·cut-pages.Post κs a y t → (x ≡ y) × (now (s .1 .1 .1 .1 .0) ≡ now (t .1 .1 .1 .1 .0))
 guide·cut-pages-settled κs a x y s t p q = (same (p .0) (q .0), same (p .1) (q .1))
 
+pub reader·fresh-settled : (κs : _) (a : _) (x y : _) (s t : _) → reader·fresh.Post κs a x s → reader·fresh.Post κs a y t → x ≡ y
+reader·fresh-settled κs a x y s t p q = same p q
+
+pub reader·feed-settled :
+    (κs : _) (a : _) (x y : _) (s t : _) → reader·feed.Post κs a x s → reader·feed.Post κs a y t
+    → (x .heard ≡ y .heard) × (x .reader ≡ y .reader) × (now (s .1 .1 .1 .0) ≡ now (t .1 .1 .1 .0))
+reader·feed-settled κs a x y s t p q = (same (p .0) (q .0), same (p .1 .0) (q .1 .0), same (p .1 .1) (q .1 .1))
+
+pub reader·feed-all-settled :
+    (κs : _) (a : _) (x y : _) (s t : _) → reader·feed-all.Post κs a x s → reader·feed-all.Post κs a y t
+    → (x .heard ≡ y .heard) × (x .reader ≡ y .reader) × (now (s .1 .1 .1 .0) ≡ now (t .1 .1 .1 .0))
+reader·feed-all-settled κs a x y s t p q = (same (p .0) (q .0), same (p .1 .0) (q .1 .0), same (p .1 .1) (q .1 .1))
+
 pub table·read-block-settled :
     (κs : _) (a : _) (x y : _) (s t : _) → table·read-block.Post κs a x s → table·read-block.Post κs a y t → (x ≡ y) × (now (s .1 .1 .0) ≡ now (t .1 .1 .0))
 table·read-block-settled κs a x y s t p q = (same (p .0) (q .0), same (p .1) (q .1))
+
+pub table·judge-form-settled : (κs : _) (a : _) (x y : _) (s t : _) → table·judge-form.Post κs a x s → table·judge-form.Post κs a y t → x ≡ y
+table·judge-form-settled κs a x y s t p q = same p q
+
+pub table·checksum-settled : (κs : _) (a : _) (x y : _) (s t : _) → table·checksum.Post κs a x s → table·checksum.Post κs a y t → x ≡ y
+table·checksum-settled κs a x y s t p q = same p q
+
+pub table·known-settled : (κs : _) (a : _) (x y : _) (s t : _) → table·known.Post κs a x s → table·known.Post κs a y t → x ≡ y
+table·known-settled κs a x y s t p q = same p q
+
+pub table·byte-at-settled : (κs : _) (a : _) (x y : _) (s t : _) → table·byte-at.Post κs a x s → table·byte-at.Post κs a y t → x ≡ y
+table·byte-at-settled κs a x y s t p q = same (p .0) (q .0)
+
+pub table-writer·write-block-settled :
+    (κs : _) (a : _) (x y : _) (s t : _) → table-writer·write-block.Post κs a x s → table-writer·write-block.Post κs a y t → (x ≡ y) × (now (s .1 .1 .0) ≡ now (t .1 .1 .0))
+table-writer·write-block-settled κs a x y s t p q = (same (p .0) (q .0), same (p .1) (q .1))
 
 pub firmware·guide-decode-settled : (κs : _) (a : _) (x y : _) (s t : _) → firmware·guide-decode.Post κs a x s → firmware·guide-decode.Post κs a y t → x ≡ y
 firmware·guide-decode-settled κs a x y s t p q = same p q
 
 pub firmware·guide-turn-settled : (κs : _) (a : _) (x y : _) (s t : _) → firmware·guide-turn.Post κs a x s → firmware·guide-turn.Post κs a y t → x ≡ y
 firmware·guide-turn-settled κs a x y s t p q = same p q
+
+pub firmware·guide-unit-at-settled : (κs : _) (a : _) (x y : _) (s t : _) → firmware·guide-unit-at.Post κs a x s → firmware·guide-unit-at.Post κs a y t → x ≡ y
+firmware·guide-unit-at-settled κs a x y s t p q = same p q
+
+pub listing·list-table-settled :
+    (κs : _) (a : _) (x y : _) (s t : _) → listing·list-table.Post κs a x s → listing·list-table.Post κs a y t → (x ≡ y) × (now (s .1 .0) ≡ now (t .1 .0))
+listing·list-table-settled κs a x y s t p q = (same (p .0) (q .0), same (p .1) (q .1))

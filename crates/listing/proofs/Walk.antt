@@ -1,0 +1,146 @@
+-- The lines of a form, an entry or a descriptor at a time. Assumes nothing.
+use mathlib.Core.Path.{_≡_, _∙_, refl, sym, ap, ap₂}
+use mathlib.Core.Bool.{Bool, true, false}
+use mathlib.Core.List.{List, [], _∷_, _++_, append-nil}
+use Prim.Native.Nat.{ℕ, suc, _+_, _-_, _*_, _/_, _%_, _≤_, _<_}
+use native.Mathlib.Nat.{add-zero, mul-one, mul-zero}
+use native.Mathlib.Omega.{arith}
+use borrow.Author.Tests.{eq-eqb, ne-eqb}
+use lib.Dec.{eqb}
+use lib.ListN.{getD, drop}
+use lib.Seq.{drop-drop, getD-drop}
+use Rattle.laws.specs.Pick.{pick, both}
+use Rattle.fields.specs.Fields.{whole}
+use Rattle.table.specs.Tables.{TI, per}
+use Rattle.table.specs.Form.{spelled, wordsIn, descriptorsIn, tableIn}
+use Rattle.listing.specs.Lines.{kindLine, numberLine, blockName, networkName, headLines, letter, letters, languageLine, pageLine, languageLines, subtitleLines, entryLines, descriptorLine, descriptorLines}
+
+-- ---- letters
+
+module _ (w : ℕ) where
+  pub letters-1 : letter (w / 256 / 256 % 256) ≡ false → letters (spelled (w ∷ [])) ≡ false
+  unfolding letters spelled
+  letters-1 a = rw a
+
+  pub letters-2 : letter (w / 256 / 256 % 256) ≡ true → letter (w / 256 % 256) ≡ false → letters (spelled (w ∷ [])) ≡ false
+  unfolding letters spelled
+  letters-2 a b = rw (a, b)
+
+  pub letters-3 :
+      letter (w / 256 / 256 % 256) ≡ true → letter (w / 256 % 256) ≡ true → letters (spelled (w ∷ [])) ≡ letter (w % 256)
+  unfolding letters spelled
+  letters-3 a b = rw (a, b) (both-one (letter (w % 256)))
+    where
+      both-one : (x : Bool) → both x true ≡ x
+      both-one true = refl
+      both-one false = refl
+
+-- ---- words
+
+-- three bytes as a word
+pub word-of : (a b c : ℕ) → a < 256 → b < 256 → c < 256 → (a * 256 + b) * 256 + c ≡ whole 8 (c ∷ b ∷ a ∷ [])
+unfolding whole
+word-of a b c ha hb hc = omega arith
+
+-- the word at a place
+abbrev pub word : List ℕ → ℕ → ℕ
+word f i = whole 8 (getD f (i + 2) 0 ∷ getD f (i + 1) 0 ∷ getD f i 0 ∷ [])
+
+-- ---- entries
+
+module _ (kind i w : ℕ) (f : List ℕ) (e : w ≡ word f i) where
+  -- an LI entry is one line
+  pub entry-li : (kind ≡ TI → ⊥) → languageLine w ≡ entryLines kind (wordsIn (per kind) (drop i f))
+  unfolding entryLines per wordsIn languageLines
+  entry-li h =
+      rw (ne-eqb kind TI h, append-nil, getD-drop i f 2 0, getD-drop i f 1 0, getD-drop i f 0 0, add-zero i) (ap languageLine e)
+
+  -- a TI entry is two
+  pub entry-ti :
+      (p : ℕ) → p ≡ word f (i + 3) → kind ≡ TI → languageLine w ++ pageLine p ≡ entryLines kind (wordsIn (per kind) (drop i f))
+  unfolding entryLines per wordsIn subtitleLines
+  entry-ti p e′ h =
+      rw (
+        eq-eqb kind TI h,
+        append-nil,
+        drop-drop 3 i f,
+        getD-drop i f 2 0,
+        getD-drop i f 1 0,
+        getD-drop i f 0 0,
+        add-zero i,
+        getD-drop (i + 3) f 2 0,
+        getD-drop (i + 3) f 1 0,
+        getD-drop (i + 3) f 0 0,
+        add-zero (i + 3),
+      )
+      (ap₂ (λ (a b : ℕ). languageLine a ++ pageLine b) e e′)
+
+abbrev linesBy : Bool → List ℕ → List ℕ
+linesBy paged ws = pick paged (subtitleLines ws) (languageLines ws)
+
+entries-step :
+    (b : Bool) (k : ℕ) (g : List ℕ)
+    → let each : ℕ = pick b 2 1 in
+    linesBy b (wordsIn (each * suc k) g) ≡ linesBy b (wordsIn each g) ++ linesBy b (wordsIn (each * k) (drop (3 * each) g))
+unfolding wordsIn subtitleLines languageLines
+entries-step true k g =
+    let e : 2 * suc k ≡ suc (suc (2 * k)) = omega arith in
+    rw (e, append-nil, drop-drop 3 3 g)
+entries-step false k g =
+    let e : 1 * suc k ≡ suc (1 * k) = omega arith in
+    rw (e, append-nil)
+
+-- one entry on
+pub entries-on :
+    (kind left i each : ℕ) (f : List ℕ) → 0 < left → each ≡ per kind * 1
+    → entryLines kind (wordsIn (per kind * left) (drop i f))
+    ≡ entryLines kind (wordsIn (per kind) (drop i f)) ++ entryLines kind (wordsIn (per kind * (left - 1)) (drop (i + 3 * each) f))
+unfolding entryLines per
+entries-on kind left i each f h e =
+    let k : left ≡ suc (left - 1) = omega arith in
+    ap (λ (n : ℕ). entryLines kind (wordsIn (per kind * n) (drop i f))) k ∙ entries-step (eqb kind TI) (left - 1) (drop i f)
+    ∙ (rw (e, mul-one, drop-drop))
+
+pub entries-end : (kind left i : ℕ) (f : List ℕ) → left ≤ 0 → entryLines kind (wordsIn (per kind * left) (drop i f)) ≡ []
+unfolding entryLines wordsIn subtitleLines languageLines
+entries-end kind left i f h =
+    let k : left ≡ 0 = omega arith in
+    ap (λ (n : ℕ). entryLines kind (wordsIn (per kind * n) (drop i f))) k ∙ (rw mul-zero (none (eqb kind TI)))
+  where
+    none : (b : Bool) → linesBy b [] ≡ []
+    none true = refl
+    none false = refl
+
+-- ---- descriptors
+
+-- one descriptor on
+pub descriptors-on :
+    (kind left i c words : ℕ) (f : List ℕ) → 0 < left → c ≡ getD f (i + 1) 0 → words ≡ per kind * c
+    → descriptorLines kind (descriptorsIn (per kind) left (drop i f))
+    ≡ descriptorLine kind (getD f i 0) (wordsIn (per kind * c) (drop (i + 2) f))
+    ++ descriptorLines kind (descriptorsIn (per kind) (left - 1) (drop (i + (2 + 3 * words)) f))
+unfolding descriptorLines descriptorsIn
+descriptors-on kind left i c words f h e₁ e₂ =
+    let k : left ≡ suc (left - 1) = omega arith in
+    let n : getD (drop i f) 1 0 ≡ c = getD-drop i f 1 0 ∙ sym e₁ in
+    let z : getD (drop i f) 0 0 ≡ getD f i 0 = getD-drop i f 0 0 ∙ ap (λ (x : ℕ). getD f x 0) (add-zero i) in
+    ap (λ (x : ℕ). descriptorLines kind (descriptorsIn (per kind) x (drop i f))) k
+    ∙ (rw (e₂, n, z, drop-drop 2 i f, drop-drop (2 + 3 * (per kind * c)) i f))
+
+pub descriptors-end : (kind left i : ℕ) (f : List ℕ) → left ≤ 0 → descriptorLines kind (descriptorsIn (per kind) left (drop i f)) ≡ []
+unfolding descriptorLines descriptorsIn
+descriptors-end kind left i f h =
+    let k : left ≡ 0 = omega arith in
+    ap (λ (n : ℕ). descriptorLines kind (descriptorsIn (per kind) n (drop i f))) k
+
+-- ---- the head
+
+pub two-bytes : (a b : ℕ) → a < 256 → b < 256 → a + 256 * b ≡ whole 8 (a ∷ b ∷ [])
+unfolding whole
+two-bytes a b ha hb = omega arith
+
+pub head-of :
+    (f : List ℕ) (k a b n : ℕ) → k ≡ getD f 0 0 → a ≡ getD f 2 0 → b ≡ getD f 3 0 → n ≡ getD f 4 0 → a < 256 → b < 256
+    → kindLine k ++ numberLine blockName (a + 256 * b) ++ numberLine networkName n ≡ headLines (tableIn f)
+unfolding headLines tableIn
+head-of f k a b n ek ea eb en ha hb = rw (two-bytes a b ha hb, ek, ea, eb, en)

@@ -1,0 +1,66 @@
+-- `listing::list_table` meets its contract: `judge_form` says which rule refuses, then the room decides. Assumes nothing.
+use borrow.Author.Needs.{needs}
+use mathlib.Core.List.{List}
+use mathlib.Core.Path.{_∙_, ap}
+use Prim.Native.Nat.{ℕ}
+use native.Mathlib.Omega.{arith}
+use denote.Ref.{now}
+use Rattle.answer.proofs.Lent.{lent-refused, lent-short, lent-done}
+use Rattle.answer.specs.declared.Answer.the-variants.{Done}
+use Rattle.table.specs.Form.{tableIn}
+use Rattle.table.specs.Writing.{formRules}
+use Rattle.listing.specs.Lines.{linesOf}
+use Rattle.listing.proofs.list_table.Statement.{statement}
+use Rattle.listing.proofs.list_table.Tie as tie
+
+judge-form-requires : tie.Need-judge-form-requires
+judge-form-requires c κs = search needs
+
+enum-known-why : tie.Need-enum-known-why
+enum-known-why c = search needs
+
+enum-told : tie.Need-enum-told
+enum-told c = search needs
+
+measure-requires : tie.Need-measure-requires
+measure-requires c κs = search needs
+
+returns : tie.Need-returns
+returns c =
+    let a = c .before .before .before .before .before .before .before .args in
+    let f : List ℕ = now (a .table) in
+    lent-short (formRules f) (linesOf (tableIn f)) (now (a .out)) _ (c .before .before .before .before .judge-form .ensures) (c .before .before .enum-told .given .1) (omega (arith, c .before .measure .ensures))
+
+put-lines-requires : tie.Need-put-lines-requires
+put-lines-requires c κs = search needs
+
+returns-2 : tie.Need-returns-2
+returns-2 c =
+    let a = c .before .before .before .before .before .before .args in
+    let f : List ℕ = now (a .table) in
+    lent-refused (formRules f) (linesOf (tableIn f)) (now (a .out)) _ (c .before .before .before .judge-form .ensures) (c .before .why .given .1)
+
+same-length : tie.Need-same-length
+same-length c = search needs
+
+returns-3 : tie.Need-returns-3
+returns-3 c =
+    let a = c .before .before .before .before .before .before .before .before .before .before .before .args in
+    let f : List ℕ = now (a .table) in
+    let n = c .before .before .before .before .before .measure .ensures in
+    let p = lent-done (formRules f) (linesOf (tableIn f)) (now (a .out)) _ (c .before .before .before .before .before .before .before .before .judge-form .ensures) (c .before .before .before .before .before .before .enum-told .given .1) (omega (arith, n)) in
+    (ap Done n ∙ p .0, c .before .before .put-lines .ensures .stored ∙ p .1)
+
+pub list-table-spec : {M : Type 1} → statement M
+list-table-spec =
+    tie.close
+    (tie.spec
+    judge-form-requires
+    enum-known-why
+    enum-told
+    measure-requires
+    returns
+    put-lines-requires
+    returns-2
+    same-length
+    returns-3)

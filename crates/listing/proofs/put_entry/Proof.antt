@@ -1,0 +1,63 @@
+-- `listing::put_entry` meets its contract: a language, and in TI a page. Assumes nothing.
+use borrow.Author.Needs.{needs}
+use mathlib.Core.List.{List}
+use Prim.Native.Nat.{ℕ}
+use native.Mathlib.Omega.{arith}
+use denote.Ref.{now}
+use Rattle.listing.proofs.Puts.{then, put-as}
+use Rattle.listing.proofs.Walk.{entry-ti, entry-li}
+use Rattle.listing.proofs.put_entry.Statement.{statement}
+use Rattle.listing.proofs.put_entry.Tie as tie
+
+word-at-requires : tie.Need-word-at-requires
+word-at-requires c κs = search needs
+
+put-language-requires : tie.Need-put-language-requires
+put-language-requires c κs = search needs
+
+add-word-at : tie.Need-add-word-at
+add-word-at c = search needs
+
+word-at-requires-2 : tie.Need-word-at-requires-2
+word-at-requires-2 c κs = search needs
+
+put-page-requires : tie.Need-put-page-requires
+put-page-requires c κs = search needs
+
+same-length : tie.Need-same-length
+same-length c = search needs
+
+returns : tie.Need-returns
+returns c =
+    let a = c .before .before .before .before .before .before .before .before .before .before .before .before .before .args in
+    let f : List ℕ = now (a .table) in
+    let w = c .before .before .before .before .before .before .before .before .before .before .word-at in
+    let l = c .before .before .before .before .before .before .before .before .put-language in
+    let x = c .before .before .before .before .word-at2 in
+    let p = c .before .before .put-page in
+    (put-as (entry-ti (a .kind) (a .i) (w .result) f (w .ensures) (x .result) (x .ensures) (c .before .before .before .before .before .if1 .taken)) (then (l .ensures .0) (p .ensures .0)), omega (arith, l .ensures .1, p .ensures .1))
+
+same-length-2 : tie.Need-same-length-2
+same-length-2 c = search needs
+
+returns-2 : tie.Need-returns-2
+returns-2 c =
+    let a = c .before .before .before .before .before .before .before .before .args in
+    let f : List ℕ = now (a .table) in
+    let w = c .before .before .before .before .before .word-at in
+    let l = c .before .before .before .put-language in
+    (put-as (entry-li (a .kind) (a .i) (w .result) f (w .ensures) (c .if1 .left)) (l .ensures .0), omega (arith, l .ensures .1))
+
+pub put-entry-spec : {M : Type 1} → statement M
+put-entry-spec =
+    tie.close
+    (tie.spec
+    word-at-requires
+    put-language-requires
+    add-word-at
+    word-at-requires-2
+    put-page-requires
+    same-length
+    returns
+    same-length-2
+    returns-2)

@@ -1,0 +1,109 @@
+-- `listing::put_table` meets its contract: what is left to be put from here makes what was to be put. The measure is the descriptors left. Assumes nothing.
+use borrow.Author.Needs.{needs}
+use mathlib.Core.List.{List}
+use mathlib.Core.Path.{_≡_, _∙_, refl}
+use Prim.Native.Nat.{ℕ, _+_, _*_, _≤_}
+use native.Mathlib.Omega.{arith}
+use lib.ListN.{length, drop}
+use denote.Ref.{now}
+use Rattle.table.proofs.Measures.{words-counted}
+use Rattle.table.specs.Form.{descriptorsIn, tableIn}
+use Rattle.table.specs.Tables.{per}
+use Rattle.listing.specs.Lines.{descriptorLines, tableLines}
+use Rattle.listing.proofs.Puts.{Left, left-start, left-on, left-end}
+use Rattle.listing.proofs.Walk.{descriptors-on, descriptors-end}
+use Rattle.listing.proofs.put_table.Statement.{statement}
+use Rattle.listing.proofs.put_table.Tie as tie
+
+abbrev Inv-loop : tie.InvT-loop
+Inv-loop table out₀ q kind left₀ i₀ p₀ out left i p =
+    (length out ≡ length out₀) × (i + 1532 * left ≤ 390666) × (p + 8000 * left ≤ 2040100)
+    × Left out p (descriptorLines kind (descriptorsIn (per kind) left (drop i table))) out₀ q (tableLines (tableIn table))
+
+abbrev μ-loop : tie.MeasureT-loop
+μ-loop table out₀ q kind left₀ i₀ p₀ out left i p = left
+
+byte-at-requires : tie.Need-byte-at-requires Inv-loop μ-loop
+byte-at-requires c κs = search needs
+
+byte-at-requires-2 : tie.Need-byte-at-requires-2 Inv-loop μ-loop
+byte-at-requires-2 c κs = search needs
+
+loop-holds : tie.Need-loop-holds Inv-loop μ-loop
+unfolding tableLines tableIn
+loop-holds c =
+    let k = c .before .byte-at in
+    let n = c .byte-at2 in
+    (refl, omega (arith, n .ensures .1), omega (arith, n .ensures .1), rw (k .ensures .0, n .ensures .0) (left-start _ _ _))
+
+add-byte-at : tie.Need-add-byte-at Inv-loop μ-loop
+add-byte-at c = search needs
+
+byte-at-requires-3 : tie.Need-byte-at-requires-3 Inv-loop μ-loop
+byte-at-requires-3 c κs = search needs
+
+put-descriptor-requires : tie.Need-put-descriptor-requires Inv-loop μ-loop
+put-descriptor-requires c κs = search needs
+
+words-of-requires : tie.Need-words-of-requires Inv-loop μ-loop
+words-of-requires c κs = search needs
+
+mul-i : tie.Need-mul-i Inv-loop μ-loop
+mul-i c = omega (arith, c .words-of .ensures .1, c .before .before .before .before .before .byte-at3 .ensures .1)
+
+add-i : tie.Need-add-i Inv-loop μ-loop
+add-i c = omega (arith, c .words-of .ensures .1, c .before .before .before .before .before .byte-at3 .ensures .1)
+
+add-i-2 : tie.Need-add-i-2 Inv-loop μ-loop
+add-i-2 c = omega (arith, c .words-of .ensures .1, c .before .before .before .before .before .byte-at3 .ensures .1)
+
+sub-left : tie.Need-sub-left Inv-loop μ-loop
+sub-left c = search needs
+
+loop-less : tie.Need-loop-less Inv-loop μ-loop
+loop-less c = search needs
+
+loop-again : tie.Need-loop-again Inv-loop μ-loop
+loop-again c =
+    let l = c .before .before .before .before .before .before .before .loop in
+    let s = c .before .before .before .before .before .before .before .before .before .before .before .before in
+    let f : List ℕ = now (s .args .table) in
+    let kind = c .before .before .before .before .before .before .before .before .before .byte-at .result in
+    let n = c .before .before .before .before .before .byte-at3 in
+    let p = c .before .before .before .put-descriptor in
+    let w = c .words-of in (
+      p .kept .1 .1 .1 .1 .0 ∙ l .inv .0,
+      omega (arith, l .inv .1, w .ensures .1, n .ensures .1),
+      omega (arith, l .inv .2, p .ensures .1),
+      left-on (descriptors-on kind (l .left) (l .i) (n .result) (w .result) f (search needs) (n .ensures .0) (words-counted _ _ _ _ (w .ensures .0) (n .ensures .1) refl)) (p .ensures .0) (l .inv .3),
+    )
+
+same-length : tie.Need-same-length Inv-loop μ-loop
+same-length c = search needs
+
+returns : tie.Need-returns Inv-loop μ-loop
+returns c =
+    let l = c .before .loop in
+    left-end (descriptors-end (c .before .before .before .byte-at .result) (l .left) (l .i) (now (c .before .before .before .before .before .before .args .table)) (search needs)) (l .inv .3)
+
+pub put-table-spec : {M : Type 1} → statement M
+put-table-spec =
+    tie.close
+    (tie.spec
+    Inv-loop
+    μ-loop
+    byte-at-requires
+    byte-at-requires-2
+    loop-holds
+    add-byte-at
+    byte-at-requires-3
+    put-descriptor-requires
+    words-of-requires
+    mul-i
+    add-i
+    add-i-2
+    sub-left
+    loop-less
+    loop-again
+    same-length
+    returns)

@@ -1,0 +1,64 @@
+-- `listing::word_at` meets its contract: three bytes, the high one first. Assumes nothing.
+use borrow.Author.Needs.{needs}
+use mathlib.Core.List.{List}
+use mathlib.Core.Path.{_≡_, _∙_}
+use Prim.Native.Nat.{ℕ, _+_}
+use lib.ListN.{getD}
+use denote.Ref.{now}
+use Rattle.listing.proofs.Walk.{word-of}
+use Rattle.listing.proofs.word_at.Statement.{statement}
+use Rattle.listing.proofs.word_at.Tie as tie
+
+byte-at-requires : tie.Need-byte-at-requires
+byte-at-requires c κs = search needs
+
+mul-result : tie.Need-mul-result
+mul-result c = search needs
+
+add-byte-at : tie.Need-add-byte-at
+add-byte-at c = search needs
+
+byte-at-requires-2 : tie.Need-byte-at-requires-2
+byte-at-requires-2 c κs = search needs
+
+add-result : tie.Need-add-result
+add-result c = search needs
+
+mul-result-2 : tie.Need-mul-result-2
+mul-result-2 c = search needs
+
+add-byte-at-2 : tie.Need-add-byte-at-2
+add-byte-at-2 c = search needs
+
+byte-at-requires-3 : tie.Need-byte-at-requires-3
+byte-at-requires-3 c κs = search needs
+
+add-result-2 : tie.Need-add-result-2
+add-result-2 c = search needs
+
+returns : tie.Need-returns
+returns c =
+    let a = c .before .before .before .before .args in
+    let f : List ℕ = now (a .table) in
+    let x = c .before .before .byte-at in
+    let y = c .before .byte-at2 in
+    let z = c .byte-at3 in
+    let ex : x .result ≡ getD f (a .i) 0 = x .ensures .0 in
+    let ey : y .result ≡ getD f (a .i + 1) 0 = y .ensures .0 in
+    let ez : z .result ≡ getD f (a .i + 2) 0 = z .ensures .0 in
+    word-of (x .result) (y .result) (z .result) (x .ensures .1) (y .ensures .1) (z .ensures .1) ∙ (rw (ex, ey, ez))
+
+pub word-at-spec : {M : Type 1} → statement M
+word-at-spec =
+    tie.close
+    (tie.spec
+    byte-at-requires
+    mul-result
+    add-byte-at
+    byte-at-requires-2
+    add-result
+    mul-result-2
+    add-byte-at-2
+    byte-at-requires-3
+    add-result-2
+    returns)
