@@ -1,0 +1,371 @@
+// One capture: its packets are read in large pieces and fed to a fresh reader, and the blocks that come
+// are listed. Counts that a room hands back are held against the space that they count in, so that no
+// proof here has to know the room's definitions; a count that doesn't fit never comes.
+use crate::front;
+use answer::Answer;
+use blocks::Found;
+use guide::Setting;
+use libc::STDOUT_FILENO;
+use reader::HeardAll;
+use reader::Reader;
+ghost use mathlib.Core.Path.{_≡_};
+ghost use Prim.Native.Nat.{_≤_, _<_};
+ghost use lib.ListN.{length};
+
+const PACKET: usize = 42;
+
+// 1,560 packets. A piece is read until it is full, so only the last can end within a packet.
+const PIECE: usize = 65520;
+
+// More than the records that the packets of one piece finish.
+const RECORDS: usize = 65536;
+
+const TEXT: usize = 65536;
+
+// More than the lines of one table: the text is written out when less room is left.
+const LINES: usize = 8192;
+
+// More than the longest table form.
+const FORM: usize = 2048;
+
+// What was read: so many bytes, fewer than asked for only where the input ended.
+enum Got {
+    Bytes(usize),
+    Failed,
+}
+
+// How many blocks were accepted and refused, how many bytes of lines wait in the text, and whether
+// standard output took all that was written so far.
+struct Tally {
+    accepted: u64,
+    refused: u64,
+    used: usize,
+    sound: bool,
+}
+
+struct Desk {
+    reader: Reader,
+    tally: Tally,
+}
+
+// Lists what comes from a descriptor, under a line with its name where that is asked for. A read that
+// fails is told with the name, and the list then lacks its last line. Answers whether standard output
+// took all.
+pub fn list(fd: i32, name: &[u8], is_titled: bool, setting: Setting) -> bool {
+    let mut piece = [0u8; PIECE];
+    let mut records = [0u8; RECORDS];
+    let mut text = [0u8; TEXT];
+    let mut form = [0u8; FORM];
+    let mut desk = fresh();
+    let mut is_due = is_titled;
+    let mut turns = u64::MAX;
+    while turns > 0 {
+        turns -= 1;
+        let got = fill(fd, &mut piece);
+        let Got::Bytes(n) = got else {
+            os::fail(name);
+            return end(desk.tally, &text);
+        };
+        if is_due {
+            title(name);
+            is_due = false;
+        }
+        desk = feed(setting, desk, &piece, n, &mut records, &mut text, &mut form);
+        if !desk.tally.sound {
+            return false;
+        }
+        if n < PIECE {
+            return end_with(desk.tally, &text, n % PACKET);
+        }
+    }
+    false
+}
+
+fn fresh() -> Desk {
+    Desk {
+        reader: reader::fresh(),
+        tally: Tally {
+            accepted: 0,
+            refused: 0,
+            used: 0,
+            sound: true,
+        },
+    }
+}
+
+fn title(name: &[u8]) {
+    io::write_all(STDOUT_FILENO, b"file=");
+    io::write_all(STDOUT_FILENO, name);
+    io::write_all(STDOUT_FILENO, b"\n");
+}
+
+fn fill(fd: i32, piece: &mut [u8; PIECE]) -> Got {
+    fill_slice(fd, piece)
+}
+
+// Reads until the slice is full, the input ends or a read fails.
+fn fill_slice(fd: i32, slice: &mut [u8]) -> Got {
+    let mut n = 0;
+    while n < slice.len() {
+        let got = read_at(fd, slice, n);
+        let Got::Bytes(more) = got else {
+            return Got::Failed;
+        };
+        if more == 0 {
+            return Got::Bytes(n);
+        }
+        n = ahead(n, more, slice.len());
+    }
+    Got::Bytes(n)
+}
+
+// One read into the slice from a place on.
+fn read_at(fd: i32, slice: &mut [u8], n: usize) -> Got
+    requires { ⌜ n ≤ length (now slice) ⌝ }
+{
+    let got = libc::read(fd, &mut slice[n..]);
+    if got < 0 {
+        return Got::Failed;
+    }
+    Got::Bytes(io::count(got, &slice[n..]))
+}
+
+// The place so many bytes further on, or the end where that is nearer or the bytes are none.
+fn ahead(at: usize, more: usize, end: usize) -> usize
+    requires { ⌜ at < end ⌝ }
+    ensures { λ r. ⌜ (at < r) × (r ≤ end) ⌝ }
+{
+    if more == 0 {
+        return end;
+    }
+    if end - at <= more {
+        return end;
+    }
+    at + more
+}
+
+// Feeds the whole packets among the first n bytes of the piece.
+fn feed(
+    setting: Setting,
+    desk: Desk,
+    piece: &[u8; PIECE],
+    n: usize,
+    records: &mut [u8; RECORDS],
+    text: &mut [u8; TEXT],
+    form: &mut [u8; FORM],
+) -> Desk {
+    feed_packets(
+        setting,
+        desk,
+        front(piece, n - n % PACKET),
+        records,
+        text,
+        form,
+    )
+}
+
+// Feeds packets, and lists the blocks that they finish. One call takes all packets of a piece, since the
+// room for records is enough for them.
+fn feed_packets(
+    setting: Setting,
+    desk: Desk,
+    packets: &[u8],
+    records: &mut [u8],
+    text: &mut [u8],
+    form: &mut [u8],
+) -> Desk {
+    let mut reader = desk.reader;
+    let mut tally = desk.tally;
+    let mut at = 0;
+    while at < packets.len() {
+        let fed = reader::feed_all(setting, reader, &packets[at..], records);
+        reader = fed.reader;
+        let heard = fed.heard;
+        let finished = front(records, written(heard));
+        tally = list_records(tally, setting.application, finished, text, form);
+        at = ahead(at, taken(heard), packets.len());
+    }
+    Desk { reader, tally }
+}
+
+// How many bytes of records were written.
+fn written(heard: HeardAll) -> usize {
+    match heard {
+        HeardAll::TookAll {
+            packets: _,
+            blocks: _,
+            written,
+            dropped: _,
+        } => written,
+        HeardAll::RefusedAll(_) => 0,
+    }
+}
+
+// How many bytes of packets were taken.
+fn taken(heard: HeardAll) -> usize {
+    match heard {
+        HeardAll::TookAll {
+            packets,
+            blocks: _,
+            written: _,
+            dropped: _,
+        } => {
+            if packets > PIECE {
+                return 0;
+            }
+            PACKET * packets
+        }
+        HeardAll::RefusedAll(_) => 0,
+    }
+}
+
+fn list_records(
+    tally: Tally,
+    application: u8,
+    records: &[u8],
+    text: &mut [u8],
+    form: &mut [u8],
+) -> Tally {
+    let mut tally = tally;
+    let mut at = 0;
+    while at < records.len() {
+        let next = record_end(records, at);
+        tally = list_record(tally, application, &records[at..next], text, form);
+        at = next;
+    }
+    tally
+}
+
+// The place after the record at a place, or the end where none stands there.
+fn record_end(records: &[u8], at: usize) -> usize
+    requires { ⌜ at < length (now records) ⌝ }
+    ensures { λ r. ⌜ (at < r) × (r ≤ length (now (records .entry))) ⌝ }
+{
+    let found = blocks::record_at(records, at);
+    let Found::Record {
+        head: _,
+        raw: _,
+        next,
+    } = found
+    else {
+        return records.len();
+    };
+    if next <= at {
+        return records.len();
+    }
+    if records.len() < next {
+        return records.len();
+    }
+    next
+}
+
+// Lists a record where block reading accepts it.
+fn list_record(
+    tally: Tally,
+    application: u8,
+    record: &[u8],
+    text: &mut [u8],
+    form: &mut [u8],
+) -> Tally {
+    let answer = table::read_block(application, record, form);
+    match answer {
+        Answer::Done(n) => list_form(tally, front(form, n), text),
+        Answer::Refused(_) => refuse(tally),
+    }
+}
+
+fn list_form(tally: Tally, form: &[u8], text: &mut [u8]) -> Tally {
+    let tally = make_room(tally, text);
+    let used = tally.used;
+    let answer = listing::list_table(form, &mut text[used..]);
+    match answer {
+        Answer::Done(more) => accept(tally, more, text.len()),
+        Answer::Refused(_) => refuse(tally),
+    }
+}
+
+fn accept(tally: Tally, more: usize, room: usize) -> Tally
+    requires { ⌜ tally .used ≤ room ⌝ }
+{
+    if room - tally.used < more {
+        return refuse(tally);
+    }
+    Tally {
+        accepted: one_more(tally.accepted),
+        refused: tally.refused,
+        used: tally.used + more,
+        sound: tally.sound,
+    }
+}
+
+fn refuse(tally: Tally) -> Tally {
+    Tally {
+        accepted: tally.accepted,
+        refused: one_more(tally.refused),
+        used: tally.used,
+        sound: tally.sound,
+    }
+}
+
+fn one_more(count: u64) -> u64 {
+    if count < u64::MAX { count + 1 } else { count }
+}
+
+// Writes the text out where less room is left than one table may need.
+fn make_room(tally: Tally, text: &[u8]) -> Tally
+    ensures { λ r. ⌜ r .used ≤ length (now (text .entry)) ⌝ }
+{
+    if text.len() < tally.used {
+        return flush(tally, text);
+    }
+    if text.len() - tally.used < LINES {
+        return flush(tally, text);
+    }
+    tally
+}
+
+// Writes the text out, unless standard output failed before.
+fn flush(tally: Tally, text: &[u8]) -> Tally
+    ensures { λ r. ⌜ r .used ≡ 0 ⌝ }
+{
+    Tally {
+        accepted: tally.accepted,
+        refused: tally.refused,
+        used: 0,
+        sound: write(tally.sound, front(text, tally.used)),
+    }
+}
+
+// Writes to standard output where that is sound, and answers whether it still is. The first failure is
+// told.
+fn write(is_sound: bool, bytes: &[u8]) -> bool {
+    if !is_sound {
+        return false;
+    }
+    let is_written = io::write_all(STDOUT_FILENO, bytes);
+    if !is_written {
+        os::fail(b"standard output");
+    }
+    is_written
+}
+
+// Writes what is left of a list that a read ended.
+fn end(tally: Tally, text: &[u8; TEXT]) -> bool {
+    let tally = flush(tally, text);
+    tally.sound
+}
+
+// Writes what is left of a list, and its last line.
+fn end_with(tally: Tally, text: &[u8; TEXT], short: usize) -> bool {
+    let tally = flush(tally, text);
+    if !tally.sound {
+        return false;
+    }
+    io::write_all(STDOUT_FILENO, b"blocks=");
+    io::print_decimal(STDOUT_FILENO, tally.accepted);
+    io::write_all(STDOUT_FILENO, b" refused=");
+    io::print_decimal(STDOUT_FILENO, tally.refused);
+    io::write_all(STDOUT_FILENO, b" short=");
+    io::print_decimal(STDOUT_FILENO, short as u64);
+    write(true, b"\n")
+}

@@ -1,0 +1,4 @@
+-- Laws that several proofs cite.
+pub mod Reading
+pub mod Hearing
+pub mod Ranging

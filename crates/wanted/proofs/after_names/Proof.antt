@@ -1,0 +1,47 @@
+-- `wanted::after_names` meets its contract: each arm is one of the four looks of a word. Assumes nothing.
+use borrow.Author.Needs.{needs}
+use mathlib.Core.Path.{_∙_, ap, sym}
+use Rattle.wanted.specs.Words.{afterNames}
+use Rattle.wanted.proofs.after_names.Statement.{statement}
+use Rattle.wanted.proofs.after_names.Tie as tie
+
+look-requires : tie.Need-look-requires
+look-requires c κs = search needs
+
+enum-told : tie.Need-enum-told
+enum-told c = search needs
+
+enum-told-2 : tie.Need-enum-told-2
+enum-told-2 c = search needs
+
+enum-told-3 : tie.Need-enum-told-3
+enum-told-3 c = search needs
+
+enum-told-4 : tie.Need-enum-told-4
+enum-told-4 c = search needs
+
+returns : tie.Need-returns
+returns c = ap afterNames (sym (c .enum-told .given .1) ∙ c .before .before .look .ensures)
+
+returns-2 : tie.Need-returns-2
+returns-2 c = ap afterNames (sym (c .enum-told2 .given .1) ∙ c .before .before .look .ensures)
+
+returns-3 : tie.Need-returns-3
+returns-3 c = ap afterNames (sym (c .enum-told3 .given .1) ∙ c .before .before .look .ensures)
+
+returns-4 : tie.Need-returns-4
+returns-4 c = ap afterNames (sym (c .enum-told4 .given .1) ∙ c .before .before .look .ensures)
+
+pub after-names-spec : {M : Type 1} → statement M
+after-names-spec =
+    tie.close
+    (tie.spec
+    look-requires
+    enum-told
+    enum-told-2
+    enum-told-3
+    enum-told-4
+    returns
+    returns-2
+    returns-3
+    returns-4)

@@ -1,0 +1,47 @@
+-- `wanted::after_options` meets its contract: each arm is one of the four looks of a word. Assumes nothing.
+use borrow.Author.Needs.{needs}
+use mathlib.Core.Path.{_∙_, ap, sym}
+use Rattle.wanted.specs.Words.{afterOptions}
+use Rattle.wanted.proofs.after_options.Statement.{statement}
+use Rattle.wanted.proofs.after_options.Tie as tie
+
+look-requires : tie.Need-look-requires
+look-requires c κs = search needs
+
+enum-known-field : tie.Need-enum-known-field
+enum-known-field c = search needs
+
+enum-told : tie.Need-enum-told
+enum-told c = search needs
+
+enum-told-2 : tie.Need-enum-told-2
+enum-told-2 c = search needs
+
+enum-told-3 : tie.Need-enum-told-3
+enum-told-3 c = search needs
+
+returns : tie.Need-returns
+returns c = ap afterOptions (sym (c .before .field .given .1) ∙ c .before .before .before .look .ensures)
+
+returns-2 : tie.Need-returns-2
+returns-2 c = ap afterOptions (sym (c .enum-told .given .1) ∙ c .before .before .look .ensures)
+
+returns-3 : tie.Need-returns-3
+returns-3 c = ap afterOptions (sym (c .enum-told2 .given .1) ∙ c .before .before .look .ensures)
+
+returns-4 : tie.Need-returns-4
+returns-4 c = ap afterOptions (sym (c .enum-told3 .given .1) ∙ c .before .before .look .ensures)
+
+pub after-options-spec : {M : Type 1} → statement M
+after-options-spec =
+    tie.close
+    (tie.spec
+    look-requires
+    enum-known-field
+    enum-told
+    enum-told-2
+    enum-told-3
+    returns
+    returns-2
+    returns-3
+    returns-4)

@@ -1,0 +1,47 @@
+-- `wanted::looks_like_name` meets its contract: each arm is one of the four looks of a word. Assumes nothing.
+use borrow.Author.Needs.{needs}
+use mathlib.Core.Path.{_∙_, ap, sym}
+use Rattle.wanted.specs.Words.{looksLikeName}
+use Rattle.wanted.proofs.looks_like_name.Statement.{statement}
+use Rattle.wanted.proofs.looks_like_name.Tie as tie
+
+look-requires : tie.Need-look-requires
+look-requires c κs = search needs
+
+enum-told : tie.Need-enum-told
+enum-told c = search needs
+
+enum-told-2 : tie.Need-enum-told-2
+enum-told-2 c = search needs
+
+enum-told-3 : tie.Need-enum-told-3
+enum-told-3 c = search needs
+
+enum-told-4 : tie.Need-enum-told-4
+enum-told-4 c = search needs
+
+returns : tie.Need-returns
+returns c = ap looksLikeName (sym (c .enum-told .given .1) ∙ c .before .before .look .ensures)
+
+returns-2 : tie.Need-returns-2
+returns-2 c = ap looksLikeName (sym (c .enum-told2 .given .1) ∙ c .before .before .look .ensures)
+
+returns-3 : tie.Need-returns-3
+returns-3 c = ap looksLikeName (sym (c .enum-told3 .given .1) ∙ c .before .before .look .ensures)
+
+returns-4 : tie.Need-returns-4
+returns-4 c = ap looksLikeName (sym (c .enum-told4 .given .1) ∙ c .before .before .look .ensures)
+
+pub looks-like-name-spec : {M : Type 1} → statement M
+looks-like-name-spec =
+    tie.close
+    (tie.spec
+    look-requires
+    enum-told
+    enum-told-2
+    enum-told-3
+    enum-told-4
+    returns
+    returns-2
+    returns-3
+    returns-4)

@@ -1,0 +1,3 @@
+-- The words of a command line.
+pub mod Values
+pub mod Words
