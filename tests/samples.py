@@ -3,6 +3,7 @@ stream 1, application 1). Made by the model's writer; nothing is off the air."""
 
 from cases.form import LOST, Dice, with_bytes
 from cases.reader import Air
+from cases.table import CASE_G
 from model import Refused, guide, listing, pes, table, unpes
 from model.listing import DESK
 from model.table import LI, TI, Table
@@ -16,6 +17,12 @@ def some_page(dice):
 
 def record(t):
     return table.write_block(DESK.application, table.form_of(t))
+
+
+def case_g():
+    """The desk's stored run: case G's 84 bytes, and document 01's text."""
+    packets = guide.cut(DESK, 0, 1, record(CASE_G))
+    return packets, listing.desk(packets)
 
 
 def packets_in(data):
