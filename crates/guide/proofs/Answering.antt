@@ -30,7 +30,7 @@ pub short-of-room :
     (bytes old : List ℕ) (count size : ℕ) → length bytes ≡ count * size → 0 < size → length old / size < count
     → (refused 1 0 ≡ answered [] bytes old) × (old ≡ left [] bytes old)
 short-of-room bytes old count size n p h =
-    lent-short [] bytes old {first = Done (length bytes)} refl refl (omega (arith, div-lt-iff-lt-mul p .0 h))
+    lent-short [] bytes old (length bytes) {first = Done (length bytes)} refl refl (omega (arith, div-lt-iff-lt-mul p .0 h))
 
 pub fits-room : (n count size : ℕ) → 0 < size → count ≤ n / size → count * size ≤ n
 fits-room n count size p h = le-div-iff-mul-le p .0 h
@@ -39,7 +39,7 @@ pub room-enough :
     (bytes old out : List ℕ) (count size : ℕ) → length bytes ≡ count * size → 0 < size → count ≤ length old / size
     → out ≡ sets old 0 bytes → (Done (count * size) ≡ answered [] bytes old) × (out ≡ left [] bytes old)
 room-enough bytes old out count size n p h e =
-    let d = lent-done [] bytes old {first = Done (length bytes)} refl refl (omega (arith, fits-room (length old) count size p h)) in
+    let d = lent-done [] bytes old (length bytes) {first = Done (length bytes)} refl refl (omega (arith, fits-room (length old) count size p h)) in
     (rw (← n) (d .0), e ∙ d .1)
 
 -- ---- the records
