@@ -74,7 +74,8 @@ pub extern "C" fn bench_feed(packets: &[u8], out: &mut [u8]) -> usize
     while left > 0 {
         let end = at + 42;
         let fed = reader::feed(setting, state, &packets[at..end], out);
-        count = counted(count, fed.heard);
+        let heard = fed.heard;
+        count = counted(count, heard);
         state = fed.reader;
         at = end;
         left -= 1;
