@@ -1,4 +1,3 @@
-pub mod Answering
 pub mod Judging
 pub mod Steps
 pub mod Lent

@@ -8,8 +8,9 @@ use Rattle.laws.specs.Pick.{pick}
 use Rattle.answer.specs.declared.Refusal.{Refusal}
 use Rattle.answer.specs.declared.Answer.{Answer}
 use Rattle.answer.specs.declared.Answer.the-variants.{Done, Refused}
-use Rattle.answer.specs.Rules.{Rule, judged, Every, none, more}
+use Rattle.answer.specs.Rules.{Rule, judged, Every, none, more, First}
 use Rattle.answer.specs.Values.{refused}
+use Rattle.answer.proofs.Judging.{passes, refuses}
 
 -- two lists in a row are judged one after the other
 pub judged-append {ℓ} :
@@ -72,3 +73,7 @@ module _ (rs qs : List Rule) (n : ℕ) {first : Answer} (judges : first ≡ judg
 
   pub goes-on : {m : ℕ} → first ≡ Done m → judged refused qs a ≡ judged refused (rs ++ qs) a
   goes-on {m} e = sym (judged-append refused rs qs a ∙ done-then rs n m (judged refused qs a) (sym judges ∙ e))
+
+-- where every rule holds, none is the first that doesn't
+pub every-first : {q : Rule} {rs : List Rule} → Every rs → First q rs → ⊥
+every-first {q} every first = not-done (sym (refuses refused (Done 0) first) ∙ passes refused (Done 0) every)

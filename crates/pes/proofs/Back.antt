@@ -12,7 +12,7 @@ use lib.ListN.{length, getD, take, drop, length-append, length-map, length-take,
 use lib.Seq.{drop-cons, take-add, take-at, drop-at, drop-drop, getD-drop}
 use Rattle.laws.proofs.Tests.{both-first, both-second}
 use Rattle.answer.specs.Rules.{Every, none}
-use Rattle.answer.proofs.Answering.{every-join}
+use Rattle.answer.proofs.Judging.{every-append}
 use Rattle.octet.specs.Turning.{turned}
 use Rattle.octet.proofs.Laws.{turned-turned}
 use Rattle.units.specs.Units.{byteAt, textId, nextUnit}
@@ -38,7 +38,7 @@ walked-end pes at h =
 lawful-step :
     (pes : List ℕ) (at next : ℕ) (s : Bool) → Whole pes at next s → Every (lawful pes next) → Every (lawful pes at)
 unfolding flatMap
-lawful-step pes at next s w e = rw (from-step pes at (w .within)) (every-join (w .every) (rw (w .after) at e))
+lawful-step pes at next s w e = rw (from-step pes at (w .within)) (every-append (w .every) (rw (w .after) at e))
 
 count-step : (pes : List ℕ) (at next n : ℕ) (s : Bool) → Whole pes at next s → length (from pes next) ≡ n → length (from pes at) ≡ suc n
 count-step pes at next n s w e = rw (from-step pes at (w .within)) (ap suc (rw (w .after) at e))

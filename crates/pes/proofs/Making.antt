@@ -11,7 +11,7 @@ use borrow.Author.Tests.{leb-true}
 use Rattle.laws.proofs.Stores.{sets-next}
 use Rattle.laws.proofs.Tests.{both-first}
 use Rattle.answer.specs.Rules.{Every}
-use Rattle.answer.proofs.Answering.{every-head, every-tail}
+use Rattle.answer.proofs.Steps.{first-holds, others-hold}
 use Rattle.pes.specs.Writing.{unitCount, packetSize, recordFits, recordsFit, writeRules, headerOf, unitOf, unitsOf, stuffingUnit, stuffingUnits, packetOf}
 
 -- ---- one more, or none
@@ -115,4 +115,4 @@ packet-parts d rs out headed filled full h f g =
 
 pub fits-packet : (d : ℕ) (rs : List ℕ) → Every (writeRules d rs) → unitCount rs ≤ 1423
 unfolding writeRules
-fits-packet d rs e = leb-true _ 1423 (both-first (leb (unitCount rs) 1423) _ (every-head (every-tail (every-tail e))))
+fits-packet d rs e = leb-true _ 1423 (both-first (leb (unitCount rs) 1423) _ (first-holds (others-hold (others-hold e))))

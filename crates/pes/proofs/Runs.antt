@@ -37,12 +37,6 @@ run-whole n i from src to out old h e =
 abbrev pub fillLeft : ℕ → ℕ → ℕ → List ℕ → List ℕ
 fillLeft n i from out = sets out (from + i) (replicate (n - i) 0xFF)
 
-pub fill-step : (n i from : ℕ) (out : List ℕ) → i < n → fillLeft n (i + 1) from (set out (from + i) 0xFF) ≡ fillLeft n i from out
-fill-step n i from out h =
-    let k : n - i ≡ suc (n - (i + 1)) = omega arith in
-    let p : from + (i + 1) ≡ suc (from + i) = omega arith in
-    rw (p, k)
-
 pub fill-whole :
     (n i from : ℕ) (out old : List ℕ) → n ≤ i → fillLeft n i from out ≡ fillLeft n 0 from old → out ≡ sets old from (replicate n 0xFF)
 fill-whole n i from out old h e =

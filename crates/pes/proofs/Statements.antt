@@ -14,7 +14,9 @@ use Rattle.laws.proofs.Tests.{both-second, both-holds}
 use Rattle.answer.specs.declared.Answer.the-variants.{Done}
 use Rattle.answer.specs.Rules.{Every, none, more}
 use Rattle.answer.specs.Writing.{answered, left}
-use Rattle.answer.proofs.Answering.{every-head, every-tail, every-join, every-right, settles-done}
+use Rattle.answer.proofs.Judging.{every-append}
+use Rattle.answer.proofs.Lent.{back-holds, lent-accepted}
+use Rattle.answer.proofs.Steps.{first-holds, others-hold}
 use Rattle.units.specs.Units.{byteAt}
 use Rattle.pes.specs.Header.{packetLength, lengthFits, headerRules}
 use Rattle.pes.specs.Reading.{firstUnit, places, unitsRules, readRules, recordsOf}
@@ -43,7 +45,7 @@ header-lawful d rs e =
     let l = packet-length d rs in
     more (both-holds _ true (le-leb 45 (length (packetOf d rs)) (omega (arith, l))) refl)
     (more (length-lawful d rs (fits-packet d rs e))
-    (more refl (more refl (more (every-head e) none))))
+    (more refl (more refl (more (first-holds e) none))))
 
 after-header :
     (d : ℕ) (rs : List ℕ)
@@ -57,10 +59,10 @@ unfolding writeRules
 walked d rs e b =
     let u = unitCount rs in
     let n = packetSize u in
-    let z : length rs % 44 ≡ 0 = eqb-true _ 0 (every-head (every-tail e)) in
+    let z : length rs % 44 ≡ 0 = eqb-true _ 0 (first-holds (others-hold e)) in
     let c : u + (4 * n - 1 - u) ≡ 4 * n - 1 = omega arith in
     let whole : take (44 * u) rs ≡ rs = take-all (44 * u) rs (omega arith) in
-    let fit = both-second (leb u 1423) (recordsFit u rs 0) (every-head (every-tail (every-tail e))) in
+    let fit = both-second (leb u 1423) (recordsFit u rs 0) (first-holds (others-hold (others-hold e))) in
     subst₂ (λ (m : ℕ) (g : List ℕ). Walked (packetOf d rs) 46 m g) c whole
     (back-units u (4 * n - 1 - u) rs b 0 (omega arith) fit (packetOf d rs) 46 (after-header d rs))
 
@@ -73,17 +75,16 @@ pub writes-back : (d : ℕ) (rs : List ℕ) → Every (writeRules d rs) → Byte
 unfolding readRules unitsRules recordsOf places
 writes-back d rs e b =
     let w = walked d rs e b in
-    record { accepted = every-join (header-lawful d rs e) (w .rules); same = w .gives }
+    record { accepted = every-append (header-lawful d rs e) (w .rules); same = w .gives }
 
 -- so reading a written packet gives the records, where they have room
 pub reads-back :
     (d : ℕ) (rs old : List ℕ) → Every (writeRules d rs) → Bytes rs → length rs ≤ length old
-    → (Done (length rs) ≡ answered (readRules (packetOf d rs)) (recordsOf (packetOf d rs)) old)
-    × (rs ++ drop (length rs) old ≡ left (readRules (packetOf d rs)) (recordsOf (packetOf d rs)) old)
+    → (answered (readRules (packetOf d rs)) (recordsOf (packetOf d rs)) old ≡ Done (length rs))
+    × (left (readRules (packetOf d rs)) (recordsOf (packetOf d rs)) old ≡ rs ++ drop (length rs) old)
 reads-back d rs old e b h =
     let w = writes-back d rs e b in
-    rw (w .same)
-    (settles-done (readRules (packetOf d rs)) rs old (rs ++ drop (length rs) old) (length rs) refl (w .accepted) h refl)
+    rw (w .same) (lent-accepted (readRules (packetOf d rs)) rs old (w .accepted) h)
 
 -- "a packet of N×184 bytes holds 4N−1 units", "with the least N that holds them (N=1 for none)"
 pub record Shaped (d : ℕ) (rs : List ℕ) : Type 0 where
@@ -110,13 +111,13 @@ shaped d rs e b =
 pub reads-writable : (pes : List ℕ) → Every (readRules pes) → Every (writeRules (byteAt pes 45) (recordsOf pes))
 unfolding readRules unitsRules headerRules recordsOf places writeRules
 reads-writable pes e =
-    let s = sized (packetLength pes) (length pes) (every-head (every-tail e)) in
-    let g = given (length pes) pes firstUnit (omega arith) (omega arith) (every-right (headerRules pes) (unitsRules pes) e) in
+    let s = sized (packetLength pes) (length pes) (first-holds (others-hold e)) in
+    let g = given (length pes) pes firstUnit (omega arith) (omega arith) (back-holds (headerRules pes) (unitsRules pes) e) in
     let l : length (recordsOf pes) ≡ 44 * g .count = g .long in
     let u : unitCount (recordsOf pes) ≡ g .count = omega arith in
     let z : length (recordsOf pes) % 44 ≡ 0 = omega arith in
     let c : unitCount (recordsOf pes) ≤ 1423 = omega (arith, g .few) in
-    more (every-head (every-tail (every-tail (every-tail (every-tail e)))))
+    more (first-holds (others-hold (others-hold (others-hold (others-hold e)))))
     (more (eq-eqb (length (recordsOf pes) % 44) 0 z)
     (more
     (both-holds (leb (unitCount (recordsOf pes)) 1423) _ (le-leb (unitCount (recordsOf pes)) 1423 c)

@@ -15,7 +15,8 @@ use Rattle.answer.specs.declared.Answer.the-variants.{Done, Refused}
 use Rattle.answer.specs.Rules.{Rule, judged, Every}
 use Rattle.answer.specs.Values.{refused}
 use Rattle.answer.proofs.Judging.{passes, refuses}
-use Rattle.answer.proofs.Answering.{every-left, every-right, every-first, judged-append}
+use Rattle.answer.proofs.Lent.{front-holds, back-holds}
+use Rattle.answer.proofs.Steps.{every-first, judged-append}
 use Rattle.units.specs.declared.DataUnit.{DataUnit}
 use Rattle.units.specs.Units.{nextUnit, rulesAt}
 use Rattle.units.proofs.Meets.{text-unit, Whole, Met}
@@ -120,10 +121,10 @@ rest-stuffing pes at next w = rw (from-step pes at (w .within), w .after, w .kin
 
 pub lawful-next : (pes : List ℕ) (at next : ℕ) (s : Bool) → Whole pes at next s → Every (lawful pes at) → Every (lawful pes next)
 unfolding flatMap
-lawful-next pes at next s w e = rw (w .after) (every-right (rulesAt pes at) _ (rw (from-step pes at (w .within)) at e))
+lawful-next pes at next s w e = rw (w .after) (back-holds (rulesAt pes at) _ (rw (from-step pes at (w .within)) at e))
 
 -- where all rules hold, the walk is never refused
 pub lawful-met : (pes : List ℕ) (at : ℕ) (r : Refusal) → Met pes at (DataUnit.Refused r) → Every (lawful pes at) → ⊥
 unfolding flatMap
 lawful-met pes at r m e =
-    every-first (every-left (rulesAt pes at) _ (rw (from-step pes at (m .0)) at e)) (m .1 .1)
+    every-first (front-holds (rulesAt pes at) _ (rw (from-step pes at (m .0)) at e)) (m .1 .1)

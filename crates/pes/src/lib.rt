@@ -63,8 +63,7 @@ pub fn write(data_identifier: u8, records: &[u8], out: &mut [u8]) -> Answer
 {
     match judge_records(data_identifier, records) {
         Answer::Refused(r) => Answer::Refused(r),
-        Answer::Done(units) => {
-            let need = (units / 4 + 1) * PART;
+        Answer::Done(need) => {
             if out.len() < need {
                 return Answer::Refused(Refusal { no: 1, at: 0 });
             }
@@ -196,9 +195,9 @@ fn put_record(pes: &[u8], at: usize, out: &mut [u8], to: usize)
     turn_run(pes, at + 4, out, to + 2);
 }
 
-// Judges what is to be written, writing nothing: its refusal, or how many units it makes.
+// Judges what is to be written, writing nothing: its refusal, or how many bytes the packet takes.
 fn judge_records(d: u8, records: &[u8]) -> Answer
-    ensures { λ r. ⌜ r ≡ judged refused (writeRules d (now (records .entry))) (Answer.Done (unitCount (now (records .entry)))) ⌝ }
+    ensures { λ r. ⌜ r ≡ judged refused (writeRules d (now (records .entry))) (Answer.Done (length (packetOf d (now (records .entry))))) ⌝ }
 {
     if !is_ebu(d) {
         return Answer::Refused(Refusal { no: 16, at: 0 });
@@ -213,7 +212,7 @@ fn judge_records(d: u8, records: &[u8]) -> Answer
     if !records_fit(records, units) {
         return Answer::Refused(Refusal { no: 15, at: 0 });
     }
-    Answer::Done(units)
+    Answer::Done((units / 4 + 1) * PART)
 }
 
 // Whether each of the records is one that reading gives.

@@ -2,7 +2,7 @@
 use mathlib.Core.Path.{_≡_, _∙_, refl, sym, ap}
 use mathlib.Core.Bool.{Bool, true, false}
 use mathlib.Core.List.{List, [], _∷_, _++_}
-use Prim.Native.Nat.{ℕ, zero, suc, _+_, _-_, _*_, _≤_, _<_}
+use Prim.Native.Nat.{ℕ, zero, suc, _+_, _-_, _*_, _%_, _≤_, _<_}
 use native.Mathlib.Nat.{zero-add}
 use native.Mathlib.Omega.{arith}
 use lib.Dec.{eqb, leb}
@@ -18,14 +18,17 @@ use Rattle.guide.specs.Packet.{packetLength}
 use Rattle.reader.specs.declared.Reader.{Reader}
 use Rattle.reader.specs.declared.Heard.{Heard}
 use Rattle.reader.specs.declared.Heard.the-variants.{Took, Refused}
+use Rattle.reader.specs.declared.HeardAll.{HeardAll}
+use Rattle.reader.specs.declared.HeardAll.the-variants.{TookAll, RefusedAll}
+use Rattle.reader.specs.declared.Taking.{Taking}
 use Rattle.reader.specs.declared.Got.{Got}
 use Rattle.reader.specs.declared.Going.{Going}
 use Rattle.reader.specs.Seen.{see}
 use Rattle.reader.specs.Acting.{State, act, handed, dropped}
 use Rattle.reader.specs.State.{stateOf, readerOf, readerInRange}
-use Rattle.reader.specs.Feeding.{room, feedHeard, feedReader, feedOut, refusedHeard}
+use Rattle.reader.specs.Feeding.{room, feedHeard, feedReader, feedOut, refusedHeard, Ran, ranAll, refusedAll, feedAllHeard, feedAllReader, feedAllOut}
 use Rattle.reader.specs.Places.{zeroed}
-use Rattle.reader.specs.Holding.{Good, Stepped, Acted}
+use Rattle.reader.specs.Holding.{Good, Stepped, Acted, RanTo}
 use Rattle.reader.proofs.Range.{see-short, handed-room}
 
 -- the answer, the reader and the output are these
@@ -69,3 +72,40 @@ module _ (s : Setting) (r : Reader) (p old : List ℕ) where
             let y : t .got .written ≡ length (recordsOf bs) = w .went .written ∙ zero-add (length (recordsOf bs)) in
             rw (a, b, eq-eqb _ _ d, le-leb _ _ h)
             (rw (x, y, w .went .dropped), (handed-back w, w .went .out ∙ sets-front old (recordsOf bs) (omega arith)))
+
+-- ---- a row of packets
+
+abbrev pub AnswersAll : Setting → Reader → List ℕ → List ℕ → HeardAll → Reader → List ℕ → Type 0
+AnswersAll s r l old h after new =
+    (h ≡ feedAllHeard s r l old) × ((after ≡ feedAllReader s r l old) × (new ≡ feedAllOut s r l old))
+
+module _ (s : Setting) (r : Reader) (l old : List ℕ) where
+  pub no-setting-all : inRange s ≡ false → AnswersAll s r l old (refusedAll 16 0) r old
+  no-setting-all a = rw a (refl, (refl, refl))
+
+  module _ (a : inRange s ≡ true) where
+    pub no-state-all : readerInRange r ≡ false → AnswersAll s r l old (refusedAll 16 0) r old
+    no-state-all b = rw (a, b) (refl, (refl, refl))
+
+    module _ (b : readerInRange r ≡ true) where
+      pub no-packets : (length l % packetLength ≡ 0 → ⊥) → AnswersAll s r l old (refusedAll 16 0) r old
+      no-packets d = rw (a, b, ne-eqb _ _ d) (refl, (refl, refl))
+
+      ran-back :
+          {x : Ran} {t : Taking} {store o new : List ℕ} → RanTo x t store o new
+          → record { page = t .going .page; index = t .going .index; run = t .going .got .run; store = store } ≡ readerOf (x .state)
+      unfolding zeroed
+      ran-back w = rw (w .page, w .index, w .holds .run, w .holds .kept)
+
+      pub taken-all :
+          {t : Taking} {store new : List ℕ} → length l % packetLength ≡ 0 → t .going .got .written ≤ length old
+          → RanTo (ranAll s r l old) t store old new
+          → AnswersAll s r l old
+          (TookAll (t .packets) (t .going .got .blocks) (t .going .got .written) (t .going .got .dropped))
+          (record { page = t .going .page; index = t .going .index; run = t .going .got .run; store = store }) new
+      taken-all d f w =
+          let bytes : List ℕ = recordsOf (ranAll s r l old .blocks) in
+          rw (a, b, eq-eqb _ _ d) (
+            rw (w .packets, w .blocks, w .written, w .dropped),
+            (ran-back w, w .out ∙ sets-front old bytes (omega (arith, w .written))),
+          )

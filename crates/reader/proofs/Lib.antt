@@ -6,6 +6,7 @@ pub mod Judged
 pub mod Keeping
 pub mod Range
 pub mod Ranging
+pub mod Running
 pub mod Sizing
 pub mod Stepping
 pub mod Storing

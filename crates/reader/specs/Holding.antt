@@ -14,6 +14,7 @@ use Rattle.reader.specs.declared.Run.the-variants.{Idle, Head, Body}
 use Rattle.reader.specs.declared.Page.{Page}
 use Rattle.reader.specs.declared.Got.{Got}
 use Rattle.reader.specs.declared.Going.{Going}
+use Rattle.reader.specs.declared.Taking.{Taking}
 use Rattle.reader.specs.declared.Taken.{Taken}
 use Rattle.reader.specs.declared.Ahead.{Ahead}
 use Rattle.reader.specs.declared.Ahead.the-variants.{Nothing, Broken, Cut, Whole}
@@ -21,7 +22,7 @@ use Rattle.reader.specs.Mode.{Mode, off, scan, heading, body, full, runn
 use Rattle.reader.specs.State.{storeLength, modeOf, runOf, heldOf}
 use Rattle.reader.specs.Acting.{State, dropIf, readMode, readBlocks, readDrops, rowState, rowBlocks, rowDrops, act, handed, dropped}
 use Rattle.reader.specs.Seen.{Seen}
-use Rattle.reader.specs.Feeding.{room}
+use Rattle.reader.specs.Feeding.{room, Ran}
 use Rattle.reader.specs.Places.{Found, nothing, broken, cut, whole, fillers, zeroed}
 
 -- a mode that a reader may be in between two steps
@@ -149,3 +150,14 @@ Acted seen st = Stepped (act st seen) (handed st seen) (dropped st seen)
 -- packet y has come to our page, n packets long, `last` the last that came
 abbrev pub Rowed : ℕ → ℕ → ℕ → ℕ → List ℕ → State → Going → Going → List ℕ → List ℕ → List ℕ → Type 0
 Rowed n last y p l st = Stepped (rowState n last st y p l) (rowBlocks n last st y p l) (rowDrops n last st y p l)
+
+-- packets taken one after the other have come to b
+pub record RanTo (b : Ran) (r : Taking) (store old new : List ℕ) : Type 0 where
+  pub packets : r .packets ≡ b .packets
+  pub page : r .going .page ≡ b .state .page
+  pub index : r .going .index ≡ b .state .index
+  pub holds : Holds (b .state .mode) (r .going .got .run) store
+  pub blocks : r .going .got .blocks ≡ length (b .blocks)
+  pub written : r .going .got .written ≡ length (recordsOf (b .blocks))
+  pub dropped : r .going .got .dropped ≡ b .dropped
+  pub out : new ≡ sets old 0 (recordsOf (b .blocks))

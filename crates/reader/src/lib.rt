@@ -3,9 +3,9 @@
 use answer::Refusal;
 use guide::Setting;
 ghost use mathlib.Core.Path.{_≡_};
-ghost use mathlib.Core.Bool.{true, not};
+ghost use mathlib.Core.Bool.{true, false, not};
 ghost use mathlib.Core.List.{List, []};
-ghost use Prim.Native.Nat.{ℕ, _+_, _-_, _*_, _%_, _≤_};
+ghost use Prim.Native.Nat.{ℕ, _+_, _-_, _*_, _/_, _%_, _≤_};
 ghost use lib.Dec.{eqb, leb, ltb};
 ghost use lib.ListN.{length, getD, take, drop, replicate};
 ghost use lib.Seq.{sets};
@@ -20,8 +20,8 @@ ghost use Rattle.reader.specs.Mode.{body};
 ghost use Rattle.reader.specs.State.{modeOf, zeros, pageInRange, runInRange, readerInRange, readerOf, freshState};
 ghost use Rattle.reader.specs.Acting.{dropIf, incomplete, wrongY};
 ghost use Rattle.reader.specs.declared.Page.the-variants.{Shut, Open};
-ghost use Rattle.reader.specs.Feeding.{feedHeard, feedReader, feedOut};
-ghost use Rattle.reader.specs.Holding.{aheadIn, nextOf, blockWith, Holds, Kept, TookIn, Room, Finished, CarriedTo, CarriedOn, Flowed, RowRoom, ReadRow, Turned, Acted, Rowed, stateIn, runs, Sixteen, stands};
+ghost use Rattle.reader.specs.Feeding.{feedHeard, feedReader, feedOut, begun, run, feedAllHeard, feedAllReader, feedAllOut};
+ghost use Rattle.reader.specs.Holding.{aheadIn, nextOf, blockWith, Holds, Kept, TookIn, Room, Finished, CarriedTo, CarriedOn, Flowed, RowRoom, ReadRow, Turned, Acted, Rowed, RanTo, stateIn, runs, Sixteen, stands};
 
 // The page of ours that is open, if one is: how many packets follow its packet 0, and the number of
 // the last one that came.
@@ -94,6 +94,12 @@ struct Going {
     page: Page,
     index: u8,
     got: Got,
+}
+
+// The same, and how many packets.
+struct Taking {
+    going: Going,
+    packets: usize,
 }
 
 // A running block that has taken its bytes, and the place past them.
@@ -828,6 +834,109 @@ pub fn feed(setting: Setting, reader: Reader, packet: &[u8], out: &mut [u8]) -> 
     let now_running = got.run;
     Fed {
         heard: Heard::Took {
+            blocks: got.blocks,
+            written: got.written,
+            dropped: got.dropped,
+        },
+        reader: Reader {
+            page: now_open,
+            index: a.index,
+            run: now_running,
+            store: store,
+        },
+    }
+}
+
+// Packets of 42 bytes one after the other, while there is room for what one can give.
+fn take_all(
+    setting: Setting,
+    from: Going,
+    store: &mut [u8; 2047],
+    packets: &[u8],
+    out: &mut [u8],
+) -> Taking
+    requires { ⌜ Kept (from .got .run) (now store) ⌝ }
+    requires { ⌜ length (now packets) % packetLength ≡ 0 ⌝ }
+    requires { ⌜ (from .got .blocks ≡ 0) × (from .got .written ≡ 0) × (from .got .dropped ≡ false) ⌝ }
+    ensures { λ r. ⌜ RanTo (run setting (length (now (out .entry))) (length (now (packets .entry)) / packetLength) (begun (stateIn from (now (store .entry)))) (now (packets .entry))) r (now (store .exit)) (now (out .entry)) (now (out .exit)) ⌝ }
+    ensures { λ r. ⌜ r .going .got .written ≤ length (now (out .entry)) ⌝ }
+{
+    let mut a = from;
+    let mut at = 0;
+    let mut count = 0;
+    while at < packets.len() {
+        let got = a.got;
+        let q = got.written;
+        if out.len() - q < 2112 {
+            return Taking {
+                going: a,
+                packets: count,
+            };
+        }
+        let end = at + 42;
+        a = step(setting, a, store, &packets[at..end], out);
+        at = end;
+        count += 1;
+    }
+    Taking {
+        going: a,
+        packets: count,
+    }
+}
+
+// A row of packets of 42 bytes, taken as by `feed` one after the other, while at least 2,112 bytes of
+// the output are left. Refused with 16 where the setting or the state is out of range or the row isn't
+// whole packets: the output and the reader are then as they were. The state is tested once, and it is
+// copied in and out once.
+pub fn feed_all(setting: Setting, reader: Reader, packets: &[u8], out: &mut [u8]) -> FedAll
+    ensures { λ r. ⌜ r .heard ≡ feedAllHeard setting reader (now (packets .entry)) (now (out .entry)) ⌝ }
+    ensures { λ r. ⌜ r .reader ≡ feedAllReader setting reader (now (packets .entry)) (now (out .entry)) ⌝ }
+    ensures { λ r. ⌜ now (out .exit) ≡ feedAllOut setting reader (now (packets .entry)) (now (out .entry)) ⌝ }
+{
+    if !guide::is_in_range(setting) {
+        return FedAll {
+            heard: HeardAll::RefusedAll(Refusal { no: 16, at: 0 }),
+            reader: reader,
+        };
+    }
+    let page = reader.page;
+    let run = reader.run;
+    let mut store = reader.store;
+    if !in_range(page, reader.index, run, &store) {
+        return FedAll {
+            heard: HeardAll::RefusedAll(Refusal { no: 16, at: 0 }),
+            reader: reader,
+        };
+    }
+    if packets.len() % 42 != 0 {
+        return FedAll {
+            heard: HeardAll::RefusedAll(Refusal { no: 16, at: 0 }),
+            reader: reader,
+        };
+    }
+    let t = take_all(
+        setting,
+        Going {
+            page: page,
+            index: reader.index,
+            got: Got {
+                run: run,
+                blocks: 0,
+                written: 0,
+                dropped: false,
+            },
+        },
+        &mut store,
+        packets,
+        out,
+    );
+    let a = t.going;
+    let got = a.got;
+    let now_open = a.page;
+    let now_running = got.run;
+    FedAll {
+        heard: HeardAll::TookAll {
+            packets: t.packets,
             blocks: got.blocks,
             written: got.written,
             dropped: got.dropped,

@@ -116,11 +116,11 @@ fn judge_front(size: usize, body: &[u8]) -> Answer
     if good != 8 {
         return refuse(10, HEAD + good);
     }
-    let kind = fields::field_at(body, 18, 6);
+    let kind = fields::field_of(body, 18, 6);
     if !known(kind) {
         return refuse(12, 0);
     }
-    if fields::field_at(body, 24, 2) != 0 {
+    if fields::field_of(body, 24, 2) != 0 {
         return refuse(12, 0);
     }
     if size % 2 != 0 {
@@ -137,7 +137,7 @@ fn judge_whole(head: usize, body: &[u8]) -> Answer
     if good != body.len() {
         return refuse(10, HEAD + good);
     }
-    if fields::field_at(body, 0, 8) != checksum(head, body) {
+    if fields::field_of(body, 0, 8) != checksum(head, body) {
         return refuse(11, 0);
     }
     Answer::Done(0)
@@ -152,24 +152,24 @@ fn judge_lengths(size: usize, body: &[u8]) -> Answer
 {
     let bits = measure(body);
     let control = (bits + 7) / 8;
-    if fields::field_at(body, 8, 10) != control {
+    if fields::field_of(body, 8, 10) != control {
         return refuse(14, 0);
     }
     if size != 2 * control {
         return refuse(14, 0);
     }
-    Answer::Done(6 + (bits - 58 + 6 * fields::field_at(body, 52, 6)) / 8)
+    Answer::Done(6 + (bits - 58 + 6 * fields::field_of(body, 52, 6)) / 8)
 }
 
 // The bits of the table that a block holds, by its counts as they stand.
 fn measure(body: &[u8]) -> usize
     ensures { λ r. ⌜ (r ≡ bits (tableOf (compound (now (body .entry))))) × (r ≤ 46048) ⌝ }
 {
-    let kind = fields::field_at(body, 18, 6);
-    let mut left = fields::field_at(body, 52, 6);
+    let kind = fields::field_of(body, 18, 6);
+    let mut left = fields::field_of(body, 52, 6);
     let mut at = 58;
     while 0 < left {
-        let words = words_of(kind, fields::field_at(body, at + 6, 4));
+        let words = words_of(kind, fields::field_of(body, at + 6, 4));
         at += 10 + 24 * words;
         left -= 1;
     }
@@ -217,11 +217,11 @@ fn write_opening(body: &[u8], out: &mut [u8])
     requires { ⌜ 6 ≤ length (now out) ⌝ }
     ensures { λ _. ⌜ now (out .exit) ≡ sets (now (out .entry)) 0 (openingOf (tableOf (compound (now (body .entry))))) ⌝ }
 {
-    let kind = (fields::field_at(body, 18, 6) % 256) as u8;
-    let copyright = (fields::field_at(body, 26, 1) % 256) as u8;
-    let block = fields::field_at(body, 28, 16);
-    let network = (fields::field_at(body, 44, 8) % 256) as u8;
-    let count = (fields::field_at(body, 52, 6) % 256) as u8;
+    let kind = (fields::field_of(body, 18, 6) % 256) as u8;
+    let copyright = (fields::field_of(body, 26, 1) % 256) as u8;
+    let block = fields::field_of(body, 28, 16);
+    let network = (fields::field_of(body, 44, 8) % 256) as u8;
+    let count = (fields::field_of(body, 52, 6) % 256) as u8;
     let low = (block % 256) as u8;
     let high = (block / 256 % 256) as u8;
     out[0] = kind;
@@ -240,8 +240,8 @@ fn write_descriptors(body: &[u8], out: &mut [u8])
         ≡ sets (now (out .entry)) 6
         (listed (tableOf (compound (now (body .entry))) .kind) (tableOf (compound (now (body .entry))) .descriptors)) ⌝ }
 {
-    let kind = fields::field_at(body, 18, 6);
-    let mut left = fields::field_at(body, 52, 6);
+    let kind = fields::field_of(body, 18, 6);
+    let mut left = fields::field_of(body, 52, 6);
     let mut at = 58;
     let mut q = 6;
     while 0 < left {
@@ -264,8 +264,8 @@ fn write_descriptor(body: &[u8], kind: usize, at: usize, out: &mut [u8], q: usiz
         ∷ field (at + 6) 4 (compound (now (body .entry)))
         ∷ spelled (parts 24 r (compound (now (body .entry)) / 2 ^ (at + 10))))) ⌝ }
 {
-    let id = fields::field_at(body, at, 6);
-    let entries = fields::field_at(body, at + 6, 4);
+    let id = fields::field_of(body, at, 6);
+    let entries = fields::field_of(body, at + 6, 4);
     let words = words_of(kind, entries);
     out[q] = (id % 256) as u8;
     out[q + 1] = (entries % 256) as u8;
@@ -283,7 +283,7 @@ fn write_words(body: &[u8], from: usize, k: usize, out: &mut [u8], q: usize)
     let mut p = q;
     let mut left = k;
     while 0 < left {
-        let w = fields::field_at(body, at, 24);
+        let w = fields::field_of(body, at, 24);
         write_word(w, out, p);
         at += 24;
         p += 3;

@@ -12,8 +12,9 @@ use Rattle.laws.specs.Pick.{pick}
 use Rattle.laws.proofs.Tests.{either-first}
 use Rattle.answer.specs.Rules.{Rule, judged, Every, none, more, First}
 use Rattle.answer.specs.Values.{refusal}
-use Rattle.answer.proofs.Judging.{passes, refuses, decided}
-use Rattle.answer.proofs.Answering.{every-head, every-tail, every-left, every-right, every-join}
+use Rattle.answer.proofs.Judging.{passes, refuses, decided, every-append}
+use Rattle.answer.proofs.Lent.{front-holds, back-holds}
+use Rattle.answer.proofs.Steps.{first-holds, others-hold}
 use Rattle.units.specs.declared.DataUnit.{DataUnit}
 use Rattle.units.specs.Units.{byteAt, textId, stuffingId, lineFits, framing, nextUnit, unitRules, textRules, rulesAt, badUnit, unitAt}
 
@@ -22,7 +23,7 @@ use Rattle.units.specs.Units.{byteAt, textId, stuffingId, lineFits, fram
 pub unit-ends : (pes : List ℕ) (at : ℕ) → Every (rulesAt pes at) → nextUnit pes at ≤ length pes
 unfolding unitRules
 unit-ends pes at e =
-    leb-true _ _ (every-head (every-tail (every-tail (every-left (unitRules pes at) (pick (stuffingId (byteAt pes at)) [] (textRules pes at)) e))))
+    leb-true _ _ (first-holds (others-hold (others-hold (front-holds (unitRules pes at) (pick (stuffingId (byteAt pes at)) [] (textRules pes at)) e))))
 
 -- a text unit
 pub record TextUnit (pes : List ℕ) (at : ℕ) : Type 0 where
@@ -34,13 +35,13 @@ pub record TextUnit (pes : List ℕ) (at : ℕ) : Type 0 where
 pub text-unit : (pes : List ℕ) (at : ℕ) → stuffingId (byteAt pes at) ≡ false → Every (rulesAt pes at) → TextUnit pes at
 unfolding unitRules textRules
 text-unit pes at s e =
-    let u = every-left (unitRules pes at) (pick (stuffingId (byteAt pes at)) [] (textRules pes at)) e in
-    let t : Every (textRules pes at) = subst (λ (b : Bool). Every (pick b [] (textRules pes at))) s (every-right (unitRules pes at) _ e) in
-    let sized : byteAt pes (at + 1) ≡ 44 = eqb-true _ _ (every-head t) in
+    let u = front-holds (unitRules pes at) (pick (stuffingId (byteAt pes at)) [] (textRules pes at)) e in
+    let t : Every (textRules pes at) = subst (λ (b : Bool). Every (pick b [] (textRules pes at))) s (back-holds (unitRules pes at) _ e) in
+    let sized : byteAt pes (at + 1) ≡ 44 = eqb-true _ _ (first-holds t) in
     let n : nextUnit pes at ≡ at + 46 = omega (arith, sized) in
     record {
-      id = either-first _ (stuffingId (byteAt pes at)) (every-head (every-tail u)) s;
-      line = every-head (every-tail t);
+      id = either-first _ (stuffingId (byteAt pes at)) (first-holds (others-hold u)) s;
+      line = first-holds (others-hold t);
       next = n;
       ends = omega (arith, n, unit-ends pes at e);
     }
@@ -112,7 +113,7 @@ whole-text pes at i l b f h =
       within = omega arith;
       kind = s;
       every =
-          every-join (more (le-leb (at + 2) (length pes) (omega arith)) (more (rw i) (more (le-leb (nextUnit pes at) (length pes) (omega (arith, n))) none)))
+          every-append (more (le-leb (at + 2) (length pes) (omega arith)) (more (rw i) (more (le-leb (nextUnit pes at) (length pes) (omega (arith, n))) none)))
           (subst (λ (t : Bool). Every (pick t [] (textRules pes at))) (sym s) (more (eq-eqb _ _ l) (more b (more (eq-eqb _ _ f) none))));
       after = sym n;
     }
@@ -125,7 +126,7 @@ whole-stuffing pes at i h n =
       within = omega arith;
       kind = s;
       every =
-          every-join (more (le-leb _ _ h) (more (rw i) (more (le-leb _ _ n) none)))
+          every-append (more (le-leb _ _ h) (more (rw i) (more (le-leb _ _ n) none)))
           (subst (λ (t : Bool). Every (pick t [] (textRules pes at))) (sym s) none);
       after = refl;
     }

@@ -5,7 +5,8 @@ use mathlib.Core.Path.{_≡_, _∙_}
 use Prim.Native.Nat.{_-_, _≤_}
 use lib.ListN.{length, length-set}
 use denote.Ref.{now}
-use Rattle.pes.proofs.Runs.{fillLeft, fill-step, fill-whole}
+use Rattle.laws.proofs.Runs.{sets-run}
+use Rattle.pes.proofs.Runs.{fillLeft, fill-whole}
 use Rattle.pes.proofs.fill.Statement.{statement}
 use Rattle.pes.proofs.fill.Tie as tie
 
@@ -35,7 +36,7 @@ loop-again : tie.Need-loop-again Inv-loop μ-loop
 loop-again c =
     let l = c .before .loop in
     let a = c .before .before .args in
-    (search needs, simp length-set (l .inv .1), fill-step (a .count) (l .i) (a .from) (l .out) (search needs) ∙ l .inv .2)
+    (search needs, simp length-set (l .inv .1), sets-run (l .out) (a .from) (l .i) (a .count) 0xFF (search needs) ∙ l .inv .2)
 
 same-length : tie.Need-same-length Inv-loop μ-loop
 same-length c = search needs

@@ -1,7 +1,11 @@
 -- `pes::judge_records` meets its contract: each test is a rule, or half of one, and they come in their order. Assumes nothing.
 use borrow.Author.Needs.{needs}
 use borrow.Author.Tests.{le-leb, lt-leb, eq-eqb, ne-eqb, not-true, not-false}
+use mathlib.Core.Path.{sym, ap}
+use denote.Ref.{now}
+use Rattle.answer.specs.declared.Answer.the-variants.{Done}
 use Rattle.pes.specs.Writing.{writeRules}
+use Rattle.pes.proofs.Making.{packet-length}
 use Rattle.pes.proofs.judge_records.Statement.{statement}
 use Rattle.pes.proofs.judge_records.Tie as tie
 
@@ -41,11 +45,18 @@ returns-4 c =
       not-true (c .before .records-fit .result) (c .if4 .taken),
     )
 
+add-t8 : tie.Need-add-t8
+add-t8 c = search needs
+
+mul-t12 : tie.Need-mul-t12
+mul-t12 c = search needs
+
 returns-5 : tie.Need-returns-5
 unfolding writeRules
 returns-5 c =
     let e = c .before .before in
     let d = e .before .before in
+    let a = d .before .before .before .args in
     rw (
       ← (d .before .is-ebu .ensures),
       not-false (d .before .is-ebu .result) (d .if1 .left),
@@ -53,9 +64,9 @@ returns-5 c =
       le-leb _ _ (e .if3 .left),
       ← (c .before .records-fit .ensures),
       not-false (c .before .records-fit .result) (c .if4 .left),
-    )
+    ) (ap Done (sym (packet-length (a .d) (now (a .records)))))
 
 pub judge-records-spec : {M : Type 1} → statement M
 judge-records-spec =
     tie.close
-    (tie.spec is-ebu-requires returns returns-2 returns-3 records-fit-requires returns-4 returns-5)
+    (tie.spec is-ebu-requires returns returns-2 returns-3 records-fit-requires returns-4 add-t8 mul-t12 returns-5)

@@ -37,8 +37,8 @@ returns c =
     let e : c .before .before .sound .result ≡ sound (take 8 (map nib s)) = c .before .before .sound .ensures ∙ ap sound (map-take nib 8 s) in
     rw e at (c .refuse .ensures) ∙ sym (front-10 _ (map nib s) _ (rw e at (c .before .if1 .taken)))
 
-field-at-requires : tie.Need-field-at-requires
-field-at-requires c κs = search needs
+field-of-requires : tie.Need-field-of-requires
+field-of-requires c κs = search needs
 
 known-requires : tie.Need-known-requires
 known-requires c κs = search needs
@@ -50,11 +50,11 @@ returns-2 : tie.Need-returns-2
 returns-2 c =
     let s : List ℕ = now (c .before .before .before .before .before .before .before .before .args .body) in
     let e : c .before .before .before .before .before .sound .result ≡ sound (take 8 (map nib s)) = c .before .before .before .before .before .sound .ensures ∙ ap sound (map-take nib 8 s) in
-    let k = c .before .before .known .ensures ∙ ap known (c .before .before .before .field-at .ensures .0) in
+    let k = c .before .before .known .ensures ∙ ap known (c .before .before .before .field-of .ensures .0) in
     c .refuse2 .ensures ∙ sym (front-12 _ (map nib s) _ (sym e ∙ c .before .before .before .before .if1 .left) (sym k ∙ not-true _ (c .before .if2 .taken)))
 
-field-at-requires-2 : tie.Need-field-at-requires-2
-field-at-requires-2 c κs = search needs
+field-of-requires-2 : tie.Need-field-of-requires-2
+field-of-requires-2 c κs = search needs
 
 refuse-requires-3 : tie.Need-refuse-requires-3
 refuse-requires-3 c κs = search needs
@@ -63,8 +63,8 @@ returns-3 : tie.Need-returns-3
 returns-3 c =
     let s : List ℕ = now (c .before .before .before .before .before .before .before .before .before .before .args .body) in
     let e : c .before .before .before .before .before .before .before .sound .result ≡ sound (take 8 (map nib s)) = c .before .before .before .before .before .before .before .sound .ensures ∙ ap sound (map-take nib 8 s) in
-    let k = c .before .before .before .before .known .ensures ∙ ap known (c .before .before .before .before .before .field-at .ensures .0) in
-    c .refuse3 .ensures ∙ sym (front-12′ _ (map nib s) _ (sym e ∙ c .before .before .before .before .before .before .if1 .left) (sym k ∙ not-false _ (c .before .before .before .if2 .left)) (rw (c .before .before .field-at2 .ensures .0) at (c .before .if3 .taken)))
+    let k = c .before .before .before .before .known .ensures ∙ ap known (c .before .before .before .before .before .field-of .ensures .0) in
+    c .refuse3 .ensures ∙ sym (front-12′ _ (map nib s) _ (sym e ∙ c .before .before .before .before .before .before .if1 .left) (sym k ∙ not-false _ (c .before .before .before .if2 .left)) (rw (c .before .before .field-of2 .ensures .0) at (c .before .if3 .taken)))
 
 refuse-requires-4 : tie.Need-refuse-requires-4
 refuse-requires-4 c κs = search needs
@@ -73,15 +73,15 @@ returns-4 : tie.Need-returns-4
 returns-4 c =
     let s : List ℕ = now (c .before .before .before .before .before .before .before .before .before .before .before .args .body) in
     let e : c .before .before .before .before .before .before .before .before .sound .result ≡ sound (take 8 (map nib s)) = c .before .before .before .before .before .before .before .before .sound .ensures ∙ ap sound (map-take nib 8 s) in
-    let k = c .before .before .before .before .before .known .ensures ∙ ap known (c .before .before .before .before .before .before .field-at .ensures .0) in
-    c .refuse4 .ensures ∙ sym (front-13 _ (map nib s) _ (sym e ∙ c .before .before .before .before .before .before .before .if1 .left) (sym k ∙ not-false _ (c .before .before .before .before .if2 .left)) (sym (c .before .before .before .field-at2 .ensures .0) ∙ c .before .before .if3 .left) (c .before .if4 .taken))
+    let k = c .before .before .before .before .before .known .ensures ∙ ap known (c .before .before .before .before .before .before .field-of .ensures .0) in
+    c .refuse4 .ensures ∙ sym (front-13 _ (map nib s) _ (sym e ∙ c .before .before .before .before .before .before .before .if1 .left) (sym k ∙ not-false _ (c .before .before .before .before .if2 .left)) (sym (c .before .before .before .field-of2 .ensures .0) ∙ c .before .before .if3 .left) (c .before .if4 .taken))
 
 returns-5 : tie.Need-returns-5
 returns-5 c =
     let s : List ℕ = now (c .before .before .before .before .before .before .before .before .before .before .args .body) in
     let e : c .before .before .before .before .before .before .before .sound .result ≡ sound (take 8 (map nib s)) = c .before .before .before .before .before .before .before .sound .ensures ∙ ap sound (map-take nib 8 s) in
-    let k = c .before .before .before .before .known .ensures ∙ ap known (c .before .before .before .before .before .field-at .ensures .0) in
-    sym (front-done _ (map nib s) _ (sym e ∙ c .before .before .before .before .before .before .if1 .left) (sym k ∙ not-false _ (c .before .before .before .if2 .left)) (sym (c .before .before .field-at2 .ensures .0) ∙ c .before .if3 .left) (c .if4 .left))
+    let k = c .before .before .before .before .known .ensures ∙ ap known (c .before .before .before .before .before .field-of .ensures .0) in
+    sym (front-done _ (map nib s) _ (sym e ∙ c .before .before .before .before .before .before .if1 .left) (sym k ∙ not-false _ (c .before .before .before .if2 .left)) (sym (c .before .before .field-of2 .ensures .0) ∙ c .before .if3 .left) (c .if4 .left))
 
 pub judge-front-spec : {M : Type 1} → statement M
 judge-front-spec =
@@ -92,11 +92,11 @@ judge-front-spec =
     add-refuse
     refuse-requires
     returns
-    field-at-requires
+    field-of-requires
     known-requires
     refuse-requires-2
     returns-2
-    field-at-requires-2
+    field-of-requires-2
     refuse-requires-3
     returns-3
     refuse-requires-4

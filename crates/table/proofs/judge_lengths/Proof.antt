@@ -18,8 +18,8 @@ measure-requires c κs = search needs
 add-control : tie.Need-add-control
 add-control c = search needs
 
-field-at-requires : tie.Need-field-at-requires
-field-at-requires c κs = search needs
+field-of-requires : tie.Need-field-of-requires
+field-of-requires c κs = search needs
 
 refuse-requires : tie.Need-refuse-requires
 refuse-requires c κs = search needs
@@ -28,7 +28,7 @@ returns : tie.Need-returns
 returns c =
     let n = compound (now (c .before .before .before .before .before .args .body)) in
     c .refuse .ensures
-    ∙ sym (lengths-14 _ n _ (rw (c .before .before .field-at .ensures .0, c .before .before .before .measure .ensures .0) at (c .before .if1 .taken)))
+    ∙ sym (lengths-14 _ n _ (rw (c .before .before .field-of .ensures .0, c .before .before .before .measure .ensures .0) at (c .before .if1 .taken)))
 
 mul-if2 : tie.Need-mul-if2
 mul-if2 c = search needs
@@ -41,21 +41,21 @@ returns-2 c =
     let n = compound (now (c .before .before .before .before .before .before .args .body)) in
     let e = c .before .before .before .before .measure .ensures .0 in
     c .refuse2 .ensures
-    ∙ sym (lengths-14′ _ n _ (rw (c .before .before .before .field-at .ensures .0, e) at (c .before .before .if1 .left)) (rw e at (c .before .if2 .taken)))
+    ∙ sym (lengths-14′ _ n _ (rw (c .before .before .before .field-of .ensures .0, e) at (c .before .before .if1 .left)) (rw e at (c .before .if2 .taken)))
 
 sub-t5 : tie.Need-sub-t5
 sub-t5 c =
     let n = compound (now (c .before .before .before .before .before .args .body)) in
     omega (arith, bits-of (tableOf n), c .before .before .before .measure .ensures .0)
 
-field-at-requires-2 : tie.Need-field-at-requires-2
-field-at-requires-2 c κs = search needs
+field-of-requires-2 : tie.Need-field-of-requires-2
+field-of-requires-2 c κs = search needs
 
 mul-t8 : tie.Need-mul-t8
-mul-t8 c = omega (arith, c .field-at2 .ensures .1)
+mul-t8 c = omega (arith, c .field-of2 .ensures .1)
 
 add-t9 : tie.Need-add-t9
-add-t9 c = omega (arith, c .field-at2 .ensures .1, c .before .before .before .before .measure .ensures .1)
+add-t9 c = omega (arith, c .field-of2 .ensures .1, c .before .before .before .before .measure .ensures .1)
 
 add-t11 : tie.Need-add-t11
 add-t11 c = search needs
@@ -64,8 +64,8 @@ returns-3 : tie.Need-returns-3
 returns-3 c =
     let n = compound (now (c .before .before .before .before .before .before .args .body)) in
     let e = c .before .before .before .before .measure .ensures .0 in
-    ap Done (form-need n _ _ e (c .field-at2 .ensures .0))
-    ∙ sym (lengths-done _ n _ (rw (c .before .before .before .field-at .ensures .0, e) at (c .before .before .if1 .left)) (rw e at (c .before .if2 .left)))
+    ap Done (form-need n _ _ e (c .field-of2 .ensures .0))
+    ∙ sym (lengths-done _ n _ (rw (c .before .before .before .field-of .ensures .0, e) at (c .before .before .if1 .left)) (rw e at (c .before .if2 .left)))
 
 pub judge-lengths-spec : {M : Type 1} → statement M
 judge-lengths-spec =
@@ -73,14 +73,14 @@ judge-lengths-spec =
     (tie.spec
     measure-requires
     add-control
-    field-at-requires
+    field-of-requires
     refuse-requires
     returns
     mul-if2
     refuse-requires-2
     returns-2
     sub-t5
-    field-at-requires-2
+    field-of-requires-2
     mul-t8
     add-t9
     add-t11

@@ -30,8 +30,8 @@ returns c =
     rw (c .before .before .sound .ensures) at (c .refuse .ensures)
     ∙ sym (whole-10 _ (map nib s) _ (rw (c .before .before .sound .ensures, ← length-map s nib) at (c .before .if1 .taken)))
 
-field-at-requires : tie.Need-field-at-requires
-field-at-requires c κs = search needs
+field-of-requires : tie.Need-field-of-requires
+field-of-requires c κs = search needs
 
 checksum-requires : tie.Need-checksum-requires
 checksum-requires c κs = search needs
@@ -46,7 +46,7 @@ returns-2 c =
     ∙ sym
     (whole-11 _ (map nib s) _
     (rw (c .before .before .before .before .before .sound .ensures, ← length-map s nib) at (c .before .before .before .before .if1 .left))
-    (rw (c .before .before .before .field-at .ensures .0, c .before .before .checksum .ensures) at (c .before .if2 .taken)))
+    (rw (c .before .before .before .field-of .ensures .0, c .before .before .checksum .ensures) at (c .before .if2 .taken)))
 
 returns-3 : tie.Need-returns-3
 returns-3 c =
@@ -54,7 +54,7 @@ returns-3 c =
     sym
     (whole-done _ (map nib s) _
     (rw (c .before .before .before .before .sound .ensures, ← length-map s nib) at (c .before .before .before .if1 .left))
-    (rw (c .before .before .field-at .ensures .0, c .before .checksum .ensures) at (c .if2 .left)))
+    (rw (c .before .before .field-of .ensures .0, c .before .checksum .ensures) at (c .if2 .left)))
 
 pub judge-whole-spec : {M : Type 1} → statement M
 judge-whole-spec =
@@ -64,7 +64,7 @@ judge-whole-spec =
     add-refuse
     refuse-requires
     returns
-    field-at-requires
+    field-of-requires
     checksum-requires
     refuse-requires-2
     returns-2

@@ -21,36 +21,36 @@ Inv-loop body kind left₀ at₀ left at =
 abbrev μ-loop : tie.MeasureT-loop
 μ-loop body kind left₀ at₀ left at = left
 
-field-at-requires : tie.Need-field-at-requires Inv-loop μ-loop
-field-at-requires c κs = search needs
+field-of-requires : tie.Need-field-of-requires Inv-loop μ-loop
+field-of-requires c κs = search needs
 
-field-at-requires-2 : tie.Need-field-at-requires-2 Inv-loop μ-loop
-field-at-requires-2 c κs = search needs
+field-of-requires-2 : tie.Need-field-of-requires-2 Inv-loop μ-loop
+field-of-requires-2 c κs = search needs
 
 loop-holds : tie.Need-loop-holds Inv-loop μ-loop
 loop-holds c =
     let n = compound (now (c .before .before .before .args .body)) in (
-      omega (arith, c .field-at2 .ensures .1),
-      rw (c .before .field-at .ensures .0, c .field-at2 .ensures .0) (unfold tableOf in sym (bits-of (tableOf n))),
+      omega (arith, c .field-of2 .ensures .1),
+      rw (c .before .field-of .ensures .0, c .field-of2 .ensures .0) (unfold tableOf in sym (bits-of (tableOf n))),
     )
 
-add-field-at : tie.Need-add-field-at Inv-loop μ-loop
-add-field-at c = search needs
+add-field-of : tie.Need-add-field-of Inv-loop μ-loop
+add-field-of c = search needs
 
-field-at-requires-3 : tie.Need-field-at-requires-3 Inv-loop μ-loop
-field-at-requires-3 c κs = search needs
+field-of-requires-3 : tie.Need-field-of-requires-3 Inv-loop μ-loop
+field-of-requires-3 c κs = search needs
 
 words-of-requires : tie.Need-words-of-requires Inv-loop μ-loop
 words-of-requires c κs = search needs
 
 mul-at : tie.Need-mul-at Inv-loop μ-loop
-mul-at c = omega (arith, c .words-of .ensures .1, c .before .field-at3 .ensures .1)
+mul-at c = omega (arith, c .words-of .ensures .1, c .before .field-of3 .ensures .1)
 
 add-at : tie.Need-add-at Inv-loop μ-loop
-add-at c = omega (arith, c .words-of .ensures .1, c .before .field-at3 .ensures .1)
+add-at c = omega (arith, c .words-of .ensures .1, c .before .field-of3 .ensures .1)
 
 add-at-2 : tie.Need-add-at-2 Inv-loop μ-loop
-add-at-2 c = omega (arith, c .words-of .ensures .1, c .before .field-at3 .ensures .1, c .before .before .before .loop .inv .0)
+add-at-2 c = omega (arith, c .words-of .ensures .1, c .before .field-of3 .ensures .1, c .before .before .before .loop .inv .0)
 
 sub-left : tie.Need-sub-left Inv-loop μ-loop
 sub-left c = search needs
@@ -62,17 +62,17 @@ loop-again : tie.Need-loop-again Inv-loop μ-loop
 loop-again c =
     let l = c .before .before .before .loop in
     let n = compound (now (c .before .before .before .before .before .before .before .args .body)) in (
-      omega (arith, c .words-of .ensures .1, c .before .field-at3 .ensures .1),
-      walk-on (c .before .before .before .before .before .field-at .result) (l .left) n (l .at) (c .before .field-at3 .result)
-          (c .words-of .result) (bits (tableOf n)) (search needs) (c .before .field-at3 .ensures .0)
-          (words-counted _ _ _ _ (c .words-of .ensures .0) (omega (arith, c .before .field-at3 .ensures .1)) refl) (l .inv .1),
+      omega (arith, c .words-of .ensures .1, c .before .field-of3 .ensures .1),
+      walk-on (c .before .before .before .before .before .field-of .result) (l .left) n (l .at) (c .before .field-of3 .result)
+          (c .words-of .result) (bits (tableOf n)) (search needs) (c .before .field-of3 .ensures .0)
+          (words-counted _ _ _ _ (c .words-of .ensures .0) (omega (arith, c .before .field-of3 .ensures .1)) refl) (l .inv .1),
     )
 
 returns : tie.Need-returns Inv-loop μ-loop
 returns c =
     let l = c .before .loop in
     let n = compound (now (c .before .before .before .before .before .args .body)) in (
-      walk-end (c .before .before .before .field-at .result) (l .left) n (l .at) (bits (tableOf n)) (search needs) (l .inv .1),
+      walk-end (c .before .before .before .field-of .result) (l .left) n (l .at) (bits (tableOf n)) (search needs) (l .inv .1),
       search needs,
     )
 
@@ -82,11 +82,11 @@ measure-spec =
     (tie.spec
     Inv-loop
     μ-loop
-    field-at-requires
-    field-at-requires-2
+    field-of-requires
+    field-of-requires-2
     loop-holds
-    add-field-at
-    field-at-requires-3
+    add-field-of
+    field-of-requires-3
     words-of-requires
     mul-at
     add-at

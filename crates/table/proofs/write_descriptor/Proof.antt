@@ -14,14 +14,14 @@ use Rattle.table.specs.Form.{spelled}
 use Rattle.table.proofs.write_descriptor.Statement.{statement}
 use Rattle.table.proofs.write_descriptor.Tie as tie
 
-field-at-requires : tie.Need-field-at-requires
-field-at-requires c κs = search needs
+field-of-requires : tie.Need-field-of-requires
+field-of-requires c κs = search needs
 
-add-field-at : tie.Need-add-field-at
-add-field-at c = search needs
+add-field-of : tie.Need-add-field-of
+add-field-of c = search needs
 
-field-at-requires-2 : tie.Need-field-at-requires-2
-field-at-requires-2 c κs = search needs
+field-of-requires-2 : tie.Need-field-of-requires-2
+field-of-requires-2 c κs = search needs
 
 words-of-requires : tie.Need-words-of-requires
 words-of-requires c κs = search needs
@@ -51,9 +51,9 @@ write-words-requires : tie.Need-write-words-requires
 write-words-requires c κs =
     let a = c .before .before .before .before .before .before .args in
     let e : c .before .words-of .result ≡ per (a .kind) * field (a .at + 6) 4 (compound (now (a .body))) =
-    words-counted _ _ _ _ (c .before .words-of .ensures .0) (omega (arith, c .before .before .field-at2 .ensures .1)) (c .before .before .field-at2 .ensures .0) in
+    words-counted _ _ _ _ (c .before .words-of .ensures .0) (omega (arith, c .before .before .field-of2 .ensures .1)) (c .before .before .field-of2 .ensures .0) in
     simp length-set
-    (omega (arith, c .before .words-of .ensures .1, c .before .before .field-at2 .ensures .1, c .before .before .before .before .before .before .pre))
+    (omega (arith, c .before .words-of .ensures .1, c .before .before .field-of2 .ensures .1, c .before .before .before .before .before .before .pre))
 
 same-length : tie.Need-same-length
 same-length c = c .before .before .write-words .kept .1 .1 .1 .0 ∙ simp length-set
@@ -62,8 +62,8 @@ returns : tie.Need-returns
 returns c =
     let a = c .before .before .before .before .before .before .before .before .before .args in
     let n = compound (now (a .body)) in
-    let f = c .before .before .before .before .before .before .field-at in
-    let g = c .before .before .before .before .before .field-at2 in
+    let f = c .before .before .before .before .before .before .field-of in
+    let g = c .before .before .before .before .before .field-of2 in
     let w = c .before .before .before .before .words-of in
     let e : w .result ≡ per (a .kind) * field (a .at + 6) 4 n =
     words-counted _ _ _ _ (w .ensures .0) (omega (arith, g .ensures .1)) (g .ensures .0) in
@@ -79,9 +79,9 @@ pub write-descriptor-spec : {M : Type 1} → statement M
 write-descriptor-spec =
     tie.close
     (tie.spec
-    field-at-requires
-    add-field-at
-    field-at-requires-2
+    field-of-requires
+    add-field-of
+    field-of-requires-2
     words-of-requires
     cast-out
     slice-write-out

@@ -27,28 +27,28 @@ Inv-loop body out₀ kind left₀ at₀ q₀ out left at q =
 abbrev μ-loop : tie.MeasureT-loop
 μ-loop body out₀ kind left₀ at₀ q₀ out left at q = left
 
-field-at-requires : tie.Need-field-at-requires Inv-loop μ-loop
-field-at-requires c κs = search needs
+field-of-requires : tie.Need-field-of-requires Inv-loop μ-loop
+field-of-requires c κs = search needs
 
-field-at-requires-2 : tie.Need-field-at-requires-2 Inv-loop μ-loop
-field-at-requires-2 c κs = search needs
+field-of-requires-2 : tie.Need-field-of-requires-2 Inv-loop μ-loop
+field-of-requires-2 c κs = search needs
 
 loop-holds : tie.Need-loop-holds Inv-loop μ-loop
 unfolding tableOf
 loop-holds c =
     let a = c .before .before .before .before .args in
-    let e = c .before .field-at .ensures .0 in
+    let e = c .before .field-of .ensures .0 in
     let n = compound (now (a .body)) in (
       refl,
-      rw (e, c .field-at2 .ensures .0) (omega (arith, length-form (tableOf n), c .before .before .before .before .pre)),
-      omega (arith, c .field-at2 .ensures .1),
-      rw (e, c .field-at2 .ensures .0) refl,
+      rw (e, c .field-of2 .ensures .0) (omega (arith, length-form (tableOf n), c .before .before .before .before .pre)),
+      omega (arith, c .field-of2 .ensures .1),
+      rw (e, c .field-of2 .ensures .0) refl,
     )
 
 write-descriptor-requires : tie.Need-write-descriptor-requires Inv-loop μ-loop
 write-descriptor-requires c κs =
     let l = c .before .before .loop in
-    let kind = c .before .before .before .before .field-at .result in
+    let kind = c .before .before .before .before .field-of .result in
     let n = compound (now (c .before .before .before .before .before .before .before .args .body)) in (
       omega (arith, l .inv .1, listed-long kind (l .left) n (l .at) (per kind * field (l .at + 6) 4 n) (search needs) refl),
       search needs,
@@ -84,7 +84,7 @@ loop-again c =
     let a = c .before .before .before .before .before .before .before .before .before .before .args in
     let d = c .before .before .write-descriptor in
     let n = compound (now (a .body)) in
-    let kind = c .before .before .before .before .before .before .before .field-at .result in (
+    let kind = c .before .before .before .before .before .before .before .field-of .result in (
       d .kept .1 .1 .1 .0 ∙ l .inv .0,
       omega (arith, d .kept .1 .1 .1 .0, l .inv .1, listed-long kind (l .left) n (l .at) (d .result) (search needs) (d .ensures .0)),
       omega (arith, d .ensures .1, l .inv .2),
@@ -98,7 +98,7 @@ same-length c = c .before .loop .inv .0
 returns : tie.Need-returns Inv-loop μ-loop
 returns c =
     let l = c .before .loop in
-    descriptors-end (c .before .before .before .field-at .result) (l .left) (compound (now (c .before .before .before .before .before .before .args .body))) (l .at) (l .q)
+    descriptors-end (c .before .before .before .field-of .result) (l .left) (compound (now (c .before .before .before .before .before .before .args .body))) (l .at) (l .q)
     (l .out) _ (search needs) (l .inv .3)
 
 pub write-descriptors-spec : {M : Type 1} → statement M
@@ -107,8 +107,8 @@ write-descriptors-spec =
     (tie.spec
     Inv-loop
     μ-loop
-    field-at-requires
-    field-at-requires-2
+    field-of-requires
+    field-of-requires-2
     loop-holds
     write-descriptor-requires
     mul-at

@@ -10,29 +10,29 @@ use Rattle.table.proofs.Written.{opened}
 use Rattle.table.proofs.write_opening.Statement.{statement}
 use Rattle.table.proofs.write_opening.Tie as tie
 
-field-at-requires : tie.Need-field-at-requires
-field-at-requires c κs = search needs
+field-of-requires : tie.Need-field-of-requires
+field-of-requires c κs = search needs
 
 cast-kind : tie.Need-cast-kind
 cast-kind c = search needs
 
-field-at-requires-2 : tie.Need-field-at-requires-2
-field-at-requires-2 c κs = search needs
+field-of-requires-2 : tie.Need-field-of-requires-2
+field-of-requires-2 c κs = search needs
 
 cast-copyright : tie.Need-cast-copyright
 cast-copyright c = search needs
 
-field-at-requires-3 : tie.Need-field-at-requires-3
-field-at-requires-3 c κs = search needs
+field-of-requires-3 : tie.Need-field-of-requires-3
+field-of-requires-3 c κs = search needs
 
-field-at-requires-4 : tie.Need-field-at-requires-4
-field-at-requires-4 c κs = search needs
+field-of-requires-4 : tie.Need-field-of-requires-4
+field-of-requires-4 c κs = search needs
 
 cast-network : tie.Need-cast-network
 cast-network c = search needs
 
-field-at-requires-5 : tie.Need-field-at-requires-5
-field-at-requires-5 c κs = search needs
+field-of-requires-5 : tie.Need-field-of-requires-5
+field-of-requires-5 c κs = search needs
 
 cast-count : tie.Need-cast-count
 cast-count c = search needs
@@ -67,11 +67,11 @@ same-length c = simp length-set
 returns : tie.Need-returns
 returns c =
     let n = compound (now (c .before .before .before .before .before .before .before .args .body)) in
-    let k = c .before .before .before .before .field-at in
-    let o = c .before .before .before .field-at2 in
-    let b = c .before .before .field-at3 in
-    let w = c .before .field-at4 in
-    let d = c .field-at5 in
+    let k = c .before .before .before .before .field-of in
+    let o = c .before .before .before .field-of2 in
+    let b = c .before .before .field-of3 in
+    let w = c .before .field-of4 in
+    let d = c .field-of5 in
     ap (sets (now (c .before .before .before .before .before .before .before .args .out)) 0)
     (opened n (k .result) (o .result) (b .result) (w .result) (d .result) (k .ensures .0) (o .ensures .0) (b .ensures .0)
     (w .ensures .0) (d .ensures .0) (omega (arith, k .ensures .1)) (omega (arith, o .ensures .1)) (omega (arith, b .ensures .1))
@@ -81,14 +81,14 @@ pub write-opening-spec : {M : Type 1} → statement M
 write-opening-spec =
     tie.close
     (tie.spec
-    field-at-requires
+    field-of-requires
     cast-kind
-    field-at-requires-2
+    field-of-requires-2
     cast-copyright
-    field-at-requires-3
-    field-at-requires-4
+    field-of-requires-3
+    field-of-requires-4
     cast-network
-    field-at-requires-5
+    field-of-requires-5
     cast-count
     cast-low
     cast-high

@@ -25,8 +25,8 @@ abbrev μ-loop : tie.MeasureT-loop
 loop-holds : tie.Need-loop-holds Inv-loop μ-loop
 loop-holds c = (refl, search needs, search needs, refl)
 
-field-at-requires : tie.Need-field-at-requires Inv-loop μ-loop
-field-at-requires c κs = search needs
+field-of-requires : tie.Need-field-of-requires Inv-loop μ-loop
+field-of-requires c κs = search needs
 
 write-word-requires : tie.Need-write-word-requires Inv-loop μ-loop
 write-word-requires c κs = search needs
@@ -48,7 +48,7 @@ loop-again c =
     let l = c .before .before .before .before .before .before .loop in
     let k = c .before .before .write-word .kept .1 .0 in
     let a = c .before .before .before .before .before .before .before .before .before .args in
-    let f = c .before .before .before .before .field-at in (
+    let f = c .before .before .before .before .field-of in (
       k ∙ l .inv .0,
       omega (arith, k),
       search needs,
@@ -71,7 +71,7 @@ write-words-spec =
     Inv-loop
     μ-loop
     loop-holds
-    field-at-requires
+    field-of-requires
     write-word-requires
     add-at
     add-p

@@ -1,0 +1,158 @@
+-- `reader::take_all` meets its contract: what is left of the packets, from what has come, is what all of them come to. Assumes nothing.
+use mathlib.Core.Path.{_≡_, _∙_, refl, sym, ap}
+use Prim.Native.Nat.{_+_, _-_, _*_, _/_, _%_, _≤_, _<_}
+use native.Mathlib.Omega.{arith}
+use borrow.Author.Needs.{needs}
+use lib.ListN.{length, getD, take, drop, set, replicate, length-set}
+use lib.Seq.{sets, length-sets}
+use denote.Ref.{now}
+use Rattle.guide.specs.Packet.{packetLength}
+use Rattle.reader.specs.Feeding.{Ran, begun, run, ranOn}
+use Rattle.reader.specs.Holding.{RanTo, RowRoom, stateIn}
+use Rattle.reader.proofs.Keeping.{holds-kept}
+use Rattle.reader.proofs.Running.{taking, begins, one-more, run-on, run-full, run-out, packet-length, still-room}
+use Rattle.reader.proofs.take_all.Statement.{statement}
+use Rattle.reader.proofs.take_all.Tie as tie
+use Rattle.reader.proofs.take_all.Reads as reads
+use Rattle.reader.proofs.take_all.Lts as lts
+use Rattle.reader.proofs.step.Reads as step-reads
+
+abbrev Inv-loop : tie.InvT-loop
+Inv-loop setting store₀ packets out₀ a₀ at₀ count₀ store out a at count =
+    (at ≤ length packets) × ((length packets - at) % 42 ≡ 0) × (length out ≡ length out₀) × (a .got .written ≤ length out₀)
+    × (2 * a .got .blocks ≤ a .got .written) × (count ≤ at)
+    × ((b : Ran)
+    × (RanTo b (taking a count) store out₀ out)
+    × (run setting (length out₀) ((length packets - at) / packetLength) b (drop at packets)
+    ≡ run setting (length out₀) (length packets / packetLength) (begun (stateIn a₀ store₀)) packets))
+
+abbrev μ-loop : tie.MeasureT-loop
+μ-loop setting store₀ packets out₀ a₀ at₀ count₀ store out a at count = length packets - at
+
+-- src/lib.rt:860:5
+loop-holds : tie.Need-loop-holds Inv-loop μ-loop
+loop-holds c =
+    let a = c .before .before .args in
+    let p = c .before .before .pre in
+    let e : length (now (a .packets)) - 0 ≡ length (now (a .packets)) = omega arith in (
+      omega arith,
+      omega (arith, p .1 .0),
+      refl,
+      omega (arith, p .1 .1 .1),
+      omega (arith, p .1 .1 .0),
+      omega arith,
+      (begun (stateIn (a .from) (now (a .store))), begins (a .from) (now (a .out)) (p .0) (p .1 .1 .0) (p .1 .1 .1) (p .1 .1 .2), rw e),
+    )
+
+-- src/lib.rt:863:12
+sub-if1 : tie.Need-sub-if1 Inv-loop μ-loop
+sub-if1 c = search needs
+
+-- src/lib.rt:864:13
+same-length : tie.Need-same-length Inv-loop μ-loop
+same-length c = search needs
+
+-- src/lib.rt:864:13
+returns : tie.Need-returns Inv-loop μ-loop
+returns c =
+    let a = c .before .before .before .before .before .before .args in
+    let l = c .before .before .before .loop in
+    let b = l .inv .6 .0 in
+    let w = l .inv .6 .1 in
+    let e = run-full (a .setting) (length (now (a .out))) (now (a .packets)) (l .at) b (omega (arith, w .written, l .inv .2)) in
+    (rw (sym (e ∙ l .inv .6 .2)) w, l .inv .3)
+
+-- src/lib.rt:869:19
+add-end : tie.Need-add-end Inv-loop μ-loop
+add-end c = search needs
+
+-- src/lib.rt:870:37
+sub-step : tie.Need-sub-step Inv-loop μ-loop
+sub-step c = search needs
+
+-- src/lib.rt:870:37
+part-step-start : tie.Need-part-step-start Inv-loop μ-loop
+part-step-start c = search needs
+
+-- src/lib.rt:870:37
+part-step-end : tie.Need-part-step-end Inv-loop μ-loop
+part-step-end c = search needs
+
+-- src/lib.rt:870:9
+step-requires : tie.Need-step-requires Inv-loop μ-loop
+step-requires c κs =
+    let l = c .before .before .before .before .before .before .loop in
+    let w = l .inv .6 .1 in (
+      holds-kept _ (w .holds),
+      (
+        packet-length (now (c .before .before .before .before .before .before .before .before .before .args .packets)) (l .at) (omega arith),
+        record { long = omega (arith, l .inv .2, l .inv .3); few = l .inv .4 },
+      ),
+    )
+
+-- src/lib.rt:872:9
+add-count : tie.Need-add-count Inv-loop μ-loop
+add-count c = search needs
+
+-- src/lib.rt:860:5
+loop-less : tie.Need-loop-less Inv-loop μ-loop
+loop-less c = search needs
+
+-- src/lib.rt:860:5
+loop-again : tie.Need-loop-again Inv-loop μ-loop
+loop-again c =
+    let a = c .before .before .before .before .before .before .before .before .before .before .before .before .args in
+    let l = c .before .before .before .before .before .before .before .before .before .loop in
+    let b = l .inv .6 .0 in
+    let w = l .inv .6 .1 in
+    let x = c .before .before .step .ensures in
+    let h : l .at + 42 ≤ length (now (a .packets)) = omega arith in
+    let p = take (l .at + 42 - l .at) (drop (l .at) (now (a .packets))) in
+    let g = still-room (a .setting) p (stateIn (l .a) (l .store)) (holds-kept _ (w .holds) .good) (packet-length (now (a .packets)) (l .at) h) x (l .inv .4) in (
+      h,
+      omega arith,
+      c .before .before .step .kept .1 .1 .1 .1 .0 ∙ l .inv .2,
+      omega (arith, g .0, c .before .before .before .before .before .before .if1 .left, l .inv .2, l .inv .3),
+      g .1,
+      omega arith,
+      (
+        ranOn (a .setting) b p,
+        one-more w (a .setting) p x,
+        run-on (a .setting) (length (now (a .out))) (now (a .packets)) (l .at) b h (omega (arith, w .written, l .inv .2, l .inv .3, c .before .before .before .before .before .before .if1 .left))
+            ∙ l .inv .6 .2,
+      ),
+    )
+
+-- src/lib.rt:851:1
+same-length-2 : tie.Need-same-length-2 Inv-loop μ-loop
+same-length-2 c = search needs
+
+-- src/lib.rt:851:1
+returns-2 : tie.Need-returns-2 Inv-loop μ-loop
+returns-2 c =
+    let a = c .before .before .before .before .args in
+    let l = c .before .loop in
+    let b = l .inv .6 .0 in
+    let e = run-out (a .setting) (length (now (a .out))) (now (a .packets)) (l .at) b (omega arith) in
+    (rw (sym (e ∙ l .inv .6 .2)) (l .inv .6 .1), l .inv .3)
+
+pub take-all-spec : {M : Type 1} → statement M
+take-all-spec =
+    tie.close
+    (tie.spec
+    Inv-loop
+    μ-loop
+    loop-holds
+    sub-if1
+    same-length
+    returns
+    add-end
+    sub-step
+    part-step-start
+    part-step-end
+    step-requires
+    add-count
+    loop-less
+    loop-again
+    same-length-2
+    returns-2)

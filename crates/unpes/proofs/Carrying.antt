@@ -1,0 +1,84 @@
+-- What reading's answer makes of a PES packet: a refusal gives one packet that can't be decoded, and where there is room for every
+-- packet's records nothing is refused for want of it. Assumes nothing.
+use mathlib.Core.Path.{_≡_, _∙_, refl, sym, ap}
+use mathlib.Core.Logic.{⊎-elim}
+use mathlib.Core.List.{List, [], _∷_, _++_}
+use Prim.Native.Nat.{ℕ, _+_, _*_, _/_, _%_, _≤_}
+use native.Mathlib.Omega.{arith}
+use lib.ListN.{length, take, drop}
+use lib.Seq.{sets, take-at}
+use borrow.Author.Tests.{eqb-true}
+use Rattle.laws.proofs.Lists.{sets-front}
+use Rattle.answer.specs.declared.Refusal.{Refusal}
+use Rattle.answer.specs.declared.Answer.{Answer}
+use Rattle.answer.specs.declared.Answer.the-variants.{Done, Refused}
+use Rattle.answer.specs.Rules.{Rule, Every, First}
+use Rattle.answer.specs.Values.{refused}
+use Rattle.answer.specs.Writing.{room, answered, left}
+use Rattle.answer.proofs.Judging.{passes, refuses, decided}
+use Rattle.answer.proofs.Steps.{judged-append, first-holds, others-hold}
+use Rattle.answer.proofs.Lent.{lent-accepted, lent-all}
+use Rattle.units.specs.Units.{byteAt}
+use Rattle.pes.specs.Reading.{readRules, recordsOf}
+use Rattle.pes.specs.Writing.{unitCount, writeRules}
+use Rattle.pes.proofs.Making.{fits-packet}
+use Rattle.pes.proofs.Statements.{reads-writable}
+use Rattle.unpes.specs.Carried.{packetsOf, unreadable, numberOf, carried}
+use Rattle.unpes.proofs.Stripping.{packets-length, packets-front}
+
+-- 1,423 records are the most
+records-few : (pes : List ℕ) → Every (readRules pes) → length (recordsOf pes) ≤ 62612
+unfolding writeRules
+records-few pes e =
+    let w = reads-writable pes e in
+    let u = fits-packet (byteAt pes 45) (recordsOf pes) w in
+    let z : length (recordsOf pes) % 44 ≡ 0 = eqb-true _ 0 (first-holds (others-hold w)) in
+    omega arith
+
+pub refused-carries :
+    (pes old : List ℕ) (r : Refusal) → 65536 ≤ length old → answered (readRules pes) (recordsOf pes) old ≡ Refused r
+    → (r .no ≡ numberOf pes) × (unreadable ≡ carried pes)
+refused-carries pes old r h e =
+    ⊎-elim
+    (λ (every : Every (readRules pes)).
+    let d = lent-accepted (readRules pes) (recordsOf pes) old every (omega (arith, records-few pes every)) .0 in
+    let z : _≡_ {A = ℕ} 0 1 = cc in
+    absurd (omega arith))
+    (λ (w : (q : Rule) × First q (readRules pes)).
+    let a = judged-append refused (readRules pes) (room (recordsOf pes) old ∷ []) (Done (length (recordsOf pes))) in
+    let b = refuses refused _ (w .1) in
+    let n : r .no ≡ w .0 .number = ap (λ (x : Answer). elim x [ Done k ↦ 0 | Refused s ↦ s .no ]) (sym e ∙ a ∙ b) in
+    (n ∙ sym (refuses (λ m o. m) 0 (w .1)), sym (refuses (λ m o. unreadable) _ (w .1))))
+    (decided (readRules pes))
+
+pub done-fits :
+    (pes old : List ℕ) (n : ℕ) → answered (readRules pes) (recordsOf pes) old ≡ Done n → (n ≤ length old) × (n ≤ 62612)
+done-fits pes old n e =
+    let l = lent-all (readRules pes) (recordsOf pes) old n e in
+    let f = records-few pes (l .0) in
+    (omega (arith, l .1, l .2), omega (arith, l .2))
+
+pub done-carries :
+    (pes old records packets out : List ℕ) (n : ℕ) → answered (readRules pes) (recordsOf pes) old ≡ Done n
+    → records ≡ left (readRules pes) (recordsOf pes) old → 65536 ≤ length packets
+    → out ≡ sets packets 0 (packetsOf (n / 44) records 0) → (0 ≡ numberOf pes) × (take (42 * (n / 44)) out ≡ carried pes)
+done-carries pes old records packets out n e r h o =
+    let l = lent-all (readRules pes) (recordsOf pes) old n e in
+    let f = records-few pes (l .0) in
+    let g = recordsOf pes in
+    let u = n / 44 in
+    let c : u ≡ unitCount g = ap (λ (k : ℕ). k / 44) (l .2) in
+    let fits : 0 + 44 * u ≤ length g = omega (arith, l .2) in
+    let w = lent-accepted (readRules pes) g old (l .0) (l .1) .1 in
+    let same : packetsOf u records 0 ≡ packetsOf u g 0 =
+    ap (λ (m : List ℕ). packetsOf u m 0) (r ∙ w) ∙ packets-front u g (drop (length g) old) 0 fits in
+    let k = packets-length u g 0 fits in
+    let s : sets packets 0 (packetsOf u g 0) ≡ packetsOf u g 0 ++ drop (length (packetsOf u g 0)) packets =
+    sets-front packets (packetsOf u g 0) (omega (arith, k, l .2)) in (
+      sym (passes (λ m o. m) 0 (l .0)),
+      ap (take (42 * u)) (o ∙ ap (sets packets 0) same ∙ s) ∙ take-at (packetsOf u g 0) _ (42 * u) k
+          ∙ ap (λ (m : ℕ). packetsOf m g 0) c ∙ sym (passes (λ m o. unreadable) _ (l .0)),
+    )
+
+pub blank-goes : (packets out : List ℕ) → 42 ≤ length packets → out ≡ sets packets 0 unreadable → take 42 out ≡ unreadable
+blank-goes packets out h e = ap (take 42) (e ∙ sets-front packets unreadable h) ∙ take-at unreadable (drop 42 packets) 42 refl

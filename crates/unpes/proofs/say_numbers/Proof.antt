@@ -1,0 +1,47 @@
+-- `unpes::say_numbers` is safe and ends. The measure is what is left of the marks. Assumes nothing.
+use borrow.Author.Needs.{needs}
+use Prim.Native.Nat.{_-_, _≤_}
+use lib.ListN.{length}
+use Rattle.unpes.proofs.say_numbers.Statement.{statement}
+use Rattle.unpes.proofs.say_numbers.Tie as tie
+
+abbrev Inv-loop : tie.InvT-loop
+Inv-loop seen i₀ first₀ i first = i ≤ length seen
+
+abbrev μ-loop : tie.MeasureT-loop
+μ-loop seen i₀ first₀ i first = length seen - i
+
+loop-holds : tie.Need-loop-holds Inv-loop μ-loop
+loop-holds c = search needs
+
+shared-slice-read-if1 : tie.Need-shared-slice-read-if1 Inv-loop μ-loop
+shared-slice-read-if1 c = search needs
+
+say-number-requires : tie.Need-say-number-requires Inv-loop μ-loop
+say-number-requires c κs = search needs
+
+add-i : tie.Need-add-i Inv-loop μ-loop
+add-i c = search needs
+
+loop-less : tie.Need-loop-less Inv-loop μ-loop
+loop-less c = search needs
+
+loop-again : tie.Need-loop-again Inv-loop μ-loop
+loop-again c = search needs
+
+returns : tie.Need-returns Inv-loop μ-loop
+returns c = search needs
+
+pub say-numbers-spec : {M : Type 1} → statement M
+say-numbers-spec =
+    tie.close
+    (tie.spec
+    Inv-loop
+    μ-loop
+    loop-holds
+    shared-slice-read-if1
+    say-number-requires
+    add-i
+    loop-less
+    loop-again
+    returns)

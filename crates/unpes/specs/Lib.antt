@@ -1,0 +1,3 @@
+-- What a PES packet becomes on its way to a reader.
+pub mod Carried
+pub mod Next
