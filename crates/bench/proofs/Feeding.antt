@@ -1,5 +1,5 @@
 -- Packets fed one after the other: one more, and the end. Assumes nothing.
-use mathlib.Core.Path.{_≡_}
+use mathlib.Core.Path.{_≡_, _∙_, ap, sym}
 use mathlib.Core.List.{List}
 use Prim.Native.Nat.{ℕ, zero, suc, _+_, _-_, _≤_, _<_}
 use native.Mathlib.Nat.{not-suc-le-zero}
@@ -9,8 +9,9 @@ use lib.Seq.{drop-drop}
 use Rattle.laws.proofs.Lists.{part-of}
 use Rattle.reader.specs.declared.Reader.{Reader}
 use Rattle.reader.specs.declared.Heard.{Heard}
-use Rattle.reader.specs.Feeding.{feedHeard, feedReader, feedOut}
-use Rattle.bench.specs.Feeding.{desk, added, eachCount, eachOut}
+use Rattle.reader.specs.declared.HeardAll.{HeardAll}
+use Rattle.reader.specs.Feeding.{feedHeard, feedReader, feedOut, feedAllHeard, feedAllOut}
+use Rattle.bench.specs.Feeding.{desk, start, added, eachCount, eachOut, blocksOf}
 
 -- the packet at a place of l, with what feed gives for it
 module _ (r new : Reader) (l out after : List ℕ) (at : ℕ)
@@ -41,3 +42,14 @@ ended-count left r l out count e = rw e
 pub ended-out : (left : ℕ) (r : Reader) (l out : List ℕ) → left ≡ 0 → out ≡ eachOut left r l out
 unfolding eachOut
 ended-out left r l out e = rw e
+
+-- a row fed in one call, from the fresh reader on
+pub all-fed :
+    (state : Reader) (l out after : List ℕ) (heard found : HeardAll)
+    → state ≡ start
+    → heard ≡ feedAllHeard desk state l out
+    → after ≡ feedAllOut desk state l out
+    → heard ≡ found
+    → (blocksOf found ≡ blocksOf (feedAllHeard desk start l out)) × (after ≡ feedAllOut desk start l out)
+all-fed state l out after heard found s h o f =
+    (ap blocksOf (sym f ∙ h ∙ ap (λ (r : Reader). feedAllHeard desk r l out) s), o ∙ ap (λ (r : Reader). feedAllOut desk r l out) s)

@@ -3,6 +3,7 @@
 use answer::Answer;
 use guide::Setting;
 use reader::Heard;
+use reader::HeardAll;
 ghost use mathlib.Core.Path.{_≡_};
 ghost use Prim.Native.Nat.{_/_, _<_};
 ghost use lib.ListN.{length};
@@ -12,7 +13,8 @@ ghost use Rattle.octet.specs.Decoding.{nib};
 ghost use Rattle.octet.specs.Turning.{turned};
 ghost use Rattle.pes.specs.Reading.{readRules, recordsOf};
 ghost use Rattle.bench.specs.Mixing.{mixed};
-ghost use Rattle.bench.specs.Feeding.{desk, start, wrap, added, eachCount, eachOut};
+ghost use Rattle.bench.specs.Feeding.{desk, start, wrap, added, eachCount, eachOut, blocksOf};
+ghost use Rattle.reader.specs.Feeding.{feedAllHeard, feedAllOut};
 
 // Decodes each byte. What it gives hangs on every one, so that none can be left out.
 #[no_mangle]
@@ -81,6 +83,32 @@ pub extern "C" fn bench_feed(packets: &[u8], out: &mut [u8]) -> usize
         left -= 1;
     }
     count
+}
+
+// Feeds 42-byte packets to a fresh reader in one call: how many blocks were handed out.
+#[no_mangle]
+pub extern "C" fn bench_feed_all(packets: &[u8], out: &mut [u8]) -> usize
+    ensures count { λ r. ⌜ r ≡ blocksOf (feedAllHeard desk start (now (packets .entry)) (now (out .entry))) ⌝ }
+    ensures bytes { λ r. ⌜ now (out .exit) ≡ feedAllOut desk start (now (packets .entry)) (now (out .entry)) ⌝ }
+{
+    let setting = Setting {
+        magazine: 1,
+        page: 0xDF,
+        stream: 1,
+        application: 1,
+    };
+    let state = reader::fresh();
+    let fed = reader::feed_all(setting, state, packets, out);
+    let heard = fed.heard;
+    match heard {
+        HeardAll::TookAll {
+            packets,
+            blocks,
+            written,
+            dropped,
+        } => blocks,
+        HeardAll::RefusedAll(r) => 0,
+    }
 }
 
 // The count with a packet's blocks.

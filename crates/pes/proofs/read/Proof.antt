@@ -61,8 +61,8 @@ returns-3 c =
     let a = d .before .before .before .before .before .before .before .args in
     let p = passed (d .before .before) in
     let l =
-      lent-done (readRules (now (a .pes))) (recordsOf (now (a .pes))) (now (a .out)) (length (recordsOf (now (a .pes))))
-      (d .before .before .before .before .judge .ensures) (d .before .before .need .given .1) (omega (arith, p .1, d .if1 .left)) in
+    lent-done (readRules (now (a .pes))) (recordsOf (now (a .pes))) (now (a .out)) (length (recordsOf (now (a .pes))))
+    (d .before .before .before .before .judge .ensures) (d .before .before .need .given .1) (omega (arith, p .1, d .if1 .left)) in
     (ap Done (p .1) ∙ l .0, c .before .before .put-records .ensures ∙ l .1)
 
 pub read-spec : {M : Type 1} → statement M

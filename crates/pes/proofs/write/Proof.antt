@@ -66,9 +66,9 @@ returns-3 c =
     let a = d .before .before .before .before .before .before .before .args in
     let p = passed (d .before .before) in
     let l =
-      lent-done (writeRules (a .data-identifier) (now (a .records))) (packetOf (a .data-identifier) (now (a .records))) (now (a .out))
+    lent-done (writeRules (a .data-identifier) (now (a .records))) (packetOf (a .data-identifier) (now (a .records))) (now (a .out))
     (length (packetOf (a .data-identifier) (now (a .records))))
-      (d .before .before .before .before .judge-records .ensures) (d .before .before .need .given .1) (omega (arith, p .1, d .if1 .left)) in
+    (d .before .before .before .before .judge-records .ensures) (d .before .before .need .given .1) (omega (arith, p .1, d .if1 .left)) in
     (ap Done (p .1) ∙ l .0, c .before .before .put-packet .ensures ∙ l .1)
 
 pub write-spec : {M : Type 1} → statement M
