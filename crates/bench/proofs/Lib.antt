@@ -1,1 +1,2 @@
 mod Mixing
+mod Feeding

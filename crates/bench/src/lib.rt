@@ -1,13 +1,20 @@
 // What bench/measure.c times: our calls in the shape in which C can call them on many bytes at once.
 // No product links this crate.
 use answer::Answer;
+use guide::Setting;
+use reader::Heard;
+use reader::HeardAll;
 ghost use mathlib.Core.Path.{_≡_};
+ghost use Prim.Native.Nat.{_/_, _<_};
+ghost use lib.ListN.{length};
 ghost use Rattle.answer.specs.Values.{writtenOf};
 ghost use Rattle.answer.specs.Writing.{answered, left};
 ghost use Rattle.octet.specs.Decoding.{nib};
 ghost use Rattle.octet.specs.Turning.{turned};
 ghost use Rattle.pes.specs.Reading.{readRules, recordsOf};
 ghost use Rattle.bench.specs.Mixing.{mixed};
+ghost use Rattle.bench.specs.Feeding.{desk, start, wrap, added, eachCount, eachOut, blocksOf};
+ghost use Rattle.reader.specs.Feeding.{feedAllHeard, feedAllOut};
 
 // Decodes each byte. What it gives hangs on every one, so that none can be left out.
 #[no_mangle]
@@ -46,5 +53,76 @@ pub extern "C" fn bench_pes(packet: &[u8], out: &mut [u8]) -> usize
     match pes::read(packet, out) {
         Answer::Done(n) => n,
         Answer::Refused(r) => 0,
+    }
+}
+
+// Feeds 42-byte packets to a fresh reader one after the other, each into the front of `out`: how many
+// blocks were handed out.
+#[no_mangle]
+pub extern "C" fn bench_feed(packets: &[u8], out: &mut [u8]) -> usize
+    ensures count { λ r. ⌜ r ≡ eachCount (length (now (packets .entry)) / 42) start (now (packets .entry)) (now (out .entry)) 0 ⌝ }
+    ensures bytes { λ r. ⌜ now (out .exit) ≡ eachOut (length (now (packets .entry)) / 42) start (now (packets .entry)) (now (out .entry)) ⌝ }
+{
+    let setting = Setting {
+        magazine: 1,
+        page: 0xDF,
+        stream: 1,
+        application: 1,
+    };
+    let mut left = packets.len() / 42;
+    let mut at = 0;
+    let mut count = 0;
+    let mut state = reader::fresh();
+    while left > 0 {
+        let end = at + 42;
+        let fed = reader::feed(setting, state, &packets[at..end], out);
+        let heard = fed.heard;
+        count = counted(count, heard);
+        state = fed.reader;
+        at = end;
+        left -= 1;
+    }
+    count
+}
+
+// Feeds 42-byte packets to a fresh reader in one call: how many blocks were handed out.
+#[no_mangle]
+pub extern "C" fn bench_feed_all(packets: &[u8], out: &mut [u8]) -> usize
+    ensures count { λ r. ⌜ r ≡ blocksOf (feedAllHeard desk start (now (packets .entry)) (now (out .entry))) ⌝ }
+    ensures bytes { λ r. ⌜ now (out .exit) ≡ feedAllOut desk start (now (packets .entry)) (now (out .entry)) ⌝ }
+{
+    let setting = Setting {
+        magazine: 1,
+        page: 0xDF,
+        stream: 1,
+        application: 1,
+    };
+    let state = reader::fresh();
+    let fed = reader::feed_all(setting, state, packets, out);
+    let heard = fed.heard;
+    match heard {
+        HeardAll::TookAll {
+            packets,
+            blocks,
+            written,
+            dropped,
+        } => blocks,
+        HeardAll::RefusedAll(r) => 0,
+    }
+}
+
+// The count with a packet's blocks.
+fn counted(count: usize, heard: Heard) -> usize
+    requires { ⌜ count < wrap ⌝ }
+    ensures { λ r. ⌜ r ≡ added count heard ⌝ }
+    ensures { λ r. ⌜ r < wrap ⌝ }
+{
+    match heard {
+        Heard::Took {
+            blocks,
+            written,
+            dropped,
+        } => (count + blocks % 65536) % 4294967296,
+        Heard::Refused(r) => count,
     }
 }

@@ -1,0 +1,44 @@
+-- Packets fed one after the other to one reader.
+use mathlib.Core.List.{List}
+use Prim.Native.Nat.{ℕ, zero, suc, _+_, _%_}
+use lib.ListN.{take, drop}
+use Rattle.guide.specs.declared.Setting.{Setting}
+use Rattle.reader.specs.declared.Reader.{Reader}
+use Rattle.reader.specs.declared.Heard.{Heard}
+use Rattle.reader.specs.declared.Heard.the-variants.{Took, Refused}
+use Rattle.reader.specs.declared.HeardAll.{HeardAll}
+use Rattle.reader.specs.declared.HeardAll.the-variants.{TookAll, RefusedAll}
+use Rattle.reader.specs.State.{readerOf, freshState}
+use Rattle.reader.specs.Feeding.{feedHeard, feedReader, feedOut}
+
+-- the desk's setting
+abbrev pub desk : Setting
+desk = record { magazine = 1; page = 223; stream = 1; application = 1 }
+
+abbrev pub start : Reader
+start = readerOf freshState
+
+-- counts go up to this
+abbrev pub wrap : ℕ
+wrap = 4294967296
+
+abbrev pub added : ℕ → Heard → ℕ
+added count (Took blocks written dropped) = (count + blocks % 65536) % wrap
+added count (Refused r) = count
+
+-- the blocks of the n packets from the front of l, into this output, and of those counted before
+unfoldable pub eachCount : ℕ → Reader → List ℕ → List ℕ → ℕ → ℕ
+eachCount zero r l out count = count
+eachCount (suc n) r l out count =
+    eachCount n (feedReader desk r (take 42 l) out) (drop 42 l) (feedOut desk r (take 42 l) out)
+    (added count (feedHeard desk r (take 42 l) out))
+
+-- the output after them
+unfoldable pub eachOut : ℕ → Reader → List ℕ → List ℕ → List ℕ
+eachOut zero r l out = out
+eachOut (suc n) r l out = eachOut n (feedReader desk r (take 42 l) out) (drop 42 l) (feedOut desk r (take 42 l) out)
+
+-- how many blocks a row of packets gave
+abbrev pub blocksOf : HeardAll → ℕ
+blocksOf (TookAll packets blocks written dropped) = blocks
+blocksOf (RefusedAll r) = 0
