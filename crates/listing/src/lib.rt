@@ -129,10 +129,10 @@ fn put_entry(table: &[u8], kind: usize, i: usize, out: &mut [u8], q: usize) -> u
         × (r ≤ q + 28) ⌝ }
 {
     let at = put_language(word_at(table, i), out, q);
-    if kind == TI {
-        return put_page(word_at(table, i + 3), out, at);
+    if kind != TI {
+        return at;
     }
-    at
+    put_page(word_at(table, i + 3), out, at)
 }
 
 // The word at a place of a form, high byte first.

@@ -15,6 +15,17 @@ word-at-requires c κs = search needs
 put-language-requires : tie.Need-put-language-requires
 put-language-requires c κs = search needs
 
+same-length : tie.Need-same-length
+same-length c = search needs
+
+returns : tie.Need-returns
+returns c =
+    let a = c .before .before .before .before .before .before .before .before .args in
+    let f : List ℕ = now (a .table) in
+    let w = c .before .before .before .before .before .word-at in
+    let l = c .before .before .before .put-language in
+    (put-as (entry-li (a .kind) (a .i) (w .result) f (w .ensures) (c .if1 .taken)) (l .ensures .0), omega (arith, l .ensures .1))
+
 add-word-at : tie.Need-add-word-at
 add-word-at c = search needs
 
@@ -24,29 +35,18 @@ word-at-requires-2 c κs = search needs
 put-page-requires : tie.Need-put-page-requires
 put-page-requires c κs = search needs
 
-same-length : tie.Need-same-length
-same-length c = search needs
+same-length-2 : tie.Need-same-length-2
+same-length-2 c = search needs
 
-returns : tie.Need-returns
-returns c =
+returns-2 : tie.Need-returns-2
+returns-2 c =
     let a = c .before .before .before .before .before .before .before .before .before .before .before .before .before .args in
     let f : List ℕ = now (a .table) in
     let w = c .before .before .before .before .before .before .before .before .before .before .word-at in
     let l = c .before .before .before .before .before .before .before .before .put-language in
     let x = c .before .before .before .before .word-at2 in
     let p = c .before .before .put-page in
-    (put-as (entry-ti (a .kind) (a .i) (w .result) f (w .ensures) (x .result) (x .ensures) (c .before .before .before .before .before .if1 .taken)) (then (l .ensures .0) (p .ensures .0)), omega (arith, l .ensures .1, p .ensures .1))
-
-same-length-2 : tie.Need-same-length-2
-same-length-2 c = search needs
-
-returns-2 : tie.Need-returns-2
-returns-2 c =
-    let a = c .before .before .before .before .before .before .before .before .args in
-    let f : List ℕ = now (a .table) in
-    let w = c .before .before .before .before .before .word-at in
-    let l = c .before .before .before .put-language in
-    (put-as (entry-li (a .kind) (a .i) (w .result) f (w .ensures) (c .if1 .left)) (l .ensures .0), omega (arith, l .ensures .1))
+    (put-as (entry-ti (a .kind) (a .i) (w .result) f (w .ensures) (x .result) (x .ensures) (c .before .before .before .before .before .if1 .left)) (then (l .ensures .0) (p .ensures .0)), omega (arith, l .ensures .1, p .ensures .1))
 
 pub put-entry-spec : {M : Type 1} → statement M
 put-entry-spec =
@@ -54,10 +54,10 @@ put-entry-spec =
     (tie.spec
     word-at-requires
     put-language-requires
+    same-length
+    returns
     add-word-at
     word-at-requires-2
     put-page-requires
-    same-length
-    returns
     same-length-2
     returns-2)
