@@ -2,13 +2,13 @@
 use mathlib.Core.Path.{_≡_, _∙_, refl, sym, ap}
 use mathlib.Core.Bool.{Bool, true, false, not}
 use mathlib.Core.List.{List, [], _∷_, _++_, append-assoc, append-nil}
-use Prim.Native.Nat.{ℕ, zero, suc, _+_, _-_, _*_, _^_, _≤_, _<_}
+use Prim.Native.Nat.{ℕ, suc, _+_, _-_, _*_, _^_, _≤_, _<_}
 use native.Mathlib.Omega.{arith}
-use lib.Dec.{leb}
+use native.Mathlib.Decide.{decLt}
 use lib.ListN.{length, take, drop, length-append}
 use lib.Seq.{sets, length-take-le, drop-drop}
 use borrow.Author.Tests.{le-leb, lt-leb, eq-eqb, ne-eqb}
-use Rattle.laws.specs.Pick.{pick, both, either}
+use Rattle.laws.specs.Pick.{both, either}
 use Rattle.laws.proofs.Lists.{sets-append, part-of, part-rest}
 use Rattle.blocks.specs.Block.{Block, sizeOf, recordOf, recordsOf}
 use Rattle.reader.specs.declared.Run.{Run}
@@ -20,7 +20,6 @@ use Rattle.reader.specs.State.{storeLength, modeOf}
 use Rattle.reader.specs.Places.{Found, nothing, broken, cut, whole, fillers, found, zeroed}
 use Rattle.reader.specs.Holding.{Good, Holds, Kept, Went, Finished, blockWith, runs, awaits, stands, TookIn, CarriedTo, CarriedOn, Flowed, ReadRow}
 use Rattle.reader.specs.Acting.{dropIf}
-use native.Mathlib.Decide.{decLt}
 use Rattle.reader.proofs.Walking.{waits, breaks-off, left-by, given-by, spoilt-by, found-left, found-given, found-spoilt, headed-long, headed-short}
 use Rattle.reader.proofs.Keeping.{kept-body, body-length, holds-idle, holds-mode, zeroed-more}
 
@@ -86,9 +85,6 @@ stays-running a {store} out k e =
 module _ {r : Run} {store : List ℕ} {h n : ℕ} (k : Kept r store) (e : r ≡ Body h n) where
   pub body-short : n < sizeOf h → isFull (modeOf r store) ≡ false
   body-short f = rw (e, body-length (kept-body k e)) (lt-leb _ _ f)
-
-  pub body-full : sizeOf h ≤ n → isFull (modeOf r store) ≡ true
-  body-full f = rw (e, body-length (kept-body k e)) (le-leb _ _ f)
 
 pub goes-out :
     (a : Got) {store after : List ℕ} (old : List ℕ) {new : List ℕ} {h n : ℕ} → Kept (a .run) store → a .run ≡ Body h n → sizeOf h ≤ n

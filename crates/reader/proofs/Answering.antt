@@ -1,15 +1,12 @@
 -- The answer of the call for one packet, from its tests in order and from what the packet did. Assumes nothing.
-use mathlib.Core.Path.{_≡_, _∙_, refl, sym, ap}
+use mathlib.Core.Path.{_≡_, _∙_, refl}
 use mathlib.Core.Bool.{Bool, true, false}
-use mathlib.Core.List.{List, [], _∷_, _++_}
-use Prim.Native.Nat.{ℕ, zero, suc, _+_, _-_, _*_, _%_, _≤_, _<_}
+use mathlib.Core.List.{List}
+use Prim.Native.Nat.{ℕ, _%_, _≤_, _<_}
 use native.Mathlib.Nat.{zero-add}
 use native.Mathlib.Omega.{arith}
-use lib.Dec.{eqb, leb}
-use lib.ListN.{length, take, drop}
-use lib.Seq.{sets}
+use lib.ListN.{length}
 use borrow.Author.Tests.{le-leb, lt-leb, eq-eqb, ne-eqb}
-use Rattle.laws.specs.Pick.{pick, both, either}
 use Rattle.laws.proofs.Lists.{sets-front}
 use Rattle.blocks.specs.Block.{Block, recordsOf}
 use Rattle.guide.specs.declared.Setting.{Setting}
@@ -17,14 +14,13 @@ use Rattle.guide.specs.Setting.{inRange}
 use Rattle.guide.specs.Packet.{packetLength}
 use Rattle.reader.specs.declared.Reader.{Reader}
 use Rattle.reader.specs.declared.Heard.{Heard}
-use Rattle.reader.specs.declared.Heard.the-variants.{Took, Refused}
+use Rattle.reader.specs.declared.Heard.the-variants.{Took}
 use Rattle.reader.specs.declared.HeardAll.{HeardAll}
-use Rattle.reader.specs.declared.HeardAll.the-variants.{TookAll, RefusedAll}
+use Rattle.reader.specs.declared.HeardAll.the-variants.{TookAll}
 use Rattle.reader.specs.declared.Taking.{Taking}
-use Rattle.reader.specs.declared.Got.{Got}
 use Rattle.reader.specs.declared.Going.{Going}
 use Rattle.reader.specs.Seen.{see}
-use Rattle.reader.specs.Acting.{State, act, handed, dropped}
+use Rattle.reader.specs.Acting.{State, handed, dropped}
 use Rattle.reader.specs.State.{stateOf, readerOf, readerInRange}
 use Rattle.reader.specs.Feeding.{room, feedHeard, feedReader, feedOut, refusedHeard, Ran, ranAll, refusedAll, feedAllHeard, feedAllReader, feedAllOut}
 use Rattle.reader.specs.Places.{zeroed}

@@ -1,22 +1,22 @@
 -- How much one packet can hand out: at most 8 blocks, in at most 2,112 bytes. A block that starts in the packet takes five bytes of it
 -- and its raw ones; only one block can have been running before. Assumes nothing.
-use mathlib.Core.Path.{_≡_, _∙_, refl, sym, ap}
+use mathlib.Core.Path.{_≡_, refl}
 use mathlib.Core.Bool.{Bool, true, false}
 use mathlib.Core.List.{List, [], _∷_, _++_}
-use Prim.Native.Nat.{ℕ, zero, suc, _+_, _*_, _≤_, _<_}
+use Prim.Native.Nat.{ℕ, suc, _+_, _*_, _≤_}
 use native.Mathlib.Omega.{arith}
 use lib.Dec.{eqb, leb, ltb}
-use lib.ListN.{length, length-append, take, drop, length-take, length-drop}
+use lib.ListN.{length, length-append, take, drop, length-drop}
 use borrow.Author.Tests.{ltb-false}
-use Rattle.laws.specs.Pick.{pick, both, either}
+use Rattle.laws.specs.Pick.{pick}
 use Rattle.octet.specs.Decoding.{nib, undecodable}
-use Rattle.blocks.specs.Block.{Block, sizeOf, recordOf, recordsOf}
+use Rattle.blocks.specs.Block.{Block, recordOf, recordsOf}
 use Rattle.guide.specs.declared.Setting.{Setting}
 use Rattle.reader.specs.declared.Page.{Page}
 use Rattle.reader.specs.declared.Page.the-variants.{Shut, Open}
-use Rattle.reader.specs.Mode.{Mode, off, scan, heading, body, shifted, full, headed, step, emitted, ends, gives, carries, finished}
+use Rattle.reader.specs.Mode.{Mode, off, scan, heading, body, shifted, full, step, emitted, gives, carries, finished}
 use Rattle.reader.specs.Acting.{State, dropIf, wrongY, readBlocks, openBlocks, handed}
-use Rattle.reader.specs.Seen.{Seen, junk, other, foreign, ours, row, see, seeY, seeZero}
+use Rattle.reader.specs.Seen.{Seen, junk, other, foreign, ours, row, see}
 use Rattle.reader.proofs.Ranging.{Along, Rests, rests-along, step-along, drop-rests, carries-along, Sound, Shaped, shaped}
 
 -- how many bytes the raw ones of a list of blocks are

@@ -1,23 +1,21 @@
 -- A state in range, as the code holds it, and back: what is read off a reader and held again is that reader. Assumes nothing.
-use mathlib.Core.Path.{_≡_, _∙_, refl, sym, ap}
+use mathlib.Core.Path.{_≡_, _∙_, refl, sym}
 use mathlib.Core.Bool.{Bool, true, false}
 use mathlib.Core.List.{List, [], _∷_, _++_}
-use Prim.Native.Nat.{ℕ, zero, suc, _+_, _-_, _*_, _/_, _%_, _^_, _≤_, _<_}
+use Prim.Native.Nat.{ℕ, _-_, _≤_}
 use native.Mathlib.Omega.{arith}
 use lib.Dec.{eqb, leb}
 use lib.ListN.{length, take, drop, replicate, length-drop, take-append-drop}
 use lib.Seq.{length-take-le}
 use borrow.Author.Tests.{leb-true, eqb-true}
-use Rattle.laws.specs.Pick.{pick, both, either}
+use Rattle.laws.specs.Pick.{both}
 use Rattle.blocks.specs.Block.{sizeOf}
-use Rattle.reader.specs.declared.Page.{Page}
 use Rattle.reader.specs.declared.Run.{Run}
 use Rattle.reader.specs.declared.Run.the-variants.{Idle, Head, Body}
 use Rattle.reader.specs.declared.Reader.{Reader}
-use Rattle.reader.specs.Mode.{Mode, off, scan, heading, body}
-use Rattle.reader.specs.State.{storeLength, modeOf, runOf, heldOf, storeOf, stateOf, readerOf, zeros, pageInRange, runInRange, heldBy, readerInRange}
+use Rattle.reader.specs.State.{storeLength, zeros, pageInRange, runInRange, heldBy, readerInRange}
 use Rattle.reader.specs.Places.{zeroed}
-use Rattle.reader.specs.Holding.{Good, Holds, Kept, Sixteen}
+use Rattle.reader.specs.Holding.{Kept, Sixteen}
 
 both-first : (a b : Bool) → both a b ≡ true → a ≡ true
 both-first true b e = refl

@@ -1,25 +1,24 @@
 -- What a packet is seen as, from its bytes, and what each thing seen does to what packets have come to. Assumes nothing.
-use mathlib.Core.Path.{_≡_, _∙_, refl, sym, ap}
-use mathlib.Core.Bool.{Bool, true, false, not}
-use mathlib.Core.List.{List, [], _∷_, _++_}
-use Prim.Native.Nat.{ℕ, zero, suc, _+_, _-_, _*_, _/_, _%_, _≤_, _<_}
+use mathlib.Core.Path.{_≡_, _∙_, refl}
+use mathlib.Core.Bool.{Bool, true, false}
+use mathlib.Core.List.{List}
+use Prim.Native.Nat.{ℕ, _+_, _*_, _/_, _%_, _≤_, _<_}
 use native.Mathlib.Omega.{arith}
-use lib.Dec.{eqb, leb, ltb}
-use lib.ListN.{length, getD, take, drop}
+use lib.Dec.{leb}
+use lib.ListN.{getD, drop}
 use lib.Seq.{getD-drop}
 use borrow.Author.Tests.{le-leb, lt-leb, eq-eqb, ne-eqb}
-use Rattle.laws.specs.Pick.{pick, both, either}
-use Rattle.octet.specs.Decoding.{nib, undecodable}
+use Rattle.laws.specs.Pick.{pick}
+use Rattle.octet.specs.Decoding.{nib}
 use Rattle.guide.specs.declared.Setting.{Setting}
 use Rattle.reader.specs.declared.Page.{Page}
 use Rattle.reader.specs.declared.Page.the-variants.{Shut, Open}
 use Rattle.reader.specs.declared.Got.{Got}
 use Rattle.reader.specs.declared.Going.{Going}
-use Rattle.reader.specs.Mode.{Mode, running}
 use Rattle.reader.specs.Seen.{Seen, junk, other, foreign, ours, row, decodes, seeZero, seeY, see}
 use Rattle.reader.specs.Acting.{State, incomplete, dropIf, breaks, wrongY, act, handed, dropped}
 use Rattle.reader.specs.State.{modeOf}
-use Rattle.reader.specs.Holding.{Kept, Holds, Went, Stepped, Turned, Acted, Rowed, ReadRow, stateIn}
+use Rattle.reader.specs.Holding.{Kept, Turned, Acted, Rowed, ReadRow, stateIn}
 use Rattle.reader.proofs.Keeping.{holds-mode}
 use Rattle.reader.proofs.Adding.{went-nowhere, went-on, either-false}
 

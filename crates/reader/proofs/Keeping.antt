@@ -1,30 +1,29 @@
 -- A store that holds a mode: what it reads back as, what taking bytes in and clearing make of it. Assumes nothing.
-use mathlib.Core.Path.{_≡_, _∙_, refl, sym, ap, subst}
+use mathlib.Core.Path.{_≡_, _∙_, refl, sym, ap}
 use mathlib.Core.Bool.{Bool, true, false}
 use mathlib.Core.Logic.{_⊎_, inl, inr, ⊎-elim}
-use mathlib.Core.List.{List, [], _∷_, _++_, append-assoc, append-nil}
+use mathlib.Core.List.{List, [], _∷_, _++_}
 use Prim.Native.Nat.{ℕ, zero, suc, _+_, _-_, _^_, _≤_, _<_}
-use native.Mathlib.Nat.{add-zero, zero-add}
 use native.Mathlib.Omega.{arith}
-use lib.ListN.{length, getD, take, drop, set, replicate, length-append, length-replicate, length-take, length-drop, drop-of-length-le, replicate-append-replicate}
-use lib.Seq.{sets, sets-eq, take-at, drop-at, drop-append-add, drop-drop, length-take-le, drop-length}
+use lib.ListN.{length, take, drop, replicate, length-append, length-replicate, length-drop, replicate-append-replicate}
+use lib.Seq.{sets, sets-eq, take-at, drop-at, drop-append-add, drop-drop, length-take-le}
+use lib.Dec.{eqb}
+use borrow.Author.Tests.{le-leb}
 use Rattle.laws.proofs.Lists.{sets-front}
-use Rattle.blocks.specs.Block.{Block, sizeOf}
-use Rattle.reader.specs.declared.Run.{Run}
-use Rattle.reader.specs.declared.Run.the-variants.{Idle, Head, Body}
-use Rattle.reader.specs.Mode.{Mode, off, scan, heading, body, filler, shifted, full, carries}
 use Rattle.laws.specs.Pick.{pick}
 use Rattle.laws.proofs.Picks.{same}
-use borrow.Author.Tests.{le-leb}
 use Rattle.octet.specs.Decoding.{nib, undecodable}
-use lib.Dec.{eqb}
-use Rattle.reader.specs.State.{storeLength, modeOf, runOf, heldOf}
-use Rattle.reader.specs.Places.{Found, nothing, broken, cut, heads, found, zeroed}
+use Rattle.blocks.specs.Block.{sizeOf}
+use Rattle.reader.specs.declared.Run.{Run}
+use Rattle.reader.specs.declared.Run.the-variants.{Idle, Head, Body}
 use Rattle.reader.specs.declared.Taken.{Taken}
 use Rattle.reader.specs.declared.Ahead.{Ahead}
 use Rattle.reader.specs.declared.Ahead.the-variants.{Nothing, Broken, Cut, Whole}
+use Rattle.reader.specs.Mode.{Mode, off, scan, heading, body, filler, shifted, full, carries}
+use Rattle.reader.specs.State.{storeLength, modeOf, runOf, heldOf}
+use Rattle.reader.specs.Places.{Found, nothing, broken, cut, heads, found, zeroed}
 use Rattle.reader.specs.Holding.{Good, Holds, Kept, TookIn, aheadIn, awaits}
-use Rattle.reader.proofs.Walking.{stays, chunk-carried, carries-off, carried-by, heads-carried}
+use Rattle.reader.proofs.Walking.{stays, chunk-carried, carried-by, heads-carried}
 
 -- ---- a list of N bytes, zeros past those held
 

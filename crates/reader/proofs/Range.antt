@@ -1,24 +1,23 @@
 -- How much a packet can make of a state that is in range: what is held stays in range, at most 8 blocks go out for one packet, and
 -- their records are at most 2,112 bytes. By induction along the bytes. Assumes nothing.
-use mathlib.Core.Path.{_≡_, _∙_, refl, sym, ap}
-use mathlib.Core.Bool.{Bool, true, false, not}
+use mathlib.Core.Path.{_≡_, refl}
+use mathlib.Core.Bool.{Bool, true, false}
 use mathlib.Core.List.{List, [], _∷_, _++_}
-use Prim.Native.Nat.{ℕ, zero, suc, _+_, _-_, _*_, _/_, _%_, _^_, _≤_, _<_}
-use native.Mathlib.Decide.{decLt}
+use Prim.Native.Nat.{ℕ, suc, _+_, _*_, _/_, _%_, _^_, _≤_, _<_}
 use native.Mathlib.Omega.{arith}
 use lib.Dec.{eqb, leb, ltb}
-use lib.ListN.{length, getD, take, drop, length-append, length-drop, length-take}
-use borrow.Author.Tests.{le-leb, lt-leb, lt-ltb, le-ltb, eqb-false, leb-true, leb-false, ltb-true, ltb-false}
-use Rattle.laws.specs.Pick.{pick, both, either}
+use lib.ListN.{length, getD, take, drop, length-append, length-drop}
+use borrow.Author.Tests.{lt-leb, eqb-false, leb-false, ltb-true, ltb-false}
+use Rattle.laws.specs.Pick.{pick, both}
 use Rattle.octet.specs.Decoding.{nib, undecodable}
 use Rattle.octet.proofs.Laws.{nib-le}
-use Rattle.blocks.specs.Block.{Block, sizeOf, recordOf, recordsOf}
-use Rattle.reader.specs.Mode.{Mode, off, scan, heading, body, filler, shifted, full, headed, step, emitted, ends, gives, behind, carriedHead, carry, carries, finished, unfinished}
-use Rattle.reader.specs.State.{storeLength}
+use Rattle.blocks.specs.Block.{Block, sizeOf, recordsOf}
 use Rattle.guide.specs.declared.Setting.{Setting}
 use Rattle.guide.specs.Packet.{packetLength}
 use Rattle.reader.specs.declared.Page.{Page}
 use Rattle.reader.specs.declared.Page.the-variants.{Shut, Open}
+use Rattle.reader.specs.Mode.{Mode, off, scan, heading, body, filler, shifted, full, step, emitted, ends, gives, behind, carry, carries, finished, unfinished}
+use Rattle.reader.specs.State.{storeLength}
 use Rattle.reader.specs.Seen.{Seen, junk, other, foreign, ours, row, decodes, seeZero, seeY, see}
 use Rattle.reader.specs.Acting.{State, dropIf, wrongY, pointed, readBlocks, openBlocks, handed}
 use Rattle.reader.specs.Feeding.{room}

@@ -1,6 +1,6 @@
 -- The states that calls leave: a taken packet's state is in range again, and a reader holds it without loss. So a fresh reader, and
 -- whatever a run of packets makes of it, is never refused for its state. Assumes nothing.
-use mathlib.Core.Path.{_≡_, _∙_, refl, sym, ap, subst}
+use mathlib.Core.Path.{_≡_, _∙_, refl, ap}
 use mathlib.Core.Bool.{Bool, true, false}
 use mathlib.Core.List.{List, [], _∷_, _++_}
 use Prim.Native.Nat.{ℕ, zero, suc, _+_, _-_, _*_, _/_, _%_, _^_, _≤_, _<_}
@@ -8,19 +8,19 @@ use native.Mathlib.Decide.{decLt}
 use native.Mathlib.Numerals.{one-add}
 use native.Mathlib.Omega.{arith}
 use lib.Dec.{eqb, leb, ltb, lit<}
-use lib.ListN.{length, length-append, getD, take, drop, replicate}
+use lib.ListN.{length, length-append, getD, drop, replicate}
 use lib.Seq.{take-append-seam, drop-append-seam, getD-drop}
-use borrow.Author.Tests.{eq-eqb, le-leb, lt-ltb, le-ltb, leb-true, leb-false, ltb-true, ltb-false, eqb-false, ne-eqb}
-use Rattle.laws.specs.Pick.{pick, both, either}
+use borrow.Author.Tests.{le-leb, leb-false, ltb-true, eqb-false}
+use Rattle.laws.specs.Pick.{pick, both}
 use Rattle.laws.proofs.Tests.{both-true}
 use Rattle.octet.specs.Decoding.{nib, undecodable}
 use Rattle.octet.proofs.Laws.{nib-le}
-use Rattle.blocks.specs.Block.{Block, sizeOf}
+use Rattle.blocks.specs.Block.{sizeOf}
+use Rattle.guide.specs.declared.Setting.{Setting}
 use Rattle.reader.specs.declared.Page.{Page}
 use Rattle.reader.specs.declared.Page.the-variants.{Shut, Open}
 use Rattle.reader.specs.Mode.{Mode, off, scan, heading, body, shifted, full, headed, step, ends, behind, carriedHead, carry, carries, unfinished}
-use Rattle.reader.specs.State.{storeLength, modeOf, stateOf, runOf, heldOf, storeOf, readerOf, zeros, pageInRange, runInRange, heldBy, readerInRange, freshState}
-use Rattle.guide.specs.declared.Setting.{Setting}
+use Rattle.reader.specs.State.{storeLength, modeOf, stateOf, runOf, storeOf, readerOf, zeros, pageInRange, runInRange, heldBy, readerInRange, freshState}
 use Rattle.reader.specs.Acting.{State, incomplete, breaks, dropIf, wrongY, readMode, openState, act}
 use Rattle.reader.specs.Seen.{Seen, junk, other, foreign, ours, row, decodes, see, seeY, seeZero}
 

@@ -1,16 +1,14 @@
 -- Packets one after the other: one more is one step of the definition, and where there is no room for one, or none is left, it has
 -- ended. Assumes nothing.
 use mathlib.Core.Path.{_≡_, _∙_, refl, sym, ap}
-use mathlib.Core.Bool.{Bool, true, false}
-use mathlib.Core.List.{List, [], _∷_, _++_}
-use Prim.Native.Nat.{ℕ, zero, suc, _+_, _-_, _*_, _/_, _%_, _≤_, _<_}
+use mathlib.Core.Bool.{false}
+use mathlib.Core.List.{List}
+use Prim.Native.Nat.{ℕ, zero, suc, _+_, _-_, _*_, _/_, _≤_, _<_}
 use native.Mathlib.Nat.{zero-add}
 use native.Mathlib.Omega.{arith}
-use lib.Dec.{leb}
 use lib.ListN.{length, take, drop, length-append, length-drop}
 use lib.Seq.{sets, drop-drop, length-take-le}
 use borrow.Author.Tests.{le-leb, lt-leb}
-use Rattle.laws.specs.Pick.{pick, either}
 use Rattle.laws.proofs.Lists.{sets-append, part-of}
 use Rattle.blocks.specs.Block.{Block, recordsOf}
 use Rattle.guide.specs.declared.Setting.{Setting}
@@ -18,10 +16,9 @@ use Rattle.guide.specs.Packet.{packetLength}
 use Rattle.reader.specs.declared.Going.{Going}
 use Rattle.reader.specs.declared.Taking.{Taking}
 use Rattle.reader.specs.Seen.{see}
-use Rattle.reader.specs.Acting.{State, act, handed, dropped}
+use Rattle.reader.specs.Acting.{State, handed, dropped}
 use Rattle.reader.specs.Feeding.{room, Ran, begun, ranOn, run}
-use Rattle.reader.specs.State.{modeOf}
-use Rattle.reader.specs.Holding.{Good, Holds, Kept, Stepped, Acted, RanTo, stateIn}
+use Rattle.reader.specs.Holding.{Good, Kept, Acted, RanTo, stateIn}
 use Rattle.reader.proofs.Keeping.{holds-mode}
 use Rattle.reader.proofs.Adding.{recordsOf-append}
 use Rattle.reader.proofs.Range.{see-short, handed-room, two-each}

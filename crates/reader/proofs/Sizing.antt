@@ -1,8 +1,8 @@
 -- What is handed out is whole records: each block has just the raw bytes that its 16 bits say. Assumes nothing.
-use mathlib.Core.Path.{_≡_, _∙_, refl, sym, ap}
+use mathlib.Core.Path.{_≡_, refl}
 use mathlib.Core.Bool.{Bool, true, false}
 use mathlib.Core.List.{List, [], _∷_, _++_}
-use Prim.Native.Nat.{ℕ, zero, suc, _+_, _*_, _≤_, _<_}
+use Prim.Native.Nat.{ℕ, suc, _*_, _≤_, _<_}
 use native.Mathlib.Omega.{arith}
 use lib.Dec.{eqb, leb, ltb}
 use lib.ListN.{length, length-append, take, drop}
@@ -11,12 +11,11 @@ use Rattle.laws.specs.Pick.{pick}
 use Rattle.octet.specs.Decoding.{nib, undecodable}
 use Rattle.blocks.specs.Block.{Block, sizeOf}
 use Rattle.blocks.specs.Sizes.{Sized, none, more}
-use Rattle.guide.specs.declared.Setting.{Setting}
 use Rattle.reader.specs.declared.Page.{Page}
 use Rattle.reader.specs.declared.Page.the-variants.{Shut, Open}
 use Rattle.reader.specs.Mode.{Mode, off, scan, heading, body, shifted, full, step, emitted, gives, carries, finished}
 use Rattle.reader.specs.Acting.{State, dropIf, wrongY, readBlocks, openBlocks, handed}
-use Rattle.reader.specs.Seen.{Seen, junk, other, foreign, ours, row, see}
+use Rattle.reader.specs.Seen.{Seen, junk, other, foreign, ours, row}
 use Rattle.reader.proofs.Ranging.{Along, Rests, rests-along, drop-rests, carries-along, Sound}
 
 pub sized-append : {a b : List Block} → Sized a → Sized b → Sized (a ++ b)

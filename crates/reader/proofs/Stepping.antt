@@ -1,25 +1,25 @@
 -- One turn of each loop that reads: what is left from the next place is what was left from this one. Assumes nothing.
-use mathlib.Core.Path.{_≡_, _∙_, refl, sym, ap}
+use mathlib.Core.Path.{_≡_, _∙_, refl, sym}
 use mathlib.Core.Bool.{Bool, true, false, not}
-use mathlib.Core.List.{List, [], _∷_, _++_}
+use mathlib.Core.List.{List, [], _∷_}
 use Prim.Native.Nat.{ℕ, zero, suc, _+_, _-_, _*_, _/_, _%_, _≤_, _<_}
 use native.Mathlib.Numerals.{add-one}
 use native.Mathlib.Omega.{arith}
-use lib.ListN.{length, getD, take, drop, drop-of-length-le, length-drop}
+use native.Mathlib.Decide.{decLt}
+use lib.ListN.{length, getD, drop, drop-of-length-le, length-drop}
 use lib.Seq.{drop-cons, drop-drop, getD-drop}
 use lib.Dec.{eqb, ltb, leb}
 use borrow.Author.Tests.{eq-eqb, ne-eqb, eqb-false, ltb-true, lt-ltb, le-ltb, lt-leb, le-leb}
-use native.Mathlib.Decide.{decLt}
 use Rattle.laws.specs.Pick.{pick, both}
 use Rattle.octet.specs.Decoding.{nib, undecodable}
 use Rattle.octet.proofs.Laws.{nib-le}
-use Rattle.reader.specs.Mode.{filler, shifted}
-use Rattle.reader.specs.Seen.{decodes}
-use Rattle.reader.specs.State.{zeros}
 use Rattle.reader.specs.declared.Ahead.{Ahead}
 use Rattle.reader.specs.declared.Ahead.the-variants.{Nothing, Broken, Cut, Whole}
+use Rattle.reader.specs.Mode.{filler}
+use Rattle.reader.specs.Seen.{decodes}
+use Rattle.reader.specs.State.{zeros}
 use Rattle.reader.specs.Holding.{nextOf}
-use Rattle.reader.specs.Places.{Found, nothing, broken, cut, whole, fillers, heads, found}
+use Rattle.reader.specs.Places.{nothing, broken, cut, whole, fillers, heads, found}
 
 pub untrue {ℓ} : {A : Type ℓ} → false ≡ true → A
 untrue e = let z : _≡_ {A = ℕ} 0 1 = cc in absurd (omega arith)

@@ -1,11 +1,11 @@
 -- Stores in a row, and what a store of the running block holds after them. Assumes nothing.
-use mathlib.Core.Path.{_≡_, _∙_, refl, sym, ap}
-use mathlib.Core.List.{List, [], _∷_, _++_, append-assoc, append-nil}
-use Prim.Native.Nat.{ℕ, zero, suc, _+_, _-_, _≤_, _<_}
+use mathlib.Core.Path.{_≡_}
+use mathlib.Core.List.{List, _∷_}
+use Prim.Native.Nat.{ℕ, suc, _+_, _-_, _≤_, _<_}
 use native.Mathlib.Numerals.{add-one}
 use native.Mathlib.Omega.{arith}
-use lib.ListN.{length, getD, take, drop, set, replicate, length-append, length-replicate, length-take, length-drop, drop-of-length-le, replicate-append-replicate}
-use lib.Seq.{sets, sets-eq, drop-cons, take-at, drop-at}
+use lib.ListN.{length, getD, take, drop, set, replicate}
+use lib.Seq.{sets, drop-cons}
 
 -- a byte of l is copied to the place where the rest of it goes
 pub copy-on :

@@ -1,19 +1,19 @@
 -- Reading by places is reading byte by byte: filler, a header and a block's bytes are each passed in one go. By induction along the
 -- bytes. Assumes nothing.
-use mathlib.Core.Path.{_≡_, _∙_, refl, sym, ap}
+use mathlib.Core.Path.{_≡_, refl}
 use mathlib.Core.Bool.{Bool, true, false}
-use mathlib.Core.List.{List, [], _∷_, _++_, append-assoc, append-nil}
+use mathlib.Core.List.{List, [], _∷_, _++_, append-nil}
 use Prim.Native.Nat.{ℕ, zero, suc, _+_, _-_, _≤_, _<_}
 use native.Mathlib.Omega.{arith}
-use lib.Dec.{eqb, ltb, leb}
+use lib.Dec.{eqb}
 use lib.ListN.{length, take, drop, length-append}
 use lib.Seq.{append-snoc}
-use borrow.Author.Tests.{lt-ltb, le-ltb, le-leb, lt-leb, eq-eqb, ne-eqb}
-use Rattle.laws.specs.Pick.{pick, both, either}
+use borrow.Author.Tests.{lt-ltb, le-leb, lt-leb}
+use Rattle.laws.specs.Pick.{pick, either}
 use Rattle.laws.proofs.Picks.{agree}
 use Rattle.octet.specs.Decoding.{nib, undecodable}
 use Rattle.blocks.specs.Block.{Block, sizeOf}
-use Rattle.reader.specs.Mode.{Mode, off, scan, heading, body, filler, shifted, full, headed, step, emitted, spoiled, ends, gives, spoils, behind, carriedHead, carry, carries, unfinished}
+use Rattle.reader.specs.Mode.{Mode, off, scan, heading, body, filler, shifted, full, headed, step, emitted, spoiled, ends, gives, spoils, carry, carries, unfinished}
 use Rattle.reader.specs.Places.{Found, nothing, broken, cut, whole, fillers, heads, found}
 
 -- ---- nothing is read past a stray nibble

@@ -1,7 +1,7 @@
 -- The calls: one packet, and a row of packets.
 use mathlib.Core.Bool.{Bool, false}
 use mathlib.Core.List.{List, [], _∷_, _++_}
-use Prim.Native.Nat.{ℕ, zero, suc, _+_, _-_, _%_, _/_}
+use Prim.Native.Nat.{ℕ, zero, suc, _+_, _%_, _/_}
 use lib.Dec.{eqb, leb}
 use lib.ListN.{length, take, drop}
 use Rattle.laws.specs.Pick.{pick, both, either}

@@ -1,15 +1,12 @@
 -- Reading by places, as the code goes: filler is passed by in one go, then a start's four bytes, then the block's bytes. proofs/Walking
 -- shows that it is the reading byte by byte of Mode. Only private calls cite these.
-use mathlib.Core.Path.{_≡_}
-use mathlib.Core.Bool.{Bool, true, false}
 use mathlib.Core.List.{List, [], _∷_, _++_}
-use Prim.Native.Nat.{ℕ, zero, suc, _+_, _-_, _≤_}
+use Prim.Native.Nat.{ℕ, zero, suc, _-_}
 use lib.Dec.{eqb}
-use lib.ListN.{length, drop, replicate}
+use lib.ListN.{length, replicate}
 use Rattle.laws.specs.Pick.{pick}
 use Rattle.octet.specs.Decoding.{nib, undecodable}
-use Rattle.blocks.specs.Block.{sizeOf}
-use Rattle.reader.specs.Mode.{Mode, off, scan, heading, body, filler, shifted}
+use Rattle.reader.specs.Mode.{filler, shifted}
 use Rattle.reader.specs.State.{storeLength}
 
 -- how many bytes of filler l begins with

@@ -1,63 +1,48 @@
 -- `reader::body_in` meets its contract: it copies all that the block wants, or all that there is. Assumes nothing.
-use mathlib.Core.Path.{_≡_, _∙_, refl, sym, ap}
-use Prim.Native.Nat.{_+_, _-_, _≤_, _<_, _/_}
-use native.Mathlib.Omega.{arith}
-use borrow.Author.Needs.{needs}
-use lib.ListN.{length, getD, take, drop, set, replicate, length-set}
-use lib.Seq.{sets, length-sets}
-use denote.Ref.{now}
 use mathlib.Core.Logic.{inl, inr}
+use Prim.Native.Nat.{_-_, _/_}
+use native.Mathlib.Omega.{arith}
+use lib.ListN.{length}
+use denote.Ref.{now}
+use borrow.Author.Needs.{needs}
 use Rattle.reader.proofs.Keeping.{body-fits, body-size, body-store, body-took}
 use Rattle.reader.proofs.body_in.Statement.{statement}
 use Rattle.reader.proofs.body_in.Tie as tie
-use Rattle.reader.proofs.body_in.Reads as reads
-use Rattle.reader.proofs.body_in.Lts as lts
-use Rattle.reader.proofs.copy.Reads as copy-reads
 
--- src/lib.rt:249:16
 cast-need : tie.Need-cast-need
 cast-need c = search needs
 
--- src/lib.rt:249:16
 sub-need : tie.Need-sub-need
 sub-need c = body-fits (c .before .pre .0)
 
--- src/lib.rt:250:17
 sub-there : tie.Need-sub-there
 sub-there c = search needs
 
--- src/lib.rt:252:9
 copy-requires : tie.Need-copy-requires
 copy-requires c κs =
     let k = c .before .before .before .pre .0 in
     (omega arith, omega (arith, body-fits k, body-size k, body-store k))
 
--- src/lib.rt:256:23
 add-t14 : tie.Need-add-t14
 add-t14 c = search needs
 
--- src/lib.rt:258:19
 add-t16 : tie.Need-add-t16
 add-t16 c = search needs
 
--- src/lib.rt:253:9
 returns : tie.Need-returns
 returns c =
     let a = c .before .before .before .before .args in
     let k = c .before .before .before .before .pre .0 in
     body-took (now (a .s)) (a .from) (a .head / 32 - a .held) k (omega arith) (omega (arith, body-fits k)) (inl (omega (arith, body-fits k))) (c .copy .ensures)
 
--- src/lib.rt:261:5
 copy-requires-2 : tie.Need-copy-requires-2
 copy-requires-2 c κs =
     let k = c .before .before .before .pre .0 in
     (omega arith, omega (arith, body-fits k, body-size k, body-store k))
 
--- src/lib.rt:265:19
 add-t9 : tie.Need-add-t9
 add-t9 c = search needs
 
--- src/lib.rt:244:1
 add-t21 : tie.Need-add-t21
 add-t21 c = search needs
 

@@ -1,16 +1,14 @@
 -- `reader::clear` meets its contract: the zeros still to come are stored from the place on. Assumes nothing.
-use mathlib.Core.Path.{_≡_, _∙_, refl, sym}
-use Prim.Native.Nat.{_+_, _-_, _≤_, _<_}
+use mathlib.Core.Path.{_≡_, _∙_, sym}
+use Prim.Native.Nat.{_-_, _≤_}
 use native.Mathlib.Omega.{arith}
-use borrow.Author.Needs.{needs}
-use lib.ListN.{length, getD, take, drop, set, replicate, length-set}
+use lib.ListN.{length, replicate, length-set}
 use lib.Seq.{sets}
 use denote.Ref.{now}
+use borrow.Author.Needs.{needs}
 use Rattle.reader.proofs.Storing.{zero-begins, zero-on, zero-ends}
 use Rattle.reader.proofs.clear.Statement.{statement}
 use Rattle.reader.proofs.clear.Tie as tie
-use Rattle.reader.proofs.clear.Reads as reads
-use Rattle.reader.proofs.clear.Lts as lts
 
 abbrev Inv-loop : tie.InvT-loop
 Inv-loop store₀ held i₀ store i =
@@ -19,29 +17,23 @@ Inv-loop store₀ held i₀ store i =
 abbrev μ-loop : tie.MeasureT-loop
 μ-loop store₀ held i₀ store i = held - i
 
--- src/lib.rt:182:5
 loop-holds : tie.Need-loop-holds Inv-loop μ-loop
 loop-holds c = (omega arith, c .pre .1, zero-begins (now (c .args .store)) (c .args .held))
 
--- src/lib.rt:183:9
 element-write-store : tie.Need-element-write-store Inv-loop μ-loop
 element-write-store c = search needs
 
--- src/lib.rt:184:9
 add-i : tie.Need-add-i Inv-loop μ-loop
 add-i c = search needs
 
--- src/lib.rt:182:5
 loop-less : tie.Need-loop-less Inv-loop μ-loop
 loop-less c = search needs
 
--- src/lib.rt:182:5
 loop-again : tie.Need-loop-again Inv-loop μ-loop
 loop-again c =
     let l = c .before .loop in
     (omega arith, simp length-set (l .inv .1), zero-on (l .store) (c .before .before .args .held) (l .i) (omega arith) ∙ l .inv .2)
 
--- src/lib.rt:177:1
 returns : tie.Need-returns Inv-loop μ-loop
 returns c =
     let l = c .before .loop in

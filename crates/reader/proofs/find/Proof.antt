@@ -1,23 +1,16 @@
 -- `reader::find` meets its contract: filler leads to the place, and what stands there decides. Assumes nothing.
-use mathlib.Core.Path.{_≡_, _∙_, sym}
-use Prim.Native.Nat.{_+_, _-_, _≤_, _<_}
+use mathlib.Core.Path.{_∙_}
+use Prim.Native.Nat.{_+_, _-_}
 use native.Mathlib.Omega.{arith}
 use denote.Ref.{now}
-use Rattle.reader.proofs.Stepping.{found-at, not-filler, found-none, found-stray, found-start, next-later}
 use borrow.Author.Needs.{needs}
+use Rattle.reader.proofs.Stepping.{found-at, not-filler, found-none, found-stray, found-start, next-later}
 use Rattle.reader.proofs.find.Statement.{statement}
 use Rattle.reader.proofs.find.Tie as tie
-use Rattle.reader.proofs.find.Reads as reads
-use Rattle.reader.proofs.find.Lts as lts
-use Rattle.octet.proofs.decode.Reads as decode-reads
-use Rattle.reader.proofs.head_on.Reads as head-on-reads
-use Rattle.reader.proofs.skip.Reads as skip-reads
 
--- src/lib.rt:140:9
 skip-requires : tie.Need-skip-requires
 skip-requires c κs = search needs
 
--- src/lib.rt:142:9
 returns : tie.Need-returns
 returns c =
     let a = c .before .before .before .args in
@@ -25,15 +18,12 @@ returns c =
     let e = c .before .skip .ensures in
     (found-at (now (a .s)) (a .from) at e ∙ found-none (now (a .s)) at (c .if1 .taken), (search needs, search needs))
 
--- src/lib.rt:144:22
 shared-slice-read-decode : tie.Need-shared-slice-read-decode
 shared-slice-read-decode c = search needs
 
--- src/lib.rt:144:8
 decode-requires : tie.Need-decode-requires
 decode-requires c κs = search needs
 
--- src/lib.rt:145:9
 returns-2 : tie.Need-returns-2
 returns-2 c =
     let a = c .before .before .before .before .before .before .args in
@@ -46,15 +36,12 @@ returns-2 c =
       (search needs, search needs),
     )
 
--- src/lib.rt:147:16
 add-head-on : tie.Need-add-head-on
 add-head-on c = search needs
 
--- src/lib.rt:147:5
 head-on-requires : tie.Need-head-on-requires
 head-on-requires c κs = search needs
 
--- src/lib.rt:134:1
 returns-3 : tie.Need-returns-3
 returns-3 c =
     let a = c .before .before .before .before .before .before .before .args in

@@ -1,79 +1,59 @@
 -- `reader::finish` meets its contract. Assumes nothing.
-use mathlib.Core.Path.{_≡_, _∙_, refl, sym, ap}
-use Prim.Native.Nat.{_+_, _-_, _≤_, _<_}
 use native.Mathlib.Omega.{arith}
-use borrow.Author.Needs.{needs}
-use lib.ListN.{length, getD, take, drop, set, replicate, length-set}
-use lib.Seq.{sets, length-sets}
 use denote.Ref.{now}
+use borrow.Author.Needs.{needs}
 use Rattle.reader.proofs.Keeping.{kept-body, body-fits, body-size}
 use Rattle.reader.proofs.Adding.{stays-running, body-short, goes-out}
 use Rattle.reader.proofs.finish.Statement.{statement}
 use Rattle.reader.proofs.finish.Tie as tie
-use Rattle.reader.proofs.finish.Reads as reads
-use Rattle.reader.proofs.finish.Lts as lts
-use Rattle.reader.proofs.hand_out.Reads as hand-out-reads
 
--- src/lib.rt:359:22
 enum-told : tie.Need-enum-told
 enum-told c = search needs
 
--- src/lib.rt:360:42
 enum-told-2 : tie.Need-enum-told-2
 enum-told-2 c = search needs
 
--- src/lib.rt:361:21
 enum-known-run : tie.Need-enum-known-run
 enum-known-run c = search needs
 
--- src/lib.rt:362:23
 cast-if1 : tie.Need-cast-if1
 cast-if1 c = search needs
 
--- src/lib.rt:363:17
 returns : tie.Need-returns
 returns c =
     let a = c .before .before .before .before .before .args in
     let k = c .before .before .before .before .before .pre .0 in
     stays-running (a .got) (now (a .out)) k (body-short k (c .before .before .run .given .1) (c .if1 .taken))
 
--- src/lib.rt:367:13
 hand-out-requires : tie.Need-hand-out-requires
 hand-out-requires c κs =
     let k = kept-body (c .before .before .before .before .before .before .before .pre .0) (c .before .before .before .before .run .given .1) in
     (k, omega (arith, body-fits k, body-size k))
 
--- src/lib.rt:370:25
 add-t11 : tie.Need-add-t11
 add-t11 c = search needs
 
--- src/lib.rt:371:26
 add-t18 : tie.Need-add-t18
 add-t18 c = search needs
 
--- src/lib.rt:371:26
 add-t19 : tie.Need-add-t19
 add-t19 c =
     let k = kept-body (c .before .before .before .before .before .before .before .before .before .before .pre .0) (c .before .before .before .before .before .before .before .run .given .1) in
     omega (arith, body-fits k, body-size k, c .before .before .before .before .before .before .before .before .before .before .pre, c .before .before .before .before .before .before .before .before .before .before .good)
 
--- src/lib.rt:352:1
 returns-2 : tie.Need-returns-2
 returns-2 c =
     let a = c .before .before .before .args in
     stays-running (a .got) (now (a .out)) (c .before .before .before .pre .0) (rw (c .enum-told .given .1))
 
--- src/lib.rt:352:1
 returns-3 : tie.Need-returns-3
 returns-3 c =
     let a = c .before .before .before .args in
     stays-running (a .got) (now (a .out)) (c .before .before .before .pre .0) (rw (c .enum-told2 .given .1))
 
--- src/lib.rt:352:1
 same-length : tie.Need-same-length
 same-length c = search needs
 
--- src/lib.rt:352:1
 returns-4 : tie.Need-returns-4
 returns-4 c =
     let a = c .before .before .before .before .before .before .before .before .before .before .args in

@@ -1,27 +1,20 @@
 -- `reader::flow` meets its contract: what comes of the bytes from the place on is what comes of all of them. Assumes nothing.
-use mathlib.Core.Path.{_≡_, _∙_, refl, sym, ap}
-use Prim.Native.Nat.{_+_, _-_, _*_, _≤_, _<_}
-use native.Mathlib.Omega.{arith}
-use borrow.Author.Needs.{needs}
-use lib.ListN.{length, getD, take, drop, set, replicate, length-set}
-use lib.Seq.{sets, length-sets}
-use denote.Ref.{now}
+use mathlib.Core.Path.{_≡_, _∙_, refl, ap}
 use mathlib.Core.List.{[]}
-use lib.ListN.{length-drop}
+use Prim.Native.Nat.{_+_, _-_, _*_, _≤_}
+use native.Mathlib.Omega.{arith}
+use lib.ListN.{length, drop, length-drop}
 use lib.Seq.{drop-drop}
-use Rattle.reader.specs.Places.{zeroed}
+use denote.Ref.{now}
+use borrow.Author.Needs.{needs}
 use Rattle.laws.proofs.Lists.{part-rest}
+use Rattle.reader.specs.Places.{zeroed}
+use Rattle.reader.specs.Holding.{aheadIn}
 use Rattle.reader.proofs.Stepping.{next-from, next-within}
 use Rattle.reader.proofs.Keeping.{zeroed-length, found-cut-le}
-use Rattle.reader.specs.Holding.{aheadIn, nextOf}
 use Rattle.reader.proofs.Adding.{place, Leads, from-place, flow-nothing, flow-broken, flow-cut, flow-held, flow-on}
 use Rattle.reader.proofs.flow.Statement.{statement}
 use Rattle.reader.proofs.flow.Tie as tie
-use Rattle.reader.proofs.flow.Reads as reads
-use Rattle.reader.proofs.flow.Lts as lts
-use Rattle.reader.proofs.copy.Reads as copy-reads
-use Rattle.reader.proofs.emit.Reads as emit-reads
-use Rattle.reader.proofs.find.Reads as find-reads
 
 abbrev Inv-loop : tie.InvT-loop
 Inv-loop store₀ s out₀ dropped blocks₀ q₀ at₀ store out blocks q at =
@@ -31,23 +24,18 @@ Inv-loop store₀ s out₀ dropped blocks₀ q₀ at₀ store out blocks q at =
 abbrev μ-loop : tie.MeasureT-loop
 μ-loop store₀ s out₀ dropped blocks₀ q₀ at₀ store out blocks q at = length s - at
 
--- src/lib.rt:436:5
 loop-holds : tie.Need-loop-holds Inv-loop μ-loop
 loop-holds c = (omega arith, omega arith, c .before .before .pre .1 .1, refl, c .before .before .pre .0, λ r store new w. w)
 
--- src/lib.rt:437:15
 find-requires : tie.Need-find-requires Inv-loop μ-loop
 find-requires c κs = search needs
 
--- src/lib.rt:440:26
 enum-told : tie.Need-enum-told Inv-loop μ-loop
 enum-told c = search needs
 
--- src/lib.rt:439:17
 same-length : tie.Need-same-length Inv-loop μ-loop
 same-length c = search needs
 
--- src/lib.rt:439:17
 returns : tie.Need-returns Inv-loop μ-loop
 returns c =
     let a = c .before .before .before .before .before .before .args in
@@ -58,15 +46,12 @@ returns c =
     (c .before .before .find .ensures .0 ∙ ap (aheadIn (now (a .s))) (c .enum-told .given .1))
     (l .inv .4)))
 
--- src/lib.rt:448:26
 enum-told-2 : tie.Need-enum-told-2 Inv-loop μ-loop
 enum-told-2 c = search needs
 
--- src/lib.rt:447:17
 same-length-2 : tie.Need-same-length-2 Inv-loop μ-loop
 same-length-2 c = search needs
 
--- src/lib.rt:447:17
 returns-2 : tie.Need-returns-2 Inv-loop μ-loop
 returns-2 c =
     let a = c .before .before .before .before .before .before .args in
@@ -77,15 +62,12 @@ returns-2 c =
     (c .before .before .find .ensures .0 ∙ ap (aheadIn (now (a .s))) (c .enum-told2 .given .1))
     (l .inv .4)))
 
--- src/lib.rt:454:31
 enum-known-g : tie.Need-enum-known-g Inv-loop μ-loop
 enum-known-g c = search needs
 
--- src/lib.rt:455:17
 same-length-3 : tie.Need-same-length-3 Inv-loop μ-loop
 same-length-3 c = search needs
 
--- src/lib.rt:455:17
 returns-3 : tie.Need-returns-3 Inv-loop μ-loop
 returns-3 c =
     let a = c .before .before .before .before .before .before .before .args in
@@ -97,30 +79,24 @@ returns-3 c =
     (found-cut-le (drop (l .at) (now (a .s))) x, omega arith)
     (l .inv .4)))
 
--- src/lib.rt:462:28
 enum-known-head : tie.Need-enum-known-head Inv-loop μ-loop
 enum-known-head c = search needs
 
--- src/lib.rt:463:28
 cast-size : tie.Need-cast-size Inv-loop μ-loop
 cast-size c = search needs
 
--- src/lib.rt:464:29
 sub-there : tie.Need-sub-there Inv-loop μ-loop
 sub-there c = next-within (c .before .before .before .find .result) (c .before .head .given .1) (c .before .before .before .find .ensures .1 .1)
 
--- src/lib.rt:466:21
 copy-requires : tie.Need-copy-requires Inv-loop μ-loop
 copy-requires c κs =
     let u = next-within (c .before .before .before .before .before .find .result) (c .before .before .before .head .given .1) (c .before .before .before .before .before .find .ensures .1 .1) in
     let l = c .before .before .before .before .before .before .loop in
     (omega arith, omega (arith, ap length (l .inv .4), zeroed-length [] (omega arith)))
 
--- src/lib.rt:467:21
 same-length-4 : tie.Need-same-length-4 Inv-loop μ-loop
 same-length-4 c = search needs
 
--- src/lib.rt:467:21
 returns-4 : tie.Need-returns-4 Inv-loop μ-loop
 returns-4 c =
     let a = c .before .before .before .before .before .before .before .before .before .before .args in
@@ -135,45 +111,38 @@ returns-4 c =
     (omega arith)
     (c .copy .ensures ∙ rw (l .inv .4, part-rest n (now (a .s))))))
 
--- src/lib.rt:477:17
 emit-requires : tie.Need-emit-requires Inv-loop μ-loop
 emit-requires c κs =
     let u = next-within (c .before .before .before .before .before .find .result) (c .before .before .before .head .given .1) (c .before .before .before .before .before .find .ensures .1 .1) in
     let w = next-from (c .before .before .before .before .before .find .result) (c .before .before .before .before .before .before .loop .at + 5) (c .before .before .before .head .given .1) (c .before .before .before .before .before .find .ensures .1 .0) in
     (omega arith, omega arith)
 
--- src/lib.rt:478:17
 add-blocks : tie.Need-add-blocks Inv-loop μ-loop
 add-blocks c = search needs
 
--- src/lib.rt:479:21
 add-q : tie.Need-add-q Inv-loop μ-loop
 add-q c =
     let u = next-within (c .before .before .before .before .before .before .before .before .find .result) (c .before .before .before .before .before .before .head .given .1) (c .before .before .before .before .before .before .before .before .find .ensures .1 .1) in
     let w = next-from (c .before .before .before .before .before .before .before .before .find .result) (c .before .before .before .before .before .before .before .before .before .loop .at + 5) (c .before .before .before .before .before .before .head .given .1) (c .before .before .before .before .before .before .before .before .find .ensures .1 .0) in
     omega arith
 
--- src/lib.rt:479:21
 add-q-2 : tie.Need-add-q-2 Inv-loop μ-loop
 add-q-2 c =
     let u = next-within (c .before .before .before .before .before .before .before .before .find .result) (c .before .before .before .before .before .before .head .given .1) (c .before .before .before .before .before .before .before .before .find .ensures .1 .1) in
     let w = next-from (c .before .before .before .before .before .before .before .before .find .result) (c .before .before .before .before .before .before .before .before .before .loop .at + 5) (c .before .before .before .before .before .before .head .given .1) (c .before .before .before .before .before .before .before .before .find .ensures .1 .0) in
     omega arith
 
--- src/lib.rt:480:22
 add-at : tie.Need-add-at Inv-loop μ-loop
 add-at c =
     let u = next-within (c .before .before .before .before .before .before .before .before .find .result) (c .before .before .before .before .before .before .head .given .1) (c .before .before .before .before .before .before .before .before .find .ensures .1 .1) in
     omega arith
 
--- src/lib.rt:436:5
 loop-less : tie.Need-loop-less Inv-loop μ-loop
 loop-less c =
     let u = next-within (c .before .before .before .before .before .before .before .before .find .result) (c .before .before .before .before .before .before .head .given .1) (c .before .before .before .before .before .before .before .before .find .ensures .1 .1) in
     let w = next-from (c .before .before .before .before .before .before .before .before .find .result) (c .before .before .before .before .before .before .before .before .before .loop .at + 5) (c .before .before .before .before .before .before .head .given .1) (c .before .before .before .before .before .before .before .before .find .ensures .1 .0) in
     omega arith
 
--- src/lib.rt:436:5
 loop-again : tie.Need-loop-again Inv-loop μ-loop
 loop-again c =
     let u = next-within (c .before .before .before .before .before .before .before .before .find .result) (c .before .before .before .before .before .before .head .given .1) (c .before .before .before .before .before .before .before .before .find .ensures .1 .1) in

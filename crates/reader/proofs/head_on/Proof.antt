@@ -3,17 +3,14 @@
 use mathlib.Core.Path.{_≡_, _∙_, sym}
 use Prim.Native.Nat.{_+_, _-_, _^_, _≤_, _<_}
 use native.Mathlib.Omega.{arith}
-use borrow.Author.Needs.{needs}
 use lib.ListN.{length, getD, drop}
 use denote.Ref.{now}
+use borrow.Author.Needs.{needs}
 use Rattle.octet.proofs.Laws.{nib-le}
 use Rattle.reader.specs.Places.{heads}
 use Rattle.reader.proofs.Stepping.{head-on, head-cut, head-broken, head-whole}
 use Rattle.reader.proofs.head_on.Statement.{statement}
 use Rattle.reader.proofs.head_on.Tie as tie
-use Rattle.reader.proofs.head_on.Reads as reads
-use Rattle.reader.proofs.head_on.Lts as lts
-use Rattle.octet.proofs.decode.Reads as decode-reads
 
 abbrev Inv-loop : tie.InvT-loop
 Inv-loop s from got bits i₀ g₀ v₀ i g v =
@@ -23,63 +20,51 @@ Inv-loop s from got bits i₀ g₀ v₀ i g v =
 abbrev μ-loop : tie.MeasureT-loop
 μ-loop s from got bits i₀ g₀ v₀ i g v = 4 - g
 
--- src/lib.rt:118:5
 loop-holds : tie.Need-loop-holds Inv-loop μ-loop
 loop-holds c = search needs
 
--- src/lib.rt:120:13
 returns : tie.Need-returns Inv-loop μ-loop
 returns c =
     let l = c .before .before .loop in
     let a = c .before .before .before .before .args in
     (sym (l .inv .4) ∙ head-cut (now (a .s)) (l .i) (l .g) (l .v) (omega arith) (omega arith), (search needs, search needs))
 
--- src/lib.rt:122:31
 shared-slice-read-decode : tie.Need-shared-slice-read-decode Inv-loop μ-loop
 shared-slice-read-decode c = search needs
 
--- src/lib.rt:122:13
 decode-requires : tie.Need-decode-requires Inv-loop μ-loop
 decode-requires c κs = search needs
 
--- src/lib.rt:124:13
 returns-2 : tie.Need-returns-2 Inv-loop μ-loop
 returns-2 c =
     let l = c .before .before .before .before .before .loop in
     let a = c .before .before .before .before .before .before .before .args in
     (sym (l .inv .4) ∙ head-broken (now (a .s)) (l .i) (l .g) (l .v) (omega arith) (omega arith) (omega arith), (search needs, search needs))
 
--- src/lib.rt:126:23
 cast-v : tie.Need-cast-v Inv-loop μ-loop
 cast-v c = search needs
 
--- src/lib.rt:126:22
 mul-v : tie.Need-mul-v Inv-loop μ-loop
 mul-v c =
     let l = c .before .before .before .before .before .loop in
     let s = now (c .before .before .before .before .before .before .before .args .s) in
     omega (arith, c .before .decode .ensures, nib-le (getD s (l .i) 0))
 
--- src/lib.rt:126:13
 add-v : tie.Need-add-v Inv-loop μ-loop
 add-v c =
     let l = c .before .before .before .before .before .loop in
     let s = now (c .before .before .before .before .before .before .before .args .s) in
     omega (arith, c .before .decode .ensures, nib-le (getD s (l .i) 0))
 
--- src/lib.rt:127:9
 add-g : tie.Need-add-g Inv-loop μ-loop
 add-g c = search needs
 
--- src/lib.rt:128:9
 add-i : tie.Need-add-i Inv-loop μ-loop
 add-i c = search needs
 
--- src/lib.rt:118:5
 loop-less : tie.Need-loop-less Inv-loop μ-loop
 loop-less c = search needs
 
--- src/lib.rt:118:5
 loop-again : tie.Need-loop-again Inv-loop μ-loop
 loop-again c =
     let l = c .before .before .before .before .before .loop in
@@ -93,7 +78,6 @@ loop-again c =
       head-on s (l .i) (l .g) (l .v) n (omega arith) (omega arith) e (c .if2 .left) ∙ l .inv .4,
     )
 
--- src/lib.rt:109:1
 returns-3 : tie.Need-returns-3 Inv-loop μ-loop
 returns-3 c =
     let l = c .before .loop in

@@ -1,89 +1,64 @@
 -- `reader::in_range` meets its contract: its tests in order. Assumes nothing.
-use mathlib.Core.Path.{_≡_, _∙_, refl, sym, ap}
-use Prim.Native.Nat.{_+_, _-_, _≤_, _<_}
+use mathlib.Core.Path.{_∙_, sym}
 use native.Mathlib.Omega.{arith}
 use borrow.Author.Needs.{needs}
-use lib.ListN.{length, getD, take, drop, set, replicate, length-set}
-use lib.Seq.{sets, length-sets}
-use denote.Ref.{now}
 use borrow.Author.Tests.{lt-leb, le-leb, not-true, not-false}
 use Rattle.reader.specs.State.{readerInRange}
 use Rattle.reader.proofs.Stepping.{untrue}
 use Rattle.reader.proofs.in_range.Statement.{statement}
 use Rattle.reader.proofs.in_range.Tie as tie
-use Rattle.reader.proofs.in_range.Reads as reads
-use Rattle.reader.proofs.in_range.Lts as lts
-use Rattle.reader.proofs.is_clear.Reads as is-clear-reads
-use Rattle.reader.proofs.is_head.Reads as is-head-reads
-use Rattle.reader.proofs.is_page.Reads as is-page-reads
 
--- src/lib.rt:730:9
 is-page-requires : tie.Need-is-page-requires
 is-page-requires c κs = search needs
 
--- src/lib.rt:731:9
 returns : tie.Need-returns
 unfolding readerInRange
 returns c = (rw (sym (c .before .is-page .ensures) ∙ not-true _ (c .if1 .taken)), λ e. untrue e)
 
--- src/lib.rt:734:9
 returns-2 : tie.Need-returns-2
 unfolding readerInRange
 returns-2 c = (rw (sym (c .before .before .is-page .ensures) ∙ not-false _ (c .before .if1 .left), lt-leb _ _ (c .if2 .taken)), λ e. untrue e)
 
--- src/lib.rt:737:22
 enum-told : tie.Need-enum-told
 enum-told c = search needs
 
--- src/lib.rt:737:22
 is-clear-requires : tie.Need-is-clear-requires
 is-clear-requires c κs = search needs
 
--- src/lib.rt:738:21
 enum-known-run : tie.Need-enum-known-run
 enum-known-run c = search needs
 
--- src/lib.rt:739:17
 is-head-requires : tie.Need-is-head-requires
 is-head-requires c κs = search needs
 
--- src/lib.rt:740:17
 returns-3 : tie.Need-returns-3
 unfolding readerInRange
 returns-3 c = (rw (sym (c .before .before .before .before .before .before .before .is-page .ensures) ∙ not-false _ (c .before .before .before .before .before .before .if1 .left), le-leb _ _ (c .before .before .before .before .before .if2 .left), c .before .before .before .run .given .1, sym (c .before .is-head .ensures) ∙ not-true _ (c .if3 .taken)), λ e. untrue e)
 
--- src/lib.rt:742:13
 is-clear-requires-2 : tie.Need-is-clear-requires-2
 is-clear-requires-2 c κs = search needs
 
--- src/lib.rt:744:21
 enum-known-run-2 : tie.Need-enum-known-run-2
 enum-known-run-2 c = search needs
 
--- src/lib.rt:745:23
 cast-if4 : tie.Need-cast-if4
 cast-if4 c = search needs
 
--- src/lib.rt:746:17
 returns-4 : tie.Need-returns-4
 unfolding readerInRange
 returns-4 c = (rw (sym (c .before .before .before .before .before .before .is-page .ensures) ∙ not-false _ (c .before .before .before .before .before .if1 .left), le-leb _ _ (c .before .before .before .before .if2 .left), c .before .before .run2 .given .1, lt-leb _ _ (c .if4 .taken)), λ e. untrue e)
 
--- src/lib.rt:748:13
 is-clear-requires-3 : tie.Need-is-clear-requires-3
 is-clear-requires-3 c κs = search needs
 
--- src/lib.rt:726:1
 returns-5 : tie.Need-returns-5
 unfolding readerInRange
 returns-5 c = (rw (sym (c .before .before .before .before .before .is-page .ensures) ∙ not-false _ (c .before .before .before .before .if1 .left), le-leb _ _ (c .before .before .before .if2 .left), c .before .enum-told .given .1) (c .is-clear .ensures), λ e. rw (c .before .enum-told .given .1) tt)
 
--- src/lib.rt:726:1
 returns-6 : tie.Need-returns-6
 unfolding readerInRange
 returns-6 c = (rw (sym (c .before .before .before .before .before .before .before .before .is-page .ensures) ∙ not-false _ (c .before .before .before .before .before .before .before .if1 .left), le-leb _ _ (c .before .before .before .before .before .before .if2 .left), c .before .before .before .before .run .given .1, sym (c .before .before .is-head .ensures) ∙ not-false _ (c .before .if3 .left)) (c .is-clear2 .ensures), λ e. rw (c .before .before .before .before .run .given .1) (omega arith))
 
--- src/lib.rt:726:1
 returns-7 : tie.Need-returns-7
 unfolding readerInRange
 returns-7 c = (rw (sym (c .before .before .before .before .before .before .before .is-page .ensures) ∙ not-false _ (c .before .before .before .before .before .before .if1 .left), le-leb _ _ (c .before .before .before .before .before .if2 .left), c .before .before .before .run2 .given .1, le-leb _ _ (c .before .if4 .left)) (c .is-clear3 .ensures), λ e. rw (c .before .before .before .run2 .given .1) (omega arith))

@@ -1,20 +1,16 @@
 -- `reader::is_clear` meets its contract: the sum so far and the bytes still to come are zero where all are. Assumes nothing.
-use mathlib.Core.Path.{_≡_, _∙_, refl, sym, ap}
-use Prim.Native.Nat.{_+_, _-_, _*_, _≤_, _<_}
+use mathlib.Core.Path.{_≡_, _∙_, refl, sym}
+use Prim.Native.Nat.{_-_, _*_, _≤_}
 use native.Mathlib.Omega.{arith}
-use borrow.Author.Needs.{needs}
-use lib.ListN.{length, getD, take, drop, set, replicate, length-set}
-use lib.Seq.{sets, length-sets}
-use denote.Ref.{now}
+use lib.ListN.{drop}
 use lib.Dec.{eqb}
+use denote.Ref.{now}
+use borrow.Author.Needs.{needs}
 use Rattle.laws.specs.Pick.{both}
 use Rattle.reader.specs.State.{zeros}
 use Rattle.reader.proofs.Stepping.{clear-on, clear-ends}
 use Rattle.reader.proofs.is_clear.Statement.{statement}
 use Rattle.reader.proofs.is_clear.Tie as tie
-use Rattle.reader.proofs.is_clear.Reads as reads
-use Rattle.reader.proofs.is_clear.Lts as lts
-use Rattle.reader.proofs.wide.Reads as wide-reads
 
 abbrev Inv-loop : tie.InvT-loop
 Inv-loop store from sum₀ i₀ sum i =
@@ -23,31 +19,24 @@ Inv-loop store from sum₀ i₀ sum i =
 abbrev μ-loop : tie.MeasureT-loop
 μ-loop store from sum₀ i₀ sum i = 2047 - i
 
--- src/lib.rt:691:5
 loop-holds : tie.Need-loop-holds Inv-loop μ-loop
 loop-holds c = (omega arith, omega arith, refl)
 
--- src/lib.rt:692:21
 element-copy-out-wide : tie.Need-element-copy-out-wide Inv-loop μ-loop
 element-copy-out-wide c = search needs
 
--- src/lib.rt:692:16
 wide-requires : tie.Need-wide-requires Inv-loop μ-loop
 wide-requires c κs = search needs
 
--- src/lib.rt:692:9
 add-sum : tie.Need-add-sum Inv-loop μ-loop
 add-sum c = search needs
 
--- src/lib.rt:693:9
 add-i : tie.Need-add-i Inv-loop μ-loop
 add-i c = search needs
 
--- src/lib.rt:691:5
 loop-less : tie.Need-loop-less Inv-loop μ-loop
 loop-less c = search needs
 
--- src/lib.rt:691:5
 loop-again : tie.Need-loop-again Inv-loop μ-loop
 loop-again c =
     let l = c .before .before .before .loop in
@@ -57,7 +46,6 @@ loop-again c =
       rw (c .wide .ensures .0) (clear-on (now (a .store)) (l .i) (l .sum) (omega arith) ∙ l .inv .2),
     )
 
--- src/lib.rt:685:1
 returns : tie.Need-returns Inv-loop μ-loop
 returns c =
     let l = c .before .loop in

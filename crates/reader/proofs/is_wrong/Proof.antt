@@ -1,29 +1,21 @@
 -- `reader::is_wrong` meets its contract: its tests in order. Assumes nothing.
-use mathlib.Core.Path.{_≡_, _∙_, refl, sym, ap}
-use Prim.Native.Nat.{_+_, _-_, _≤_, _<_}
+use mathlib.Core.Path.{_≡_}
+use Prim.Native.Nat.{_+_}
 use native.Mathlib.Omega.{arith}
 use borrow.Author.Needs.{needs}
-use lib.ListN.{length, getD, take, drop, set, replicate, length-set}
-use lib.Seq.{sets, length-sets}
-use denote.Ref.{now}
-use borrow.Author.Tests.{lt-leb, le-leb, lt-ltb, le-ltb, eq-eqb, ne-eqb}
+use borrow.Author.Tests.{eq-eqb, ne-eqb}
 use Rattle.reader.proofs.Stepping.{over}
 use Rattle.reader.proofs.is_wrong.Statement.{statement}
 use Rattle.reader.proofs.is_wrong.Tie as tie
-use Rattle.reader.proofs.is_wrong.Reads as reads
-use Rattle.reader.proofs.is_wrong.Lts as lts
 
--- src/lib.rt:583:8
 sub-if1 : tie.Need-sub-if1
 sub-if1 c = search needs
 
--- src/lib.rt:584:9
 returns : tie.Need-returns
 returns c =
     let n : c .before .args .y ≡ c .before .args .last + 1 → ⊥ = λ e. c .if1 .taken (omega arith) in
     rw (ne-eqb _ _ n)
 
--- src/lib.rt:579:1
 returns-2 : tie.Need-returns-2
 returns-2 c =
     let e : c .before .args .y ≡ c .before .args .last + 1 = omega arith in

@@ -1,18 +1,10 @@
 -- `reader::let_go` meets its contract: only a block holds bytes, and they are cleared. Assumes nothing.
-use mathlib.Core.Path.{_≡_, _∙_, refl, sym, ap}
-use Prim.Native.Nat.{_+_, _-_, _≤_, _<_}
+use mathlib.Core.Path.{_∙_}
 use native.Mathlib.Omega.{arith}
 use borrow.Author.Needs.{needs}
-use lib.ListN.{length, getD, take, drop, set, replicate, length-set}
-use lib.Seq.{sets, length-sets}
-use denote.Ref.{now}
-use Rattle.reader.specs.Places.{zeroed}
 use Rattle.reader.proofs.Keeping.{kept-idle, kept-head, kept-body, body-fits, body-size, body-store, body-clear}
 use Rattle.reader.proofs.let_go.Statement.{statement}
 use Rattle.reader.proofs.let_go.Tie as tie
-use Rattle.reader.proofs.let_go.Reads as reads
-use Rattle.reader.proofs.let_go.Lts as lts
-use Rattle.reader.proofs.clear.Reads as clear-reads
 
 enum-told : tie.Need-enum-told
 enum-told c = search needs
@@ -20,25 +12,20 @@ enum-told c = search needs
 enum-told-2 : tie.Need-enum-told-2
 enum-told-2 c = search needs
 
--- src/lib.rt:227:30
 enum-known-run : tie.Need-enum-known-run
 enum-known-run c = search needs
 
--- src/lib.rt:227:40
 clear-requires : tie.Need-clear-requires
 clear-requires c κs =
     let k = kept-body (c .before .before .before .before .pre) (c .before .before .run .given .1) in
     (omega (arith, body-fits k, body-size k), body-store k)
 
--- src/lib.rt:220:1
 returns : tie.Need-returns
 returns c = kept-idle (c .before .before .pre) (c .enum-told .given .1)
 
--- src/lib.rt:220:1
 returns-2 : tie.Need-returns-2
 returns-2 c = kept-head (c .before .before .pre) (c .enum-told2 .given .1)
 
--- src/lib.rt:220:1
 returns-3 : tie.Need-returns-3
 returns-3 c =
     let k = kept-body (c .before .before .before .before .before .pre) (c .before .before .before .run .given .1) in

@@ -1,17 +1,14 @@
 -- `reader::skip` meets its contract: what is filler from the place on is the filler from `from` on. Assumes nothing.
-use mathlib.Core.Path.{_≡_, _∙_, sym}
+use mathlib.Core.Path.{_≡_, _∙_}
 use Prim.Native.Nat.{_+_, _-_, _≤_}
 use native.Mathlib.Omega.{arith}
-use borrow.Author.Needs.{needs}
 use lib.ListN.{length, drop}
 use denote.Ref.{now}
+use borrow.Author.Needs.{needs}
 use Rattle.reader.specs.Places.{fillers}
 use Rattle.reader.proofs.Stepping.{filler-on, filler-stops, filler-ends}
 use Rattle.reader.proofs.skip.Statement.{statement}
 use Rattle.reader.proofs.skip.Tie as tie
-use Rattle.reader.proofs.skip.Reads as reads
-use Rattle.reader.proofs.skip.Lts as lts
-use Rattle.octet.proofs.decode.Reads as decode-reads
 
 abbrev Inv-loop : tie.InvT-loop
 Inv-loop s from i₀ i = (i ≤ length s) × (i + fillers (drop i s) ≡ from + fillers (drop from s))

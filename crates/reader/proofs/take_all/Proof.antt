@@ -1,21 +1,17 @@
 -- `reader::take_all` meets its contract: what is left of the packets, from what has come, is what all of them come to. Assumes nothing.
-use mathlib.Core.Path.{_≡_, _∙_, refl, sym, ap}
-use Prim.Native.Nat.{_+_, _-_, _*_, _/_, _%_, _≤_, _<_}
+use mathlib.Core.Path.{_≡_, _∙_, refl, sym}
+use Prim.Native.Nat.{_+_, _-_, _*_, _/_, _%_, _≤_}
 use native.Mathlib.Omega.{arith}
-use borrow.Author.Needs.{needs}
-use lib.ListN.{length, getD, take, drop, set, replicate, length-set}
-use lib.Seq.{sets, length-sets}
+use lib.ListN.{length, take, drop}
 use denote.Ref.{now}
+use borrow.Author.Needs.{needs}
 use Rattle.guide.specs.Packet.{packetLength}
 use Rattle.reader.specs.Feeding.{Ran, begun, run, ranOn}
-use Rattle.reader.specs.Holding.{RanTo, RowRoom, stateIn}
+use Rattle.reader.specs.Holding.{RanTo, stateIn}
 use Rattle.reader.proofs.Keeping.{holds-kept}
 use Rattle.reader.proofs.Running.{taking, begins, one-more, run-on, run-full, run-out, packet-length, still-room}
 use Rattle.reader.proofs.take_all.Statement.{statement}
 use Rattle.reader.proofs.take_all.Tie as tie
-use Rattle.reader.proofs.take_all.Reads as reads
-use Rattle.reader.proofs.take_all.Lts as lts
-use Rattle.reader.proofs.step.Reads as step-reads
 
 abbrev Inv-loop : tie.InvT-loop
 Inv-loop setting store₀ packets out₀ a₀ at₀ count₀ store out a at count =
@@ -29,7 +25,6 @@ Inv-loop setting store₀ packets out₀ a₀ at₀ count₀ store out a at coun
 abbrev μ-loop : tie.MeasureT-loop
 μ-loop setting store₀ packets out₀ a₀ at₀ count₀ store out a at count = length packets - at
 
--- src/lib.rt:860:5
 loop-holds : tie.Need-loop-holds Inv-loop μ-loop
 loop-holds c =
     let a = c .before .before .args in
@@ -44,15 +39,12 @@ loop-holds c =
       (begun (stateIn (a .from) (now (a .store))), begins (a .from) (now (a .out)) (p .0) (p .1 .1 .0) (p .1 .1 .1) (p .1 .1 .2), rw e),
     )
 
--- src/lib.rt:863:12
 sub-if1 : tie.Need-sub-if1 Inv-loop μ-loop
 sub-if1 c = search needs
 
--- src/lib.rt:864:13
 same-length : tie.Need-same-length Inv-loop μ-loop
 same-length c = search needs
 
--- src/lib.rt:864:13
 returns : tie.Need-returns Inv-loop μ-loop
 returns c =
     let a = c .before .before .before .before .before .before .args in
@@ -62,23 +54,18 @@ returns c =
     let e = run-full (a .setting) (length (now (a .out))) (now (a .packets)) (l .at) b (omega (arith, w .written, l .inv .2)) in
     (rw (sym (e ∙ l .inv .6 .2)) w, l .inv .3)
 
--- src/lib.rt:869:19
 add-end : tie.Need-add-end Inv-loop μ-loop
 add-end c = search needs
 
--- src/lib.rt:870:37
 sub-step : tie.Need-sub-step Inv-loop μ-loop
 sub-step c = search needs
 
--- src/lib.rt:870:37
 part-step-start : tie.Need-part-step-start Inv-loop μ-loop
 part-step-start c = search needs
 
--- src/lib.rt:870:37
 part-step-end : tie.Need-part-step-end Inv-loop μ-loop
 part-step-end c = search needs
 
--- src/lib.rt:870:9
 step-requires : tie.Need-step-requires Inv-loop μ-loop
 step-requires c κs =
     let l = c .before .before .before .before .before .before .loop in
@@ -90,15 +77,12 @@ step-requires c κs =
       ),
     )
 
--- src/lib.rt:872:9
 add-count : tie.Need-add-count Inv-loop μ-loop
 add-count c = search needs
 
--- src/lib.rt:860:5
 loop-less : tie.Need-loop-less Inv-loop μ-loop
 loop-less c = search needs
 
--- src/lib.rt:860:5
 loop-again : tie.Need-loop-again Inv-loop μ-loop
 loop-again c =
     let a = c .before .before .before .before .before .before .before .before .before .before .before .before .args in
@@ -123,11 +107,9 @@ loop-again c =
       ),
     )
 
--- src/lib.rt:851:1
 same-length-2 : tie.Need-same-length-2 Inv-loop μ-loop
 same-length-2 c = search needs
 
--- src/lib.rt:851:1
 returns-2 : tie.Need-returns-2 Inv-loop μ-loop
 returns-2 c =
     let a = c .before .before .before .before .args in

@@ -1,52 +1,34 @@
 -- `reader::take_in` meets its contract: a header is read on, and then the block takes its bytes. Assumes nothing.
-use mathlib.Core.Path.{_≡_, _∙_, refl, sym, ap}
-use Prim.Native.Nat.{_+_, _-_, _≤_, _<_}
 use native.Mathlib.Omega.{arith}
-use borrow.Author.Needs.{needs}
-use lib.ListN.{length, getD, take, drop, set, replicate, length-set}
-use lib.Seq.{sets, length-sets}
 use denote.Ref.{now}
-use Rattle.reader.specs.Holding.{aheadIn, nextOf}
-use Rattle.reader.specs.Mode.{carries}
+use borrow.Author.Needs.{needs}
 use Rattle.reader.proofs.Walking.{carries-off}
 use Rattle.reader.proofs.Keeping.{kept-idle, kept-head, kept-got, kept-body, begun-body, idle-took, head-nothing, head-broken, head-cut, head-whole}
 use Rattle.reader.proofs.take_in.Statement.{statement}
 use Rattle.reader.proofs.take_in.Tie as tie
-use Rattle.reader.proofs.take_in.Reads as reads
-use Rattle.reader.proofs.take_in.Lts as lts
-use Rattle.reader.proofs.body_in.Reads as body-in-reads
-use Rattle.reader.proofs.head_on.Reads as head-on-reads
 
--- src/lib.rt:278:18
 enum-told : tie.Need-enum-told
 enum-told c = search needs
 
--- src/lib.rt:281:21
 enum-known-run : tie.Need-enum-known-run
 enum-known-run c = search needs
 
--- src/lib.rt:281:42
 head-on-requires : tie.Need-head-on-requires
 head-on-requires c κs =
     (omega arith, omega (arith, kept-got (c .before .before .before .before .pre) (c .before .run .given .1)))
 
--- src/lib.rt:283:22
 enum-told-2 : tie.Need-enum-told-2
 enum-told-2 c = search needs
 
--- src/lib.rt:287:22
 enum-told-3 : tie.Need-enum-told-3
 enum-told-3 c = search needs
 
--- src/lib.rt:290:31
 enum-known-g : tie.Need-enum-known-g
 enum-known-g c = search needs
 
--- src/lib.rt:294:28
 enum-known-head : tie.Need-enum-known-head
 enum-known-head c = search needs
 
--- src/lib.rt:294:44
 body-in-requires : tie.Need-body-in-requires
 body-in-requires c κs =
     let k = c .before .before .before .before .before .before .before .before .before .pre in
@@ -55,15 +37,12 @@ body-in-requires c κs =
     let y = c .before .before .head .given .1 in
     (begun-body (omega arith) (kept-head k e), (rw y at b))
 
--- src/lib.rt:296:21
 enum-known-run-2 : tie.Need-enum-known-run-2
 enum-known-run-2 c = search needs
 
--- src/lib.rt:296:37
 body-in-requires-2 : tie.Need-body-in-requires-2
 body-in-requires-2 c κs = (kept-body (c .before .before .before .before .before .pre) (c .before .before .run2 .given .1), omega arith)
 
--- src/lib.rt:272:1
 returns : tie.Need-returns
 returns c =
     let e = c .enum-told .given .1 in
@@ -71,24 +50,19 @@ returns c =
     (λ p. rw e (carries-off p (now (c .before .before .before .args .s))))
     (kept-idle (c .before .before .before .pre) e)
 
--- src/lib.rt:272:1
 returns-2 : tie.Need-returns-2
 returns-2 c = head-nothing (now (c .before .before .before .before .before .before .before .args .s)) (c .before .before .head-on .result) (c .before .before .before .before .before .before .before .pre) (c .before .before .before .before .run .given .1) (c .before .before .head-on .ensures .0) (c .enum-told2 .given .1)
 
--- src/lib.rt:272:1
 returns-3 : tie.Need-returns-3
 returns-3 c = head-broken (now (c .before .before .before .before .before .before .before .args .s)) (c .before .before .head-on .result) (c .before .before .before .before .before .before .before .pre) (c .before .before .before .before .run .given .1) (c .before .before .head-on .ensures .0) (c .enum-told3 .given .1)
 
--- src/lib.rt:272:1
 returns-4 : tie.Need-returns-4
 returns-4 c = head-cut (now (c .before .before .before .before .before .before .before .before .args .s)) (c .before .before .before .head-on .result) (c .before .before .before .before .before .before .before .before .pre) (c .before .before .before .before .before .run .given .1) (c .before .before .before .head-on .ensures .0) (c .before .g .given .1)
     (omega arith)
 
--- src/lib.rt:272:1
 returns-5 : tie.Need-returns-5
 returns-5 c = head-whole (now (c .before .before .before .before .before .before .before .before .before .before .args .s)) (c .before .before .before .before .before .head-on .result) (c .before .before .before .before .before .before .before .before .before .before .pre) (c .before .before .before .before .before .before .before .run .given .1) (c .before .before .before .before .before .head-on .ensures .0) (c .before .before .before .head .given .1) (c .body-in .ensures)
 
--- src/lib.rt:272:1
 returns-6 : tie.Need-returns-6
 returns-6 c =
     let e = c .before .before .before .run2 .given .1 in

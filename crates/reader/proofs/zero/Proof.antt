@@ -1,60 +1,39 @@
 -- `reader::zero` meets its contract: what its six bytes say decides. Assumes nothing.
-use mathlib.Core.Path.{_≡_, _∙_, refl, sym, ap}
-use Prim.Native.Nat.{_+_, _-_, _≤_, _<_}
+use mathlib.Core.Path.{_∙_, sym}
 use native.Mathlib.Omega.{arith}
-use borrow.Author.Needs.{needs}
-use lib.ListN.{length, getD, take, drop, set, replicate, length-set}
-use lib.Seq.{sets, length-sets}
+use lib.ListN.{drop}
+use lib.Seq.{getD-drop}
 use denote.Ref.{now}
-use mathlib.Core.Bool.{true, false}
+use borrow.Author.Needs.{needs}
 use borrow.Author.Tests.{not-true, not-false}
 use Rattle.reader.specs.Holding.{stateIn}
-use Rattle.octet.specs.Decoding.{nib}
-use Rattle.octet.proofs.Laws.{nib-le}
-use lib.Seq.{getD-drop}
 use Rattle.reader.proofs.Stepping.{decodes-at}
 use Rattle.reader.proofs.Judged.{zero-junk, zero-page, zero-stream, zero-ours, act-junk, act-foreign, act-ours}
 use Rattle.reader.proofs.zero.Statement.{statement}
 use Rattle.reader.proofs.zero.Tie as tie
-use Rattle.reader.proofs.zero.Reads as reads
-use Rattle.reader.proofs.zero.Lts as lts
-use Rattle.octet.proofs.decode.Reads as decode-reads
-use Rattle.reader.proofs.is_break.Reads as is-break-reads
-use Rattle.reader.proofs.is_incomplete.Reads as is-incomplete-reads
-use Rattle.reader.proofs.page_of.Reads as page-of-reads
-use Rattle.reader.proofs.readable.Reads as readable-reads
-use Rattle.reader.proofs.turn.Reads as turn-reads
 
--- src/lib.rt:597:9
 readable-requires : tie.Need-readable-requires
 readable-requires c κs = search needs
 
--- src/lib.rt:598:9
 turn-requires : tie.Need-turn-requires
 turn-requires c κs = search needs
 
--- src/lib.rt:598:9
 returns : tie.Need-returns
 returns c =
     λ out. act-junk (stateIn (c .before .before .before .before .before .args .a) (now (c .before .before .before .before .before .args .store))) (zero-junk (c .before .before .before .before .before .args .setting) (now (c .before .before .before .before .before .args .packet)) (sym (not-true _ (c .before .before .if1 .taken)) ∙ (c .before .before .before .readable .ensures))) (c .turn .ensures out)
 
--- src/lib.rt:600:32
 shared-slice-read-decode : tie.Need-shared-slice-read-decode
 shared-slice-read-decode c = search needs
 
--- src/lib.rt:600:18
 decode-requires : tie.Need-decode-requires
 decode-requires c κs = search needs
 
--- src/lib.rt:600:64
 shared-slice-read-decode-2 : tie.Need-shared-slice-read-decode-2
 shared-slice-read-decode-2 c = search needs
 
--- src/lib.rt:600:50
 decode-requires-2 : tie.Need-decode-requires-2
 decode-requires-2 c κs = search needs
 
--- src/lib.rt:600:45
 mul-number : tie.Need-mul-number
 mul-number c =
     let p = (now (c .before .before .before .before .before .before .before .args .packet)) in
@@ -63,7 +42,6 @@ mul-number c =
     let t = decodes-at 6 1 (drop 2 p) e (omega arith) in
     omega (arith, c .decode2 .ensures, c .before .before .decode .ensures, (rw (getD-drop 2 p 0 0) at u), (rw (getD-drop 2 p 1 0) at t))
 
--- src/lib.rt:600:18
 add-number : tie.Need-add-number
 add-number c =
     let p = (now (c .before .before .before .before .before .before .before .args .packet)) in
@@ -72,38 +50,30 @@ add-number c =
     let t = decodes-at 6 1 (drop 2 p) e (omega arith) in
     omega (arith, c .decode2 .ensures, c .before .before .decode .ensures, (rw (getD-drop 2 p 0 0) at u), (rw (getD-drop 2 p 1 0) at t))
 
--- src/lib.rt:602:24
 is-incomplete-requires : tie.Need-is-incomplete-requires
 is-incomplete-requires c κs = search needs
 
--- src/lib.rt:602:9
 turn-requires-2 : tie.Need-turn-requires-2
 turn-requires-2 c κs = search needs
 
--- src/lib.rt:602:9
 returns-2 : tie.Need-returns-2
 returns-2 c =
     λ out. act-foreign (stateIn (c .before .before .before .before .before .before .before .before .before .before .before .before .args .a) (now (c .before .before .before .before .before .before .before .before .before .before .before .before .args .store)))
     (zero-page (c .before .before .before .before .before .before .before .before .before .before .before .before .args .setting) (now (c .before .before .before .before .before .before .before .before .before .before .before .before .args .packet)) (sym (not-false _ (c .before .before .before .before .before .before .before .before .before .if1 .left)) ∙ (c .before .before .before .before .before .before .before .before .before .before .readable .ensures)) (c .before .before .before .before .before .before .before .decode .ensures) (c .before .before .before .before .before .decode2 .ensures) (c .before .before .before .if2 .taken))
     (c .before .before .is-incomplete .ensures) (c .turn2 .ensures out)
 
--- src/lib.rt:604:22
 shared-slice-read-decode-3 : tie.Need-shared-slice-read-decode-3
 shared-slice-read-decode-3 c = search needs
 
--- src/lib.rt:604:8
 decode-requires-3 : tie.Need-decode-requires-3
 decode-requires-3 c κs = search needs
 
--- src/lib.rt:605:24
 is-incomplete-requires-2 : tie.Need-is-incomplete-requires-2
 is-incomplete-requires-2 c κs = search needs
 
--- src/lib.rt:605:9
 turn-requires-3 : tie.Need-turn-requires-3
 turn-requires-3 c κs = search needs
 
--- src/lib.rt:605:9
 returns-3 : tie.Need-returns-3
 returns-3 c =
     λ out. act-foreign (stateIn (c .before .before .before .before .before .before .before .before .before .before .before .before .before .before .before .before .args .a) (now (c .before .before .before .before .before .before .before .before .before .before .before .before .before .before .before .before .args .store)))
@@ -111,51 +81,39 @@ returns-3 c =
     (c .before .before .before .before .before .decode3 .ensures) (c .before .before .before .if3 .taken))
     (c .before .before .is-incomplete2 .ensures) (c .turn3 .ensures out)
 
--- src/lib.rt:607:31
 shared-slice-read-decode-4 : tie.Need-shared-slice-read-decode-4
 shared-slice-read-decode-4 c = search needs
 
--- src/lib.rt:607:9
 decode-requires-4 : tie.Need-decode-requires-4
 decode-requires-4 c κs = search needs
 
--- src/lib.rt:608:27
 shared-slice-read-decode-5 : tie.Need-shared-slice-read-decode-5
 shared-slice-read-decode-5 c = search needs
 
--- src/lib.rt:608:13
 decode-requires-5 : tie.Need-decode-requires-5
 decode-requires-5 c κs = search needs
 
--- src/lib.rt:608:63
 shared-slice-read-decode-6 : tie.Need-shared-slice-read-decode-6
 shared-slice-read-decode-6 c = search needs
 
--- src/lib.rt:608:49
 decode-requires-6 : tie.Need-decode-requires-6
 decode-requires-6 c κs = search needs
 
--- src/lib.rt:608:44
 mul-n : tie.Need-mul-n
 mul-n c = search needs
 
--- src/lib.rt:608:13
 add-n : tie.Need-add-n
 add-n c = search needs
 
--- src/lib.rt:609:13
 is-break-requires : tie.Need-is-break-requires
 is-break-requires c κs = search needs
 
--- src/lib.rt:609:48
 page-of-requires : tie.Need-page-of-requires
 page-of-requires c κs = search needs
 
--- src/lib.rt:609:5
 turn-requires-4 : tie.Need-turn-requires-4
 turn-requires-4 c κs = search needs
 
--- src/lib.rt:591:1
 returns-4 : tie.Need-returns-4
 returns-4 c =
     λ out. act-ours (stateIn (c .before .before .before .before .before .before .before .before .before .before .before .before .before .before .before .before .before .before .before .before .before .before .before .args .a) (now (c .before .before .before .before .before .before .before .before .before .before .before .before .before .before .before .before .before .before .before .before .before .before .before .args .store)))
