@@ -1,0 +1,78 @@
+// Runs cases of blocks: op 30 reads one, op 31 writes one from a table form. Both begin with the application.
+use vectors::Found;
+use vectors::Input;
+
+fn main() {
+    let mut space = [0u8; 131200];
+    let mut out = [0u8; 65536];
+    let mut text = [0u8; 131200];
+    let mut input = vectors::start();
+    let mut turns = u64::MAX;
+    while turns > 0 {
+        turns -= 1;
+        let found = step(input, &mut space, &mut out, &mut text);
+        match found {
+            Found::Whole(case) => {
+                input = case.rest;
+            }
+            Found::Ended(_) => {
+                return;
+            }
+        }
+    }
+}
+
+// One turn: the next case is read and run, or the end is told.
+fn step(
+    input: Input,
+    space: &mut [u8; 131200],
+    out: &mut [u8; 65536],
+    text: &mut [u8; 131200],
+) -> Found {
+    let read = vectors::fill(input, space);
+    let found = vectors::next(read, space);
+    match found {
+        Found::Whole(case) => {
+            let payload = vectors::payload(case, space);
+            run(case.op, case.room, payload, out, text);
+        }
+        Found::Ended(left) => {
+            lines::ended(left, text);
+        }
+    }
+    found
+}
+
+// A case: the call is lent as much output as it has room.
+fn run(op: u8, room: usize, payload: &[u8], out: &mut [u8], text: &mut [u8]) {
+    call(op, payload, vectors::lend(out, room), text);
+}
+
+// The call that op names.
+fn call(op: u8, payload: &[u8], out: &mut [u8], text: &mut [u8]) {
+    match op {
+        30 => read(op, payload, out, text),
+        31 => write(op, payload, out, text),
+        _ => {
+            lines::unknown(op, text);
+        }
+    }
+}
+
+fn read(op: u8, payload: &[u8], out: &mut [u8], text: &mut [u8]) {
+    if payload.len() < 1 {
+        lines::unknown(op, text);
+        return;
+    }
+    let answer = table::read_block(payload[0], &payload[1..], out);
+    lines::report_answer(op, answer, out, text);
+}
+
+fn write(op: u8, payload: &[u8], out: &mut [u8], text: &mut [u8]) {
+    if payload.len() < 1 {
+        lines::unknown(op, text);
+        return;
+    }
+    let answer = table_writer::write_block(payload[0], &payload[1..], out);
+    lines::report_answer(op, answer, out, text);
+}
