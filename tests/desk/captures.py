@@ -42,7 +42,16 @@ def long(dice):
         yield name, "", DESK, data
 
 
-def longest(dice):
+def halves(dice):
+    """A capture cut in two within a block: the list of either half lacks it."""
+    whole = sent(DESK, [some_table(dice, descriptors=11, most=15) for _ in range(3)])
+    at = len(whole) // 84 * PACKET
+    assert len(guide.read_all(DESK, whole)) > len(guide.read_all(DESK, whole[:at])) + len(guide.read_all(DESK, whole[at:]))
+    yield "first", "", DESK, whole[:at]
+    yield "second", "", DESK, whole[at:]
+
+
+def longest():
     """Many tables with the most lines, so that the text runs full again and again."""
     most = table.Table(table.LI, 1, 65535, 255, [(63, [0x010203] * 15)] * 20 + [(63, [])] * 42)
     assert len(listing.list_table(table.form_of(most))) > 5400
@@ -51,7 +60,7 @@ def longest(dice):
 
 def main(folder):
     dice = Dice(11)
-    for name, words, setting, data in (*elsewhere(dice), *long(dice), *longest(dice)):
+    for name, words, setting, data in (*elsewhere(dice), *long(dice), *halves(dice), *longest()):
         (folder / f"{name}.t42").write_bytes(data)
         (folder / f"{name}.words").write_text("".join(word + "\n" for word in words.split()))
         (folder / f"{name}.txt").write_bytes(listing.desk(data, setting))
