@@ -7,6 +7,14 @@ use Rattle.octet.proofs.image.Reads as octet·image
 use Rattle.octet.proofs.decode.Reads as octet·decode
 use Rattle.octet.proofs.fault_place.Reads as octet·fault-place
 use Rattle.octet.proofs.turn.Reads as octet·turn
+use Rattle.quick.proofs.decode.Reads as quick·decode
+use Rattle.quick.proofs.turn.Reads as quick·turn
+use Rattle.fields.proofs.field_of.Reads as fields·field-of
+use Rattle.table.proofs.words_of.Reads as table·words-of
+use Rattle.wanted.proofs.start.Reads as wanted·start
+use Rattle.wanted.proofs.next.Reads as wanted·next
+use Rattle.wanted.proofs.is_name.Reads as wanted·is-name
+use Rattle.wanted.proofs.is_good.Reads as wanted·is-good
 use Rattle.units.proofs.unit_at.Reads as units·unit-at
 use Rattle.units.proofs.pack.Reads as units·pack
 use Rattle.units.proofs.is_text.Reads as units·is-text
@@ -126,3 +134,27 @@ firmware·guide-unit-at-settled κs a x y s t p q = same p q
 pub listing·list-table-settled :
     (κs : _) (a : _) (x y : _) (s t : _) → listing·list-table.Post κs a x s → listing·list-table.Post κs a y t → (x ≡ y) × (now (s .1 .0) ≡ now (t .1 .0))
 listing·list-table-settled κs a x y s t p q = (same (p .0) (q .0), same (p .1) (q .1))
+
+pub quick·decode-settled : (κs : _) (a : _) (x y : _) (s t : _) → quick·decode.Post κs a x s → quick·decode.Post κs a y t → x ≡ y
+quick·decode-settled κs a x y s t p q = same p q
+
+pub quick·turn-settled : (κs : _) (a : _) (x y : _) (s t : _) → quick·turn.Post κs a x s → quick·turn.Post κs a y t → x ≡ y
+quick·turn-settled κs a x y s t p q = same p q
+
+pub fields·field-of-settled : (κs : _) (a : _) (x y : _) (s t : _) → fields·field-of.Post κs a x s → fields·field-of.Post κs a y t → x ≡ y
+fields·field-of-settled κs a x y s t p q = same (p .0) (q .0)
+
+pub table·words-of-settled : (κs : _) (a : _) (x y : _) (s t : _) → table·words-of.Post κs a x s → table·words-of.Post κs a y t → x ≡ y
+table·words-of-settled κs a x y s t p q = same (p .0) (q .0)
+
+pub wanted·start-settled : (κs : _) (a : _) (x y : _) (s t : _) → wanted·start.Post κs a x s → wanted·start.Post κs a y t → x ≡ y
+wanted·start-settled κs a x y s t p q = same p q
+
+pub wanted·next-settled : (κs : _) (a : _) (x y : _) (s t : _) → wanted·next.Post κs a x s → wanted·next.Post κs a y t → x ≡ y
+wanted·next-settled κs a x y s t p q = same p q
+
+pub wanted·is-name-settled : (κs : _) (a : _) (x y : _) (s t : _) → wanted·is-name.Post κs a x s → wanted·is-name.Post κs a y t → x ≡ y
+wanted·is-name-settled κs a x y s t p q = same p q
+
+pub wanted·is-good-settled : (κs : _) (a : _) (x y : _) (s t : _) → wanted·is-good.Post κs a x s → wanted·is-good.Post κs a y t → x ≡ y
+wanted·is-good-settled κs a x y s t p q = same p q
