@@ -1,8 +1,9 @@
 #!/usr/bin/env python3
 """Times desks on one file: bench/desks.py FILE NAME=PROGRAM ..
 
-Each reads the file from standard input and prints to a file. The best of five
-runs counts, in CPU time. The outputs must be the same."""
+A program is what tests/start takes: the name of one of ours, or a path. Each reads
+the file from standard input and prints to a file. The best of five runs counts, in
+CPU time. The outputs must be the same."""
 
 import os
 import pathlib
@@ -10,6 +11,7 @@ import subprocess
 import sys
 import tempfile
 
+START = pathlib.Path(__file__).resolve().parent.parent / "tests" / "start"
 RUNS = 5
 
 
@@ -25,10 +27,9 @@ def memory(pid, before):
 
 def run(program, source, out):
     """CPU seconds and the most memory."""
-    command = [program] if os.uname().machine == "x86_64" else ["qemu-x86_64", program]
     out.seek(0)
     out.truncate()
-    child = subprocess.Popen(command, stdin=source, stdout=out)
+    child = subprocess.Popen([START, program], stdin=source, stdout=out)
     most, pid = (0, 0), 0
     while not pid:
         most = memory(child.pid, most)

@@ -73,7 +73,7 @@ fn nibble_at(s: &[u8], i: usize) -> usize
     ensures { λ r. ⌜ r ≡ getD (map nib (now (s .entry))) i 0 % 16 ⌝ }
 {
     if i < s.len() {
-        return (octet::decode(s[i]) % 16) as usize;
+        return (quick::decode(s[i]) % 16) as usize;
     }
     0
 }

@@ -183,7 +183,7 @@ pub fn checksum(head: usize, body: &[u8]) -> usize
     let mut sum = head % 16 + head / 16 % 16 + head / 16 / 16 % 16 + head / 16 / 16 / 16 % 16;
     let mut i = 2;
     while i < body.len() {
-        sum = (sum + octet::decode(body[i]) as usize) % 256;
+        sum = (sum + quick::decode(body[i]) as usize) % 256;
         i += 1;
     }
     (256 - sum) % 256
@@ -195,7 +195,7 @@ fn sound(s: &[u8]) -> usize
 {
     let mut i = 0;
     while i < s.len() {
-        if 15 < octet::decode(s[i]) {
+        if 15 < quick::decode(s[i]) {
             return i;
         }
         i += 1;
