@@ -4,7 +4,7 @@ use mathlib.Core.Bool.{Bool, true, false}
 use mathlib.Core.List.{List, [], _∷_, map}
 use Prim.Native.Nat.{ℕ, suc, _+_, _-_, _*_, _/_, _%_, _≤_, _<_, zero-le, suc-le-suc}
 use native.Mathlib.Numerals.{add-one}
-use native.Mathlib.Nat.{le-refl, add-zero, add-assoc, mod-add-mod, mod-eq-of-lt}
+use native.Mathlib.Nat.{le-refl, add-zero, zero-add, add-assoc, mod-add-mod, mod-eq-of-lt}
 use native.Mathlib.Omega.{arith}
 use borrow.Author.Tests.{lt-ltb, le-ltb, le-leb, lt-leb, eq-eqb, ne-eqb, eqb-true, leb-true}
 use lib.Dec.{ltb}
@@ -187,14 +187,23 @@ pub sound-end : (s : List ℕ) (i : ℕ) → length s ≤ i → i ≡ i + sound 
 unfolding sound
 sound-end s i h = rw (drop-of-length-le s h) (sym (add-zero i))
 
+-- the first two bytes passed; a byte that can't be decoded, and none: where a pass that has found i bytes sound ends
+pub sound-two :
+    (s : List ℕ) → 2 ≤ length s → nib (getD s 0 0) < 16 → nib (getD s 1 0) < 16 → 2 + sound (map nib (drop 2 s)) ≡ sound (map nib s)
+sound-two s h k l = sound-step s 1 (omega arith) l ∙ sound-step s 0 (omega arith) k ∙ zero-add _
+
+module _ (s : List ℕ) (i : ℕ) (e : i + sound (map nib (drop i s)) ≡ sound (map nib s)) where
+  pub sound-short : i < length s → 16 ≤ nib (getD s i 0) → sound (map nib s) < length s
+  sound-short h k = omega (arith, sound-stop s i h k)
+
+  pub sound-all : i ≤ length s → length s ≤ i → sound (map nib s) ≡ length s
+  sound-all h k = omega (arith, sound-end s i k)
+
 -- ---- the checksum
 
-pub sum-start :
-    (head : ℕ) (ns : List ℕ)
-    → (head % 16 + head / 16 % 16 + head / 16 / 16 % 16 + head / 16 / 16 / 16 % 16 + total (drop 2 ns)) % 256
-    ≡ (total (parts 4 4 head) + total (drop 2 ns)) % 256
+pub sum-head : (head : ℕ) → head % 16 + head / 16 % 16 + head / 16 / 16 % 16 + head / 16 / 16 / 16 % 16 ≡ total (parts 4 4 head)
 unfolding total parts
-sum-start head ns = ap (λ (x : ℕ). (x + total (drop 2 ns)) % 256) (omega arith)
+sum-head head = omega arith
 
 pub sum-step :
     (s : List ℕ) (i sum : ℕ) → i < length s

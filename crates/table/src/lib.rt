@@ -14,7 +14,7 @@ ghost use Rattle.fields.specs.Fields.{field, fitting, parts};
 ghost use Rattle.table.specs.Tables.{per, bits, loops, fits, known as Tables·known};
 ghost use Rattle.table.specs.Form.{form, spelled, listed, openingOf, tableIn};
 ghost use Rattle.fields.specs.Compound.{compound};
-ghost use Rattle.table.specs.Block.{headOf, checksum as checksumOf};
+ghost use Rattle.table.specs.Block.{headOf, total, checksum as checksumOf};
 ghost use Rattle.table.specs.Reading.{frameRules, frontRules, wholeRules, lengthRules, bodyRules, readRules, tableOf, tableRead, sound as soundOf};
 ghost use Rattle.table.specs.Writing.{formRules};
 use answer::Answer;
@@ -28,7 +28,7 @@ const TI: usize = 8;
 const LI: usize = 7;
 
 // The table of a block of this application: its form is written to the front of `out`. Each protected
-// byte is decoded at most nine times: once or twice to see that it can be, once for the sum, twice
+// byte is decoded at most eight times: once or twice to see that it can be and for the sum, twice
 // while the loops are measured and at most four times while fields are written.
 pub fn read_block(application: u8, rec: &[u8], out: &mut [u8]) -> Answer
     ensures answer { λ r.
@@ -131,16 +131,46 @@ fn judge_front(size: usize, body: &[u8]) -> Answer
 
 // 10 over the rest, 11.
 fn judge_whole(head: usize, body: &[u8]) -> Answer
+    requires { ⌜ 8 ≤ length (now body) ⌝ }
     ensures { λ r. ⌜ r ≡ judged refused (wholeRules head (map nib (now (body .entry)))) (Done 0) ⌝ }
 {
-    let good = sound(body);
-    if good != body.len() {
-        return refuse(10, HEAD + good);
+    let sum = sum_of(head, body);
+    if 255 < sum {
+        return refuse(10, HEAD + sound(body));
     }
-    if fields::field_of(body, 0, 8) != checksum(head, body) {
+    if fields::field_of(body, 0, 8) != sum {
         return refuse(11, 0);
     }
     Answer::Done(0)
+}
+
+// What a block's first two bytes should hold, or 256 where a byte of it can't be decoded: `sound` and
+// `checksum` in one pass.
+fn sum_of(head: usize, body: &[u8]) -> usize
+    requires { ⌜ 2 ≤ length (now body) ⌝ }
+    ensures broken { λ r. ⌜ (255 < r → soundOf (map nib (now (body .entry))) < length (now (body .entry))) ⌝ }
+    ensures whole { λ r.
+        ⌜ (r ≤ 255
+        → (soundOf (map nib (now (body .entry))) ≡ length (now (body .entry)))
+        × (r ≡ checksumOf head (map nib (now (body .entry))))) ⌝ }
+{
+    if 15 < quick::decode(body[0]) {
+        return 256;
+    }
+    if 15 < quick::decode(body[1]) {
+        return 256;
+    }
+    let mut sum = head_total(head);
+    let mut i = 2;
+    while i < body.len() {
+        let n = quick::decode(body[i]);
+        if 15 < n {
+            return 256;
+        }
+        sum = (sum + n as usize) % 256;
+        i += 1;
+    }
+    (256 - sum) % 256
 }
 
 // 14: where loops, control size and fill fit, the bytes of the table's form.
@@ -180,13 +210,20 @@ fn measure(body: &[u8]) -> usize
 pub fn checksum(head: usize, body: &[u8]) -> usize
     ensures { λ r. ⌜ r ≡ checksumOf head (map nib (now (body .entry))) ⌝ }
 {
-    let mut sum = head % 16 + head / 16 % 16 + head / 16 / 16 % 16 + head / 16 / 16 / 16 % 16;
+    let mut sum = head_total(head);
     let mut i = 2;
     while i < body.len() {
         sum = (sum + quick::decode(body[i]) as usize) % 256;
         i += 1;
     }
     (256 - sum) % 256
+}
+
+// The sum of the four nibbles of a head.
+fn head_total(head: usize) -> usize
+    ensures { λ r. ⌜ (r ≡ total (parts 4 4 head)) × (r < 256) ⌝ }
+{
+    head % 16 + head / 16 % 16 + head / 16 / 16 % 16 + head / 16 / 16 / 16 % 16
 }
 
 // How many bytes come before the first that can't be decoded.

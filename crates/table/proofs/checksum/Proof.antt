@@ -2,7 +2,7 @@
 -- measure is what is left of the length. Assumes nothing.
 use borrow.Author.Needs.{needs}
 use mathlib.Core.Path.{_≡_, _∙_, ap}
-use mathlib.Core.List.{map}
+use mathlib.Core.List.{List, map}
 use Prim.Native.Nat.{ℕ, _+_, _-_, _%_, _<_}
 use lib.ListN.{length, drop}
 use denote.Ref.{now}
@@ -10,7 +10,7 @@ use Rattle.laws.proofs.Maps.{map-drop}
 use Rattle.octet.specs.Decoding.{nib}
 use Rattle.fields.specs.Fields.{parts}
 use Rattle.table.specs.Block.{total}
-use Rattle.table.proofs.Judging.{sum-start, sum-step, sum-end}
+use Rattle.table.proofs.Judging.{sum-step, sum-end}
 use Rattle.table.proofs.checksum.Statement.{statement}
 use Rattle.table.proofs.checksum.Tie as tie
 
@@ -22,19 +22,13 @@ Inv-loop head body sum₀ i₀ sum i =
 abbrev μ-loop : tie.MeasureT-loop
 μ-loop head body sum₀ i₀ sum i = length body - i
 
-add-sum : tie.Need-add-sum Inv-loop μ-loop
-add-sum c = search needs
-
-add-sum-2 : tie.Need-add-sum-2 Inv-loop μ-loop
-add-sum-2 c = search needs
-
-add-sum-3 : tie.Need-add-sum-3 Inv-loop μ-loop
-add-sum-3 c = search needs
+head-total-requires : tie.Need-head-total-requires Inv-loop μ-loop
+head-total-requires c κs = search needs
 
 loop-holds : tie.Need-loop-holds Inv-loop μ-loop
 loop-holds c =
-    let a = c .before .args in
-    (search needs, rw map-drop (sum-start (a .head) (map nib (now (a .body)))))
+    let s : List ℕ = now (c .before .before .args .body) in
+    (search needs, ap (λ (x : ℕ). (x + total (map nib (drop 2 s))) % 256) (c .head-total .ensures .0) ∙ rw map-drop)
 
 shared-slice-read-decode : tie.Need-shared-slice-read-decode Inv-loop μ-loop
 shared-slice-read-decode c = search needs
@@ -45,8 +39,8 @@ decode-requires c κs = search needs
 cast-sum : tie.Need-cast-sum Inv-loop μ-loop
 cast-sum c = search needs
 
-add-sum-4 : tie.Need-add-sum-4 Inv-loop μ-loop
-add-sum-4 c = search needs
+add-sum : tie.Need-add-sum Inv-loop μ-loop
+add-sum c = search needs
 
 add-i : tie.Need-add-i Inv-loop μ-loop
 add-i c = search needs
@@ -57,7 +51,7 @@ loop-less c = search needs
 loop-again : tie.Need-loop-again Inv-loop μ-loop
 loop-again c =
     let l = c .before .before .before .loop in
-    let a = c .before .before .before .before .before .args in (
+    let a = c .before .before .before .before .before .before .args in (
       search needs,
       ap (λ (x : ℕ). ((l .sum + x) % 256 + total (map nib (drop (l .i + 1) (now (a .body))))) % 256) (c .decode .ensures)
           ∙ sum-step (now (a .body)) (l .i) (l .sum) (search needs)
@@ -70,7 +64,7 @@ sub-result c = search needs
 returns : tie.Need-returns Inv-loop μ-loop
 returns c =
     let l = c .before .loop in
-    let a = c .before .before .before .args in
+    let a = c .before .before .before .before .args in
     sum-end (a .head) (now (a .body)) (l .i) (l .sum) (search needs) (l .inv .0) (l .inv .1)
 
 pub checksum-spec : {M : Type 1} → statement M
@@ -79,14 +73,12 @@ checksum-spec =
     (tie.spec
     Inv-loop
     μ-loop
-    add-sum
-    add-sum-2
-    add-sum-3
+    head-total-requires
     loop-holds
     shared-slice-read-decode
     decode-requires
     cast-sum
-    add-sum-4
+    add-sum
     add-i
     loop-less
     loop-again

@@ -13,59 +13,61 @@ use Rattle.table.proofs.Judging.{whole-10, whole-11, whole-done, sound-
 use Rattle.table.proofs.judge_whole.Statement.{statement}
 use Rattle.table.proofs.judge_whole.Tie as tie
 
+sum-of-requires : tie.Need-sum-of-requires
+sum-of-requires c κs = search needs
+
 sound-requires : tie.Need-sound-requires
 sound-requires c κs = search needs
 
 add-refuse : tie.Need-add-refuse
 add-refuse c =
-    let s : List ℕ = now (c .before .before .before .args .body) in
-    omega (arith, c .before .sound .ensures, sound-le (map nib s), length-map s nib, c .before .before .before .good)
+    let s : List ℕ = now (c .before .before .before .before .args .body) in
+    omega (arith, c .sound .ensures, sound-le (map nib s), length-map s nib, c .before .before .before .before .good)
 
 refuse-requires : tie.Need-refuse-requires
 refuse-requires c κs = search needs
 
 returns : tie.Need-returns
 returns c =
-    let s : List ℕ = now (c .before .before .before .before .args .body) in
-    rw (c .before .before .sound .ensures) at (c .refuse .ensures)
-    ∙ sym (whole-10 _ (map nib s) _ (rw (c .before .before .sound .ensures, ← length-map s nib) at (c .before .if1 .taken)))
+    let s : List ℕ = now (c .before .before .before .before .before .args .body) in
+    rw (c .before .sound .ensures) at (c .refuse .ensures)
+    ∙ sym (whole-10 _ (map nib s) _ (λ e. absurd (omega (arith, c .before .before .before .sum-of .ensures .0 (c .before .before .if1 .taken), e, length-map s nib))))
 
 field-of-requires : tie.Need-field-of-requires
 field-of-requires c κs = search needs
-
-checksum-requires : tie.Need-checksum-requires
-checksum-requires c κs = search needs
 
 refuse-requires-2 : tie.Need-refuse-requires-2
 refuse-requires-2 c κs = search needs
 
 returns-2 : tie.Need-returns-2
 returns-2 c =
-    let s : List ℕ = now (c .before .before .before .before .before .before .before .args .body) in
+    let s : List ℕ = now (c .before .before .before .before .before .before .args .body) in
+    let w = c .before .before .before .before .sum-of .ensures .1 (omega (arith, c .before .before .before .if1 .left)) in
     c .refuse2 .ensures
     ∙ sym
     (whole-11 _ (map nib s) _
-    (rw (c .before .before .before .before .before .sound .ensures, ← length-map s nib) at (c .before .before .before .before .if1 .left))
-    (rw (c .before .before .before .field-of .ensures .0, c .before .before .checksum .ensures) at (c .before .if2 .taken)))
+    (w .0 ∙ sym (length-map s nib))
+    (rw (c .before .before .field-of .ensures .0, w .1) at (c .before .if2 .taken)))
 
 returns-3 : tie.Need-returns-3
 returns-3 c =
-    let s : List ℕ = now (c .before .before .before .before .before .before .args .body) in
+    let s : List ℕ = now (c .before .before .before .before .before .args .body) in
+    let w = c .before .before .before .sum-of .ensures .1 (omega (arith, c .before .before .if1 .left)) in
     sym
     (whole-done _ (map nib s) _
-    (rw (c .before .before .before .before .sound .ensures, ← length-map s nib) at (c .before .before .before .if1 .left))
-    (rw (c .before .before .field-of .ensures .0, c .before .checksum .ensures) at (c .if2 .left)))
+    (w .0 ∙ sym (length-map s nib))
+    (rw (c .before .field-of .ensures .0, w .1) at (c .if2 .left)))
 
 pub judge-whole-spec : {M : Type 1} → statement M
 judge-whole-spec =
     tie.close
     (tie.spec
+    sum-of-requires
     sound-requires
     add-refuse
     refuse-requires
     returns
     field-of-requires
-    checksum-requires
     refuse-requires-2
     returns-2
     returns-3)
