@@ -146,43 +146,24 @@ fn flow(got: Got, store: &mut [u8; 2047], s: &[u8], out: &mut [u8]) -> Got
     loop {
         match find(s, at) {
             Ahead::Nothing => {
-                return Got {
-                    run: Run::Idle,
-                    blocks: blocks,
-                    written: q,
-                    dropped: dropped,
-                };
+                return so_far(Run::Idle, blocks, q, dropped);
             }
             Ahead::Broken => {
-                return Got {
-                    run: Run::Idle,
-                    blocks: blocks,
-                    written: q,
-                    dropped: true,
-                };
+                return so_far(Run::Idle, blocks, q, true);
             }
             Ahead::Cut { got: g, bits } => {
-                return Got {
-                    run: Run::Head { got: g, bits: bits },
-                    blocks: blocks,
-                    written: q,
-                    dropped: dropped,
-                };
+                return so_far(Run::Head { got: g, bits: bits }, blocks, q, dropped);
             }
             Ahead::Whole { head, next } => {
                 let size = (head / 32) as usize;
                 let there = s.len() - next;
                 if there < size {
                     copy(s, next, there, store, 0);
-                    return Got {
-                        run: Run::Body {
-                            head: head,
-                            held: there,
-                        },
-                        blocks: blocks,
-                        written: q,
-                        dropped: dropped,
+                    let left = Run::Body {
+                        head: head,
+                        held: there,
                     };
+                    return so_far(left, blocks, q, dropped);
                 }
                 emit(head, s, next, size, out, q);
                 blocks += 1;
@@ -190,6 +171,18 @@ fn flow(got: Got, store: &mut [u8; 2047], s: &[u8], out: &mut [u8]) -> Got
                 at = next + size;
             }
         }
+    }
+}
+
+// What reading has come to, of its parts.
+fn so_far(run: Run, blocks: usize, written: usize, dropped: bool) -> Got
+    ensures { λ r. ⌜ r ≡ record { run = run; blocks = blocks; written = written; dropped = dropped } ⌝ }
+{
+    Got {
+        run: run,
+        blocks: blocks,
+        written: written,
+        dropped: dropped,
     }
 }
 

@@ -33,51 +33,63 @@ find-requires c κs = search needs
 enum-told : tie.Need-enum-told Inv-loop μ-loop
 enum-told c = search needs
 
+so-far-requires : tie.Need-so-far-requires Inv-loop μ-loop
+so-far-requires c κs = search needs
+
 same-length : tie.Need-same-length Inv-loop μ-loop
 same-length c = search needs
 
 returns : tie.Need-returns Inv-loop μ-loop
 returns c =
-    let a = c .before .before .before .before .before .before .args in
-    let l = c .before .before .before .loop in
-    from-place (a .got)
+    let a = c .before .before .before .before .before .before .before .args in
+    let l = c .before .before .before .before .loop in
+    rw (c .so-far .ensures)
+    (from-place (a .got)
     (l .inv .5 _ _ _
     (flow-nothing (drop (l .at) (now (a .s))) (place (a .got .dropped) (l .blocks) (l .q)) (l .out)
-    (c .before .before .find .ensures .0 ∙ ap (aheadIn (now (a .s))) (c .enum-told .given .1))
-    (l .inv .4)))
+    (c .before .before .before .find .ensures .0 ∙ ap (aheadIn (now (a .s))) (c .before .enum-told .given .1))
+    (l .inv .4))))
 
 enum-told-2 : tie.Need-enum-told-2 Inv-loop μ-loop
 enum-told-2 c = search needs
+
+so-far-requires-2 : tie.Need-so-far-requires-2 Inv-loop μ-loop
+so-far-requires-2 c κs = search needs
 
 same-length-2 : tie.Need-same-length-2 Inv-loop μ-loop
 same-length-2 c = search needs
 
 returns-2 : tie.Need-returns-2 Inv-loop μ-loop
 returns-2 c =
-    let a = c .before .before .before .before .before .before .args in
-    let l = c .before .before .before .loop in
-    from-place (a .got)
+    let a = c .before .before .before .before .before .before .before .args in
+    let l = c .before .before .before .before .loop in
+    rw (c .so-far2 .ensures)
+    (from-place (a .got)
     (l .inv .5 _ _ _
     (flow-broken (drop (l .at) (now (a .s))) (place (a .got .dropped) (l .blocks) (l .q)) (l .out)
-    (c .before .before .find .ensures .0 ∙ ap (aheadIn (now (a .s))) (c .enum-told2 .given .1))
-    (l .inv .4)))
+    (c .before .before .before .find .ensures .0 ∙ ap (aheadIn (now (a .s))) (c .before .enum-told2 .given .1))
+    (l .inv .4))))
 
 enum-known-g : tie.Need-enum-known-g Inv-loop μ-loop
 enum-known-g c = search needs
+
+so-far-requires-3 : tie.Need-so-far-requires-3 Inv-loop μ-loop
+so-far-requires-3 c κs = search needs
 
 same-length-3 : tie.Need-same-length-3 Inv-loop μ-loop
 same-length-3 c = search needs
 
 returns-3 : tie.Need-returns-3 Inv-loop μ-loop
 returns-3 c =
-    let a = c .before .before .before .before .before .before .before .args in
-    let l = c .before .before .before .before .loop in
-    let x = c .before .before .before .find .ensures .0 ∙ ap (aheadIn (now (a .s))) (c .before .g .given .1) in
-    from-place (a .got)
+    let a = c .before .before .before .before .before .before .before .before .args in
+    let l = c .before .before .before .before .before .loop in
+    let x = c .before .before .before .before .find .ensures .0 ∙ ap (aheadIn (now (a .s))) (c .before .before .g .given .1) in
+    rw (c .so-far3 .ensures)
+    (from-place (a .got)
     (l .inv .5 _ _ _
     (flow-cut (drop (l .at) (now (a .s))) (place (a .got .dropped) (l .blocks) (l .q)) (l .out) x
     (found-bits (drop (l .at) (now (a .s))) x)
-    (l .inv .4)))
+    (l .inv .4))))
 
 enum-known-head : tie.Need-enum-known-head Inv-loop μ-loop
 enum-known-head c = search needs
@@ -94,22 +106,26 @@ copy-requires c κs =
     let l = c .before .before .before .before .before .before .loop in
     (omega arith, omega (arith, ap length (l .inv .4), zeroed-length [] (omega arith)))
 
+so-far-requires-4 : tie.Need-so-far-requires-4 Inv-loop μ-loop
+so-far-requires-4 c κs = search needs
+
 same-length-4 : tie.Need-same-length-4 Inv-loop μ-loop
 same-length-4 c = search needs
 
 returns-4 : tie.Need-returns-4 Inv-loop μ-loop
 returns-4 c =
-    let a = c .before .before .before .before .before .before .before .before .before .before .args in
-    let l = c .before .before .before .before .before .before .before .loop in
-    let n = c .before .before .before .before .head .given .0 .1 .0 in
-    let x = c .before .before .before .before .before .before .find .ensures .0 ∙ ap (aheadIn (now (a .s))) (c .before .before .before .before .head .given .1) in
-    from-place (a .got)
+    let a = c .before .before .before .before .before .before .before .before .before .before .before .args in
+    let l = c .before .before .before .before .before .before .before .before .loop in
+    let n = c .before .before .before .before .before .head .given .0 .1 .0 in
+    let x = c .before .before .before .before .before .before .before .find .ensures .0 ∙ ap (aheadIn (now (a .s))) (c .before .before .before .before .before .head .given .1) in
+    rw (c .so-far4 .ensures)
+    (from-place (a .got)
     (l .inv .5 _ _ _
     (flow-held (drop (l .at) (now (a .s))) (place (a .got .dropped) (l .blocks) (l .q)) (l .out) x
     (length-drop n (now (a .s)))
-    (c .before .before .if1 .taken)
+    (c .before .before .before .if1 .taken)
     (omega arith)
-    (c .copy .ensures ∙ rw (l .inv .4, part-rest n (now (a .s))))))
+    (c .before .copy .ensures ∙ rw (l .inv .4, part-rest n (now (a .s)))))))
 
 emit-requires : tie.Need-emit-requires Inv-loop μ-loop
 emit-requires c κs =
@@ -171,18 +187,22 @@ flow-spec =
     loop-holds
     find-requires
     enum-told
+    so-far-requires
     same-length
     returns
     enum-told-2
+    so-far-requires-2
     same-length-2
     returns-2
     enum-known-g
+    so-far-requires-3
     same-length-3
     returns-3
     enum-known-head
     cast-size
     sub-there
     copy-requires
+    so-far-requires-4
     same-length-4
     returns-4
     emit-requires
