@@ -22,11 +22,12 @@ use Rattle.guide.specs.Cutting.{rowOf, rows, afterRows, pages, pagesFor}
 use Rattle.guide.proofs.Aligned.{Celled, stream-celled, after-celled, celled-aligned}
 use Rattle.guide.proofs.Counting.{covered}
 use Rattle.guide.proofs.Filling.{length-grab}
-use Rattle.reader.specs.declared.Page.{Page}
-use Rattle.reader.specs.declared.Page.the-variants.{Shut, Open}
-use Rattle.reader.specs.Mode.{Mode, off, scan, gives}
-use Rattle.reader.specs.Seen.{Seen, junk, other, ours, row, see}
-use Rattle.reader.specs.Acting.{State, incomplete, breaks, dropIf, wrongY, readMode, readBlocks, act, handed}
+use Rattle.pages.specs.declared.Page.{Page}
+use Rattle.pages.specs.declared.Page.the-variants.{Shut, Open}
+use Rattle.walk.specs.Mode.{Mode, off, scan, gives}
+use Rattle.pages.specs.Seen.{Seen, junk, other, ours, row, see}
+use Rattle.pages.specs.Acting.{State, incomplete, breaks, wrongY, act, handed}
+use Rattle.walk.specs.Reading.{dropIf, readMode, readBlocks}
 use Rattle.reader.specs.State.{freshState}
 use Rattle.claims.specs.Noise.{Hears, Near, Elsewhere, Aired, ended, sent, between, Came, over, Alike, Each, Fits}
 use Rattle.claims.specs.Carrying.{heardBlocks}

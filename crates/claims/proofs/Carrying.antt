@@ -15,7 +15,7 @@ use Rattle.octet.specs.Decoding.{nib, undecodable}
 use Rattle.octet.proofs.Laws.{nib-image}
 use Rattle.blocks.specs.Block.{Block}
 use Rattle.guide.specs.Stream.{Symbol, start, fill, bits, raw, byteOf, beforeStart}
-use Rattle.reader.specs.Mode.{Mode, off, scan, heading, body, full, step, emitted, ends, gives, behind, carry, carries, finished, unfinished}
+use Rattle.walk.specs.Mode.{Mode, off, scan, heading, body, full, step, emitted, ends, gives, behind, carry, carries, finished, unfinished}
 use Rattle.claims.specs.Noise.{Hears, Near, none, more, Came, over, kept, lost, Alike}
 use Rattle.claims.proofs.Losing.{near-length, near-snoc, lost-all}
 use Rattle.claims.proofs.Walking.{Fit, skips, opens, nibble, byte, Plain, sentEnds, sentGives, nib-sent, full-near, Blocks, same-block}

@@ -16,8 +16,8 @@ use Rattle.guide.specs.declared.Setting.{Setting}
 use Rattle.guide.specs.Setting.{inRange}
 use Rattle.guide.proofs.Numbering.{FortyTwo, more}
 use Rattle.reader.specs.declared.Reader.{Reader}
-use Rattle.reader.specs.Seen.{see}
-use Rattle.reader.specs.Acting.{State, act, handed}
+use Rattle.pages.specs.Seen.{see}
+use Rattle.pages.specs.Acting.{State, act, handed}
 use Rattle.reader.specs.State.{stateOf, readerOf, readerInRange}
 use Rattle.reader.specs.Feeding.{feedHeard, feedReader, feedOut, handedBytes}
 use Rattle.reader.proofs.Ranging.{Sound, sound-after, state-held, reader-in-range}

@@ -16,7 +16,7 @@ use Rattle.octet.specs.Decoding.{nib, undecodable}
 use Rattle.guide.specs.declared.Setting.{Setting}
 use Rattle.guide.specs.Setting.{inRange}
 use Rattle.guide.specs.Packet.{address, packetZero, packetOf}
-use Rattle.reader.specs.Seen.{Seen, junk, other, ours, row, decodes, see, seeY, seeZero}
+use Rattle.pages.specs.Seen.{Seen, junk, other, ours, row, decodes, see, seeY, seeZero}
 use Rattle.claims.specs.Noise.{Hears, Near, none, more, Each, nil, and, Elsewhere}
 use Rattle.claims.proofs.Losing.{near-drop}
 

@@ -13,10 +13,11 @@ use Rattle.blocks.specs.Block.{Block}
 use Rattle.guide.specs.declared.Setting.{Setting}
 use Rattle.guide.specs.Setting.{inRange}
 use Rattle.guide.proofs.Numbering.{FortyTwo, more}
-use Rattle.reader.specs.declared.Page.the-variants.{Shut}
-use Rattle.reader.specs.Mode.{off}
-use Rattle.reader.specs.Seen.{Seen, junk, other, foreign, ours, row, see, seeY, seeZero}
-use Rattle.reader.specs.Acting.{State, dropIf, breaks, act, handed}
+use Rattle.pages.specs.declared.Page.the-variants.{Shut}
+use Rattle.walk.specs.Mode.{off}
+use Rattle.pages.specs.Seen.{Seen, junk, other, foreign, ours, row, see, seeY, seeZero}
+use Rattle.pages.specs.Acting.{State, breaks, act, handed}
+use Rattle.walk.specs.Reading.{dropIf}
 use Rattle.reader.specs.State.{readerOf, freshState}
 use Rattle.reader.proofs.Ranging.{Sound, sound-fresh}
 use Rattle.claims.specs.Carrying.{heardBlocks}

@@ -12,8 +12,8 @@ use borrow.Author.Tests.{le-leb, lt-leb, eq-eqb}
 use Rattle.laws.proofs.Maps.{map-take, map-drop}
 use Rattle.blocks.specs.Block.{Block}
 use Rattle.guide.specs.Stream.{Symbol, start, fill, bits, raw, byteOf, beforeStart, pointerOf}
-use Rattle.reader.specs.Mode.{Mode, off, scan, step, emitted, ends, gives, carries, finished, unfinished}
-use Rattle.reader.specs.Acting.{readMode, readBlocks}
+use Rattle.walk.specs.Mode.{Mode, off, scan, step, emitted, ends, gives, carries, finished, unfinished}
+use Rattle.walk.specs.Reading.{readMode, readBlocks}
 use Rattle.claims.specs.Noise.{Hears, Near, Came, over}
 use Rattle.claims.proofs.Losing.{near-take, near-drop, lost-all, came-append}
 use Rattle.claims.proofs.Walking.{Fit, opens, Plain, sentEnds, sentGives, full-near, Sim, scans, heads, bodies, gone, Blocks, Follows, flow-follows}

@@ -14,7 +14,7 @@ use Rattle.octet.specs.Image.{image}
 use Rattle.octet.specs.Decoding.{nib, undecodable}
 use Rattle.blocks.specs.Block.{Block, sizeOf}
 use Rattle.guide.specs.Stream.{Symbol, start, fill, bits, raw, byteOf, symbols, fillAfter, cell, cellsOf, streamOf, grab}
-use Rattle.reader.specs.Mode.{Mode, off, scan, heading, body, full, step, emitted, ends, gives}
+use Rattle.walk.specs.Mode.{Mode, off, scan, heading, body, full, step, emitted, ends, gives}
 use Rattle.claims.specs.Noise.{Fits, Each, nil, and}
 use Rattle.claims.proofs.Walking.{Fit, skips, opens, nibble, byte, Plain, sentEnds, sentGives, step-fill, step-start, nib-sent}
 use Rattle.claims.proofs.Packet.{sentEnds-append, sentGives-append, plain-append}

@@ -3,8 +3,8 @@ use mathlib.Core.List.{List, [], _∷_, _++_}
 use Prim.Native.Nat.{ℕ}
 use Rattle.blocks.specs.Block.{Block}
 use Rattle.guide.specs.declared.Setting.{Setting}
-use Rattle.reader.specs.Seen.{see}
-use Rattle.reader.specs.Acting.{State, act, handed}
+use Rattle.pages.specs.Seen.{see}
+use Rattle.pages.specs.Acting.{State, act, handed}
 
 -- the blocks, packet by packet
 unfoldable pub heardBlocks : Setting → State → List (List ℕ) → List Block

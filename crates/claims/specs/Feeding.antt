@@ -8,7 +8,8 @@ use Rattle.guide.specs.declared.Setting.{Setting}
 use Rattle.reader.specs.declared.Reader.{Reader}
 use Rattle.reader.specs.declared.Heard.{Heard}
 use Rattle.reader.specs.declared.Heard.the-variants.{Took, Refused}
-use Rattle.reader.specs.Feeding.{room, feedHeard, feedReader, feedOut}
+use Rattle.walk.specs.Reading.{room}
+use Rattle.reader.specs.Feeding.{feedHeard, feedReader, feedOut}
 
 -- how many bytes an answer reports as written
 abbrev pub writtenOf : Heard → ℕ

@@ -1,6 +1,6 @@
 -- A state in range, as the code holds it, and back: what is read off a reader and held again is that reader. Assumes nothing.
 use mathlib.Core.Path.{_≡_, _∙_, refl, sym}
-use mathlib.Core.Bool.{Bool, true, false}
+use mathlib.Core.Bool.{Bool, true}
 use mathlib.Core.List.{List, [], _∷_, _++_}
 use Prim.Native.Nat.{ℕ, _-_, _≤_}
 use native.Mathlib.Omega.{arith}
@@ -9,21 +9,18 @@ use lib.ListN.{length, take, drop, replicate, length-drop, take-append-drop}
 use lib.Seq.{length-take-le}
 use borrow.Author.Tests.{leb-true, eqb-true}
 use Rattle.laws.specs.Pick.{both}
+use Rattle.laws.proofs.Tests.{both-first, both-second}
 use Rattle.blocks.specs.Block.{sizeOf}
-use Rattle.reader.specs.declared.Run.{Run}
-use Rattle.reader.specs.declared.Run.the-variants.{Idle, Head, Body}
+use Rattle.guide.specs.declared.Setting.{Setting}
+use Rattle.guide.specs.Setting.{inRange}
+use Rattle.walk.specs.declared.Run.{Run}
+use Rattle.walk.specs.declared.Run.the-variants.{Idle, Head, Body}
 use Rattle.reader.specs.declared.Reader.{Reader}
-use Rattle.reader.specs.State.{storeLength, zeros, pageInRange, runInRange, heldBy, readerInRange}
-use Rattle.reader.specs.Places.{zeroed}
-use Rattle.reader.specs.Holding.{Kept, Sixteen}
-
-both-first : (a b : Bool) → both a b ≡ true → a ≡ true
-both-first true b e = refl
-both-first false b e = e
-
-both-second : (a b : Bool) → both a b ≡ true → b ≡ true
-both-second true b e = e
-both-second false b e = let z : _≡_ {A = ℕ} 0 1 = cc in absurd (omega arith)
+use Rattle.walk.specs.Store.{storeLength}
+use Rattle.reader.specs.State.{zeros, pageInRange, runInRange, heldBy, readerInRange}
+use Rattle.walk.specs.Places.{zeroed}
+use Rattle.walk.specs.Holding.{Kept}
+use Rattle.reader.specs.Holding.{Sixteen}
 
 zeros-all : (l : List ℕ) → zeros l ≡ true → l ≡ replicate (length l) 0
 unfolding zeros
@@ -47,16 +44,27 @@ run-kept :
     (r : Run) (l : List ℕ) → runInRange r ≡ true → Sixteen r → length l ≡ storeLength → zeros (drop (heldBy r) l) ≡ true → Kept r l
 run-kept Idle l e w k z = record { good = tt; run = refl; kept = store-zeroed 0 l (omega arith) k z }
 run-kept (Head g v) l e w k z =
-    record { good = (leb-true g 3 (both-first _ _ e), w); run = refl; kept = store-zeroed 0 l (omega arith) k z }
+    record { good = record { got = leb-true g 3 (both-first _ _ e); small = w; only = eqb-true _ 0 (both-second (leb g 3) _ e) }; run = refl; kept = store-zeroed 0 l (omega arith) k z }
 run-kept (Body h n) l e w k z =
     let f : n ≤ sizeOf h = leb-true n (sizeOf h) e in
     let a : length (take n l) ≡ n = length-take-le n l (omega arith) in
-    record { good = (rw a f, omega arith); run = rw a; kept = store-zeroed n l (omega arith) k z }
+    record { good = (w, rw a f); run = rw a; kept = store-zeroed n l (omega arith) k z }
 
-pub kept-in-range :
+kept-in-range :
     (r : Reader) → readerInRange r ≡ true → Sixteen (r .run) → length (r .store) ≡ storeLength → Kept (r .run) (r .store)
 unfolding readerInRange
 kept-in-range r e w k =
     let i = both-second (pageInRange (r .page)) _ e in
     let u = both-second (leb (r .index) 15) _ i in
     run-kept (r .run) (r .store) (both-first (runInRange (r .run)) _ u) w k (both-second (runInRange (r .run)) _ u)
+
+-- where a call goes on, what came is whole packets, and the state is held
+module _ (s : Setting) (r : Reader) (t : Bool) {b : Bool} (x : b ≡ both (inRange s) (both (readerInRange r) t)) (y : b ≡ true) where
+  in-range-whole : both (readerInRange r) t ≡ true
+  in-range-whole = both-second (inRange s) (both (readerInRange r) t) (sym x ∙ y)
+
+  pub ready-whole : t ≡ true
+  ready-whole = both-second (readerInRange r) t in-range-whole
+
+  pub ready-kept : Sixteen (r .run) → length (r .store) ≡ storeLength → Kept (r .run) (r .store)
+  ready-kept = kept-in-range r (both-first (readerInRange r) t in-range-whole)

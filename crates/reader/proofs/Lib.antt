@@ -1,13 +1,7 @@
-pub mod Adding
 pub mod Answering
 pub mod Bounding
+pub mod Clearing
 pub mod Holding
-pub mod Judged
-pub mod Keeping
-pub mod Range
 pub mod Ranging
 pub mod Running
 pub mod Sizing
-pub mod Stepping
-pub mod Storing
-pub mod Walking

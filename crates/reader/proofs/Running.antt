@@ -13,15 +13,19 @@ use Rattle.laws.proofs.Lists.{sets-append, part-of}
 use Rattle.blocks.specs.Block.{Block, recordsOf}
 use Rattle.guide.specs.declared.Setting.{Setting}
 use Rattle.guide.specs.Packet.{packetLength}
-use Rattle.reader.specs.declared.Going.{Going}
+use Rattle.pages.specs.declared.Going.{Going}
 use Rattle.reader.specs.declared.Taking.{Taking}
-use Rattle.reader.specs.Seen.{see}
-use Rattle.reader.specs.Acting.{State, handed, dropped}
-use Rattle.reader.specs.Feeding.{room, Ran, begun, ranOn, run}
-use Rattle.reader.specs.Holding.{Good, Kept, Acted, RanTo, stateIn}
-use Rattle.reader.proofs.Keeping.{holds-mode}
-use Rattle.reader.proofs.Adding.{recordsOf-append}
-use Rattle.reader.proofs.Range.{see-short, handed-room, two-each}
+use Rattle.pages.specs.Seen.{see}
+use Rattle.pages.specs.Acting.{State, handed, dropped}
+use Rattle.walk.specs.Reading.{room}
+use Rattle.reader.specs.Feeding.{Ran, begun, ranOn, run}
+use Rattle.walk.specs.Holding.{Good, Kept}
+use Rattle.pages.specs.Stepped.{Acted, stateIn}
+use Rattle.reader.specs.Holding.{RanTo}
+use Rattle.walk.proofs.Keeping.{holds-mode}
+use Rattle.walk.proofs.Adding.{recordsOf-append}
+use Rattle.walk.proofs.Room.{two-each}
+use Rattle.reader.proofs.Bounding.{packet-room}
 
 abbrev pub taking : Going → ℕ → Taking
 taking a count = record { going = a; packets = count }
@@ -97,6 +101,6 @@ pub still-room :
     → Acted (see s p) st a after store old new → 2 * a .got .blocks ≤ a .got .written
     → (after .got .written ≤ a .got .written + room) × (2 * after .got .blocks ≤ after .got .written)
 still-room s p st g l w f =
-    let r = handed-room st (see s p) g (see-short s p l) in
+    let r = packet-room s st p l g in
     let t = two-each (handed st (see s p)) in
     (omega (arith, w .went .written), omega (arith, w .went .written, w .went .blocks))

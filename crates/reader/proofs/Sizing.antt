@@ -11,12 +11,15 @@ use Rattle.laws.specs.Pick.{pick}
 use Rattle.octet.specs.Decoding.{nib, undecodable}
 use Rattle.blocks.specs.Block.{Block, sizeOf}
 use Rattle.blocks.specs.Sizes.{Sized, none, more}
-use Rattle.reader.specs.declared.Page.{Page}
-use Rattle.reader.specs.declared.Page.the-variants.{Shut, Open}
-use Rattle.reader.specs.Mode.{Mode, off, scan, heading, body, shifted, full, step, emitted, gives, carries, finished}
-use Rattle.reader.specs.Acting.{State, dropIf, wrongY, readBlocks, openBlocks, handed}
-use Rattle.reader.specs.Seen.{Seen, junk, other, foreign, ours, row}
-use Rattle.reader.proofs.Ranging.{Along, Rests, rests-along, drop-rests, carries-along, Sound}
+use Rattle.pages.specs.declared.Page.{Page}
+use Rattle.pages.specs.declared.Page.the-variants.{Shut, Open}
+use Rattle.walk.specs.Mode.{Mode, off, scan, heading, body, shifted, full, step, emitted, gives, carries, finished}
+use Rattle.pages.specs.Acting.{State, wrongY, openBlocks, handed}
+use Rattle.walk.specs.Reading.{dropIf, readBlocks}
+use Rattle.pages.specs.Seen.{Seen, junk, other, foreign, ours, row}
+use Rattle.walk.proofs.Along.{Along, good-along, drop-good, carries-along}
+use Rattle.walk.specs.Holding.{Good}
+use Rattle.reader.proofs.Ranging.{Sound}
 
 pub sized-append : {a b : List Block} → Sized a → Sized b → Sized (a ++ b)
 sized-append none s = s
@@ -82,16 +85,16 @@ finished-sized scan r = none
 finished-sized (heading g v) r = none
 finished-sized (body h held) r = one-sized h held (full h held) refl (r .1)
 
-read-sized : (m : Mode) (p : ℕ) (l : List ℕ) → Rests m → Sized (readBlocks m p l)
+read-sized : (m : Mode) (p : ℕ) (l : List ℕ) → Good m → Sized (readBlocks m p l)
 read-sized m p l r = go (leb p 12) (eqb p 13)
   where
     go :
         (t u : Bool)
         → Sized (pick t (finished (carries true m (take (3 * p) l)) ++ gives scan (drop (3 * p) l)) (pick u (finished (carries false m l)) []))
     go true u =
-        sized-append (finished-sized (carries true m (take (3 * p) l)) (carries-along true m (take (3 * p) l) (rests-along m r)))
+        sized-append (finished-sized (carries true m (take (3 * p) l)) (carries-along true m (take (3 * p) l) (good-along m r)))
         (gives-sized scan (drop (3 * p) l) tt)
-    go false true = finished-sized (carries false m l) (carries-along false m l (rests-along m r))
+    go false true = finished-sized (carries false m l) (carries-along false m l (good-along m r))
     go false false = none
 
 pub handed-sized : (st : State) (x : Seen) → Sound st → Sized (handed st x)
@@ -107,5 +110,5 @@ handed-sized st (row y p l) r = go (st .page)
     go (Open n last) = on (leb y n)
       where
         on : (t : Bool) → Sized (pick t (readBlocks (dropIf (wrongY n last y) (st .mode)) p l) [])
-        on true = read-sized (dropIf (wrongY n last y) (st .mode)) p l (drop-rests (wrongY n last y) (st .mode) (r .mode))
+        on true = read-sized (dropIf (wrongY n last y) (st .mode)) p l (drop-good (wrongY n last y) (st .mode) (r .mode))
         on false = none

@@ -16,13 +16,10 @@ use Rattle.reader.specs.declared.Heard.{Heard}
 use Rattle.reader.specs.declared.Heard.the-variants.{Took, Refused}
 use Rattle.reader.specs.declared.HeardAll.{HeardAll}
 use Rattle.reader.specs.declared.HeardAll.the-variants.{TookAll, RefusedAll}
-use Rattle.reader.specs.Seen.{see}
-use Rattle.reader.specs.Acting.{State, act, handed, dropped as Acting·dropped}
+use Rattle.walk.specs.Reading.{room}
+use Rattle.pages.specs.Seen.{see}
+use Rattle.pages.specs.Acting.{State, act, handed, dropped as Acting·dropped}
 use Rattle.reader.specs.State.{stateOf, readerOf, readerInRange}
-
--- "1 (under 2,112 bytes of output)"
-abbrev pub room : ℕ
-room = 2112
 
 -- "Reader: 16, then 1"
 abbrev pub feedRules : Setting → Reader → List ℕ → List ℕ → List Rule

@@ -3,43 +3,23 @@ use mathlib.Core.Bool.{Bool, true}
 use mathlib.Core.List.{List, [], _∷_, _++_}
 use Prim.Native.Nat.{ℕ, _-_, _%_, _^_}
 use lib.Dec.{eqb, leb}
-use lib.ListN.{length, take, drop, replicate}
+use lib.ListN.{length, drop, replicate}
 use Rattle.laws.specs.Pick.{both}
 use Rattle.blocks.specs.Block.{sizeOf}
-use Rattle.reader.specs.declared.Page.{Page}
-use Rattle.reader.specs.declared.Page.the-variants.{Shut, Open}
-use Rattle.reader.specs.declared.Run.{Run}
-use Rattle.reader.specs.declared.Run.the-variants.{Idle, Head, Body}
+use Rattle.pages.specs.declared.Page.{Page}
+use Rattle.pages.specs.declared.Page.the-variants.{Shut, Open}
+use Rattle.walk.specs.declared.Run.{Run}
+use Rattle.walk.specs.declared.Run.the-variants.{Idle, Head, Body}
 use Rattle.reader.specs.declared.Reader.{Reader}
-use Rattle.reader.specs.Mode.{Mode, off, scan, heading, body}
-use Rattle.reader.specs.Acting.{State}
+use Rattle.walk.specs.Store.{storeLength, modeOf, runOf, heldOf}
+use Rattle.walk.specs.Mode.{Mode, off}
+use Rattle.pages.specs.Acting.{State}
 
--- "a store of 2,047 bytes"
-abbrev pub storeLength : ℕ
-storeLength = 2047
-
--- the running block that a reader holds
-abbrev pub modeOf : Run → List ℕ → Mode
-modeOf Idle store = off
-modeOf (Head got bits) store = heading got bits
-modeOf (Body head held) store = body head (take held store)
-
+-- the state that a reader holds
 abbrev pub stateOf : Reader → State
 stateOf r = record { page = r .page; index = r .index; mode = modeOf (r .run) (r .store) }
 
 -- how a reader holds it
-abbrev pub runOf : Mode → Run
-runOf off = Idle
-runOf scan = Idle
-runOf (heading g v) = Head g v
-runOf (body h held) = Body h (length held)
-
-abbrev pub heldOf : Mode → List ℕ
-heldOf off = []
-heldOf scan = []
-heldOf (heading g v) = []
-heldOf (body h held) = held
-
 abbrev pub storeOf : Mode → List ℕ
 storeOf m = heldOf m ++ replicate (storeLength - length (heldOf m)) 0
 

@@ -1,58 +1,66 @@
 -- `reader::feed` meets its contract: its tests in order, and then the packet's step. Assumes nothing.
-use mathlib.Core.Path.{_≡_, _∙_, sym}
+use mathlib.Core.Path.{_≡_}
 use native.Mathlib.Omega.{arith}
 use lib.ListN.{length}
 use denote.Ref.{now}
 use borrow.Author.Needs.{needs}
-use borrow.Author.Tests.{not-true, not-false}
-use Rattle.reader.specs.State.{storeLength}
-use Rattle.reader.proofs.Holding.{kept-in-range}
-use Rattle.reader.proofs.Answering.{no-setting, no-state, no-packet, no-room, taken}
+use borrow.Author.Tests.{not-true, not-false, eqb-true}
+use Rattle.walk.specs.Store.{storeLength}
+use Rattle.reader.proofs.Holding.{ready-whole, ready-kept}
+use Rattle.reader.proofs.Answering.{not-ready, no-room, taken}
 use Rattle.reader.proofs.feed.Statement.{statement}
 use Rattle.reader.proofs.feed.Tie as tie
-
-is-in-range-requires : tie.Need-is-in-range-requires
-is-in-range-requires c κs = search needs
-
-returns : tie.Need-returns
-returns c = no-setting (c .before .before .before .before .args .setting) (c .before .before .before .before .args .reader) (now (c .before .before .before .before .args .packet)) (now (c .before .before .before .before .args .out)) (sym (c .before .is-in-range .ensures) ∙ not-true _ (c .if1 .taken))
-
-in-range-requires : tie.Need-in-range-requires
-in-range-requires c κs = search needs
-
-returns-2 : tie.Need-returns-2
-returns-2 c = no-state (c .before .before .before .before .before .before .before .before .args .setting) (c .before .before .before .before .before .before .before .before .args .reader) (now (c .before .before .before .before .before .before .before .before .args .packet)) (now (c .before .before .before .before .before .before .before .before .args .out)) (sym (c .before .before .before .before .before .is-in-range .ensures) ∙ not-false _ (c .before .before .before .before .if1 .left)) (sym (c .before .in-range .ensures .0) ∙ not-true _ (c .if2 .taken))
-
-returns-3 : tie.Need-returns-3
-returns-3 c = no-packet (c .before .before .before .before .before .before .before .before .before .args .setting) (c .before .before .before .before .before .before .before .before .before .args .reader) (now (c .before .before .before .before .before .before .before .before .before .args .packet)) (now (c .before .before .before .before .before .before .before .before .before .args .out)) (sym (c .before .before .before .before .before .before .is-in-range .ensures) ∙ not-false _ (c .before .before .before .before .before .if1 .left)) (sym (c .before .before .in-range .ensures .0) ∙ not-false _ (c .before .if2 .left)) (c .if3 .taken)
-
-returns-4 : tie.Need-returns-4
-returns-4 c = no-room (c .before .before .before .before .before .before .before .before .before .before .args .setting) (c .before .before .before .before .before .before .before .before .before .before .args .reader) (now (c .before .before .before .before .before .before .before .before .before .before .args .packet)) (now (c .before .before .before .before .before .before .before .before .before .before .args .out)) (sym (c .before .before .before .before .before .before .before .is-in-range .ensures) ∙ not-false _ (c .before .before .before .before .before .before .if1 .left)) (sym (c .before .before .before .in-range .ensures .0) ∙ not-false _ (c .before .before .if2 .left)) (c .before .if3 .left) (c .if4 .taken)
 
 long : (c : tie.Start) → length (c .args .reader .store) ≡ storeLength
 long c = search needs
 
+is-ready-requires : tie.Need-is-ready-requires
+is-ready-requires c κs = search needs
+
+returns : tie.Need-returns
+returns c =
+    let a = c .before .before .before .before .before .before .args in
+    not-ready (a .setting) (a .reader) (now (a .packet)) (now (a .out)) (c .before .is-ready .ensures .0) (not-true _ (c .if1 .taken))
+
+returns-2 : tie.Need-returns-2
+returns-2 c =
+    let a = c .before .before .before .before .before .before .before .args in
+    no-room (a .setting) (a .reader) (now (a .packet)) (now (a .out))
+    (c .before .before .is-ready .ensures .0) (not-false _ (c .before .if1 .left)) (c .if2 .taken)
+
+start-requires : tie.Need-start-requires
+start-requires c κs = search needs
+
 step-requires : tie.Need-step-requires
 step-requires c κs =
-    let k = kept-in-range (c .before .before .before .before .before .before .before .before .before .before .before .before .args .reader) (sym (c .before .before .before .before .before .in-range .ensures .0) ∙ not-false _ (c .before .before .before .before .if2 .left)) ((c .before .before .before .before .before .in-range .ensures .1) (not-false _ (c .before .before .before .before .if2 .left))) (long (c .before .before .before .before .before .before .before .before .before .before .before .before)) in
-    (k, ((c .before .before .before .if3 .left), record { long = omega arith; few = omega arith }))
+    let a = c .before .before .before .before .before .before .before .before .before .before .args in
+    let r = c .before .before .before .before .before .is-ready .ensures in
+    let n = not-false _ (c .before .before .before .before .if1 .left) in
+    rw (c .before .before .start .ensures) (
+      ready-kept (a .setting) (a .reader) _ (r .0) n (r .1 n) (long (c .before .before .before .before .before .before .before .before .before .before)),
+      (eqb-true _ _ (ready-whole (a .setting) (a .reader) _ (r .0) n), record { long = omega arith; few = omega arith }),
+    )
 
 same-length : tie.Need-same-length
 same-length c = search needs
 
-returns-5 : tie.Need-returns-5
-returns-5 c = taken (c .before .before .before .before .before .before .before .before .before .before .before .before .before .before .before .before .args .setting) (c .before .before .before .before .before .before .before .before .before .before .before .before .before .before .before .before .args .reader) (now (c .before .before .before .before .before .before .before .before .before .before .before .before .before .before .before .before .args .packet)) (now (c .before .before .before .before .before .before .before .before .before .before .before .before .before .before .before .before .args .out)) (sym (c .before .before .before .before .before .before .before .before .before .before .before .before .before .is-in-range .ensures) ∙ not-false _ (c .before .before .before .before .before .before .before .before .before .before .before .before .if1 .left)) (sym (c .before .before .before .before .before .before .before .before .before .in-range .ensures .0) ∙ not-false _ (c .before .before .before .before .before .before .before .before .if2 .left)) (c .before .before .before .before .before .before .before .if3 .left) (c .before .before .before .before .before .before .if4 .left) ((kept-in-range (c .before .before .before .before .before .before .before .before .before .before .before .before .before .before .before .before .args .reader) (sym (c .before .before .before .before .before .before .before .before .before .in-range .ensures .0) ∙ not-false _ (c .before .before .before .before .before .before .before .before .if2 .left)) ((c .before .before .before .before .before .before .before .before .before .in-range .ensures .1) (not-false _ (c .before .before .before .before .before .before .before .before .if2 .left))) (long (c .before .before .before .before .before .before .before .before .before .before .before .before .before .before .before .before))) .good) (c .before .before .before .step .ensures)
+returns-3 : tie.Need-returns-3
+returns-3 c =
+    let a = c .before .before .before .before .before .before .before .before .before .before .before .before .before .before .args in
+    let r = c .before .before .before .before .before .before .before .before .before .is-ready .ensures in
+    let n = not-false _ (c .before .before .before .before .before .before .before .before .if1 .left) in
+    taken (a .setting) (a .reader) (now (a .packet)) (now (a .out)) (r .0) n (c .before .before .before .before .before .before .start .ensures) (c .before .before .before .before .before .before .before .if2 .left)
+    (ready-kept (a .setting) (a .reader) _ (r .0) n (r .1 n) (long (c .before .before .before .before .before .before .before .before .before .before .before .before .before .before)) .good)
+    (c .before .before .before .step .ensures)
 
 pub feed-spec : {M : Type 1} → statement M
 feed-spec =
     tie.close
     (tie.spec
-    is-in-range-requires
+    is-ready-requires
     returns
-    in-range-requires
     returns-2
-    returns-3
-    returns-4
+    start-requires
     step-requires
     same-length
-    returns-5)
+    returns-3)

@@ -4,7 +4,7 @@ use native.Mathlib.Omega.{arith}
 use borrow.Author.Needs.{needs}
 use borrow.Author.Tests.{lt-leb, le-leb, not-true, not-false}
 use Rattle.reader.specs.State.{readerInRange}
-use Rattle.reader.proofs.Stepping.{untrue}
+use Rattle.reader.proofs.Clearing.{untrue}
 use Rattle.reader.proofs.in_range.Statement.{statement}
 use Rattle.reader.proofs.in_range.Tie as tie
 

@@ -8,7 +8,7 @@ use denote.Ref.{now}
 use borrow.Author.Needs.{needs}
 use Rattle.laws.specs.Pick.{both}
 use Rattle.reader.specs.State.{zeros}
-use Rattle.reader.proofs.Stepping.{clear-on, clear-ends}
+use Rattle.reader.proofs.Clearing.{clear-on, clear-ends}
 use Rattle.reader.proofs.is_clear.Statement.{statement}
 use Rattle.reader.proofs.is_clear.Tie as tie
 

@@ -7,8 +7,9 @@ use denote.Ref.{now}
 use borrow.Author.Needs.{needs}
 use Rattle.guide.specs.Packet.{packetLength}
 use Rattle.reader.specs.Feeding.{Ran, begun, run, ranOn}
-use Rattle.reader.specs.Holding.{RanTo, stateIn}
-use Rattle.reader.proofs.Keeping.{holds-kept}
+use Rattle.reader.specs.Holding.{RanTo}
+use Rattle.pages.specs.Stepped.{stateIn}
+use Rattle.walk.proofs.Keeping.{holds-kept}
 use Rattle.reader.proofs.Running.{taking, begins, one-more, run-on, run-full, run-out, packet-length, still-room}
 use Rattle.reader.proofs.take_all.Statement.{statement}
 use Rattle.reader.proofs.take_all.Tie as tie

@@ -1,0 +1,25 @@
+-- `pages::is_wrong` meets its contract: its tests in order. Assumes nothing.
+use mathlib.Core.Path.{_≡_}
+use Prim.Native.Nat.{_+_}
+use native.Mathlib.Omega.{arith}
+use borrow.Author.Needs.{needs}
+use borrow.Author.Tests.{eq-eqb, ne-eqb}
+use Rattle.pages.proofs.Seeing.{over}
+use Rattle.pages.proofs.is_wrong.Statement.{statement}
+use Rattle.pages.proofs.is_wrong.Tie as tie
+
+sub-if1 : tie.Need-sub-if1
+sub-if1 c = search needs
+
+returns : tie.Need-returns
+returns c =
+    let n : c .before .args .y ≡ c .before .args .last + 1 → ⊥ = λ e. c .if1 .taken (omega arith) in
+    rw (ne-eqb _ _ n)
+
+returns-2 : tie.Need-returns-2
+returns-2 c =
+    let e : c .before .args .y ≡ c .before .args .last + 1 = omega arith in
+    rw (eq-eqb _ _ e) (over (c .before .args .n) (c .before .args .y))
+
+pub is-wrong-spec : {M : Type 1} → statement M
+is-wrong-spec = tie.close (tie.spec sub-if1 returns returns-2)

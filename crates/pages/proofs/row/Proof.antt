@@ -1,0 +1,55 @@
+-- `pages::row` meets its contract: the wrong packet drops, and up to n its bytes are read. Assumes nothing.
+use native.Mathlib.Omega.{arith}
+use lib.ListN.{getD, drop}
+use denote.Ref.{now}
+use borrow.Author.Needs.{needs}
+use Rattle.octet.specs.Decoding.{nib}
+use Rattle.blocks.specs.Block.{recordsOf}
+use Rattle.pages.specs.Stepped.{stateIn}
+use Rattle.walk.proofs.Keeping.{holds-kept}
+use Rattle.pages.proofs.Judged.{row-over, row-read}
+use Rattle.pages.proofs.row.Statement.{statement}
+use Rattle.pages.proofs.row.Tie as tie
+
+is-wrong-requires : tie.Need-is-wrong-requires
+is-wrong-requires c κs = search needs
+
+turn-requires : tie.Need-turn-requires
+turn-requires c κs = search needs
+
+returns : tie.Need-returns
+returns c =
+    row-over (c .before .before .before .before .before .before .args .n) (c .before .before .before .before .before .before .args .last) (c .before .before .before .before .before .before .args .y) (nib (getD (now (c .before .before .before .before .before .before .args .packet)) 2 0)) (drop 3 (now (c .before .before .before .before .before .before .args .packet))) (stateIn (c .before .before .before .before .before .before .args .a) (now (c .before .before .before .before .before .before .args .store)))
+    (c .before .before .before .is-wrong .ensures) (c .before .before .if1 .taken) (c .turn .ensures (now (c .before .before .before .before .before .before .args .out)))
+
+turn-requires-2 : tie.Need-turn-requires-2
+turn-requires-2 c κs = search needs
+
+read-requires : tie.Need-read-requires
+unfolding recordsOf
+read-requires c κs =
+    let w = c .before .before .before .turn2 .ensures (now (c .before .before .before .before .before .before .before .before .before .args .out)) .went in
+    let q = c .before .before .before .before .before .before .before .before .before .pre .1 .1 in (
+      holds-kept _ (w .holds),
+      (c .before .before .before .before .before .before .before .before .before .pre .1 .0 .0, record { long = omega (arith, w .written, q .long); few = omega (arith, w .written, w .blocks, q .few) }),
+    )
+
+same-length : tie.Need-same-length
+same-length c = search needs
+
+returns-2 : tie.Need-returns-2
+returns-2 c =
+    row-read (c .before .before .before .before .before .before .before .before .before .before .before .before .args .n) (c .before .before .before .before .before .before .before .before .before .before .before .before .args .last) (c .before .before .before .before .before .before .before .before .before .before .before .before .args .y) (nib (getD (now (c .before .before .before .before .before .before .before .before .before .before .before .before .args .packet)) 2 0)) (drop 3 (now (c .before .before .before .before .before .before .before .before .before .before .before .before .args .packet))) (stateIn (c .before .before .before .before .before .before .before .before .before .before .before .before .args .a) (now (c .before .before .before .before .before .before .before .before .before .before .before .before .args .store)))
+    (c .before .before .before .before .before .before .before .before .before .is-wrong .ensures) (c .before .before .before .before .before .before .before .before .if1 .left) (c .before .before .before .before .before .before .turn2 .ensures (now (c .before .before .before .before .before .before .before .before .before .before .before .before .args .out))) (c .before .before .read .ensures)
+
+pub row-spec : {M : Type 1} → statement M
+row-spec =
+    tie.close
+    (tie.spec
+    is-wrong-requires
+    turn-requires
+    returns
+    turn-requires-2
+    read-requires
+    same-length
+    returns-2)

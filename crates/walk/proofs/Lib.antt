@@ -1,0 +1,7 @@
+pub mod Adding
+pub mod Along
+pub mod Keeping
+pub mod Room
+pub mod Stepping
+pub mod Storing
+pub mod Walking

@@ -1,0 +1,105 @@
+-- `walk::head_on` meets its contract: what the nibbles still to come make of the bytes still to come is what they all make of all.
+-- Assumes nothing.
+use mathlib.Core.Path.{_≡_, _∙_, sym}
+use Prim.Native.Nat.{_+_, _-_, _^_, _≤_, _<_}
+use native.Mathlib.Omega.{arith}
+use lib.ListN.{length, getD, drop}
+use denote.Ref.{now}
+use borrow.Author.Needs.{needs}
+use Rattle.octet.proofs.Laws.{nib-le}
+use Rattle.walk.specs.Places.{heads}
+use Rattle.walk.proofs.Stepping.{head-on, head-cut, head-broken, head-whole}
+use Rattle.walk.proofs.head_on.Statement.{statement}
+use Rattle.walk.proofs.head_on.Tie as tie
+
+abbrev Inv-loop : tie.InvT-loop
+Inv-loop s from got bits i₀ g₀ v₀ i g v =
+    (i ≤ length s) × (g ≤ 4) × (i + (4 - g) ≡ from + (4 - got)) × (v < 2 ^ 16)
+    × (heads (4 - g) v (drop i s) ≡ heads (4 - got) bits (drop from s))
+
+abbrev μ-loop : tie.MeasureT-loop
+μ-loop s from got bits i₀ g₀ v₀ i g v = 4 - g
+
+loop-holds : tie.Need-loop-holds Inv-loop μ-loop
+loop-holds c = search needs
+
+returns : tie.Need-returns Inv-loop μ-loop
+returns c =
+    let l = c .before .before .loop in
+    let a = c .before .before .before .before .args in
+    (sym (l .inv .4) ∙ head-cut (now (a .s)) (l .i) (l .g) (l .v) (omega arith) (omega arith), (search needs, search needs))
+
+shared-slice-read-decode : tie.Need-shared-slice-read-decode Inv-loop μ-loop
+shared-slice-read-decode c = search needs
+
+decode-requires : tie.Need-decode-requires Inv-loop μ-loop
+decode-requires c κs = search needs
+
+returns-2 : tie.Need-returns-2 Inv-loop μ-loop
+returns-2 c =
+    let l = c .before .before .before .before .before .loop in
+    let a = c .before .before .before .before .before .before .before .args in
+    (sym (l .inv .4) ∙ head-broken (now (a .s)) (l .i) (l .g) (l .v) (omega arith) (omega arith) (omega arith), (search needs, search needs))
+
+cast-v : tie.Need-cast-v Inv-loop μ-loop
+cast-v c = search needs
+
+mul-v : tie.Need-mul-v Inv-loop μ-loop
+mul-v c =
+    let l = c .before .before .before .before .before .loop in
+    let s = now (c .before .before .before .before .before .before .before .args .s) in
+    omega (arith, c .before .decode .ensures, nib-le (getD s (l .i) 0))
+
+add-v : tie.Need-add-v Inv-loop μ-loop
+add-v c =
+    let l = c .before .before .before .before .before .loop in
+    let s = now (c .before .before .before .before .before .before .before .args .s) in
+    omega (arith, c .before .decode .ensures, nib-le (getD s (l .i) 0))
+
+add-g : tie.Need-add-g Inv-loop μ-loop
+add-g c = search needs
+
+add-i : tie.Need-add-i Inv-loop μ-loop
+add-i c = search needs
+
+loop-less : tie.Need-loop-less Inv-loop μ-loop
+loop-less c = search needs
+
+loop-again : tie.Need-loop-again Inv-loop μ-loop
+loop-again c =
+    let l = c .before .before .before .before .before .loop in
+    let s = now (c .before .before .before .before .before .before .before .args .s) in
+    let n = c .before .decode .result in
+    let e = c .before .decode .ensures in (
+      omega arith,
+      omega arith,
+      omega arith,
+      omega (arith, e, nib-le (getD s (l .i) 0)),
+      head-on s (l .i) (l .g) (l .v) n (omega arith) (omega arith) e (c .if2 .left) ∙ l .inv .4,
+    )
+
+returns-3 : tie.Need-returns-3 Inv-loop μ-loop
+returns-3 c =
+    let l = c .before .loop in
+    let a = c .before .before .before .args in
+    (sym (l .inv .4) ∙ head-whole (now (a .s)) (l .i) (l .g) (l .v) (omega arith), (omega arith, omega arith))
+
+pub head-on-spec : {M : Type 1} → statement M
+head-on-spec =
+    tie.close
+    (tie.spec
+    Inv-loop
+    μ-loop
+    loop-holds
+    returns
+    shared-slice-read-decode
+    decode-requires
+    returns-2
+    cast-v
+    mul-v
+    add-v
+    add-g
+    add-i
+    loop-less
+    loop-again
+    returns-3)

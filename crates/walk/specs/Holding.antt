@@ -1,0 +1,129 @@
+-- How the code holds what the definitions speak of: a mode as a run and a store, and what a part of a call adds to what has come so
+-- far. Only calls within the reader cite these.
+use mathlib.Core.Path.{_≡_}
+use mathlib.Core.Bool.{Bool, true, false, not}
+use mathlib.Core.List.{List, []}
+use Prim.Native.Nat.{ℕ, _+_, _-_, _*_, _%_, _^_, _≤_, _<_}
+use lib.ListN.{length, drop}
+use lib.Seq.{sets}
+use lib.Dec.{leb}
+use Rattle.laws.specs.Pick.{pick, both, either}
+use Rattle.blocks.specs.Block.{Block, headLength, sizeOf, recordsOf}
+use Rattle.walk.specs.declared.Run.{Run}
+use Rattle.walk.specs.declared.Run.the-variants.{Idle, Head, Body}
+use Rattle.walk.specs.declared.Got.{Got}
+use Rattle.walk.specs.declared.Taken.{Taken}
+use Rattle.walk.specs.declared.Ahead.{Ahead}
+use Rattle.walk.specs.declared.Ahead.the-variants.{Nothing, Broken, Cut, Whole}
+use Rattle.walk.specs.Mode.{Mode, off, scan, heading, body, full, running, isFull, ends, gives, spoils, carries, finished, unfinished}
+use Rattle.walk.specs.Store.{storeLength, modeOf, runOf, heldOf}
+use Rattle.walk.specs.Reading.{dropIf, readMode, readBlocks, readDrops, room}
+use Rattle.walk.specs.Places.{Found, nothing, broken, cut, whole, fillers, zeroed}
+
+-- g nibbles have come, and v has their bits and no others
+pub record Bits (g v : ℕ) : Type 0 where
+  pub got : g ≤ 3
+  pub small : v < 2 ^ 16
+  pub only : v % 16 ^ (4 - g) ≡ 0
+
+-- a mode that a reader may be in between two steps
+abbrev pub Good : Mode → Type 0
+Good off = Unit
+Good scan = ⊥
+Good (heading g v) = Bits g v
+Good (body h held) = (h < 2 ^ 16) × (length held ≤ sizeOf h)
+
+-- run and store hold the mode m
+pub record Holds (m : Mode) (r : Run) (store : List ℕ) : Type 0 where
+  pub good : Good m
+  pub run : r ≡ runOf m
+  pub kept : store ≡ zeroed (heldOf m)
+
+-- the mode that run and store hold
+abbrev pub Kept : Run → List ℕ → Type 0
+Kept r store = Holds (modeOf r store) r store
+
+-- the block of these 16 bits and raw bytes
+abbrev pub blockWith : ℕ → List ℕ → Block
+blockWith h l = record { head = h; raw = l }
+
+-- what an answer by places says stands ahead in s
+abbrev pub aheadIn : List ℕ → Ahead → Found
+aheadIn s Nothing = nothing
+aheadIn s Broken = broken
+aheadIn s (Cut got bits) = cut got bits
+aheadIn s (Whole head next) = whole head (drop next s)
+
+-- the place past a whole header; the other answers give none
+abbrev pub nextOf : Ahead → ℕ → ℕ
+nextOf Nothing other = other
+nextOf Broken other = other
+nextOf (Cut got bits) other = other
+nextOf (Whole head next) other = next
+
+-- a running block that has taken its bytes, over those up to the pointed byte
+abbrev pub awaits : Mode → List ℕ → Mode
+awaits off l = off
+awaits scan l = off
+awaits (heading g v) l = heading g v
+awaits (body h held) l = pick (full h held) (carries true (body h held) l) (body h held)
+
+-- a block runs
+abbrev pub runs : Run → Bool
+runs Idle = false
+runs (Head got bits) = true
+runs (Body head held) = true
+
+-- it is held whole, and l is only filler
+abbrev pub stands : Run → List ℕ → Bool
+stands Idle l = false
+stands (Head got bits) l = false
+stands (Body head held) l = both (leb (sizeOf head) held) (leb (length l) (fillers l))
+
+-- from the mode m the running block has taken its bytes of l, which s ends with, and the rest of them begins at a place of s
+pub record TookIn (m : Mode) (l s : List ℕ) (r : Taken) (store : List ℕ) : Type 0 where
+  pub holds : Holds (carries false m l) (r .run) store
+  pub within : r .next ≤ length s
+  pub rest : carries true m l ≡ awaits (carries false m l) (drop (r .next) s)
+
+-- what stood at a is now at r: the mode m is held, these blocks have gone out, and a block was dropped if d says so
+pub record Went (m : Mode) (bs : List Block) (d : Bool) (a r : Got) (store old new : List ℕ) : Type 0 where
+  pub holds : Holds m (r .run) store
+  pub blocks : r .blocks ≡ a .blocks + length bs
+  pub written : r .written ≡ a .written + length (recordsOf bs)
+  pub dropped : r .dropped ≡ either (a .dropped) d
+  pub out : new ≡ sets old (a .written) (recordsOf bs)
+
+-- there is room behind what is written for a block, and each block so far has written its 16 bits at least
+pub record Room (a : Got) (out : List ℕ) : Type 0 where
+  pub long : a .written + (headLength + storeLength) ≤ length out
+  pub few : 2 * a .blocks ≤ a .written
+
+-- a block that is held whole has gone out
+abbrev pub Finished : Mode → Got → Got → List ℕ → List ℕ → List ℕ → Type 0
+Finished m a r store old new = Went (unfinished m) (finished m) false a r store old new
+
+-- the bytes l stand before the pointed byte
+abbrev pub CarriedTo : Mode → List ℕ → Got → Got → List ℕ → List ℕ → List ℕ → Type 0
+CarriedTo m l = Went off (finished (carries true m l)) (both (running m) (not (isFull (carries true m l))))
+
+-- the bytes l are a packet's that points at no start
+abbrev pub CarriedOn : Mode → List ℕ → Got → Got → List ℕ → List ℕ → List ℕ → Type 0
+CarriedOn m l = Went (unfinished (carries false m l)) (finished (carries false m l)) (both (running m) (not (running (carries false m l))))
+
+-- the bytes l stand from the pointed byte on
+abbrev pub Flowed : List ℕ → Got → Got → List ℕ → List ℕ → List ℕ → Type 0
+Flowed l = Went (unfinished (ends scan l)) (gives scan l) (spoils scan l)
+
+-- there is room for what a packet can give
+pub record RowRoom (a : Got) (out : List ℕ) : Type 0 where
+  pub long : a .written + room ≤ length out
+  pub few : 2 * a .blocks ≤ a .written
+
+-- the packet's pointer is p, and l the 39 bytes after it
+abbrev pub ReadRow : Mode → ℕ → List ℕ → Got → Got → List ℕ → List ℕ → List ℕ → Type 0
+ReadRow m p l = Went (readMode m p l) (readBlocks m p l) (readDrops m p l)
+
+-- the running block is dropped where the test holds, and that is noted
+abbrev pub Lost : Bool → Mode → Got → Got → List ℕ → List ℕ → Type 0
+Lost t m a r store out = Went (dropIf t m) [] (both t (running m)) a r store out out

@@ -1,0 +1,30 @@
+-- The running block as the code holds it: its bytes in a store of 2,047, all others zero.
+use mathlib.Core.List.{List, []}
+use Prim.Native.Nat.{ℕ}
+use lib.ListN.{length, take}
+use Rattle.walk.specs.declared.Run.{Run}
+use Rattle.walk.specs.declared.Run.the-variants.{Idle, Head, Body}
+use Rattle.walk.specs.Mode.{Mode, off, scan, heading, body}
+
+-- "a store of 2,047 bytes"
+abbrev pub storeLength : ℕ
+storeLength = 2047
+
+-- the running block that is held
+abbrev pub modeOf : Run → List ℕ → Mode
+modeOf Idle store = off
+modeOf (Head got bits) store = heading got bits
+modeOf (Body head held) store = body head (take held store)
+
+-- how it is held
+abbrev pub runOf : Mode → Run
+runOf off = Idle
+runOf scan = Idle
+runOf (heading g v) = Head g v
+runOf (body h held) = Body h (length held)
+
+abbrev pub heldOf : Mode → List ℕ
+heldOf off = []
+heldOf scan = []
+heldOf (heading g v) = []
+heldOf (body h held) = held
