@@ -1,21 +1,21 @@
 -- What a packet is seen as, from its bytes, and what each thing seen does to what packets have come to. Assumes nothing.
 use mathlib.Core.Path.{_≡_, _∙_, refl}
-use mathlib.Core.Bool.{Bool, true, false}
+use mathlib.Core.Bool.{Bool, true, false, not}
 use mathlib.Core.List.{List}
 use Prim.Native.Nat.{ℕ, _+_, _*_, _/_, _%_, _≤_, _<_}
 use native.Mathlib.Omega.{arith}
-use lib.Dec.{leb}
+use lib.Dec.{leb, eqb}
 use lib.ListN.{getD, drop}
 use lib.Seq.{getD-drop}
 use borrow.Author.Tests.{le-leb, lt-leb, eq-eqb, ne-eqb}
-use Rattle.laws.specs.Pick.{pick}
+use Rattle.laws.specs.Pick.{pick, both}
 use Rattle.octet.specs.Decoding.{nib}
 use Rattle.guide.specs.declared.Setting.{Setting}
 use Rattle.pages.specs.declared.Page.{Page}
 use Rattle.pages.specs.declared.Page.the-variants.{Shut, Open}
 use Rattle.walk.specs.declared.Got.{Got}
 use Rattle.pages.specs.declared.Going.{Going}
-use Rattle.pages.specs.Seen.{Seen, junk, other, foreign, ours, row, decodes, seeZero, seeY, see}
+use Rattle.pages.specs.Seen.{Seen, junk, other, foreign, ours, row, decodes, seeZero, seeY, see, elsewhere}
 use Rattle.pages.specs.Acting.{State, incomplete, breaks, wrongY, act, handed, dropped}
 use Rattle.walk.specs.Reading.{dropIf}
 use Rattle.walk.specs.Store.{modeOf}
@@ -56,6 +56,26 @@ module _ (s : Setting) (p : List ℕ) where
   pub see-junk : false ≡ decodes 2 p → see s p ≡ junk
   unfolding see
   see-junk e = rw (← e)
+
+  -- what is passed by is another magazine's, and its address can be decoded
+  pub not-elsewhere : false ≡ decodes 2 p → elsewhere s p ≡ false
+  unfolding elsewhere
+  not-elsewhere e = rw (← e)
+
+  pub is-elsewhere :
+      true ≡ decodes 2 p → {one : ℕ} → one ≡ nib (getD p 0 0) → not (eqb (one % 8) (s .magazine % 8)) ≡ elsewhere s p
+  unfolding elsewhere
+  is-elsewhere e o = rw (← e, ← o)
+
+  pub see-elsewhere : elsewhere s p ≡ true → see s p ≡ other
+  unfolding see elsewhere
+  see-elsewhere e = go (decodes 2 p) (eqb (nib (getD p 0 0) % 8) (s .magazine % 8)) e
+    where
+      go : (t u : Bool) → both t (not u) ≡ true
+          → pick t (pick u (seeY s (nib (getD p 0 0) / 8 + 2 * nib (getD p 1 0)) p) other) junk ≡ other
+      go false u h = cc
+      go true true h = cc
+      go true false h = refl
 
   module _ (e : true ≡ decodes 2 p) {one : ℕ} (eo : one ≡ nib (getD p 0 0)) where
     pub see-other : (one % 8 ≡ s .magazine % 8 → ⊥) → see s p ≡ other

@@ -1,5 +1,5 @@
 -- What a packet is to a reader of a setting.
-use mathlib.Core.Bool.{Bool, true}
+use mathlib.Core.Bool.{Bool, true, not}
 use mathlib.Core.List.{List}
 use Prim.Native.Nat.{ℕ, zero, suc, _+_, _*_, _/_, _%_}
 use lib.Dec.{eqb, leb, ltb}
@@ -43,3 +43,7 @@ see s p =
     let one = nib (getD p 0 0) in
     let two = nib (getD p 1 0) in
     pick (decodes 2 p) (pick (eqb (one % 8) (s .magazine % 8)) (seeY s (one / 8 + 2 * two) p) other) junk
+
+-- a packet whose address can be decoded and is another magazine's
+unfoldable pub elsewhere : Setting → List ℕ → Bool
+elsewhere s p = both (decodes 2 p) (not (eqb (nib (getD p 0 0) % 8) (s .magazine % 8)))

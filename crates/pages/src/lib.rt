@@ -13,7 +13,7 @@ ghost use Rattle.octet.specs.Decoding.{nib};
 ghost use Rattle.guide.specs.Packet.{packetLength};
 ghost use Rattle.walk.specs.Holding.{Kept, RowRoom};
 ghost use Rattle.pages.specs.declared.Page.the-variants.{Shut, Open};
-ghost use Rattle.pages.specs.Seen.{decodes, seeZero, see};
+ghost use Rattle.pages.specs.Seen.{decodes, seeZero, see, elsewhere};
 ghost use Rattle.pages.specs.Acting.{incomplete, wrongY};
 ghost use Rattle.pages.specs.Stepped.{Turned, Acted, Rowed, stateIn};
 
@@ -64,6 +64,17 @@ pub fn step(
         Page::Shut => a,
         Page::Open { n, last } => row(a, n, last, y, store, packet, out),
     }
+}
+
+// Whether a packet is another magazine's, as its address says: it leaves a reader as it was, and no state has to be handed on.
+pub fn passes_by(setting: Setting, packet: &[u8]) -> bool
+    requires { ⌜ length (now packet) ≡ packetLength ⌝ }
+    ensures { λ r. ⌜ r ≡ elsewhere setting (now (packet .entry)) ⌝ }
+{
+    if !readable(packet, 0, 2) {
+        return false;
+    }
+    quick::decode(packet[0]) % 8 != setting.magazine % 8
 }
 
 // A packet 0 of our magazine.

@@ -27,13 +27,13 @@ use Rattle.pages.specs.Seen.{see}
 use Rattle.pages.specs.Acting.{State, handed}
 use Rattle.reader.specs.State.{stateOf, readerOf, readerInRange}
 use Rattle.walk.specs.Reading.{room}
-use Rattle.reader.specs.Feeding.{feedHeard, feedReader, feedOut, refusedHeard, begun, run, ranAll, refusedAll, feedAllHeard, feedAllReader, feedAllOut}
+use Rattle.reader.specs.Feeding.{feedHeard, feedReader, feedOut, refusedHeard, begun, ranOn, run, ranAll, refusedAll, feedAllHeard, feedAllReader, feedAllOut}
 use Rattle.walk.specs.Places.{zeroed}
 use Rattle.walk.specs.Holding.{Good, Holds}
 use Rattle.pages.specs.Stepped.{stateIn, Acted}
 use Rattle.reader.specs.Holding.{started, RanTo}
 use Rattle.reader.proofs.Holding.{ready-whole}
-use Rattle.reader.proofs.Bounding.{packet-room}
+use Rattle.reader.proofs.Running.{run-one}
 
 -- the answer, the reader and the output are these
 abbrev pub Answers : Setting → Reader → List ℕ → List ℕ → Heard → Reader → List ℕ → Type 0
@@ -55,20 +55,18 @@ module _ (s : Setting) (r : Reader) (p old : List ℕ) where
     no-room f h = rw (← e, f, lt-leb _ _ h) (refl, (refl, refl))
 
     pub taken :
-        {g t : Going} {store new : List ℕ} → ready ≡ true → g ≡ started (r .page) (r .index) (r .run) → room ≤ length old
-        → Good (stateOf r .mode)
-        → Acted (see s p) (stateIn g (r .store)) g t store old new
-        → Answers s r p old (Took (t .got .blocks) (t .got .written) (t .got .dropped))
-        (record { page = t .page; index = t .index; run = t .got .run; store = store }) new
-    taken {g} {t} {store} {new} i q h k x =
-        let w : Acted (see s p) (stateOf r) (started (r .page) (r .index) (r .run)) t store old new = rw q at x in
-        let f = packet-room s (stateOf r) p (eqb-true _ _ (ready-whole s r _ e i)) k in
-        let bs : List Block = handed (stateOf r) (see s p) in
-        let x : t .got .blocks ≡ length bs = w .went .blocks ∙ zero-add (length bs) in
-        let y : t .got .written ≡ length (recordsOf bs) = w .went .written ∙ zero-add (length (recordsOf bs)) in
+        {g : Going} {t : Taking} {store new : List ℕ} → ready ≡ true → g ≡ started (r .page) (r .index) (r .run) → room ≤ length old
+        → t .going .got .written ≤ length old
+        → RanTo (run s (length old) (length p / packetLength) (begun (stateIn g (r .store))) p) t store old new
+        → Answers s r p old (Took (t .going .got .blocks) (t .going .got .written) (t .going .got .dropped))
+        (record { page = t .going .page; index = t .going .index; run = t .going .got .run; store = store }) new
+    taken {g} {t} {store} {new} i q h f x =
+        let y : RanTo (run s (length old) (length p / packetLength) (begun (stateOf r)) p) t store old new = rw q at x in
+        let one = run-one s (length old) (stateOf r) p (eqb-true _ _ (ready-whole s r _ e i)) h in
+        let w : RanTo (ranOn s (begun (stateOf r)) p) t store old new = rw one at y in
         rw (← e, i, le-leb _ _ h) (
-          rw (x, y, w .went .dropped),
-          (handed-back (w .page) (w .index) (w .went .holds), w .went .out ∙ sets-front old (recordsOf bs) (omega arith)),
+          rw (w .blocks, w .written, w .dropped),
+          (handed-back (w .page) (w .index) (w .holds), w .out ∙ sets-front old (recordsOf (handed (stateOf r) (see s p))) (omega (arith, w .written))),
         )
 
 -- ---- a row of packets

@@ -7,7 +7,7 @@ use Prim.Native.Nat.{ℕ, zero, suc, _+_, _-_, _*_, _/_, _≤_, _<_}
 use native.Mathlib.Nat.{zero-add}
 use native.Mathlib.Omega.{arith}
 use lib.ListN.{length, take, drop, length-append, length-drop}
-use lib.Seq.{sets, drop-drop, length-take-le}
+use lib.Seq.{sets, drop-drop, length-take-le, take-all}
 use borrow.Author.Tests.{le-leb, lt-leb}
 use Rattle.laws.proofs.Lists.{sets-append, part-of}
 use Rattle.blocks.specs.Block.{Block, recordsOf}
@@ -88,6 +88,23 @@ module _ (s : Setting) (long : ℕ) (packets : List ℕ) (at : ℕ) (b : Ran) wh
   pub run-out : length packets ≤ at → b ≡ run s long ((length packets - at) / packetLength) b (drop at packets)
   unfolding run
   run-out h = let e : (length packets - at) / packetLength ≡ 0 = omega arith in rw e
+
+  -- one packet more, and what is left still comes to the same
+  pub further :
+      {whole : Ran} {a after : Going} {count : ℕ} {store store′ old mid new : List ℕ} → RanTo b (taking a count) store old mid
+      → at + 42 ≤ length packets → length (recordsOf (b .blocks)) + room ≤ long
+      → Acted (see s (take (at + 42 - at) (drop at packets))) (stateIn a store) a after store′ mid new
+      → run s long ((length packets - at) / packetLength) b (drop at packets) ≡ whole
+      → (b′ : Ran) × (RanTo b′ (taking after (count + 1)) store′ old new)
+      × (run s long ((length packets - (at + 42)) / packetLength) b′ (drop (at + 42) packets) ≡ whole)
+  further w h r x e = let p = take (at + 42 - at) (drop at packets) in (ranOn s b p, one-more w s p x, run-on h r ∙ e)
+
+-- a row of one packet
+pub run-one :
+    (s : Setting) (long : ℕ) (st : State) (p : List ℕ) → length p ≡ packetLength → room ≤ long
+    → run s long (length p / packetLength) (begun st) p ≡ ranOn s (begun st) p
+unfolding run recordsOf
+run-one s long st p h r = rw (h, le-leb room long r, take-all packetLength p (omega (arith, h)))
 
 -- ---- the room
 

@@ -106,7 +106,8 @@ pub fn feed(setting: Setting, reader: Reader, packet: &[u8], out: &mut [u8]) -> 
         };
     }
     let from = start(page, reader.index, run);
-    let a = pages::step(setting, from, &mut store, packet, out);
+    let t = take_all(setting, from, &mut store, packet, out);
+    let a = t.going;
     let got = a.got;
     let now_open = a.page;
     let now_running = got.run;
@@ -192,10 +193,13 @@ fn take_all(
                 packets: count,
             };
         }
-        let end = at + 42;
-        a = pages::step(setting, a, store, &packets[at..end], out);
-        at = end;
+        let from = at;
+        at += 42;
         count += 1;
+        if pages::passes_by(setting, &packets[from..at]) {
+            continue;
+        }
+        a = pages::step(setting, a, store, &packets[from..at], out);
     }
     Taking {
         going: a,

@@ -1,10 +1,11 @@
--- `reader::feed` meets its contract: its tests in order, and then the packet's step. Assumes nothing.
-use mathlib.Core.Path.{_≡_}
+-- `reader::feed` meets its contract: its tests in order, and then the packet as a row of one. Assumes nothing.
+use mathlib.Core.Path.{_≡_, refl}
 use native.Mathlib.Omega.{arith}
 use lib.ListN.{length}
 use denote.Ref.{now}
 use borrow.Author.Needs.{needs}
 use borrow.Author.Tests.{not-true, not-false, eqb-true}
+use Rattle.guide.specs.Packet.{packetLength}
 use Rattle.walk.specs.Store.{storeLength}
 use Rattle.reader.proofs.Holding.{ready-whole, ready-kept}
 use Rattle.reader.proofs.Answering.{not-ready, no-room, taken}
@@ -31,14 +32,15 @@ returns-2 c =
 start-requires : tie.Need-start-requires
 start-requires c κs = search needs
 
-step-requires : tie.Need-step-requires
-step-requires c κs =
+take-all-requires : tie.Need-take-all-requires
+take-all-requires c κs =
     let a = c .before .before .before .before .before .before .before .before .before .before .args in
     let r = c .before .before .before .before .before .is-ready .ensures in
     let n = not-false _ (c .before .before .before .before .if1 .left) in
+    let w : length (now (a .packet)) ≡ packetLength = eqb-true _ _ (ready-whole (a .setting) (a .reader) _ (r .0) n) in
     rw (c .before .before .start .ensures) (
       ready-kept (a .setting) (a .reader) _ (r .0) n (r .1 n) (long (c .before .before .before .before .before .before .before .before .before .before)),
-      (eqb-true _ _ (ready-whole (a .setting) (a .reader) _ (r .0) n), record { long = omega arith; few = omega arith }),
+      (omega (arith, w), (refl, refl, refl)),
     )
 
 same-length : tie.Need-same-length
@@ -46,12 +48,10 @@ same-length c = search needs
 
 returns-3 : tie.Need-returns-3
 returns-3 c =
-    let a = c .before .before .before .before .before .before .before .before .before .before .before .before .before .before .args in
-    let r = c .before .before .before .before .before .before .before .before .before .is-ready .ensures in
-    let n = not-false _ (c .before .before .before .before .before .before .before .before .if1 .left) in
-    taken (a .setting) (a .reader) (now (a .packet)) (now (a .out)) (r .0) n (c .before .before .before .before .before .before .start .ensures) (c .before .before .before .before .before .before .before .if2 .left)
-    (ready-kept (a .setting) (a .reader) _ (r .0) n (r .1 n) (long (c .before .before .before .before .before .before .before .before .before .before .before .before .before .before)) .good)
-    (c .before .before .before .step .ensures)
+    let a = c .before .before .before .before .before .before .before .before .before .before .before .before .before .before .before .args in
+    let t = c .before .before .before .before .take-all .ensures in
+    taken (a .setting) (a .reader) (now (a .packet)) (now (a .out)) (c .before .before .before .before .before .before .before .before .before .before .is-ready .ensures .0) (not-false _ (c .before .before .before .before .before .before .before .before .before .if1 .left))
+    (c .before .before .before .before .before .before .before .start .ensures) (c .before .before .before .before .before .before .before .before .if2 .left) (t .1) (t .0)
 
 pub feed-spec : {M : Type 1} → statement M
 feed-spec =
@@ -61,6 +61,6 @@ feed-spec =
     returns
     returns-2
     start-requires
-    step-requires
+    take-all-requires
     same-length
     returns-3)

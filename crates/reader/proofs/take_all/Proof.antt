@@ -6,11 +6,12 @@ use lib.ListN.{length, take, drop}
 use denote.Ref.{now}
 use borrow.Author.Needs.{needs}
 use Rattle.guide.specs.Packet.{packetLength}
-use Rattle.reader.specs.Feeding.{Ran, begun, run, ranOn}
+use Rattle.reader.specs.Feeding.{Ran, begun, run}
 use Rattle.reader.specs.Holding.{RanTo}
 use Rattle.pages.specs.Stepped.{stateIn}
 use Rattle.walk.proofs.Keeping.{holds-kept}
-use Rattle.reader.proofs.Running.{taking, begins, one-more, run-on, run-full, run-out, packet-length, still-room}
+use Rattle.pages.proofs.Judged.{see-elsewhere, act-other}
+use Rattle.reader.proofs.Running.{taking, begins, further, run-full, run-out, packet-length, still-room}
 use Rattle.reader.proofs.take_all.Statement.{statement}
 use Rattle.reader.proofs.take_all.Tie as tie
 
@@ -55,8 +56,45 @@ returns c =
     let e = run-full (a .setting) (length (now (a .out))) (now (a .packets)) (l .at) b (omega (arith, w .written, l .inv .2)) in
     (rw (sym (e ∙ l .inv .6 .2)) w, l .inv .3)
 
-add-end : tie.Need-add-end Inv-loop μ-loop
-add-end c = search needs
+add-at : tie.Need-add-at Inv-loop μ-loop
+add-at c = search needs
+
+add-count : tie.Need-add-count Inv-loop μ-loop
+add-count c = search needs
+
+sub-passes-by : tie.Need-sub-passes-by Inv-loop μ-loop
+sub-passes-by c = search needs
+
+part-passes-by-start : tie.Need-part-passes-by-start Inv-loop μ-loop
+part-passes-by-start c = search needs
+
+part-passes-by-end : tie.Need-part-passes-by-end Inv-loop μ-loop
+part-passes-by-end c = search needs
+
+passes-by-requires : tie.Need-passes-by-requires Inv-loop μ-loop
+passes-by-requires c κs = packet-length (now (c .before .before .before .before .before .before .before .args .packets)) (c .before .before .before .before .loop .at) (omega arith)
+
+loop-less : tie.Need-loop-less Inv-loop μ-loop
+loop-less c = search needs
+
+loop-again : tie.Need-loop-again Inv-loop μ-loop
+loop-again c =
+    let a = c .before .before .before .before .before .before .before .before .before .args in
+    let l = c .before .before .before .before .before .before .loop in
+    let w = l .inv .6 .1 in
+    let h : l .at + 42 ≤ length (now (a .packets)) = omega arith in
+    let p = take (l .at + 42 - l .at) (drop (l .at) (now (a .packets))) in
+    let o = see-elsewhere (a .setting) p (sym (c .before .passes-by .ensures) ∙ c .if2 .taken) in (
+      h,
+      omega arith,
+      l .inv .2,
+      l .inv .3,
+      l .inv .4,
+      omega arith,
+      further (a .setting) (length (now (a .out))) (now (a .packets)) (l .at) (l .inv .6 .0) w h
+          (omega (arith, w .written, l .inv .2, l .inv .3, c .before .before .before .if1 .left))
+          (act-other (l .a) (l .out) (holds-kept _ (w .holds)) o) (l .inv .6 .2),
+    )
 
 sub-step : tie.Need-sub-step Inv-loop μ-loop
 sub-step c = search needs
@@ -69,26 +107,22 @@ part-step-end c = search needs
 
 step-requires : tie.Need-step-requires Inv-loop μ-loop
 step-requires c κs =
-    let l = c .before .before .before .before .before .before .loop in
+    let l = c .before .before .before .before .before .before .before .before .before .loop in
     let w = l .inv .6 .1 in (
       holds-kept _ (w .holds),
       (
-        packet-length (now (c .before .before .before .before .before .before .before .before .before .args .packets)) (l .at) (omega arith),
-        record { long = omega (arith, l .inv .2, l .inv .3); few = l .inv .4 },
+        packet-length (now (c .before .before .before .before .before .before .before .before .before .before .before .before .args .packets)) (l .at) (omega arith),
+        record { long = omega (arith, l .inv .2, l .inv .3, c .before .before .before .before .before .before .if1 .left); few = l .inv .4 },
       ),
     )
 
-add-count : tie.Need-add-count Inv-loop μ-loop
-add-count c = search needs
+loop-less-2 : tie.Need-loop-less-2 Inv-loop μ-loop
+loop-less-2 c = search needs
 
-loop-less : tie.Need-loop-less Inv-loop μ-loop
-loop-less c = search needs
-
-loop-again : tie.Need-loop-again Inv-loop μ-loop
-loop-again c =
-    let a = c .before .before .before .before .before .before .before .before .before .before .before .before .args in
-    let l = c .before .before .before .before .before .before .before .before .before .loop in
-    let b = l .inv .6 .0 in
+loop-again-2 : tie.Need-loop-again-2 Inv-loop μ-loop
+loop-again-2 c =
+    let a = c .before .before .before .before .before .before .before .before .before .before .before .before .before .before .before .args in
+    let l = c .before .before .before .before .before .before .before .before .before .before .before .before .loop in
     let w = l .inv .6 .1 in
     let x = c .before .before .step .ensures in
     let h : l .at + 42 ≤ length (now (a .packets)) = omega arith in
@@ -97,15 +131,11 @@ loop-again c =
       h,
       omega arith,
       c .before .before .step .kept .1 .1 .1 .1 .0 ∙ l .inv .2,
-      omega (arith, g .0, c .before .before .before .before .before .before .if1 .left, l .inv .2, l .inv .3),
+      omega (arith, g .0, c .before .before .before .before .before .before .before .before .before .if1 .left, l .inv .2, l .inv .3),
       g .1,
       omega arith,
-      (
-        ranOn (a .setting) b p,
-        one-more w (a .setting) p x,
-        run-on (a .setting) (length (now (a .out))) (now (a .packets)) (l .at) b h (omega (arith, w .written, l .inv .2, l .inv .3, c .before .before .before .before .before .before .if1 .left))
-            ∙ l .inv .6 .2,
-      ),
+      further (a .setting) (length (now (a .out))) (now (a .packets)) (l .at) (l .inv .6 .0) w h
+          (omega (arith, w .written, l .inv .2, l .inv .3, c .before .before .before .before .before .before .before .before .before .if1 .left)) x (l .inv .6 .2),
     )
 
 same-length-2 : tie.Need-same-length-2 Inv-loop μ-loop
@@ -129,13 +159,19 @@ take-all-spec =
     sub-if1
     same-length
     returns
-    add-end
+    add-at
+    add-count
+    sub-passes-by
+    part-passes-by-start
+    part-passes-by-end
+    passes-by-requires
+    loop-less
+    loop-again
     sub-step
     part-step-start
     part-step-end
     step-requires
-    add-count
-    loop-less
-    loop-again
+    loop-less-2
+    loop-again-2
     same-length-2
     returns-2)

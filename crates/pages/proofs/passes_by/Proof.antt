@@ -1,0 +1,31 @@
+-- `pages::passes_by` meets its contract: the address, then the magazine. Assumes nothing.
+use mathlib.Core.Path.{_∙_, sym}
+use denote.Ref.{now}
+use borrow.Author.Needs.{needs}
+use borrow.Author.Tests.{not-true, not-false}
+use Rattle.pages.proofs.Judged.{not-elsewhere, is-elsewhere}
+use Rattle.pages.proofs.passes_by.Statement.{statement}
+use Rattle.pages.proofs.passes_by.Tie as tie
+
+readable-requires : tie.Need-readable-requires
+readable-requires c κs = search needs
+
+returns : tie.Need-returns
+returns c =
+    let a = c .before .before .before .args in
+    sym (not-elsewhere (a .setting) (now (a .packet)) (sym (not-true _ (c .if1 .taken)) ∙ c .before .readable .ensures))
+
+shared-slice-read-decode : tie.Need-shared-slice-read-decode
+shared-slice-read-decode c = search needs
+
+decode-requires : tie.Need-decode-requires
+decode-requires c κs = search needs
+
+returns-2 : tie.Need-returns-2
+returns-2 c =
+    let a = c .before .before .before .before .before .before .args in
+    is-elsewhere (a .setting) (now (a .packet)) (sym (not-false _ (c .before .before .before .if1 .left)) ∙ c .before .before .before .before .readable .ensures)
+    (c .before .decode .ensures)
+
+pub passes-by-spec : {M : Type 1} → statement M
+passes-by-spec = tie.close (tie.spec readable-requires returns shared-slice-read-decode decode-requires returns-2)
