@@ -5,6 +5,7 @@ use Prim.Native.Nat.{ℕ, zero, suc, _+_, _*_, _/_, _%_}
 use lib.Dec.{eqb, leb}
 use lib.ListN.{length, getD, take, drop}
 use Rattle.laws.specs.Pick.{pick, both, either}
+pub use Rattle.laws.specs.Record.{headLength}
 
 -- a block: its 16 bits and its raw bytes
 pub record Block : Type 0 where
@@ -17,10 +18,6 @@ applicationOf head = head % 32
 
 abbrev pub sizeOf : ℕ → ℕ
 sizeOf head = head / 32
-
--- how many bytes of a record stand before the raw bytes
-abbrev pub headLength : ℕ
-headLength = 2
 
 -- "A finished block goes out as its 16 bits, low byte first, and its raw bytes"
 abbrev pub recordOf : Block → List ℕ

@@ -2,9 +2,7 @@
 // bytes. The reader hands out records, one after the other; the writer and block reading take them.
 ghost use mathlib.Core.Path.{_≡_};
 ghost use Rattle.blocks.specs.Place.{foundAt};
-
-// How many bytes of a record stand before its raw bytes.
-const HEAD: usize = 2;
+use laws::HEAD;
 
 // What stands at a place of a list of records.
 pub enum Found {

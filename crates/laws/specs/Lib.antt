@@ -1,3 +1,4 @@
 -- What definitions of several crates are made of.
 pub mod Pick
 pub mod Range
+pub mod Record
