@@ -13,6 +13,7 @@ use Rattle.laws.specs.Pick.{both}
 use Rattle.blocks.specs.declared.Found.the-variants.{End, Record, Broken}
 use Rattle.blocks.specs.Block.{headLength, headOf, recordLength, begins}
 use Rattle.blocks.specs.Place.{foundAt}
+use Rattle.blocks.proofs.Walking.{begins-not}
 
 both-false : (a : Bool) → both a false ≡ false
 both-false true = refl
@@ -39,9 +40,6 @@ headAt l p = getD l p 0 + 256 * getD l (p + 1) 0
 head-at : (l : List ℕ) (p : ℕ) → headOf (drop p l) ≡ headAt l p
 head-at l p = ap₂ (λ (a b : ℕ). a + 256 * b) (getD-drop p l 0 0 ∙ rw add-zero) (getD-drop p l 1 0)
 
-short : (l : List ℕ) → length l < headLength → begins l ≡ false
-short l h = rw (lt-leb headLength (length l) h)
-
 over : (l : List ℕ) → length l < recordLength l → begins l ≡ false
 over l h = rw (lt-leb (recordLength l) (length l) h) (both-false (leb headLength (length l)))
 
@@ -51,10 +49,10 @@ pub at-end : (l : List ℕ) (p : ℕ) → p ≡ length l → End ≡ foundAt l p
 at-end l p e = sym (found-end l p e)
 
 pub past : (l : List ℕ) (p : ℕ) → length l < p → Broken ≡ foundAt l p
-past l p h = sym (found-broken l p (λ e. omega arith) (short (drop p l) (omega (arith, length-drop p l))))
+past l p h = sym (found-broken l p (λ e. omega arith) (begins-not (drop p l) (omega (arith, length-drop p l))))
 
 pub left-short : (l : List ℕ) (p : ℕ) → (p ≡ length l → ⊥) → length l - p < headLength → Broken ≡ foundAt l p
-left-short l p n h = sym (found-broken l p n (short (drop p l) (omega (arith, length-drop p l))))
+left-short l p n h = sym (found-broken l p n (begins-not (drop p l) (omega (arith, length-drop p l))))
 
 pub left-over :
     (l : List ℕ) (p : ℕ) → (p ≡ length l → ⊥) → length l - p - headLength < headAt l p / 32 → Broken ≡ foundAt l p

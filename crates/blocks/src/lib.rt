@@ -4,7 +4,7 @@ ghost use mathlib.Core.Path.{_≡_};
 ghost use Rattle.blocks.specs.Place.{foundAt};
 
 // How many bytes of a record stand before its raw bytes.
-const HEAD: usize = 2;
+pub const HEAD: usize = 2;
 
 // What stands at a place of a list of records.
 pub enum Found {

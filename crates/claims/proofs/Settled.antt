@@ -33,7 +33,9 @@ use Rattle.table.proofs.judge_form.Reads as table·judge-form
 use Rattle.table.proofs.checksum.Reads as table·checksum
 use Rattle.table.proofs.known.Reads as table·known
 use Rattle.table.proofs.byte_at.Reads as table·byte-at
+use Rattle.table.proofs.word_at.Reads as table·word-at
 use Rattle.listing.proofs.list_table.Reads as listing·list-table
+use Rattle.listing.proofs.list_descriptors.Reads as listing·list-descriptors
 use Rattle.table_writer.proofs.write_block.Reads as table-writer·write-block
 use Rattle.firmware.proofs.guide_decode.Reads as firmware·guide-decode
 use Rattle.firmware.proofs.guide_turn.Reads as firmware·guide-turn
@@ -118,6 +120,9 @@ table·known-settled κs a x y s t p q = same p q
 pub table·byte-at-settled : (κs : _) (a : _) (x y : _) (s t : _) → table·byte-at.Post κs a x s → table·byte-at.Post κs a y t → x ≡ y
 table·byte-at-settled κs a x y s t p q = same (p .0) (q .0)
 
+pub table·word-at-settled : (κs : _) (a : _) (x y : _) (s t : _) → table·word-at.Post κs a x s → table·word-at.Post κs a y t → x ≡ y
+table·word-at-settled κs a x y s t p q = same (p .0) (q .0)
+
 pub table-writer·write-block-settled :
     (κs : _) (a : _) (x y : _) (s t : _) → table-writer·write-block.Post κs a x s → table-writer·write-block.Post κs a y t → (x ≡ y) × (now (s .1 .1 .0) ≡ now (t .1 .1 .0))
 table-writer·write-block-settled κs a x y s t p q = (same (p .0) (q .0), same (p .1) (q .1))
@@ -134,6 +139,10 @@ firmware·guide-unit-at-settled κs a x y s t p q = same p q
 pub listing·list-table-settled :
     (κs : _) (a : _) (x y : _) (s t : _) → listing·list-table.Post κs a x s → listing·list-table.Post κs a y t → (x ≡ y) × (now (s .1 .0) ≡ now (t .1 .0))
 listing·list-table-settled κs a x y s t p q = (same (p .0) (q .0), same (p .1) (q .1))
+
+pub listing·list-descriptors-settled :
+    (κs : _) (a : _) (x y : _) (s t : _) → listing·list-descriptors.Post κs a x s → listing·list-descriptors.Post κs a y t → (x ≡ y) × (now (s .1 .0) ≡ now (t .1 .0))
+listing·list-descriptors-settled κs a x y s t p q = (same (p .0) (q .0), same (p .1) (q .1))
 
 pub quick·decode-settled : (κs : _) (a : _) (x y : _) (s t : _) → quick·decode.Post κs a x s → quick·decode.Post κs a y t → x ≡ y
 quick·decode-settled κs a x y s t p q = same p q

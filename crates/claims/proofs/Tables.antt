@@ -16,7 +16,7 @@ use Rattle.blocks.proofs.Round.{blocks-records}
 use Rattle.fields.specs.Fields.{laid, parts}
 use Rattle.fields.proofs.Laid.{length-parts}
 use Rattle.table.specs.Tables.{Table, fits, size}
-use Rattle.table.specs.Block.{header, headSize, nibblesOf, nibbles, checksumOf}
+use Rattle.table.specs.Block.{header, headLength, nibblesOf, nibbles, checksumOf}
 use Rattle.table.specs.Reading.{Outcome, accepted, refused, readBlock}
 use Rattle.table.specs.Writing.{recordWith, recordOf}
 use Rattle.table.proofs.Inverse.{Sendable, sendable}

@@ -10,9 +10,9 @@ use lib.Dec.{eqb}
 use lib.ListN.{getD, drop}
 use lib.Seq.{drop-drop, getD-drop}
 use Rattle.laws.specs.Pick.{pick, both}
-use Rattle.fields.specs.Fields.{whole}
 use Rattle.table.specs.Tables.{TI, per}
-use Rattle.table.specs.Form.{spelled, wordsIn, descriptorsIn, tableIn}
+use Rattle.table.specs.Form.{spelled, wordAt, wordsIn, descriptorsIn, tableIn}
+use Rattle.table.proofs.Forms.{in-on, two-bytes}
 use Rattle.listing.specs.Lines.{kindLine, numberLine, blockName, networkName, headLines, letter, letters, languageLine, pageLine, languageLines, subtitleLines, entryLines, descriptorLine, descriptorLines}
 
 -- ---- letters
@@ -35,20 +35,9 @@ module _ (w : ℕ) where
       both-one true = refl
       both-one false = refl
 
--- ---- words
-
--- three bytes as a word
-pub word-of : (a b c : ℕ) → a < 256 → b < 256 → c < 256 → (a * 256 + b) * 256 + c ≡ whole 8 (c ∷ b ∷ a ∷ [])
-unfolding whole
-word-of a b c ha hb hc = omega arith
-
--- the word at a place
-abbrev pub word : List ℕ → ℕ → ℕ
-word f i = whole 8 (getD f (i + 2) 0 ∷ getD f (i + 1) 0 ∷ getD f i 0 ∷ [])
-
 -- ---- entries
 
-module _ (kind i w : ℕ) (f : List ℕ) (e : w ≡ word f i) where
+module _ (kind i w : ℕ) (f : List ℕ) (e : w ≡ wordAt f i) where
   -- an LI entry is one line
   pub entry-li : (kind ≡ TI → ⊥) → languageLine w ≡ entryLines kind (wordsIn (per kind) (drop i f))
   unfolding entryLines per wordsIn languageLines
@@ -57,7 +46,7 @@ module _ (kind i w : ℕ) (f : List ℕ) (e : w ≡ word f i) where
 
   -- a TI entry is two
   pub entry-ti :
-      (p : ℕ) → p ≡ word f (i + 3) → kind ≡ TI → languageLine w ++ pageLine p ≡ entryLines kind (wordsIn (per kind) (drop i f))
+      (p : ℕ) → p ≡ wordAt f (i + 3) → kind ≡ TI → languageLine w ++ pageLine p ≡ entryLines kind (wordsIn (per kind) (drop i f))
   unfolding entryLines per wordsIn subtitleLines
   entry-ti p e′ h =
       rw (
@@ -119,13 +108,9 @@ pub descriptors-on :
     → descriptorLines kind (descriptorsIn (per kind) left (drop i f))
     ≡ descriptorLine kind (getD f i 0) (wordsIn (per kind * c) (drop (i + 2) f))
     ++ descriptorLines kind (descriptorsIn (per kind) (left - 1) (drop (i + (2 + 3 * words)) f))
-unfolding descriptorLines descriptorsIn
+unfolding descriptorLines
 descriptors-on kind left i c words f h e₁ e₂ =
-    let k : left ≡ suc (left - 1) = omega arith in
-    let n : getD (drop i f) 1 0 ≡ c = getD-drop i f 1 0 ∙ sym e₁ in
-    let z : getD (drop i f) 0 0 ≡ getD f i 0 = getD-drop i f 0 0 ∙ ap (λ (x : ℕ). getD f x 0) (add-zero i) in
-    ap (λ (x : ℕ). descriptorLines kind (descriptorsIn (per kind) x (drop i f))) k
-    ∙ (rw (e₂, n, z, drop-drop 2 i f, drop-drop (2 + 3 * (per kind * c)) i f))
+    rw (in-on (per kind) left i (getD f i 0) c words f h refl e₁ e₂, ← e₂)
 
 pub descriptors-end : (kind left i : ℕ) (f : List ℕ) → left ≤ 0 → descriptorLines kind (descriptorsIn (per kind) left (drop i f)) ≡ []
 unfolding descriptorLines descriptorsIn
@@ -134,10 +119,6 @@ descriptors-end kind left i f h =
     ap (λ (n : ℕ). descriptorLines kind (descriptorsIn (per kind) n (drop i f))) k
 
 -- ---- the head
-
-pub two-bytes : (a b : ℕ) → a < 256 → b < 256 → a + 256 * b ≡ whole 8 (a ∷ b ∷ [])
-unfolding whole
-two-bytes a b ha hb = omega arith
 
 pub head-of :
     (f : List ℕ) (k a b n : ℕ) → k ≡ getD f 0 0 → a ≡ getD f 2 0 → b ≡ getD f 3 0 → n ≡ getD f 4 0 → a < 256 → b < 256

@@ -109,9 +109,13 @@ unfoldable pub headLines : Table → List ℕ
 headLines t = kindLine (t .kind) ++ numberLine blockName (t .block) ++ numberLine networkName (t .network)
 
 -- the lines from "descriptor=" on
-unfoldable pub tableLines : Table → List ℕ
-tableLines t = descriptorLines (t .kind) (t .descriptors)
+unfoldable pub descriptorLinesOf : Table → List ℕ
+descriptorLinesOf t = descriptorLines (t .kind) (t .descriptors)
 
 -- the lines of a table
 unfoldable pub linesOf : Table → List ℕ
-linesOf t = headLines t ++ tableLines t
+linesOf t = headLines t ++ descriptorLinesOf t
+
+-- the one or the other: with the lines of the head, or without
+abbrev pub linesFrom : Bool → Table → List ℕ
+linesFrom head t = pick head (linesOf t) (descriptorLinesOf t)

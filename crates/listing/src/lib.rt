@@ -4,16 +4,15 @@ ghost use mathlib.Core.List.{_∷_, [], _++_};
 ghost use Prim.Native.Nat.{_+_, _*_, _/_, _%_, _<_, _≤_};
 ghost use lib.ListN.{length, getD, drop};
 ghost use Rattle.answer.specs.Writing.{answered, left};
-ghost use Rattle.fields.specs.Fields.{whole};
 ghost use Rattle.table.specs.Tables.{per};
 ghost use Rattle.table.specs.Form.{spelled, wordsIn, tableIn};
 ghost use Rattle.table.specs.Writing.{formRules};
-ghost use Rattle.listing.specs.Lines.{place as Lines·place, decimal, digit as Lines·digit, hexed, letter as Lines·letter, letters as Lines·letters, numberLine, kindLine, languageOf, languageLine, pageLine, entryLines, descriptorLine, headLines, tableLines, linesOf};
+ghost use Rattle.listing.specs.Lines.{place as Lines·place, decimal, digit as Lines·digit, hexed, letter as Lines·letter, letters as Lines·letters, numberLine, kindLine, languageOf, languageLine, pageLine, entryLines, descriptorLine, headLines, descriptorLinesOf, linesOf, linesFrom};
 ghost use Rattle.listing.specs.Putting.{Put, reach};
 use answer::Answer;
 use answer::Refusal;
-
-const TI: usize = 8;
+use table::OPENING;
+use table::TI;
 
 // The lines of the table of this form, to the front of `out`.
 pub fn list_table(table: &[u8], out: &mut [u8]) -> Answer
@@ -22,33 +21,58 @@ pub fn list_table(table: &[u8], out: &mut [u8]) -> Answer
     ensures output { λ _.
         ⌜ now (out .exit) ≡ left (formRules (now (table .entry))) (linesOf (tableIn (now (table .entry)))) (now (out .entry)) ⌝ }
 {
+    list(table, true, out)
+}
+
+// Of these lines those from `descriptor=` on, to the front of `out`.
+pub fn list_descriptors(table: &[u8], out: &mut [u8]) -> Answer
+    ensures answer { λ r.
+        ⌜ r ≡ answered (formRules (now (table .entry))) (descriptorLinesOf (tableIn (now (table .entry)))) (now (out .entry)) ⌝ }
+    ensures output { λ _.
+        ⌜ now (out .exit)
+        ≡ left (formRules (now (table .entry))) (descriptorLinesOf (tableIn (now (table .entry)))) (now (out .entry)) ⌝ }
+{
+    list(table, false, out)
+}
+
+// The lines of a table, with those of its head or without.
+fn list(table: &[u8], head: bool, out: &mut [u8]) -> Answer
+    ensures answer { λ r.
+        ⌜ r ≡ answered (formRules (now (table .entry))) (linesFrom head (tableIn (now (table .entry)))) (now (out .entry)) ⌝ }
+    ensures output { λ _.
+        ⌜ now (out .exit)
+        ≡ left (formRules (now (table .entry))) (linesFrom head (tableIn (now (table .entry)))) (now (out .entry)) ⌝ }
+{
     match table::judge_form(table) {
         Answer::Refused(why) => Answer::Refused(why),
         Answer::Done(_) => {
-            let need = measure(table);
+            let need = measure(table, head);
             if out.len() < need {
                 return Answer::Refused(Refusal { no: 1, at: 0 });
             }
-            put_lines(table, out);
+            put_lines(table, head, out);
             Answer::Done(need)
         }
     }
 }
 
 // How long the lines are: the walk that writes them, with next to no room.
-fn measure(table: &[u8]) -> usize
-    ensures { λ r. ⌜ r ≡ length (linesOf (tableIn (now (table .entry)))) ⌝ }
+fn measure(table: &[u8], head: bool) -> usize
+    ensures { λ r. ⌜ r ≡ length (linesFrom head (tableIn (now (table .entry)))) ⌝ }
 {
     let mut scrap = [0u8; 1];
-    put_lines(table, &mut scrap)
+    put_lines(table, head, &mut scrap)
 }
 
 // Puts the lines as far as there is room, and answers how long they are.
-fn put_lines(table: &[u8], out: &mut [u8]) -> usize
-    ensures { λ r. ⌜ Put (now (out .entry)) 0 (linesOf (tableIn (now (table .entry)))) (now (out .exit)) r ⌝ }
+fn put_lines(table: &[u8], head: bool, out: &mut [u8]) -> usize
+    ensures { λ r. ⌜ Put (now (out .entry)) 0 (linesFrom head (tableIn (now (table .entry)))) (now (out .exit)) r ⌝ }
 {
-    let at = put_head(table, out);
-    put_table(table, out, at)
+    if head {
+        let at = put_head(table, out);
+        return put_descriptors(table, out, at);
+    }
+    put_descriptors(table, out, 0)
 }
 
 // The lines of kind, block and network.
@@ -64,13 +88,13 @@ fn put_head(table: &[u8], out: &mut [u8]) -> usize
 }
 
 // The lines from `descriptor=` on.
-fn put_table(table: &[u8], out: &mut [u8], q: usize) -> usize
+fn put_descriptors(table: &[u8], out: &mut [u8], q: usize) -> usize
     requires { ⌜ q ≤ 100 ⌝ }
-    ensures { λ r. ⌜ Put (now (out .entry)) q (tableLines (tableIn (now (table .entry)))) (now (out .exit)) r ⌝ }
+    ensures { λ r. ⌜ Put (now (out .entry)) q (descriptorLinesOf (tableIn (now (table .entry)))) (now (out .exit)) r ⌝ }
 {
     let kind = table::byte_at(table, 0);
     let mut left = table::byte_at(table, 5);
-    let mut i = 6;
+    let mut i = OPENING;
     let mut p = q;
     while 0 < left {
         let entries = table::byte_at(table, i + 1);
@@ -128,23 +152,11 @@ fn put_entry(table: &[u8], kind: usize, i: usize, out: &mut [u8], q: usize) -> u
         ⌜ Put (now (out .entry)) q (entryLines kind (wordsIn (per kind) (drop i (now (table .entry))))) (now (out .exit)) r
         × (r ≤ q + 28) ⌝ }
 {
-    let at = put_language(word_at(table, i), out, q);
+    let at = put_language(table::word_at(table, i), out, q);
     if kind != TI {
         return at;
     }
-    put_page(word_at(table, i + 3), out, at)
-}
-
-// The word at a place of a form, high byte first.
-fn word_at(table: &[u8], i: usize) -> usize
-    requires { ⌜ i < 404000 ⌝ }
-    ensures { λ r.
-        ⌜ r
-        ≡ whole 8
-        (getD (now (table .entry)) (i + 2) 0 ∷ getD (now (table .entry)) (i + 1) 0 ∷ getD (now (table .entry)) i 0 ∷ []) ⌝ }
-{
-    (table::byte_at(table, i) * 256 + table::byte_at(table, i + 1)) * 256
-        + table::byte_at(table, i + 2)
+    put_page(table::word_at(table, i + 3), out, at)
 }
 
 fn put_language(w: usize, out: &mut [u8], q: usize) -> usize

@@ -71,10 +71,10 @@ pub fn passes_by(setting: Setting, packet: &[u8]) -> bool
     requires { ⌜ length (now packet) ≡ packetLength ⌝ }
     ensures { λ r. ⌜ r ≡ elsewhere setting (now (packet .entry)) ⌝ }
 {
-    if !readable(packet, 0, 2) {
-        return false;
+    if readable(packet, 0, 2) {
+        return quick::decode(packet[0]) % 8 != setting.magazine % 8;
     }
-    quick::decode(packet[0]) % 8 != setting.magazine % 8
+    false
 }
 
 // A packet 0 of our magazine.

@@ -7,14 +7,14 @@ use native.Mathlib.Nat.{add-zero, mod-eq-of-lt, mul-comm, mul-div-cancel-left}
 use native.Mathlib.Omega.{arith}
 use borrow.Author.Tests.{ltb-true, lt-ltb, eqb-true, eq-eqb}
 use lib.Dec.{ltb, eqb}
-use lib.ListN.{length, getD, take, drop, length-drop, take-append-drop}
+use lib.ListN.{length, getD, take, drop, length-drop, take-append-drop, List·getD-eq-default}
 use lib.Seq.{drop-drop, drop-at, drop-cons, getD-drop}
 use Rattle.laws.specs.Pick.{both, either}
 use Rattle.laws.proofs.Tests.{both-true}
 use Rattle.fields.specs.Fields.{row, fitting, parts, whole}
 use Rattle.fields.proofs.Laid.{fitting-append, whole-parts, whole-first, whole-next, whole-lt}
 use Rattle.table.specs.Tables.{Descriptor, Table, TI, LI, known, per, entries, loops, bits, entire, fits}
-use Rattle.table.specs.Form.{spelled, listed, openingOf, form, wordsIn, descriptorsIn, tableIn}
+use Rattle.table.specs.Form.{spelled, listed, openingOf, form, wordAt, wordsIn, descriptorsIn, tableIn}
 use Rattle.table.proofs.Inverse.{Sendable, sendable, sends, entries-whole}
 use Rattle.table.proofs.Measures.{per-pos, length-spelled, length-listed, length-form, bits-of, eights}
 
@@ -79,6 +79,10 @@ unfolding wordsIn
 length-words zero f = refl
 length-words (suc k) f = ap suc (length-words k (drop 3 f))
 
+-- as many entries as counted
+pub entries-in : (kind c words : ℕ) (f : List ℕ) → words ≡ per kind * c → entries kind (wordsIn words f) ≡ c
+entries-in kind c words f e = ap (λ (n : ℕ). n / per kind) (length-words words f ∙ e) ∙ mul-div-cancel-left c (per-pos kind)
+
 -- bytes
 abbrev pub Bytes : List ℕ → Type 0
 Bytes f = (i : ℕ) → getD f i 0 < 256
@@ -132,8 +136,7 @@ listed-back kind (suc k) (x ∷ c ∷ f) b h =
     listed-step kind (per kind) k (x ∷ c ∷ f)
     ∙ ap (λ (l : List ℕ). 2 + 3 * words + length (listed kind (descriptorsIn (per kind) k l))) same in
     let long : length f ≡ 3 * words + length (listed kind (descriptorsIn (per kind) k rest)) = omega (arith, h, step) in
-    let count : entries kind (wordsIn words f) ≡ c =
-    ap (λ (n : ℕ). n / per kind) (length-words words f) ∙ mul-div-cancel-left c (per-pos kind) in
+    let count : entries kind (wordsIn words f) ≡ c = entries-in kind c words f refl in
     let spelt = spelled-back words f (bytes-drop 2 (x ∷ c ∷ f) b) (omega arith) in
     let more =
     ap (λ (l : List ℕ). listed kind (descriptorsIn (per kind) k l)) same
@@ -141,9 +144,29 @@ listed-back kind (suc k) (x ∷ c ∷ f) b h =
     ap₂ (λ (n : ℕ) (l : List ℕ). x ∷ n ∷ l) count
     (ap₂ (λ (l m : List ℕ). l ++ m) spelt more ∙ take-append-drop (3 * words) f)
 
+-- ---- bytes as a number
+
 one-byte : (x : ℕ) → x < 256 → whole 8 (x ∷ []) ≡ x
 unfolding whole
 one-byte x h = omega arith
+
+-- a block number, low byte first
+pub two-bytes : (a b : ℕ) → a < 256 → b < 256 → a + 256 * b ≡ whole 8 (a ∷ b ∷ [])
+unfolding whole
+two-bytes a b ha hb = omega arith
+
+-- a word, high byte first
+pub word-of : (a b c : ℕ) → a < 256 → b < 256 → c < 256 → (a * 256 + b) * 256 + c ≡ whole 8 (c ∷ b ∷ a ∷ [])
+unfolding whole
+word-of a b c ha hb hc = omega arith
+
+-- past the end there is none
+pub word-past : (f : List ℕ) (i : ℕ) → length f ≤ i → 0 ≡ wordAt f i
+unfolding whole
+word-past f i h =
+    let h₁ : length f ≤ i + 1 = omega arith in
+    let h₂ : length f ≤ i + 2 = omega arith in
+    rw (List·getD-eq-default f 0 h, List·getD-eq-default f 0 h₁, List·getD-eq-default f 0 h₂)
 
 six :
     (f : List ℕ) → 6 ≤ length f
@@ -172,21 +195,29 @@ in-form f b h =
 
 -- ---- a walk along a form
 
--- one descriptor on, at the place `at`
+-- one descriptor on: the one at the place `at`, then the others
+pub in-on :
+    (each left at id c words : ℕ) (f : List ℕ) → 0 < left → id ≡ getD f at 0 → c ≡ getD f (at + 1) 0 → words ≡ each * c
+    → descriptorsIn each left (drop at f)
+    ≡ record { id = id; words = wordsIn words (drop (at + 2) f) } ∷ descriptorsIn each (left - 1) (drop (at + (2 + 3 * words)) f)
+unfolding descriptorsIn
+in-on each left at id c words f h e₀ e₁ e₂ =
+    let k : left ≡ suc (left - 1) = omega arith in
+    let i : getD (drop at f) 0 0 ≡ id = getD-drop at f 0 0 ∙ ap (λ (x : ℕ). getD f x 0) (add-zero at) ∙ sym e₀ in
+    let w : each * getD (drop at f) 1 0 ≡ words = ap (λ (x : ℕ). each * x) (getD-drop at f 1 0 ∙ sym e₁) ∙ sym e₂ in
+    ap (λ (n : ℕ). descriptorsIn each n (drop at f)) k ∙ (rw (w, i, drop-drop 2 at f, drop-drop (2 + 3 * words) at f))
+
+-- as the form's length goes
 pub form-on :
     (kind left at c words whole : ℕ) (f : List ℕ) → 0 < left → c ≡ getD f (at + 1) 0 → words ≡ per kind * c
     → at + length (listed kind (descriptorsIn (per kind) left (drop at f))) ≡ whole
     → at + (2 + 3 * words) + length (listed kind (descriptorsIn (per kind) (left - 1) (drop (at + (2 + 3 * words)) f))) ≡ whole
 form-on kind left at c words whole f h e₁ e₂ inv =
-    let e : left ≡ suc (left - 1) = omega arith in
-    let one = subst (λ (k : ℕ). at + length (listed kind (descriptorsIn (per kind) k (drop at f))) ≡ whole) e inv in
-    let w : per kind * getD (drop at f) 1 0 ≡ words =
-    ap (λ (x : ℕ). per kind * x) (getD-drop at f 1 0 ∙ sym e₁) ∙ sym e₂ in
-    let two =
-    listed-step kind (per kind) (left - 1) (drop at f)
-    ∙ ap (λ (x : ℕ). 2 + 3 * x + length (listed kind (descriptorsIn (per kind) (left - 1) (drop (2 + 3 * x) (drop at f))))) w
-    ∙ ap (λ (l : List ℕ). 2 + 3 * words + length (listed kind (descriptorsIn (per kind) (left - 1) l))) (drop-drop (2 + 3 * words) at f) in
-    omega (arith, one, two)
+    let step :
+    length (listed kind (descriptorsIn (per kind) left (drop at f)))
+    ≡ 2 + 3 * words + length (listed kind (descriptorsIn (per kind) (left - 1) (drop (at + (2 + 3 * words)) f))) =
+    rw (in-on (per kind) left at (getD f at 0) c words f h refl e₁ e₂, length-listed, length-words) in
+    omega (arith, step)
 
 pub form-end :
     (kind left at whole : ℕ) (f : List ℕ) → left ≤ 0
@@ -206,46 +237,18 @@ words-fit (suc k) f =
     (words-fit k (drop 3 f))
 
 -- what of a descriptor can be out of its field: its id and its number of entries
-fits-step :
-    (kind k : ℕ) (f : List ℕ)
-    → fitting (loops kind (descriptorsIn (per kind) (suc k) f))
-    ≡ both (ltb (getD f 0 0) 64)
-    (both (ltb (getD f 1 0) 16)
-    (fitting (loops kind (descriptorsIn (per kind) k (drop (2 + 3 * (per kind * getD f 1 0)) f)))))
-unfolding fitting loops descriptorsIn
-fits-step kind k f =
-    let words = per kind * getD f 1 0 in
-    let rest = loops kind (descriptorsIn (per kind) k (drop (2 + 3 * words) f)) in
-    let count : entries kind (wordsIn words (drop 2 f)) ≡ getD f 1 0 =
-    ap (λ (n : ℕ). n / per kind) (length-words words (drop 2 f)) ∙ mul-div-cancel-left (getD f 1 0) (per-pos kind) in
-    ap₂ (λ (n : ℕ) (b : Bool). both (ltb (getD f 0 0) 64) (both (ltb n 16) b)) count
-    (fitting-append (row 24 (wordsIn words (drop 2 f))) rest ∙ ap (λ (b : Bool). both b (fitting rest)) (words-fit words (drop 2 f)))
-
--- the same at the place `at`
 pub fits-on :
     (kind left at id c words : ℕ) (f : List ℕ) → 0 < left → id ≡ getD f at 0 → c ≡ getD f (at + 1) 0 → words ≡ per kind * c
     → fitting (loops kind (descriptorsIn (per kind) left (drop at f)))
     ≡ both (ltb id 64)
     (both (ltb c 16) (fitting (loops kind (descriptorsIn (per kind) (left - 1) (drop (at + (2 + 3 * words)) f)))))
+unfolding fitting loops
 fits-on kind left at id c words f h e₀ e₁ e₂ =
-    let e : left ≡ suc (left - 1) = omega arith in
-    let i : getD (drop at f) 0 0 ≡ id = getD-drop at f 0 0 ∙ ap (λ (x : ℕ). getD f x 0) (add-zero at) ∙ sym e₀ in
-    let n : getD (drop at f) 1 0 ≡ c = getD-drop at f 1 0 ∙ sym e₁ in
-    let r : drop (2 + 3 * (per kind * getD (drop at f) 1 0)) (drop at f) ≡ drop (at + (2 + 3 * words)) f =
-    ap (λ (x : ℕ). drop (2 + 3 * x) (drop at f)) (ap (λ (x : ℕ). per kind * x) n ∙ sym e₂)
-    ∙ drop-drop (2 + 3 * words) at f in
-    ap (λ (k : ℕ). fitting (loops kind (descriptorsIn (per kind) k (drop at f)))) e
-    ∙ fits-step kind (left - 1) (drop at f)
-    ∙ ap
-    (λ (l : List ℕ).
-    both (ltb (getD (drop at f) 0 0) 64)
-    (both (ltb (getD (drop at f) 1 0) 16) (fitting (loops kind (descriptorsIn (per kind) (left - 1) l)))))
-    r
-    ∙ ap₂
-    (λ (a b : ℕ).
-    both (ltb a 64)
-    (both (ltb b 16) (fitting (loops kind (descriptorsIn (per kind) (left - 1) (drop (at + (2 + 3 * words)) f))))))
-    i n
+    let ws = wordsIn words (drop (at + 2) f) in
+    let rest = loops kind (descriptorsIn (per kind) (left - 1) (drop (at + (2 + 3 * words)) f)) in
+    rw (in-on (per kind) left at id c words f h e₀ e₁ e₂, entries-in kind c words (drop (at + 2) f) e₂)
+    (ap (λ (b : Bool). both (ltb id 64) (both (ltb c 16) b))
+    (fitting-append (row 24 ws) rest ∙ ap (λ (b : Bool). both b (fitting rest)) (words-fit words (drop (at + 2) f))))
 
 pub fits-end :
     (kind left at : ℕ) (f : List ℕ) → left ≤ 0 → fitting (loops kind (descriptorsIn (per kind) left (drop at f))) ≡ true

@@ -7,18 +7,18 @@ use native.Mathlib.Omega.{arith}
 use lib.ListN.{length, getD, take, drop, length-map, length-append, take-append-drop}
 use Rattle.octet.specs.Decoding.{nib}
 use Rattle.table.specs.Tables.{Table}
-use Rattle.table.specs.Block.{headSize, headOf, nibblesOf}
+use Rattle.table.specs.Block.{headLength, headOf, nibblesOf}
 use Rattle.table.specs.Reading.{accepted, readBlock}
 use Rattle.table.proofs.Exact.{sound-at, decodes-all}
 
 -- a record's length by its head and its nibbles
-length-of : (r : List ℕ) → length r ≡ length (take headSize r) + length (nibblesOf r)
+length-of : (r : List ℕ) → length r ≡ length (take headLength r) + length (nibblesOf r)
 unfolding nibblesOf
 length-of r = ap length (sym (take-append-drop 2 r)) ∙ length-append (take 2 r) (drop 2 r) ∙ ap (λ (x : ℕ). length (take 2 r) + x) (sym (length-map (drop 2 r) nib))
 
 -- the same head, and each byte behind it decoding alike: the same outcome
 pub reads-alike :
-    (application : ℕ) (r r′ : List ℕ) → take headSize r ≡ take headSize r′ → nibblesOf r ≡ nibblesOf r′
+    (application : ℕ) (r r′ : List ℕ) → take headLength r ≡ take headLength r′ → nibblesOf r ≡ nibblesOf r′
     → readBlock application r ≡ readBlock application r′
 unfolding readBlock headOf
 reads-alike application r r′ h n =

@@ -5,6 +5,7 @@ use mathlib.Core.List.{List, [], _∷_, map}
 use Prim.Native.Nat.{ℕ, _+_, _%_, _-_, _^_, _<_}
 use lib.ListN.{take, drop}
 use Rattle.octet.specs.Decoding.{nib}
+pub use Rattle.blocks.specs.Block.{headLength}
 use Rattle.fields.specs.Fields.{Field, laid, parts, whole}
 use Rattle.table.specs.Tables.{Table, fields, control, fill, size, fits}
 
@@ -13,15 +14,12 @@ abbrev pub header : ℕ → ℕ → List Field
 header application size = (5, application) ∷ (11, size) ∷ []
 
 -- a record's head: "its 16 bits, low byte first"
-abbrev pub headSize : ℕ
-headSize = 2
-
 unfoldable pub headOf : List ℕ → ℕ
-headOf r = whole 8 (take headSize r)
+headOf r = whole 8 (take headLength r)
 
 -- what the protected bytes behind it decode to
 unfoldable pub nibblesOf : List ℕ → List ℕ
-nibblesOf r = map nib (drop headSize r)
+nibblesOf r = map nib (drop headLength r)
 
 unfoldable pub total : List ℕ → ℕ
 total [] = 0

@@ -29,9 +29,13 @@ form t = openingOf t ++ listed (t .kind) (t .descriptors)
 
 -- ---- back: the table that a form stands for. Past its end a form reads as zeros
 
+-- the word at a place, high byte first
+abbrev pub wordAt : List ℕ → ℕ → ℕ
+wordAt f i = whole 8 (getD f (i + 2) 0 ∷ getD f (i + 1) 0 ∷ getD f i 0 ∷ [])
+
 unfoldable pub wordsIn : ℕ → List ℕ → List ℕ
 wordsIn zero f = []
-wordsIn (suc k) f = whole 8 (getD f 2 0 ∷ getD f 1 0 ∷ getD f 0 0 ∷ []) ∷ wordsIn k (drop 3 f)
+wordsIn (suc k) f = wordAt f 0 ∷ wordsIn k (drop 3 f)
 
 -- the k descriptors at the front of f, whose entries have `each` words
 unfoldable pub descriptorsIn : ℕ → ℕ → List ℕ → List Descriptor

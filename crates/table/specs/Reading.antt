@@ -7,7 +7,7 @@ use Rattle.laws.specs.Pick.{pick, both}
 use Rattle.answer.specs.Rules.{Rule, rule, judged}
 use Rattle.fields.specs.Fields.{field, parts, whole}
 use Rattle.table.specs.Tables.{Descriptor, Table, known, per, control, size}
-use Rattle.table.specs.Block.{headSize, headOf, nibblesOf, checksum}
+use Rattle.table.specs.Block.{headLength, headOf, nibblesOf, checksum}
 
 -- the k descriptors at the front of the bits n, whose entries have `each` words
 unfoldable pub descriptorsOf : ℕ → ℕ → ℕ → List Descriptor
@@ -38,7 +38,7 @@ sound (n ∷ ns) = pick (ltb n 16) (suc (sound ns)) 0
 unfoldable pub frameRules : ℕ → ℕ → ℕ → List Rule
 frameRules application len head =
     rule (ltb application 32) 16 0
-    ∷ rule (eqb len (headSize + head / 32)) 13 0
+    ∷ rule (eqb len (headLength + head / 32)) 13 0
     ∷ rule (eqb (head % 32) application) 12 0
     ∷ rule (leb 8 (head / 32)) 13 0
     ∷ []
@@ -47,7 +47,7 @@ frameRules application len head =
 unfoldable pub frontRules : ℕ → List ℕ → List Rule
 frontRules blockSize ns =
     let n = whole 4 ns in
-    rule (eqb (sound (take 8 ns)) 8) 10 (headSize + sound (take 8 ns))
+    rule (eqb (sound (take 8 ns)) 8) 10 (headLength + sound (take 8 ns))
     ∷ rule (both (known (field 18 6 n)) (eqb (field 24 2 n) 0)) 12 0
     ∷ rule (eqb (blockSize % 2) 0) 13 0
     ∷ []
@@ -55,7 +55,7 @@ frontRules blockSize ns =
 -- 10 over the rest, 11
 unfoldable pub wholeRules : ℕ → List ℕ → List Rule
 wholeRules head ns =
-    rule (eqb (sound ns) (length ns)) 10 (headSize + sound ns)
+    rule (eqb (sound ns) (length ns)) 10 (headLength + sound ns)
     ∷ rule (eqb (field 0 8 (whole 4 ns)) (checksum head ns)) 11 0
     ∷ []
 

@@ -8,12 +8,12 @@ use Rattle.octet.specs.Image.{image}
 use Rattle.fields.specs.Fields.{laid, parts}
 use Rattle.table.specs.Tables.{Table, known, size, fits}
 use Rattle.table.specs.Form.{form, opening, tableIn}
-use Rattle.table.specs.Block.{header, headSize, nibbles, checksumOf}
+use Rattle.table.specs.Block.{header, headLength, nibbles, checksumOf}
 
 -- a record of a table, with any reserved bit and fill
 unfoldable pub recordWith : ℕ → ℕ → ℕ → Table → List ℕ
 recordWith application reserved filling t =
-    parts 8 headSize (laid (header application (size t)) 0)
+    parts 8 headLength (laid (header application (size t)) 0)
     ++ map image (nibbles (checksumOf application reserved filling t) reserved filling t)
 
 -- the record that is written: "Written fill and reserved bits are 0"

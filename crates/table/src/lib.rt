@@ -12,20 +12,51 @@ ghost use Rattle.answer.specs.declared.Answer.the-variants.{Done};
 ghost use Rattle.octet.specs.Decoding.{nib};
 ghost use Rattle.fields.specs.Fields.{field, fitting, parts};
 ghost use Rattle.table.specs.Tables.{per, bits, loops, fits, known as Tables·known};
-ghost use Rattle.table.specs.Form.{form, spelled, listed, openingOf, tableIn};
+ghost use Rattle.table.specs.Form.{form, spelled, listed, openingOf, wordAt, tableIn};
 ghost use Rattle.fields.specs.Compound.{compound};
 ghost use Rattle.table.specs.Block.{headOf, total, checksum as checksumOf};
 ghost use Rattle.table.specs.Reading.{frameRules, frontRules, wholeRules, lengthRules, bodyRules, readRules, tableOf, tableRead, sound as soundOf};
 ghost use Rattle.table.specs.Writing.{formRules};
 use answer::Answer;
 use answer::Refusal;
+use blocks::HEAD;
 
-// The bytes of a record before its block: the block's 16 bits, low byte first.
-pub const HEAD: usize = 2;
-
-const TI: usize = 8;
+// 11.12.3: the datatype_id of a Subtitle and of a Language table.
+pub const TI: usize = 8;
 
 const LI: usize = 7;
+
+// Where the fields of tables 15 and 17 begin, in bits: checksum, control_block_size, datatype_id, CA_mode,
+// copyright, block_no, netwop_no, the number of descriptors; and behind them the first descriptor.
+const SUM: usize = 0;
+
+const CONTROL: usize = 8;
+
+const KIND: usize = 18;
+
+const ACCESS: usize = 24;
+
+const COPYRIGHT: usize = 26;
+
+const BLOCK: usize = 28;
+
+const NETWORK: usize = 44;
+
+const COUNT: usize = 52;
+
+const LOOPS: usize = 58;
+
+// A descriptor's id, 6 bits, and its number of entries, 4, stand before its words.
+pub const HEADING: usize = 10;
+
+// A language or a page.
+pub const WORD: usize = 24;
+
+// The bytes of a form before its descriptors.
+pub const OPENING: usize = 6;
+
+// What control_block_size can count: 1,023 times 8 bits.
+const MOST: usize = 8184;
 
 // The table of a block of this application: its form is written to the front of `out`. Each protected
 // byte is decoded at most eight times: once or twice to see that it can be and for the sum, twice
@@ -116,11 +147,11 @@ fn judge_front(size: usize, body: &[u8]) -> Answer
     if good != 8 {
         return refuse(10, HEAD + good);
     }
-    let kind = fields::field_of(body, 18, 6);
+    let kind = fields::field_of(body, KIND, 6);
     if !known(kind) {
         return refuse(12, 0);
     }
-    if fields::field_of(body, 24, 2) != 0 {
+    if fields::field_of(body, ACCESS, 2) != 0 {
         return refuse(12, 0);
     }
     if size % 2 != 0 {
@@ -138,7 +169,7 @@ fn judge_whole(head: usize, body: &[u8]) -> Answer
     if 255 < sum {
         return refuse(10, HEAD + sound(body));
     }
-    if fields::field_of(body, 0, 8) != sum {
+    if fields::field_of(body, SUM, 8) != sum {
         return refuse(11, 0);
     }
     Answer::Done(0)
@@ -182,25 +213,25 @@ fn judge_lengths(size: usize, body: &[u8]) -> Answer
 {
     let bits = measure(body);
     let control = (bits + 7) / 8;
-    if fields::field_of(body, 8, 10) != control {
+    if fields::field_of(body, CONTROL, 10) != control {
         return refuse(14, 0);
     }
     if size != 2 * control {
         return refuse(14, 0);
     }
-    Answer::Done(6 + (bits - 58 + 6 * fields::field_of(body, 52, 6)) / 8)
+    Answer::Done(OPENING + (bits - LOOPS + 6 * fields::field_of(body, COUNT, 6)) / 8)
 }
 
 // The bits of the table that a block holds, by its counts as they stand.
 fn measure(body: &[u8]) -> usize
     ensures { λ r. ⌜ (r ≡ bits (tableOf (compound (now (body .entry))))) × (r ≤ 46048) ⌝ }
 {
-    let kind = fields::field_of(body, 18, 6);
-    let mut left = fields::field_of(body, 52, 6);
-    let mut at = 58;
+    let kind = fields::field_of(body, KIND, 6);
+    let mut left = fields::field_of(body, COUNT, 6);
+    let mut at = LOOPS;
     while 0 < left {
         let words = words_of(kind, fields::field_of(body, at + 6, 4));
-        at += 10 + 24 * words;
+        at += HEADING + WORD * words;
         left -= 1;
     }
     at
@@ -254,11 +285,11 @@ fn write_opening(body: &[u8], out: &mut [u8])
     requires { ⌜ 6 ≤ length (now out) ⌝ }
     ensures { λ _. ⌜ now (out .exit) ≡ sets (now (out .entry)) 0 (openingOf (tableOf (compound (now (body .entry))))) ⌝ }
 {
-    let kind = (fields::field_of(body, 18, 6) % 256) as u8;
-    let copyright = (fields::field_of(body, 26, 1) % 256) as u8;
-    let block = fields::field_of(body, 28, 16);
-    let network = (fields::field_of(body, 44, 8) % 256) as u8;
-    let count = (fields::field_of(body, 52, 6) % 256) as u8;
+    let kind = (fields::field_of(body, KIND, 6) % 256) as u8;
+    let copyright = (fields::field_of(body, COPYRIGHT, 1) % 256) as u8;
+    let block = fields::field_of(body, BLOCK, 16);
+    let network = (fields::field_of(body, NETWORK, 8) % 256) as u8;
+    let count = (fields::field_of(body, COUNT, 6) % 256) as u8;
     let low = (block % 256) as u8;
     let high = (block / 256 % 256) as u8;
     out[0] = kind;
@@ -277,13 +308,13 @@ fn write_descriptors(body: &[u8], out: &mut [u8])
         ≡ sets (now (out .entry)) 6
         (listed (tableOf (compound (now (body .entry))) .kind) (tableOf (compound (now (body .entry))) .descriptors)) ⌝ }
 {
-    let kind = fields::field_of(body, 18, 6);
-    let mut left = fields::field_of(body, 52, 6);
-    let mut at = 58;
-    let mut q = 6;
+    let kind = fields::field_of(body, KIND, 6);
+    let mut left = fields::field_of(body, COUNT, 6);
+    let mut at = LOOPS;
+    let mut q = OPENING;
     while 0 < left {
         let words = write_descriptor(body, kind, at, out, q);
-        at += 10 + 24 * words;
+        at += HEADING + WORD * words;
         q += 2 + 3 * words;
         left -= 1;
     }
@@ -306,7 +337,7 @@ fn write_descriptor(body: &[u8], kind: usize, at: usize, out: &mut [u8], q: usiz
     let words = words_of(kind, entries);
     out[q] = (id % 256) as u8;
     out[q + 1] = (entries % 256) as u8;
-    write_words(body, at + 10, words, out, q + 2);
+    write_words(body, at + HEADING, words, out, q + 2);
     words
 }
 
@@ -320,9 +351,9 @@ fn write_words(body: &[u8], from: usize, k: usize, out: &mut [u8], q: usize)
     let mut p = q;
     let mut left = k;
     while 0 < left {
-        let w = fields::field_of(body, at, 24);
+        let w = fields::field_of(body, at, WORD);
         write_word(w, out, p);
-        at += 24;
+        at += WORD;
         p += 3;
         left -= 1;
     }
@@ -345,7 +376,7 @@ fn write_word(w: usize, out: &mut [u8], q: usize)
 pub fn judge_form(table: &[u8]) -> Answer
     ensures { λ r. ⌜ r ≡ judged refused (formRules (now (table .entry))) (Done (bits (tableIn (now (table .entry))))) ⌝ }
 {
-    if table.len() < 6 {
+    if table.len() < OPENING {
         return refuse(13, 0);
     }
     if !known(byte_at(table, 0)) {
@@ -363,7 +394,7 @@ fn form_size(table: &[u8]) -> usize
 {
     let kind = byte_at(table, 0);
     let mut left = byte_at(table, 5);
-    let mut at = 6;
+    let mut at = OPENING;
     while 0 < left {
         at += 2 + 3 * words_of(kind, byte_at(table, at + 1));
         left -= 1;
@@ -390,8 +421,8 @@ fn judge_values(table: &[u8]) -> Answer
     if !loops_fit(table) {
         return refuse(15, 0);
     }
-    let bits = 58 + 8 * (table.len() - 6) - 6 * count;
-    if 8184 < bits {
+    let bits = LOOPS + 8 * (table.len() - OPENING) - 6 * count;
+    if MOST < bits {
         return refuse(15, 0);
     }
     Answer::Done(bits)
@@ -404,7 +435,7 @@ fn loops_fit(table: &[u8]) -> bool
 {
     let kind = byte_at(table, 0);
     let mut left = byte_at(table, 5);
-    let mut at = 6;
+    let mut at = OPENING;
     while 0 < left {
         let entries = byte_at(table, at + 1);
         if 63 < byte_at(table, at) {
@@ -438,6 +469,19 @@ pub fn words_of(kind: usize, entries: usize) -> usize
         return 2 * n;
     }
     n
+}
+
+// The word at a place of a form, high byte first. Past its end a form reads as zeros.
+pub fn word_at(table: &[u8], i: usize) -> usize
+    ensures { λ r. ⌜ (r ≡ wordAt (now (table .entry)) i) × (r < 2 ^ 24) ⌝ }
+{
+    if table.len() <= i {
+        return 0;
+    }
+    let high = byte_at(table, i);
+    let middle = byte_at(table, i + 1);
+    let low = byte_at(table, i + 2);
+    (high * 256 + middle) * 256 + low
 }
 
 // The byte i; 0 past the end.

@@ -3,22 +3,20 @@ use mathlib.Core.Path.{_≡_, _∙_, refl, sym, ap}
 use mathlib.Core.Bool.{true}
 use mathlib.Core.List.{List, [], _∷_, _++_}
 use Prim.Native.Nat.{ℕ, suc, _+_, _-_, _*_, _/_, _≤_, _<_}
-use native.Mathlib.Nat.{add-zero, mul-div-cancel-left}
+use native.Mathlib.Nat.{add-zero}
 use native.Mathlib.Omega.{arith}
 use borrow.Author.Tests.{ltb-true}
 use lib.Dec.{ltb}
 use lib.ListN.{getD, drop}
 use lib.Seq.{drop-drop, getD-drop}
 use Rattle.laws.proofs.Tests.{both-true}
-use Rattle.fields.specs.Fields.{Field, row, width, laid, fitting, whole}
-use Rattle.table.specs.Tables.{per, entries, loops}
-use Rattle.table.specs.Form.{wordsIn, descriptorsIn}
-use Rattle.table.proofs.Measures.{per-pos}
-use Rattle.table.proofs.Forms.{length-words, fits-on}
+use Rattle.fields.specs.Fields.{Field, row, width, laid, fitting}
+use Rattle.table.specs.Tables.{per, loops}
+use Rattle.table.specs.Form.{wordAt, wordsIn, descriptorsIn}
+use Rattle.table.proofs.Forms.{in-on, entries-in, fits-on}
 
 pub row-on :
-    (left i w : ℕ) (f : List ℕ) → 0 < left
-    → w ≡ whole 8 (getD f (i + 2) 0 ∷ getD f (i + 1) 0 ∷ getD f i 0 ∷ [])
+    (left i w : ℕ) (f : List ℕ) → 0 < left → w ≡ wordAt f i
     → row 24 (wordsIn left (drop i f)) ≡ ((24, w) ∷ []) ++ row 24 (wordsIn (left - 1) (drop (i + 3) f))
 unfolding row wordsIn
 row-on left i w f h e =
@@ -31,11 +29,6 @@ unfolding row wordsIn
 row-end left i f h =
     let k : left ≡ 0 = omega arith in
     ap (λ (n : ℕ). row 24 (wordsIn n (drop i f))) k
-
--- three bytes as a word
-pub word-of : (a b c : ℕ) → a < 256 → b < 256 → c < 256 → (a * 256 + b) * 256 + c ≡ whole 8 (c ∷ b ∷ a ∷ [])
-unfolding whole
-word-of a b c ha hb hc = omega arith
 
 -- ---- descriptors
 
@@ -57,16 +50,9 @@ pub loops-on :
     → loops kind (descriptorsIn (per kind) left (drop i f))
     ≡ heading id c
     ++ (row 24 (wordsIn words (drop (i + 2) f)) ++ loops kind (descriptorsIn (per kind) (left - 1) (drop (i + (2 + 3 * words)) f)))
-unfolding loops descriptorsIn
+unfolding loops
 loops-on kind left i id c words f h e₀ e₁ e₂ =
-    let k : left ≡ suc (left - 1) = omega arith in
-    let n : getD (drop i f) 1 0 ≡ c = getD-drop i f 1 0 ∙ sym e₁ in
-    let z : getD (drop i f) 0 0 ≡ id = getD-drop i f 0 0 ∙ ap (λ (x : ℕ). getD f x 0) (add-zero i) ∙ sym e₀ in
-    let w : per kind * getD (drop i f) 1 0 ≡ words = ap (λ (x : ℕ). per kind * x) n ∙ sym e₂ in
-    let count : entries kind (wordsIn words (drop 2 (drop i f))) ≡ c =
-    ap (λ (x : ℕ). x / per kind) (length-words words (drop 2 (drop i f)) ∙ e₂) ∙ mul-div-cancel-left c (per-pos kind) in
-    ap (λ (x : ℕ). loops kind (descriptorsIn (per kind) x (drop i f))) k
-    ∙ (rw (w, z, count, drop-drop 2 i f, drop-drop (2 + 3 * words) i f))
+    rw (in-on (per kind) left i id c words f h e₀ e₁ e₂, entries-in kind c words (drop (i + 2) f) e₂)
 
 pub loops-end : (kind left i : ℕ) (f : List ℕ) → left ≤ 0 → loops kind (descriptorsIn (per kind) left (drop i f)) ≡ []
 unfolding loops descriptorsIn

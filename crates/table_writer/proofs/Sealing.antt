@@ -7,6 +7,7 @@ use native.Mathlib.Omega.{arith}
 use borrow.Author.Tests.{ltb-true}
 use lib.ListN.{length, length-append, take, drop, set, length-map, length-set}
 use lib.Seq.{sets, sets-eq, set-comm, set-set, take-at, drop-at, length-take-le}
+use Rattle.laws.proofs.Runs.{set-sets}
 use Rattle.answer.specs.Rules.{judged}
 use Rattle.answer.specs.Values.{refused}
 use Rattle.answer.specs.declared.Answer.the-variants.{Done}
@@ -24,12 +25,11 @@ use Rattle.table.proofs.Exact.{behind-sum, checksum-lt}
 use Rattle.table.proofs.Back.{nibbles-again}
 use Rattle.table_writer.specs.Seal.{sumIn, sealed}
 
--- a store before a run of stores
-set-sets : (l : List ℕ) (i : ℕ) (vs : List ℕ) (j a : ℕ) → j < i → set (sets l i vs) j a ≡ sets (set l j a) i vs
-set-sets l i [] j a h = refl
-set-sets l i (v ∷ vs) j a h =
-    set-sets (set l i v) (suc i) vs j a (omega arith)
-    ∙ ap (λ (x : List ℕ). sets x (suc i) vs) (set-comm l i j v a (λ (e : i ≡ j). omega arith))
+length-nibbles : (sum reserved filling : ℕ) (t : Table) → length (map image (nibbles sum reserved filling t)) ≡ size t
+unfolding nibbles
+length-nibbles sum reserved filling t =
+    let n = laid (fields sum (control t) reserved t) filling in
+    length-map (parts 4 (size t) n) image ∙ length-parts 4 (size t) n
 
 -- the checksum's two nibbles, and the others
 split-two : (k n : ℕ) → 2 ≤ k → parts 4 k n ≡ n % 16 ∷ n / 16 % 16 ∷ drop 2 (parts 4 k n)
@@ -83,8 +83,8 @@ module _ (application head : ℕ) (t : Table) (out : List ℕ) (e : head ≡ lai
   begun = set (set out 0 (head % 256)) 1 (head / 256 % 256)
 
   long : length (map image ns) ≡ size t
-  unfolding ns nibbles
-  long = length-map (nibbles 0 0 0 t) image ∙ length-parts 4 (size t) _
+  unfolding ns
+  long = length-nibbles 0 0 0 t
 
   summed : sumIn head (size t) (sets begun 2 (map image ns)) ≡ sum
   unfolding ns sum begun checksumOf
@@ -114,19 +114,13 @@ module _ (application head : ℕ) (t : Table) (out : List ℕ) (e : head ≡ lai
       k₂ ∙ ap (sealed head (size t)) k₁
       ∙ ap (λ (s : ℕ). set (set (sets begun 2 (map image ns)) 2 (image (s % 16))) 3 (image (s / 16 % 16))) summed
       ∙ ap (λ (l : List ℕ). set (set (sets begun 2 l) 2 x) 3 y) zero-first
-      ∙ ap (λ (l : List ℕ). set l 3 y) (set-sets (set (set begun 2 z) 3 z) 4 rest 2 x (omega arith))
-      ∙ set-sets (set (set (set begun 2 z) 3 z) 2 x) 4 rest 3 y (omega arith)
+      ∙ ap (λ (l : List ℕ). set l 3 y) (set-sets (set (set begun 2 z) 3 z) 2 4 x rest (omega arith))
+      ∙ set-sets (set (set (set begun 2 z) 3 z) 2 x) 3 4 y rest (omega arith)
       ∙ ap (λ (l : List ℕ). sets l 4 rest) (two-over begun z x y)
       ∙ ap (sets begun 2) (sym sum-first)
       ∙ ap (λ (h : ℕ). sets (set (set out 0 (h % 256)) 1 (h / 256 % 256)) 2 (map image (nibbles sum 0 0 t))) e
 
 -- ---- what the rules of writing say
-
-length-nibbles : (sum reserved filling : ℕ) (t : Table) → length (map image (nibbles sum reserved filling t)) ≡ size t
-unfolding nibbles
-length-nibbles sum reserved filling t =
-    let n = laid (fields sum (control t) reserved t) filling in
-    length-map (parts 4 (size t) n) image ∙ length-parts 4 (size t) n
 
 pub length-record : (application : ℕ) (t : Table) → length (recordOf application t) ≡ 2 + size t
 unfolding recordWith

@@ -15,7 +15,7 @@ use Rattle.table.specs.Tables.{Table, per, loops, fields, bits, control, fill, 
 use Rattle.table.specs.Form.{tableIn}
 use Rattle.table.specs.Block.{nibbles}
 use Rattle.table.proofs.Inverse.{sendable}
-use Rattle.table.proofs.Forms.{length-in}
+use Rattle.table.proofs.Forms.{length-in, two-bytes}
 use Rattle.table_writer.specs.declared.Pen.{Pen}
 use Rattle.table_writer.specs.Parts.{firstFields, secondFields}
 use Rattle.table_writer.specs.Ink.{inHand, ready, inked, moved, Fine}
@@ -81,10 +81,6 @@ pub all-inked : (t : Table) (out : List ℕ) → inked start (laid-all t) out �
 unfolding inked nibbles
 all-inked t out = rw (all-ready, all-hand)
 
-two-bytes : (a b : ℕ) → a < 256 → b < 256 → whole 8 (a ∷ b ∷ []) ≡ a + 256 * b
-unfolding whole
-two-bytes a b ha hb = omega arith
-
 -- the two parts from the form's bytes
 pub first-of :
     (f : List ℕ) (c k y : ℕ) → k ≡ getD f 0 0 → y ≡ getD f 1 0 → fits (tableIn f) ≡ true → c < 1024
@@ -107,7 +103,7 @@ second-of f b₀ b₁ n d e₀ e₁ en ed h₀ h₁ h =
     let s = sendable (tableIn f) h in
     let count : length (tableIn f .descriptors) ≡ d = length-in (per (getD f 0 0)) (getD f 5 0) (drop 6 f) ∙ sym ed in
     let block : tableIn f .block ≡ b₀ + 256 * b₁ =
-    ap₂ (λ (a b : ℕ). whole 8 (a ∷ b ∷ [])) (sym e₀) (sym e₁) ∙ two-bytes b₀ b₁ h₀ h₁ in
+    ap₂ (λ (a b : ℕ). whole 8 (a ∷ b ∷ [])) (sym e₀) (sym e₁) ∙ sym (two-bytes b₀ b₁ h₀ h₁) in
     let hn : n < 256 = rw en (s .network-fits) in
     let hd : d < 64 = rw count at (s .count-fits) in (
       ap₂ (λ (a b : ℕ). a * 65536 + b) (ap₂ (λ (a b : ℕ). a * 256 + b) (sym count) en) (sym block)

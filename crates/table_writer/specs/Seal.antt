@@ -4,11 +4,11 @@ use Prim.Native.Nat.{ℕ, _/_, _%_}
 use lib.ListN.{take, drop, set}
 use Rattle.octet.specs.Image.{image}
 use Rattle.octet.specs.Decoding.{nib}
-use Rattle.table.specs.Block.{headSize, checksum}
+use Rattle.table.specs.Block.{headLength, checksum}
 
 -- the checksum of the block that stands in a record
 abbrev pub sumIn : ℕ → ℕ → List ℕ → ℕ
-sumIn head size record′ = checksum head (map nib (take size (drop headSize record′)))
+sumIn head size record′ = checksum head (map nib (take size (drop headLength record′)))
 
 -- its two nibbles in their places
 unfoldable pub sealed : ℕ → ℕ → List ℕ → List ℕ

@@ -3,8 +3,8 @@ ghost use mathlib.Core.Bool.{true};
 ghost use mathlib.Core.Path.{_≡_};
 ghost use mathlib.Core.List.{map, _∷_, []};
 ghost use Prim.Native.Nat.{_+_, _-_, _*_, _/_, _%_, _^_, _<_, _≤_};
-ghost use lib.ListN.{length, getD, drop};
-ghost use Rattle.fields.specs.Fields.{row, laid, whole, fitting};
+ghost use lib.ListN.{length, drop};
+ghost use Rattle.fields.specs.Fields.{row, laid, fitting};
 ghost use Rattle.table.specs.Tables.{loops, size, fits, bits as Tables·bits};
 ghost use Rattle.table.specs.Form.{wordsIn, tableIn};
 ghost use Rattle.table.specs.Block.{nibbles};
@@ -20,7 +20,10 @@ ghost use Rattle.table.specs.Writing.{recordOf, writeRules};
 ghost use Rattle.table_writer.specs.Parts.{firstFields, secondFields};
 use answer::Answer;
 use answer::Refusal;
-use table::HEAD;
+use blocks::HEAD;
+use table::HEADING;
+use table::OPENING;
+use table::WORD;
 
 // Where the next nibble goes, and the bits, fewer than four, that don't make one yet.
 pub struct Pen {
@@ -155,12 +158,12 @@ fn put_descriptors(table: &[u8], pen: Pen, out: &mut [u8]) -> Pen
     let kind = table::byte_at(table, 0);
     let mut left = table::byte_at(table, 5);
     let mut p = pen;
-    let mut i = 6;
+    let mut i = OPENING;
     while 0 < left {
         let id = table::byte_at(table, i);
         let entries = table::byte_at(table, i + 1);
         let words = table::words_of(kind, entries);
-        let q = put(p, 10, entries * 64 + id, out);
+        let q = put(p, HEADING, entries * 64 + id, out);
         p = put_words(table, i + 2, words, q, out);
         i += 2 + 3 * words;
         left -= 1;
@@ -181,24 +184,11 @@ fn put_words(table: &[u8], from: usize, k: usize, pen: Pen, out: &mut [u8]) -> P
     let mut i = from;
     let mut left = k;
     while 0 < left {
-        p = put(p, 24, word_at(table, i), out);
+        p = put(p, WORD, table::word_at(table, i), out);
         i += 3;
         left -= 1;
     }
     p
-}
-
-// The word at a place of the form, high byte first.
-fn word_at(table: &[u8], i: usize) -> usize
-    requires { ⌜ i < 400000 ⌝ }
-    ensures { λ r.
-        ⌜ (r
-        ≡ whole 8
-        (getD (now (table .entry)) (i + 2) 0 ∷ getD (now (table .entry)) (i + 1) 0 ∷ getD (now (table .entry)) i 0 ∷ []))
-        × (r < 2 ^ 24) ⌝ }
-{
-    (table::byte_at(table, i) * 256 + table::byte_at(table, i + 1)) * 256
-        + table::byte_at(table, i + 2)
 }
 
 // Lays one field of at most 32 bits.

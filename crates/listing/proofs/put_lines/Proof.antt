@@ -1,22 +1,50 @@
--- `listing::put_lines` meets its contract: the head, then the descriptors. Assumes nothing.
+-- `listing::put_lines` meets its contract: the head where it is asked for, then the descriptors. Assumes nothing.
 use borrow.Author.Needs.{needs}
-use Rattle.listing.specs.Lines.{linesOf}
-use Rattle.listing.proofs.Puts.{then}
+use mathlib.Core.Path.{sym, ap}
+use mathlib.Core.Bool.{Bool}
+use denote.Ref.{now}
+use Rattle.table.specs.Form.{tableIn}
+use Rattle.listing.specs.Lines.{linesOf, linesFrom}
+use Rattle.listing.proofs.Puts.{then, put-as}
 use Rattle.listing.proofs.put_lines.Statement.{statement}
 use Rattle.listing.proofs.put_lines.Tie as tie
 
 put-head-requires : tie.Need-put-head-requires
 put-head-requires c κs = search needs
 
-put-table-requires : tie.Need-put-table-requires
-put-table-requires c κs = search needs
+put-descriptors-requires : tie.Need-put-descriptors-requires
+put-descriptors-requires c κs = search needs
 
 same-length : tie.Need-same-length
 same-length c = search needs
 
 returns : tie.Need-returns
 unfolding linesOf
-returns c = then (c .before .before .before .before .before .before .put-head .ensures .0) (c .before .before .put-table .ensures)
+returns c =
+    let t = tableIn (now (c .before .before .before .before .before .before .before .before .before .before .before .args .table)) in
+    put-as (ap (λ (b : Bool). linesFrom b t) (sym (c .before .before .before .before .before .before .before .before .if1 .taken)))
+    (then (c .before .before .before .before .before .before .put-head .ensures .0) (c .before .before .put-descriptors .ensures))
+
+put-descriptors-requires-2 : tie.Need-put-descriptors-requires-2
+put-descriptors-requires-2 c κs = search needs
+
+same-length-2 : tie.Need-same-length-2
+same-length-2 c = search needs
+
+returns-2 : tie.Need-returns-2
+returns-2 c =
+    let t = tableIn (now (c .before .before .before .before .before .before .before .args .table)) in
+    put-as (ap (λ (b : Bool). linesFrom b t) (sym (c .before .before .before .before .if1 .left)))
+    (c .before .before .put-descriptors2 .ensures)
 
 pub put-lines-spec : {M : Type 1} → statement M
-put-lines-spec = tie.close (tie.spec put-head-requires put-table-requires same-length returns)
+put-lines-spec =
+    tie.close
+    (tie.spec
+    put-head-requires
+    put-descriptors-requires
+    same-length
+    returns
+    put-descriptors-requires-2
+    same-length-2
+    returns-2)

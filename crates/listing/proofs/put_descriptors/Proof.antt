@@ -1,4 +1,4 @@
--- `listing::put_table` meets its contract: what is left to be put from here makes what was to be put. The measure is the descriptors left. Assumes nothing.
+-- `listing::put_descriptors` meets its contract: what is left to be put from here makes what was to be put. The measure is the descriptors left. Assumes nothing.
 use borrow.Author.Needs.{needs}
 use mathlib.Core.List.{List}
 use mathlib.Core.Path.{_≡_, _∙_, refl}
@@ -9,16 +9,16 @@ use denote.Ref.{now}
 use Rattle.table.proofs.Measures.{words-counted}
 use Rattle.table.specs.Form.{descriptorsIn, tableIn}
 use Rattle.table.specs.Tables.{per}
-use Rattle.listing.specs.Lines.{descriptorLines, tableLines}
+use Rattle.listing.specs.Lines.{descriptorLines, descriptorLinesOf}
 use Rattle.listing.proofs.Puts.{Left, left-start, left-on, left-end}
 use Rattle.listing.proofs.Walk.{descriptors-on, descriptors-end}
-use Rattle.listing.proofs.put_table.Statement.{statement}
-use Rattle.listing.proofs.put_table.Tie as tie
+use Rattle.listing.proofs.put_descriptors.Statement.{statement}
+use Rattle.listing.proofs.put_descriptors.Tie as tie
 
 abbrev Inv-loop : tie.InvT-loop
 Inv-loop table out₀ q kind left₀ i₀ p₀ out left i p =
     (length out ≡ length out₀) × (i + 1532 * left ≤ 390666) × (p + 8000 * left ≤ 2040100)
-    × Left out p (descriptorLines kind (descriptorsIn (per kind) left (drop i table))) out₀ q (tableLines (tableIn table))
+    × Left out p (descriptorLines kind (descriptorsIn (per kind) left (drop i table))) out₀ q (descriptorLinesOf (tableIn table))
 
 abbrev μ-loop : tie.MeasureT-loop
 μ-loop table out₀ q kind left₀ i₀ p₀ out left i p = left
@@ -30,7 +30,7 @@ byte-at-requires-2 : tie.Need-byte-at-requires-2 Inv-loop μ-loop
 byte-at-requires-2 c κs = search needs
 
 loop-holds : tie.Need-loop-holds Inv-loop μ-loop
-unfolding tableLines tableIn
+unfolding descriptorLinesOf tableIn
 loop-holds c =
     let k = c .before .byte-at in
     let n = c .byte-at2 in
@@ -86,8 +86,8 @@ returns c =
     let l = c .before .loop in
     left-end (descriptors-end (c .before .before .before .byte-at .result) (l .left) (l .i) (now (c .before .before .before .before .before .before .args .table)) (search needs)) (l .inv .3)
 
-pub put-table-spec : {M : Type 1} → statement M
-put-table-spec =
+pub put-descriptors-spec : {M : Type 1} → statement M
+put-descriptors-spec =
     tie.close
     (tie.spec
     Inv-loop

@@ -1,4 +1,4 @@
--- `listing::list_table` meets its contract: `judge_form` says which rule refuses, then the room decides. Assumes nothing.
+-- `listing::list` meets its contract: `judge_form` says which rule refuses, then the room decides. Assumes nothing.
 use borrow.Author.Needs.{needs}
 use mathlib.Core.List.{List}
 use mathlib.Core.Path.{_∙_, ap}
@@ -9,9 +9,9 @@ use Rattle.answer.proofs.Lent.{lent-refused, lent-short, lent-done}
 use Rattle.answer.specs.declared.Answer.the-variants.{Done}
 use Rattle.table.specs.Form.{tableIn}
 use Rattle.table.specs.Writing.{formRules}
-use Rattle.listing.specs.Lines.{linesOf}
-use Rattle.listing.proofs.list_table.Statement.{statement}
-use Rattle.listing.proofs.list_table.Tie as tie
+use Rattle.listing.specs.Lines.{linesFrom}
+use Rattle.listing.proofs.list.Statement.{statement}
+use Rattle.listing.proofs.list.Tie as tie
 
 judge-form-requires : tie.Need-judge-form-requires
 judge-form-requires c κs = search needs
@@ -29,7 +29,7 @@ returns : tie.Need-returns
 returns c =
     let a = c .before .before .before .before .before .before .before .args in
     let f : List ℕ = now (a .table) in
-    lent-short (formRules f) (linesOf (tableIn f)) (now (a .out)) _ (c .before .before .before .before .judge-form .ensures) (c .before .before .enum-told .given .1) (omega (arith, c .before .measure .ensures))
+    lent-short (formRules f) (linesFrom (a .head) (tableIn f)) (now (a .out)) _ (c .before .before .before .before .judge-form .ensures) (c .before .before .enum-told .given .1) (omega (arith, c .before .measure .ensures))
 
 put-lines-requires : tie.Need-put-lines-requires
 put-lines-requires c κs = search needs
@@ -38,7 +38,7 @@ returns-2 : tie.Need-returns-2
 returns-2 c =
     let a = c .before .before .before .before .before .before .args in
     let f : List ℕ = now (a .table) in
-    lent-refused (formRules f) (linesOf (tableIn f)) (now (a .out)) _ (c .before .before .before .judge-form .ensures) (c .before .why .given .1)
+    lent-refused (formRules f) (linesFrom (a .head) (tableIn f)) (now (a .out)) _ (c .before .before .before .judge-form .ensures) (c .before .why .given .1)
 
 same-length : tie.Need-same-length
 same-length c = search needs
@@ -48,11 +48,11 @@ returns-3 c =
     let a = c .before .before .before .before .before .before .before .before .before .before .before .args in
     let f : List ℕ = now (a .table) in
     let n = c .before .before .before .before .before .measure .ensures in
-    let p = lent-done (formRules f) (linesOf (tableIn f)) (now (a .out)) _ (c .before .before .before .before .before .before .before .before .judge-form .ensures) (c .before .before .before .before .before .before .enum-told .given .1) (omega (arith, n)) in
+    let p = lent-done (formRules f) (linesFrom (a .head) (tableIn f)) (now (a .out)) _ (c .before .before .before .before .before .before .before .before .judge-form .ensures) (c .before .before .before .before .before .before .enum-told .given .1) (omega (arith, n)) in
     (ap Done n ∙ p .0, c .before .before .put-lines .ensures .stored ∙ p .1)
 
-pub list-table-spec : {M : Type 1} → statement M
-list-table-spec =
+pub list-spec : {M : Type 1} → statement M
+list-spec =
     tie.close
     (tie.spec
     judge-form-requires
