@@ -31,7 +31,8 @@ pub struct Going {
     pub got: Got,
 }
 
-// One packet.
+// One packet of 42 bytes: what it is to a reader of this setting decides what it does to page, index and running block, and the records
+// of the blocks that it finishes stand in the output behind what is written.
 pub fn step(
     setting: Setting,
     a: Going,

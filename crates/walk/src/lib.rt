@@ -50,7 +50,8 @@ enum Ahead {
     Whole { head: u16, next: usize },
 }
 
-// The 39 bytes of a packet of our page, by its pointer.
+// The 39 bytes of a packet of our page, by its pointer: the running block goes on or is dropped, and the records of the blocks that
+// they finish stand in the output behind what is written.
 pub fn read(got: Got, store: &mut [u8; 2047], packet: &[u8], out: &mut [u8]) -> Got
     requires { ⌜ Kept (got .run) (now store) ⌝ }
     requires { ⌜ length (now packet) ≡ packetLength ⌝ }
