@@ -2,6 +2,9 @@
 -- lent byte. The statements are the contracts themselves, as the checker reads them (`Post`: of the arguments, the result and the
 -- parameters at exit). Assumes nothing.
 use mathlib.Core.Path.{_≡_, _∙_, sym}
+use mathlib.Core.Bool.{Bool}
+use mathlib.Core.List.{List, []}
+use Prim.Native.Nat.{ℕ}
 use denote.Ref.{now}
 use Rattle.octet.proofs.image.Reads as octet·image
 use Rattle.octet.proofs.decode.Reads as octet·decode
@@ -25,6 +28,16 @@ use Rattle.blocks.proofs.record_at.Reads as blocks·record-at
 use Rattle.guide.proofs.is_in_range.Reads as guide·is-in-range
 use Rattle.guide.proofs.cut.Reads as guide·cut
 use Rattle.guide.proofs.cut_pages.Reads as guide·cut-pages
+use Rattle.blocks.specs.Block.{Block}
+use Rattle.walk.specs.declared.Run.{Run}
+use Rattle.walk.specs.declared.Got.{Got}
+use Rattle.walk.specs.Mode.{Mode}
+use Rattle.walk.specs.Holding.{Went}
+use Rattle.walk.proofs.read.Reads as walk·read
+use Rattle.walk.proofs.lose.Reads as walk·lose
+use Rattle.pages.specs.declared.Page.{Page}
+use Rattle.pages.specs.declared.Going.{Going}
+use Rattle.pages.proofs.step.Reads as pages·step
 use Rattle.reader.proofs.fresh.Reads as reader·fresh
 use Rattle.reader.proofs.feed.Reads as reader·feed
 use Rattle.reader.proofs.feed_all.Reads as reader·feed-all
@@ -90,6 +103,46 @@ guide·cut-settled κs a x y s t p q = (same (p .0) (q .0), same (p .1) (q .1))
 pub guide·cut-pages-settled :
     (κs : _) (a : _) (x y : _) (s t : _) → guide·cut-pages.Post κs a x s → guide·cut-pages.Post κs a y t → (x ≡ y) × (now (s .1 .1 .1 .1 .0) ≡ now (t .1 .1 .1 .1 .0))
 guide·cut-pages-settled κs a x y s t p q = (same (p .0) (q .0), same (p .1) (q .1))
+
+-- ---- within the reader, where what each requires holds
+
+same-got :
+    {r r′ : Run} {b b′ w w′ : ℕ} {d d′ : Bool} → r ≡ r′ → b ≡ b′ → w ≡ w′ → d ≡ d′
+    → _≡_ {A = Got} (record { run = r; blocks = b; written = w; dropped = d }) (record { run = r′; blocks = b′; written = w′; dropped = d′ })
+same-got p q r s = rw (p, q, r, s)
+
+went-settled :
+    {m : Mode} {bs : List Block} {d : Bool} {a x y : Got} {s t o p q : List ℕ} → Went m bs d a x s o p → Went m bs d a y t o q
+    → (x ≡ y) × (s ≡ t) × (p ≡ q)
+went-settled u v = (
+  same-got (same (u .holds .run) (v .holds .run)) (same (u .blocks) (v .blocks)) (same (u .written) (v .written)) (same (u .dropped) (v .dropped)),
+  same (u .holds .kept) (v .holds .kept),
+  same (u .out) (v .out),
+)
+
+same-going :
+    {r r′ : Page} {i i′ : ℕ} {g g′ : Got} → r ≡ r′ → i ≡ i′ → g ≡ g′
+    → _≡_ {A = Going} (record { page = r; index = i; got = g }) (record { page = r′; index = i′; got = g′ })
+same-going p q r = rw (p, q, r)
+
+pub walk·read-settled :
+    (κs : _) (a : _) (x y : _) (s t : _) → walk·read.Post κs a x s → walk·read.Post κs a y t
+    → (x ≡ y) × (now (s .1 .0) ≡ now (t .1 .0)) × (now (s .1 .1 .1 .0) ≡ now (t .1 .1 .1 .0))
+walk·read-settled κs a x y s t p q = went-settled p q
+
+pub walk·lose-settled :
+    (κs : _) (a : _) (x y : _) (s t : _) → walk·lose.Post κs a x s → walk·lose.Post κs a y t
+    → (x ≡ y) × (now (s .1 .1 .0) ≡ now (t .1 .1 .0))
+walk·lose-settled κs a x y s t p q = let w = went-settled (p []) (q []) in (w .0, w .1)
+
+pub pages·step-settled :
+    (κs : _) (a : _) (x y : _) (s t : _) → pages·step.Post κs a x s → pages·step.Post κs a y t
+    → (x ≡ y) × (now (s .1 .1 .0) ≡ now (t .1 .1 .0)) × (now (s .1 .1 .1 .1 .0) ≡ now (t .1 .1 .1 .1 .0))
+pages·step-settled κs a x y s t p q =
+    let w = went-settled (p .went) (q .went) in
+    (same-going (same (p .page) (q .page)) (same (p .index) (q .index)) (w .0), w .1, w .2)
+
+-- ---- the reader
 
 pub reader·fresh-settled : (κs : _) (a : _) (x y : _) (s t : _) → reader·fresh.Post κs a x s → reader·fresh.Post κs a y t → x ≡ y
 reader·fresh-settled κs a x y s t p q = same p q

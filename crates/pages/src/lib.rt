@@ -1,5 +1,5 @@
 // What a packet does: to the page of ours that is open, to our last index, and to the running block. It is the reader's inside, and
-// `reader` alone calls it: what it takes for granted, a state in range and room for what one packet can give, the reader tests first.
+// `reader` alone calls it: that the state is in range, and that there is room for what one packet can give, its calls have tested.
 use guide::Setting;
 use walk::Got;
 ghost use mathlib.Core.Path.{_≡_};
@@ -31,7 +31,8 @@ pub struct Going {
     pub got: Got,
 }
 
-// One packet.
+// One packet of 42 bytes: what it is to a reader of this setting decides what it does to page, index and running block, and the records
+// of the blocks that it finishes stand in the output behind what is written.
 pub fn step(
     setting: Setting,
     a: Going,
@@ -84,25 +85,20 @@ fn zero(setting: Setting, a: Going, store: &mut [u8; 2047], packet: &[u8]) -> Go
     ensures { λ r. ⌜ ((out : List ℕ) → Acted (seeZero setting (drop 2 (now (packet .entry)))) (stateIn a (now (store .entry))) a r (now (store .exit)) out out) ⌝ }
 {
     let page = a.page;
+    let last = a.index;
     if !readable(packet, 2, 6) {
-        return turn(a, true, Page::Shut, a.index, store);
+        return turn(a, true, Page::Shut, last, store);
     }
     let number = quick::decode(packet[2]) + 16 * quick::decode(packet[3]);
     if number != setting.page {
-        return turn(a, is_incomplete(page), Page::Shut, a.index, store);
+        return turn(a, is_incomplete(page), Page::Shut, last, store);
     }
     if quick::decode(packet[6]) != setting.stream {
-        return turn(a, is_incomplete(page), Page::Shut, a.index, store);
+        return turn(a, is_incomplete(page), Page::Shut, last, store);
     }
     let index = quick::decode(packet[4]);
     let n = quick::decode(packet[5]) % 8 + 8 * (quick::decode(packet[7]) % 4);
-    turn(
-        a,
-        is_break(page, a.index, index, n),
-        page_of(n),
-        index,
-        store,
-    )
+    turn(a, is_break(page, last, index, n), page_of(n), index, store)
 }
 
 // Packet y of our magazine, our page open.

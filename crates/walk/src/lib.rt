@@ -1,8 +1,8 @@
-// Within a packet: the 39 bytes after the pointer, the running block and its store. It is the reader's inside, and `pages` and `reader`
-// alone call it: what it takes for granted of the run and the store, that they hold a block as a reader does, the reader tests once
-// for a whole row of packets, and to test it here again would read the store once a packet.
+// Within a packet: the 39 bytes after the pointer, the running block and its store. It is the reader's inside, and `pages` alone calls
+// it: that run and store hold a block as a reader's do, and that there is room for what one packet can give, the reader's calls have
+// tested, once for a whole row of packets; to test it here would read the store once a packet.
 ghost use mathlib.Core.Path.{_≡_};
-ghost use mathlib.Core.Bool.{Bool, true, false, not};
+ghost use mathlib.Core.Bool.{not};
 ghost use mathlib.Core.List.{List, []};
 ghost use Prim.Native.Nat.{ℕ, _+_, _-_, _*_, _≤_};
 ghost use lib.ListN.{length, getD, take, drop, replicate};
@@ -50,7 +50,8 @@ enum Ahead {
     Whole { head: u16, next: usize },
 }
 
-// The 39 bytes of a packet of our page, by its pointer.
+// The 39 bytes of a packet of our page, by its pointer: the running block goes on or is dropped, and the records of the blocks that
+// they finish stand in the output behind what is written.
 pub fn read(got: Got, store: &mut [u8; 2047], packet: &[u8], out: &mut [u8]) -> Got
     requires { ⌜ Kept (got .run) (now store) ⌝ }
     requires { ⌜ length (now packet) ≡ packetLength ⌝ }

@@ -19,8 +19,9 @@ turn-requires c κs = search needs
 
 returns : tie.Need-returns
 returns c =
-    row-over (c .before .before .before .before .before .before .args .n) (c .before .before .before .before .before .before .args .last) (c .before .before .before .before .before .before .args .y) (nib (getD (now (c .before .before .before .before .before .before .args .packet)) 2 0)) (drop 3 (now (c .before .before .before .before .before .before .args .packet))) (stateIn (c .before .before .before .before .before .before .args .a) (now (c .before .before .before .before .before .before .args .store)))
-    (c .before .before .before .is-wrong .ensures) (c .before .before .if1 .taken) (c .turn .ensures (now (c .before .before .before .before .before .before .args .out)))
+    let a = c .before .before .before .before .before .before .args in
+    row-over (a .n) (a .last) (a .y) (nib (getD (now (a .packet)) 2 0)) (drop 3 (now (a .packet))) (stateIn (a .a) (now (a .store)))
+    (c .before .before .before .is-wrong .ensures) (c .before .before .if1 .taken) (c .turn .ensures (now (a .out)))
 
 turn-requires-2 : tie.Need-turn-requires-2
 turn-requires-2 c κs = search needs
@@ -28,10 +29,11 @@ turn-requires-2 c κs = search needs
 read-requires : tie.Need-read-requires
 unfolding recordsOf
 read-requires c κs =
+    let p = c .before .before .before .before .before .before .before .before .before .pre in
     let w = c .before .before .before .turn2 .ensures (now (c .before .before .before .before .before .before .before .before .before .args .out)) .went in
-    let q = c .before .before .before .before .before .before .before .before .before .pre .1 .1 in (
+    let q = p .1 .1 in (
       holds-kept _ (w .holds),
-      (c .before .before .before .before .before .before .before .before .before .pre .1 .0 .0, record { long = omega (arith, w .written, q .long); few = omega (arith, w .written, w .blocks, q .few) }),
+      (p .1 .0 .0, record { long = omega (arith, w .written, q .long); few = omega (arith, w .written, w .blocks, q .few) }),
     )
 
 same-length : tie.Need-same-length
@@ -39,8 +41,9 @@ same-length c = search needs
 
 returns-2 : tie.Need-returns-2
 returns-2 c =
-    row-read (c .before .before .before .before .before .before .before .before .before .before .before .before .args .n) (c .before .before .before .before .before .before .before .before .before .before .before .before .args .last) (c .before .before .before .before .before .before .before .before .before .before .before .before .args .y) (nib (getD (now (c .before .before .before .before .before .before .before .before .before .before .before .before .args .packet)) 2 0)) (drop 3 (now (c .before .before .before .before .before .before .before .before .before .before .before .before .args .packet))) (stateIn (c .before .before .before .before .before .before .before .before .before .before .before .before .args .a) (now (c .before .before .before .before .before .before .before .before .before .before .before .before .args .store)))
-    (c .before .before .before .before .before .before .before .before .before .is-wrong .ensures) (c .before .before .before .before .before .before .before .before .if1 .left) (c .before .before .before .before .before .before .turn2 .ensures (now (c .before .before .before .before .before .before .before .before .before .before .before .before .args .out))) (c .before .before .read .ensures)
+    let a = c .before .before .before .before .before .before .before .before .before .before .before .before .args in
+    row-read (a .n) (a .last) (a .y) (nib (getD (now (a .packet)) 2 0)) (drop 3 (now (a .packet))) (stateIn (a .a) (now (a .store)))
+    (c .before .before .before .before .before .before .before .before .before .is-wrong .ensures) (c .before .before .before .before .before .before .before .before .if1 .left) (c .before .before .before .before .before .before .turn2 .ensures (now (a .out))) (c .before .before .read .ensures)
 
 pub row-spec : {M : Type 1} → statement M
 row-spec =

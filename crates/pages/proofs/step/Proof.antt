@@ -18,7 +18,8 @@ turn-requires c κs = search needs
 
 returns : tie.Need-returns
 returns c =
-    act-junk (stateIn (c .before .before .before .before .before .before .args .a) (now (c .before .before .before .before .before .before .args .store))) (see-junk (c .before .before .before .before .before .before .args .setting) (now (c .before .before .before .before .before .before .args .packet)) (sym (not-true _ (c .before .before .if1 .taken)) ∙ (c .before .before .before .readable .ensures))) (c .turn .ensures (now (c .before .before .before .before .before .before .args .out)))
+    let a = c .before .before .before .before .before .before .args in
+    act-junk (stateIn (a .a) (now (a .store))) (see-junk (a .setting) (now (a .packet)) (sym (not-true _ (c .before .before .if1 .taken)) ∙ (c .before .before .before .readable .ensures))) (c .turn .ensures (now (a .out)))
 
 shared-slice-read-decode : tie.Need-shared-slice-read-decode
 shared-slice-read-decode c = search needs
@@ -34,8 +35,9 @@ decode-requires-2 c κs = search needs
 
 returns-2 : tie.Need-returns-2
 returns-2 c =
-    act-other (c .before .before .before .before .before .before .before .before .before .before .args .a) (now (c .before .before .before .before .before .before .before .before .before .before .args .out)) (c .before .before .before .before .before .before .before .before .before .before .pre .0)
-    (see-other (c .before .before .before .before .before .before .before .before .before .before .args .setting) (now (c .before .before .before .before .before .before .before .before .before .before .args .packet)) (sym (not-false _ (c .before .before .before .before .before .before .if1 .left)) ∙ (c .before .before .before .before .before .before .before .readable .ensures)) (c .before .before .before .before .decode .ensures) (c .if2 .taken))
+    let a = c .before .before .before .before .before .before .before .before .before .before .args in
+    act-other (a .a) (now (a .out)) (c .before .before .before .before .before .before .before .before .before .before .pre .0)
+    (see-other (a .setting) (now (a .packet)) (sym (not-false _ (c .before .before .before .before .before .before .if1 .left)) ∙ (c .before .before .before .before .before .before .before .readable .ensures)) (c .before .before .before .before .decode .ensures) (c .if2 .taken))
 
 mul-y : tie.Need-mul-y
 mul-y c =
@@ -58,12 +60,14 @@ zero-requires c κs = search needs
 
 returns-3 : tie.Need-returns-3
 returns-3 c =
-    act-same (stateIn (c .before .before .before .before .before .before .before .before .before .before .before .before .before .args .a) (now (c .before .before .before .before .before .before .before .before .before .before .before .before .before .args .store))) (see-zero (c .before .before .before .before .before .before .before .before .before .before .before .before .before .args .setting) (now (c .before .before .before .before .before .before .before .before .before .before .before .before .before .args .packet)) (sym (not-false _ (c .before .before .before .before .before .before .before .before .before .if1 .left)) ∙ (c .before .before .before .before .before .before .before .before .before .before .readable .ensures)) (c .before .before .before .before .before .before .before .decode .ensures) (c .before .before .before .if2 .left) (c .before .before .before .before .before .decode2 .ensures) (c .before .before .if3 .taken)) (c .zero .ensures (now (c .before .before .before .before .before .before .before .before .before .before .before .before .before .args .out)))
+    let a = c .before .before .before .before .before .before .before .before .before .before .before .before .before .args in
+    act-same (stateIn (a .a) (now (a .store))) (see-zero (a .setting) (now (a .packet)) (sym (not-false _ (c .before .before .before .before .before .before .before .before .before .if1 .left)) ∙ (c .before .before .before .before .before .before .before .before .before .before .readable .ensures)) (c .before .before .before .before .before .before .before .decode .ensures) (c .before .before .before .if2 .left) (c .before .before .before .before .before .decode2 .ensures) (c .before .before .if3 .taken)) (c .zero .ensures (now (a .out)))
 
 returns-4 : tie.Need-returns-4
 returns-4 c =
-    act-other (c .before .before .before .before .before .before .before .before .before .before .before .before .args .a) (now (c .before .before .before .before .before .before .before .before .before .before .before .before .args .out)) (c .before .before .before .before .before .before .before .before .before .before .before .before .pre .0)
-    (see-over (c .before .before .before .before .before .before .before .before .before .before .before .before .args .setting) (now (c .before .before .before .before .before .before .before .before .before .before .before .before .args .packet)) (sym (not-false _ (c .before .before .before .before .before .before .before .before .if1 .left)) ∙ (c .before .before .before .before .before .before .before .before .before .readable .ensures)) (c .before .before .before .before .before .before .decode .ensures) (c .before .before .if2 .left) (c .before .before .before .before .decode2 .ensures) (c .if4 .taken))
+    let a = c .before .before .before .before .before .before .before .before .before .before .before .before .args in
+    act-other (a .a) (now (a .out)) (c .before .before .before .before .before .before .before .before .before .before .before .before .pre .0)
+    (see-over (a .setting) (now (a .packet)) (sym (not-false _ (c .before .before .before .before .before .before .before .before .if1 .left)) ∙ (c .before .before .before .before .before .before .before .before .before .readable .ensures)) (c .before .before .before .before .before .before .decode .ensures) (c .before .before .if2 .left) (c .before .before .before .before .decode2 .ensures) (c .if4 .taken))
 
 enum-told : tie.Need-enum-told
 enum-told c = search needs
@@ -78,16 +82,18 @@ row-requires c κs =
 
 returns-5 : tie.Need-returns-5
 returns-5 c =
-    act-shut (c .before .before .before .before .before .before .before .before .before .before .before .before .before .before .args .a) (now (c .before .before .before .before .before .before .before .before .before .before .before .before .before .before .args .out)) (c .before .before .before .before .before .before .before .before .before .before .before .before .before .before .pre .0)
-    (see-row (c .before .before .before .before .before .before .before .before .before .before .before .before .before .before .args .setting) (now (c .before .before .before .before .before .before .before .before .before .before .before .before .before .before .args .packet)) (sym (not-false _ (c .before .before .before .before .before .before .before .before .before .before .if1 .left)) ∙ (c .before .before .before .before .before .before .before .before .before .before .before .readable .ensures)) (c .before .before .before .before .before .before .before .before .decode .ensures) (c .before .before .before .before .if2 .left) (c .before .before .before .before .before .before .decode2 .ensures) (c .before .before .before .if3 .left) (c .before .before .if4 .left)) (c .enum-told .given .1)
+    let a = c .before .before .before .before .before .before .before .before .before .before .before .before .before .before .args in
+    act-shut (a .a) (now (a .out)) (c .before .before .before .before .before .before .before .before .before .before .before .before .before .before .pre .0)
+    (see-row (a .setting) (now (a .packet)) (sym (not-false _ (c .before .before .before .before .before .before .before .before .before .before .if1 .left)) ∙ (c .before .before .before .before .before .before .before .before .before .before .before .readable .ensures)) (c .before .before .before .before .before .before .before .before .decode .ensures) (c .before .before .before .before .if2 .left) (c .before .before .before .before .before .before .decode2 .ensures) (c .before .before .before .if3 .left) (c .before .before .if4 .left)) (c .enum-told .given .1)
 
 same-length : tie.Need-same-length
 same-length c = search needs
 
 returns-6 : tie.Need-returns-6
 returns-6 c =
-    act-row (stateIn (c .before .before .before .before .before .before .before .before .before .before .before .before .before .before .before .before .before .before .before .before .args .a) (now (c .before .before .before .before .before .before .before .before .before .before .before .before .before .before .before .before .before .before .before .before .args .store)))
-    (see-row (c .before .before .before .before .before .before .before .before .before .before .before .before .before .before .before .before .before .before .before .before .args .setting) (now (c .before .before .before .before .before .before .before .before .before .before .before .before .before .before .before .before .before .before .before .before .args .packet)) (sym (not-false _ (c .before .before .before .before .before .before .before .before .before .before .before .before .before .before .before .before .if1 .left)) ∙ (c .before .before .before .before .before .before .before .before .before .before .before .before .before .before .before .before .before .readable .ensures)) (c .before .before .before .before .before .before .before .before .before .before .before .before .before .before .decode .ensures) (c .before .before .before .before .before .before .before .before .before .before .if2 .left) (c .before .before .before .before .before .before .before .before .before .before .before .before .decode2 .ensures) (c .before .before .before .before .before .before .before .before .before .if3 .left) (c .before .before .before .before .before .before .before .before .if4 .left)) (c .before .before .before .before .before .before .page .given .1) (c .before .before .row .ensures)
+    let a = c .before .before .before .before .before .before .before .before .before .before .before .before .before .before .before .before .before .before .before .before .args in
+    act-row (stateIn (a .a) (now (a .store)))
+    (see-row (a .setting) (now (a .packet)) (sym (not-false _ (c .before .before .before .before .before .before .before .before .before .before .before .before .before .before .before .before .if1 .left)) ∙ (c .before .before .before .before .before .before .before .before .before .before .before .before .before .before .before .before .before .readable .ensures)) (c .before .before .before .before .before .before .before .before .before .before .before .before .before .before .decode .ensures) (c .before .before .before .before .before .before .before .before .before .before .if2 .left) (c .before .before .before .before .before .before .before .before .before .before .before .before .decode2 .ensures) (c .before .before .before .before .before .before .before .before .before .if3 .left) (c .before .before .before .before .before .before .before .before .if4 .left)) (c .before .before .before .before .before .before .page .given .1) (c .before .before .row .ensures)
 
 pub step-spec : {M : Type 1} → statement M
 step-spec =

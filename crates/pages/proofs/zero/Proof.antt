@@ -20,7 +20,8 @@ turn-requires c κs = search needs
 
 returns : tie.Need-returns
 returns c =
-    λ out. act-junk (stateIn (c .before .before .before .before .before .args .a) (now (c .before .before .before .before .before .args .store))) (zero-junk (c .before .before .before .before .before .args .setting) (now (c .before .before .before .before .before .args .packet)) (sym (not-true _ (c .before .before .if1 .taken)) ∙ (c .before .before .before .readable .ensures))) (c .turn .ensures out)
+    let a = c .before .before .before .before .before .args in
+    λ out. act-junk (stateIn (a .a) (now (a .store))) (zero-junk (a .setting) (now (a .packet)) (sym (not-true _ (c .before .before .if1 .taken)) ∙ (c .before .before .before .readable .ensures))) (c .turn .ensures out)
 
 shared-slice-read-decode : tie.Need-shared-slice-read-decode
 shared-slice-read-decode c = search needs
@@ -58,8 +59,9 @@ turn-requires-2 c κs = search needs
 
 returns-2 : tie.Need-returns-2
 returns-2 c =
-    λ out. act-foreign (stateIn (c .before .before .before .before .before .before .before .before .before .before .before .before .args .a) (now (c .before .before .before .before .before .before .before .before .before .before .before .before .args .store)))
-    (zero-page (c .before .before .before .before .before .before .before .before .before .before .before .before .args .setting) (now (c .before .before .before .before .before .before .before .before .before .before .before .before .args .packet)) (sym (not-false _ (c .before .before .before .before .before .before .before .before .before .if1 .left)) ∙ (c .before .before .before .before .before .before .before .before .before .before .readable .ensures)) (c .before .before .before .before .before .before .before .decode .ensures) (c .before .before .before .before .before .decode2 .ensures) (c .before .before .before .if2 .taken))
+    let a = c .before .before .before .before .before .before .before .before .before .before .before .before .args in
+    λ out. act-foreign (stateIn (a .a) (now (a .store)))
+    (zero-page (a .setting) (now (a .packet)) (sym (not-false _ (c .before .before .before .before .before .before .before .before .before .if1 .left)) ∙ (c .before .before .before .before .before .before .before .before .before .before .readable .ensures)) (c .before .before .before .before .before .before .before .decode .ensures) (c .before .before .before .before .before .decode2 .ensures) (c .before .before .before .if2 .taken))
     (c .before .before .is-incomplete .ensures) (c .turn2 .ensures out)
 
 shared-slice-read-decode-3 : tie.Need-shared-slice-read-decode-3
@@ -76,8 +78,9 @@ turn-requires-3 c κs = search needs
 
 returns-3 : tie.Need-returns-3
 returns-3 c =
-    λ out. act-foreign (stateIn (c .before .before .before .before .before .before .before .before .before .before .before .before .before .before .before .before .args .a) (now (c .before .before .before .before .before .before .before .before .before .before .before .before .before .before .before .before .args .store)))
-    (zero-stream (c .before .before .before .before .before .before .before .before .before .before .before .before .before .before .before .before .args .setting) (now (c .before .before .before .before .before .before .before .before .before .before .before .before .before .before .before .before .args .packet)) (sym (not-false _ (c .before .before .before .before .before .before .before .before .before .before .before .before .before .if1 .left)) ∙ (c .before .before .before .before .before .before .before .before .before .before .before .before .before .before .readable .ensures)) (c .before .before .before .before .before .before .before .before .before .before .before .decode .ensures) (c .before .before .before .before .before .before .before .before .before .decode2 .ensures) (c .before .before .before .before .before .before .before .if2 .left)
+    let a = c .before .before .before .before .before .before .before .before .before .before .before .before .before .before .before .before .args in
+    λ out. act-foreign (stateIn (a .a) (now (a .store)))
+    (zero-stream (a .setting) (now (a .packet)) (sym (not-false _ (c .before .before .before .before .before .before .before .before .before .before .before .before .before .if1 .left)) ∙ (c .before .before .before .before .before .before .before .before .before .before .before .before .before .before .readable .ensures)) (c .before .before .before .before .before .before .before .before .before .before .before .decode .ensures) (c .before .before .before .before .before .before .before .before .before .decode2 .ensures) (c .before .before .before .before .before .before .before .if2 .left)
     (c .before .before .before .before .before .decode3 .ensures) (c .before .before .before .if3 .taken))
     (c .before .before .is-incomplete2 .ensures) (c .turn3 .ensures out)
 
@@ -116,8 +119,9 @@ turn-requires-4 c κs = search needs
 
 returns-4 : tie.Need-returns-4
 returns-4 c =
-    λ out. act-ours (stateIn (c .before .before .before .before .before .before .before .before .before .before .before .before .before .before .before .before .before .before .before .before .before .before .before .args .a) (now (c .before .before .before .before .before .before .before .before .before .before .before .before .before .before .before .before .before .before .before .before .before .before .before .args .store)))
-    (zero-ours (c .before .before .before .before .before .before .before .before .before .before .before .before .before .before .before .before .before .before .before .before .before .before .before .args .setting) (now (c .before .before .before .before .before .before .before .before .before .before .before .before .before .before .before .before .before .before .before .before .before .before .before .args .packet)) (sym (not-false _ (c .before .before .before .before .before .before .before .before .before .before .before .before .before .before .before .before .before .before .before .before .if1 .left)) ∙ (c .before .before .before .before .before .before .before .before .before .before .before .before .before .before .before .before .before .before .before .before .before .readable .ensures)) (c .before .before .before .before .before .before .before .before .before .before .before .before .before .before .before .before .before .before .decode .ensures) (c .before .before .before .before .before .before .before .before .before .before .before .before .before .before .before .before .decode2 .ensures) (c .before .before .before .before .before .before .before .before .before .before .before .before .before .before .if2 .left)
+    let a = c .before .before .before .before .before .before .before .before .before .before .before .before .before .before .before .before .before .before .before .before .before .before .before .args in
+    λ out. act-ours (stateIn (a .a) (now (a .store)))
+    (zero-ours (a .setting) (now (a .packet)) (sym (not-false _ (c .before .before .before .before .before .before .before .before .before .before .before .before .before .before .before .before .before .before .before .before .if1 .left)) ∙ (c .before .before .before .before .before .before .before .before .before .before .before .before .before .before .before .before .before .before .before .before .before .readable .ensures)) (c .before .before .before .before .before .before .before .before .before .before .before .before .before .before .before .before .before .before .decode .ensures) (c .before .before .before .before .before .before .before .before .before .before .before .before .before .before .before .before .decode2 .ensures) (c .before .before .before .before .before .before .before .before .before .before .before .before .before .before .if2 .left)
     (c .before .before .before .before .before .before .before .before .before .before .before .before .decode3 .ensures) (c .before .before .before .before .before .before .before .before .before .before .if3 .left) (c .before .before .before .before .before .before .before .before .decode4 .ensures) (c .before .before .before .before .before .before .decode5 .ensures) (c .before .before .before .before .decode6 .ensures))
     (c .before .before .before .is-break .ensures) (c .before .before .page-of .ensures) (c .turn4 .ensures out)
 

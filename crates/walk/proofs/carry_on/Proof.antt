@@ -25,8 +25,9 @@ either-requires c κs = search needs
 
 finish-requires : tie.Need-finish-requires
 finish-requires c κs =
+    let p = c .before .before .before .before .before .before .before .before .before .before .pre in
     let t = c .before .before .before .before .before .before .take-in .ensures in
-    (holds-kept _ (t .holds), record { long = c .before .before .before .before .before .before .before .before .before .before .pre .1 .long; few = c .before .before .before .before .before .before .before .before .before .before .pre .1 .few })
+    (holds-kept _ (t .holds), record { long = p .1 .long; few = p .1 .few })
 
 same-length : tie.Need-same-length
 same-length c = search needs

@@ -45,9 +45,10 @@ body-in-requires-2 c κs = (kept-body (c .before .before .before .before .before
 
 returns : tie.Need-returns
 returns c =
+    let a = c .before .before .before .args in
     let e = c .enum-told .given .1 in
-    idle-took (now (c .before .before .before .args .s)) (now (c .before .before .before .args .s))
-    (λ p. rw e (carries-off p (now (c .before .before .before .args .s))))
+    idle-took (now (a .s)) (now (a .s))
+    (λ p. rw e (carries-off p (now (a .s))))
     (kept-idle (c .before .before .before .pre) e)
 
 returns-2 : tie.Need-returns-2
