@@ -7,20 +7,22 @@ use native.Mathlib.Omega.{arith}
 use lib.Dec.{leb, eqb}
 use lib.ListN.{getD, drop}
 use lib.Seq.{getD-drop}
-use borrow.Author.Tests.{le-leb, lt-leb, eq-eqb, ne-eqb}
+use borrow.Author.Tests.{le-leb, lt-leb, lt-ltb, leb-true, eq-eqb, ne-eqb}
 use Rattle.laws.specs.Pick.{pick, both}
+use Rattle.laws.proofs.Tests.{both-first, both-second}
 use Rattle.octet.specs.Decoding.{nib}
 use Rattle.guide.specs.declared.Setting.{Setting}
 use Rattle.pages.specs.declared.Page.{Page}
 use Rattle.pages.specs.declared.Page.the-variants.{Shut, Open}
 use Rattle.walk.specs.declared.Got.{Got}
 use Rattle.pages.specs.declared.Going.{Going}
-use Rattle.pages.specs.Seen.{Seen, junk, other, foreign, ours, row, decodes, seeZero, seeY, see, elsewhere}
+use Rattle.pages.specs.Seen.{Seen, junk, other, foreign, ours, row, decodes, seeZero, seeY, see, addressOf, elsewhere}
 use Rattle.pages.specs.Acting.{State, incomplete, breaks, wrongY, act, handed, dropped}
 use Rattle.walk.specs.Reading.{dropIf}
 use Rattle.walk.specs.Store.{modeOf}
 use Rattle.walk.specs.Holding.{Kept, ReadRow}
 use Rattle.pages.specs.Stepped.{Turned, Acted, Rowed, stateIn}
+use Rattle.pages.proofs.Seeing.{decodes-at}
 use Rattle.walk.proofs.Keeping.{holds-mode}
 use Rattle.walk.proofs.Adding.{went-nowhere, went-on, either-false}
 
@@ -52,54 +54,73 @@ module _ (s : Setting) (p : List ℕ) where
 
 -- ---- any packet
 
-module _ (s : Setting) (p : List ℕ) where
-  pub see-junk : false ≡ decodes 2 p → see s p ≡ junk
-  unfolding see
-  see-junk e = rw (← e)
+module _ (p : List ℕ) {one : ℕ} (eo : one ≡ nib (getD p 0 0)) where
+  pub address-first : one ≡ 16 → 256 ≡ addressOf p
+  unfolding addressOf decodes
+  address-first h = rw (← eo, h)
 
-  -- what is passed by is another magazine's, and its address can be decoded
-  pub not-elsewhere : false ≡ decodes 2 p → elsewhere s p ≡ false
-  unfolding elsewhere
-  not-elsewhere e = rw (← e)
+  module _ {two : ℕ} (et : two ≡ nib (getD p 1 0)) (h : one < 16) where
+    pub address-second : two ≡ 16 → 256 ≡ addressOf p
+    unfolding addressOf decodes
+    address-second k = rw (getD-drop 1 p 0 0, ← eo, ← et, lt-ltb _ _ h, k)
 
-  pub is-elsewhere :
-      true ≡ decodes 2 p → {one : ℕ} → one ≡ nib (getD p 0 0) → not (eqb (one % 8) (s .magazine % 8)) ≡ elsewhere s p
-  unfolding elsewhere
-  is-elsewhere e o = rw (← e, ← o)
+    pub address-both : two < 16 → one + 16 * two ≡ addressOf p
+    unfolding addressOf decodes
+    address-both k = rw (getD-drop 1 p 0 0, ← eo, ← et, lt-ltb _ _ h, lt-ltb _ _ k)
 
-  pub see-elsewhere : elsewhere s p ≡ true → see s p ≡ other
-  unfolding see elsewhere
-  see-elsewhere e = go (decodes 2 p) (eqb (nib (getD p 0 0) % 8) (s .magazine % 8)) e
+module _ (s : Setting) (p : List ℕ) {x : ℕ} (e : x ≡ addressOf p) where
+  pub see-junk : 255 < x → see s p ≡ junk
+  unfolding see addressOf
+  see-junk h = go (decodes 2 p) refl e
     where
-      go : (t u : Bool) → both t (not u) ≡ true
-          → pick t (pick u (seeY s (nib (getD p 0 0) / 8 + 2 * nib (getD p 1 0)) p) other) junk ≡ other
-      go false u h = cc
-      go true true h = cc
-      go true false h = refl
+      go : (t : Bool) → t ≡ decodes 2 p → x ≡ pick t (nib (getD p 0 0) + 16 * nib (getD p 1 0)) 256
+          → pick t (pick (eqb (nib (getD p 0 0) % 8) (s .magazine % 8)) (seeY s (nib (getD p 0 0) / 8 + 2 * nib (getD p 1 0)) p) other) junk ≡ junk
+      go true q f = absurd (omega (arith, decodes-at 2 0 p q (omega arith), decodes-at 2 1 p q (omega arith), f, h))
+      go false q f = refl
 
-  module _ (e : true ≡ decodes 2 p) {one : ℕ} (eo : one ≡ nib (getD p 0 0)) where
-    pub see-other : (one % 8 ≡ s .magazine % 8 → ⊥) → see s p ≡ other
-    unfolding see
-    see-other n = rw (← e, ← eo, ne-eqb _ _ n)
+  module _ (h : x ≤ 255) where
+    sees : see s p ≡ pick (eqb (x % 8) (s .magazine % 8)) (seeY s (x / 8) p) other
+    unfolding see addressOf
+    sees = go (decodes 2 p) e
+      where
+        go : (t : Bool) → x ≡ pick t (nib (getD p 0 0) + 16 * nib (getD p 1 0)) 256
+            → pick t (pick (eqb (nib (getD p 0 0) % 8) (s .magazine % 8)) (seeY s (nib (getD p 0 0) / 8 + 2 * nib (getD p 1 0)) p) other) junk
+            ≡ pick (eqb (x % 8) (s .magazine % 8)) (seeY s (x / 8) p) other
+        go true f =
+            let u : x % 8 ≡ nib (getD p 0 0) % 8 = omega (arith, f) in
+            let v : x / 8 ≡ nib (getD p 0 0) / 8 + 2 * nib (getD p 1 0) = omega (arith, f) in
+            rw (u, v)
+        go false f = absurd (omega (arith, f, h))
 
-    module _ (q : one % 8 ≡ s .magazine % 8) {two : ℕ} (et : two ≡ nib (getD p 1 0)) where
-      pub see-y : see s p ≡ seeY s (one / 8 + 2 * two) p
-      unfolding see
-      see-y = rw (← e, ← eo, ← et, eq-eqb _ _ q)
+    pub see-other : (x % 8 ≡ s .magazine % 8 → ⊥) → see s p ≡ other
+    see-other n = sees ∙ rw (ne-eqb _ _ n)
 
-      pub see-zero : one / 8 + 2 * two ≡ 0 → see s p ≡ seeZero s (drop 2 p)
+    module _ (q : x % 8 ≡ s .magazine % 8) where
+      see-y : see s p ≡ seeY s (x / 8) p
+      see-y = sees ∙ rw (eq-eqb _ _ q)
+
+      pub see-zero : x / 8 ≡ 0 → see s p ≡ seeZero s (drop 2 p)
       unfolding seeY
-      see-zero h = see-y ∙ rw (eq-eqb _ _ h)
+      see-zero z = see-y ∙ rw (eq-eqb _ _ z)
 
-      pub see-over : 25 < one / 8 + 2 * two → see s p ≡ other
+      pub see-over : 25 < x / 8 → see s p ≡ other
       unfolding seeY
-      see-over h = let n : one / 8 + 2 * two ≡ 0 → ⊥ = λ r. omega arith in see-y ∙ rw (ne-eqb _ _ n, lt-leb _ _ h)
+      see-over z = let n : x / 8 ≡ 0 → ⊥ = λ r. omega arith in see-y ∙ rw (ne-eqb _ _ n, lt-leb _ _ z)
 
-      pub see-row :
-          (one / 8 + 2 * two ≡ 0 → ⊥) → one / 8 + 2 * two ≤ 25
-          → see s p ≡ row (one / 8 + 2 * two) (nib (getD p 2 0)) (drop 3 p)
+      pub see-row : (x / 8 ≡ 0 → ⊥) → x / 8 ≤ 25 → see s p ≡ row (x / 8) (nib (getD p 2 0)) (drop 3 p)
       unfolding seeY
-      see-row n h = see-y ∙ rw (ne-eqb _ _ n, le-leb _ _ h)
+      see-row n z = see-y ∙ rw (ne-eqb _ _ n, le-leb _ _ z)
+
+  -- what is passed by is another magazine's
+  pub see-elsewhere : elsewhere s x ≡ true → see s p ≡ other
+  unfolding elsewhere
+  see-elsewhere t =
+      let m = eqb (x % 8) (s .magazine % 8) in
+      sees (leb-true _ _ (both-first (leb x 255) (not m) t)) ∙ go m (both-second (leb x 255) (not m) t)
+    where
+      go : (t : Bool) → not t ≡ true → pick t (seeY s (x / 8) p) other ≡ other
+      go true k = cc
+      go false k = refl
 
 -- ---- what each does
 

@@ -44,6 +44,10 @@ see s p =
     let two = nib (getD p 1 0) in
     pick (decodes 2 p) (pick (eqb (one % 8) (s .magazine % 8)) (seeY s (one / 8 + 2 * two) p) other) junk
 
--- a packet whose address can be decoded and is another magazine's
-unfoldable pub elsewhere : Setting → List ℕ → Bool
-elsewhere s p = both (decodes 2 p) (not (eqb (nib (getD p 0 0) % 8) (s .magazine % 8)))
+-- a packet's address as one number, the magazine modulo 8 lowest and Y above it; over 255 where it can't be decoded
+unfoldable pub addressOf : List ℕ → ℕ
+addressOf p = pick (decodes 2 p) (nib (getD p 0 0) + 16 * nib (getD p 1 0)) 256
+
+-- an address that can be decoded and is another magazine's
+unfoldable pub elsewhere : Setting → ℕ → Bool
+elsewhere s address = both (leb address 255) (not (eqb (address % 8) (s .magazine % 8)))

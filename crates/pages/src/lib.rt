@@ -13,7 +13,7 @@ ghost use Rattle.octet.specs.Decoding.{nib};
 ghost use Rattle.guide.specs.Packet.{packetLength};
 ghost use Rattle.walk.specs.Holding.{Kept, RowRoom};
 ghost use Rattle.pages.specs.declared.Page.the-variants.{Shut, Open};
-ghost use Rattle.pages.specs.Seen.{decodes, seeZero, see, elsewhere};
+ghost use Rattle.pages.specs.Seen.{decodes, seeZero, see, addressOf, elsewhere};
 ghost use Rattle.pages.specs.Acting.{incomplete, wrongY};
 ghost use Rattle.pages.specs.Stepped.{Turned, Acted, Rowed, stateIn};
 
@@ -36,24 +36,23 @@ pub struct Going {
 pub fn step(
     setting: Setting,
     a: Going,
+    address: usize,
     store: &mut [u8; 2047],
     packet: &[u8],
     out: &mut [u8],
 ) -> Going
     requires { ⌜ Kept (a .got .run) (now store) ⌝ }
-    requires { ⌜ length (now packet) ≡ packetLength ⌝ }
+    requires { ⌜ (length (now packet) ≡ packetLength) × (address ≡ addressOf (now packet)) ⌝ }
     requires { ⌜ RowRoom (a .got) (now out) ⌝ }
     ensures { λ r. ⌜ Acted (see setting (now (packet .entry))) (stateIn a (now (store .entry))) a r (now (store .exit)) (now (out .entry)) (now (out .exit)) ⌝ }
 {
-    if !readable(packet, 0, 2) {
+    if 255 < address {
         return turn(a, true, Page::Shut, a.index, store);
     }
-    let one = quick::decode(packet[0]);
-    let two = quick::decode(packet[1]);
-    if one % 8 != setting.magazine % 8 {
+    if address % 8 != (setting.magazine % 8) as usize {
         return a;
     }
-    let y = one / 8 + 2 * two;
+    let y = (address / 8) as u8;
     if y == 0 {
         return zero(setting, a, store, packet);
     }
@@ -67,15 +66,30 @@ pub fn step(
     }
 }
 
-// Whether a packet is another magazine's, as its address says: it leaves a reader as it was, and no state has to be handed on.
-pub fn passes_by(setting: Setting, packet: &[u8]) -> bool
+// A packet's address: the magazine modulo 8, and Y times 8; 256 where it can't be decoded.
+pub fn address(packet: &[u8]) -> usize
     requires { ⌜ length (now packet) ≡ packetLength ⌝ }
-    ensures { λ r. ⌜ r ≡ elsewhere setting (now (packet .entry)) ⌝ }
+    ensures { λ r. ⌜ r ≡ addressOf (now (packet .entry)) ⌝ }
 {
-    if readable(packet, 0, 2) {
-        return quick::decode(packet[0]) % 8 != setting.magazine % 8;
+    let one = quick::decode(packet[0]);
+    if one == 16 {
+        return 256;
     }
-    false
+    let two = quick::decode(packet[1]);
+    if two == 16 {
+        return 256;
+    }
+    one as usize + 16 * two as usize
+}
+
+// Whether an address is another magazine's: such a packet leaves a reader as it was, so that no state has to be handed on.
+pub fn passes_by(setting: Setting, address: usize) -> bool
+    ensures { λ r. ⌜ r ≡ elsewhere setting address ⌝ }
+{
+    if address > 255 {
+        return false;
+    }
+    address % 8 != (setting.magazine % 8) as usize
 }
 
 // A packet 0 of our magazine.

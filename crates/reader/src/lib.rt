@@ -196,10 +196,11 @@ fn take_all(
         let from = at;
         at += 42;
         count += 1;
-        if pages::passes_by(setting, &packets[from..at]) {
+        let address = pages::address(&packets[from..at]);
+        if pages::passes_by(setting, address) {
             continue;
         }
-        a = pages::step(setting, a, store, &packets[from..at], out);
+        a = pages::step(setting, a, address, store, &packets[from..at], out);
     }
     Taking {
         going: a,

@@ -62,29 +62,32 @@ add-at c = search needs
 add-count : tie.Need-add-count Inv-loop μ-loop
 add-count c = search needs
 
-sub-passes-by : tie.Need-sub-passes-by Inv-loop μ-loop
-sub-passes-by c = search needs
+sub-address : tie.Need-sub-address Inv-loop μ-loop
+sub-address c = search needs
 
-part-passes-by-start : tie.Need-part-passes-by-start Inv-loop μ-loop
-part-passes-by-start c = search needs
+part-address-start : tie.Need-part-address-start Inv-loop μ-loop
+part-address-start c = search needs
 
-part-passes-by-end : tie.Need-part-passes-by-end Inv-loop μ-loop
-part-passes-by-end c = search needs
+part-address-end : tie.Need-part-address-end Inv-loop μ-loop
+part-address-end c = search needs
+
+address-requires : tie.Need-address-requires Inv-loop μ-loop
+address-requires c κs = packet-length (now (c .before .before .before .before .before .before .before .args .packets)) (c .before .before .before .before .loop .at) (omega arith)
 
 passes-by-requires : tie.Need-passes-by-requires Inv-loop μ-loop
-passes-by-requires c κs = packet-length (now (c .before .before .before .before .before .before .before .args .packets)) (c .before .before .before .before .loop .at) (omega arith)
+passes-by-requires c κs = search needs
 
 loop-less : tie.Need-loop-less Inv-loop μ-loop
 loop-less c = search needs
 
 loop-again : tie.Need-loop-again Inv-loop μ-loop
 loop-again c =
-    let a = c .before .before .before .before .before .before .before .before .before .args in
-    let l = c .before .before .before .before .before .before .loop in
+    let a = c .before .before .before .before .before .before .before .before .before .before .args in
+    let l = c .before .before .before .before .before .before .before .loop in
     let w = l .inv .6 .1 in
     let h : l .at + 42 ≤ length (now (a .packets)) = omega arith in
     let p = take (l .at + 42 - l .at) (drop (l .at) (now (a .packets))) in
-    let o = see-elsewhere (a .setting) p (sym (c .before .passes-by .ensures) ∙ c .if2 .taken) in (
+    let o = see-elsewhere (a .setting) p (c .before .before .address .ensures) (sym (c .before .passes-by .ensures) ∙ c .if2 .taken) in (
       h,
       omega arith,
       l .inv .2,
@@ -92,7 +95,7 @@ loop-again c =
       l .inv .4,
       omega arith,
       further (a .setting) (length (now (a .out))) (now (a .packets)) (l .at) (l .inv .6 .0) w h
-          (omega (arith, w .written, l .inv .2, l .inv .3, c .before .before .before .if1 .left))
+          (omega (arith, w .written, l .inv .2, l .inv .3, c .before .before .before .before .if1 .left))
           (act-other (l .a) (l .out) (holds-kept _ (w .holds)) o) (l .inv .6 .2),
     )
 
@@ -107,12 +110,12 @@ part-step-end c = search needs
 
 step-requires : tie.Need-step-requires Inv-loop μ-loop
 step-requires c κs =
-    let l = c .before .before .before .before .before .before .before .before .before .loop in
+    let l = c .before .before .before .before .before .before .before .before .before .before .loop in
     let w = l .inv .6 .1 in (
       holds-kept _ (w .holds),
       (
-        packet-length (now (c .before .before .before .before .before .before .before .before .before .before .before .before .args .packets)) (l .at) (omega arith),
-        record { long = omega (arith, l .inv .2, l .inv .3, c .before .before .before .before .before .before .if1 .left); few = l .inv .4 },
+        (packet-length (now (c .before .before .before .before .before .before .before .before .before .before .before .before .before .args .packets)) (l .at) (omega arith), c .before .before .before .before .before .address .ensures),
+        record { long = omega (arith, l .inv .2, l .inv .3, c .before .before .before .before .before .before .before .if1 .left); few = l .inv .4 },
       ),
     )
 
@@ -121,8 +124,8 @@ loop-less-2 c = search needs
 
 loop-again-2 : tie.Need-loop-again-2 Inv-loop μ-loop
 loop-again-2 c =
-    let a = c .before .before .before .before .before .before .before .before .before .before .before .before .before .before .before .args in
-    let l = c .before .before .before .before .before .before .before .before .before .before .before .before .loop in
+    let a = c .before .before .before .before .before .before .before .before .before .before .before .before .before .before .before .before .args in
+    let l = c .before .before .before .before .before .before .before .before .before .before .before .before .before .loop in
     let w = l .inv .6 .1 in
     let x = c .before .before .step .ensures in
     let h : l .at + 42 ≤ length (now (a .packets)) = omega arith in
@@ -130,12 +133,12 @@ loop-again-2 c =
     let g = still-room (a .setting) p (stateIn (l .a) (l .store)) (holds-kept _ (w .holds) .good) (packet-length (now (a .packets)) (l .at) h) x (l .inv .4) in (
       h,
       omega arith,
-      c .before .before .step .kept .1 .1 .1 .1 .0 ∙ l .inv .2,
-      omega (arith, g .0, c .before .before .before .before .before .before .before .before .before .if1 .left, l .inv .2, l .inv .3),
+      c .before .before .step .kept .1 .1 .1 .1 .1 .0 ∙ l .inv .2,
+      omega (arith, g .0, c .before .before .before .before .before .before .before .before .before .before .if1 .left, l .inv .2, l .inv .3),
       g .1,
       omega arith,
       further (a .setting) (length (now (a .out))) (now (a .packets)) (l .at) (l .inv .6 .0) w h
-          (omega (arith, w .written, l .inv .2, l .inv .3, c .before .before .before .before .before .before .before .before .before .if1 .left)) x (l .inv .6 .2),
+          (omega (arith, w .written, l .inv .2, l .inv .3, c .before .before .before .before .before .before .before .before .before .before .if1 .left)) x (l .inv .6 .2),
     )
 
 same-length-2 : tie.Need-same-length-2 Inv-loop μ-loop
@@ -161,9 +164,10 @@ take-all-spec =
     returns
     add-at
     add-count
-    sub-passes-by
-    part-passes-by-start
-    part-passes-by-end
+    sub-address
+    part-address-start
+    part-address-end
+    address-requires
     passes-by-requires
     loop-less
     loop-again
