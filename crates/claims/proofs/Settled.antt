@@ -38,6 +38,8 @@ use Rattle.walk.proofs.lose.Reads as walk·lose
 use Rattle.pages.specs.declared.Page.{Page}
 use Rattle.pages.specs.declared.Going.{Going}
 use Rattle.pages.proofs.step.Reads as pages·step
+use Rattle.pages.proofs.address.Reads as pages·address
+use Rattle.pages.proofs.passes_by.Reads as pages·passes-by
 use Rattle.reader.proofs.fresh.Reads as reader·fresh
 use Rattle.reader.proofs.feed.Reads as reader·feed
 use Rattle.reader.proofs.feed_all.Reads as reader·feed-all
@@ -137,10 +139,16 @@ walk·lose-settled κs a x y s t p q = let w = went-settled (p []) (q []) in (w 
 
 pub pages·step-settled :
     (κs : _) (a : _) (x y : _) (s t : _) → pages·step.Post κs a x s → pages·step.Post κs a y t
-    → (x ≡ y) × (now (s .1 .1 .0) ≡ now (t .1 .1 .0)) × (now (s .1 .1 .1 .1 .0) ≡ now (t .1 .1 .1 .1 .0))
+    → (x ≡ y) × (now (s .1 .1 .1 .0) ≡ now (t .1 .1 .1 .0)) × (now (s .1 .1 .1 .1 .1 .0) ≡ now (t .1 .1 .1 .1 .1 .0))
 pages·step-settled κs a x y s t p q =
     let w = went-settled (p .went) (q .went) in
     (same-going (same (p .page) (q .page)) (same (p .index) (q .index)) (w .0), w .1, w .2)
+
+pub pages·address-settled : (κs : _) (a : _) (x y : _) (s t : _) → pages·address.Post κs a x s → pages·address.Post κs a y t → x ≡ y
+pages·address-settled κs a x y s t p q = same p q
+
+pub pages·passes-by-settled : (κs : _) (a : _) (x y : _) (s t : _) → pages·passes-by.Post κs a x s → pages·passes-by.Post κs a y t → x ≡ y
+pages·passes-by-settled κs a x y s t p q = same p q
 
 -- ---- the reader
 
