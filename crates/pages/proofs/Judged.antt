@@ -5,7 +5,7 @@ use mathlib.Core.List.{List}
 use Prim.Native.Nat.{ℕ, _+_, _*_, _/_, _%_, _≤_, _<_}
 use native.Mathlib.Omega.{arith}
 use lib.Dec.{leb, eqb}
-use lib.ListN.{getD, drop}
+use lib.ListN.{length, getD, drop}
 use lib.Seq.{getD-drop}
 use borrow.Author.Tests.{le-leb, lt-leb, lt-ltb, leb-true, eq-eqb, ne-eqb}
 use Rattle.laws.specs.Pick.{pick, both}
@@ -54,24 +54,33 @@ module _ (s : Setting) (p : List ℕ) where
 
 -- ---- any packet
 
-module _ (p : List ℕ) {one : ℕ} (eo : one ≡ nib (getD p 0 0)) where
-  pub address-first : one ≡ 16 → 256 ≡ addressOf p
-  unfolding addressOf decodes
-  address-first h = rw (← eo, h)
+pub address-short : (p : List ℕ) → length p < 2 → 256 ≡ addressOf p
+unfolding addressOf
+address-short p h = rw (lt-leb _ _ h)
 
-  module _ {two : ℕ} (et : two ≡ nib (getD p 1 0)) (h : one < 16) where
-    pub address-second : two ≡ 16 → 256 ≡ addressOf p
-    unfolding addressOf decodes
-    address-second k = rw (getD-drop 1 p 0 0, ← eo, ← et, lt-ltb _ _ h, k)
+module _ (p : List ℕ) (long : 2 ≤ length p) where
+  address-long : addressOf p ≡ pick (decodes 2 p) (nib (getD p 0 0) + 16 * nib (getD p 1 0)) 256
+  unfolding addressOf
+  address-long = rw (le-leb _ _ long)
 
-    pub address-both : two < 16 → one + 16 * two ≡ addressOf p
-    unfolding addressOf decodes
-    address-both k = rw (getD-drop 1 p 0 0, ← eo, ← et, lt-ltb _ _ h, lt-ltb _ _ k)
+  module _ {one : ℕ} (eo : one ≡ nib (getD p 0 0)) where
+    pub address-first : one ≡ 16 → 256 ≡ addressOf p
+    unfolding decodes
+    address-first h = rw (address-long, ← eo, h)
 
-module _ (s : Setting) (p : List ℕ) {x : ℕ} (e : x ≡ addressOf p) where
+    module _ {two : ℕ} (et : two ≡ nib (getD p 1 0)) (h : one < 16) where
+      pub address-second : two ≡ 16 → 256 ≡ addressOf p
+      unfolding decodes
+      address-second k = rw (address-long, getD-drop 1 p 0 0, ← eo, ← et, lt-ltb _ _ h, k)
+
+      pub address-both : two < 16 → one + 16 * two ≡ addressOf p
+      unfolding decodes
+      address-both k = rw (address-long, getD-drop 1 p 0 0, ← eo, ← et, lt-ltb _ _ h, lt-ltb _ _ k)
+
+module _ (s : Setting) (p : List ℕ) (long : 2 ≤ length p) {x : ℕ} (e : x ≡ addressOf p) where
   pub see-junk : 255 < x → see s p ≡ junk
-  unfolding see addressOf
-  see-junk h = go (decodes 2 p) refl e
+  unfolding see
+  see-junk h = go (decodes 2 p) refl (e ∙ address-long p long)
     where
       go : (t : Bool) → t ≡ decodes 2 p → x ≡ pick t (nib (getD p 0 0) + 16 * nib (getD p 1 0)) 256
           → pick t (pick (eqb (nib (getD p 0 0) % 8) (s .magazine % 8)) (seeY s (nib (getD p 0 0) / 8 + 2 * nib (getD p 1 0)) p) other) junk ≡ junk
@@ -80,8 +89,8 @@ module _ (s : Setting) (p : List ℕ) {x : ℕ} (e : x ≡ addressOf p) where
 
   module _ (h : x ≤ 255) where
     sees : see s p ≡ pick (eqb (x % 8) (s .magazine % 8)) (seeY s (x / 8) p) other
-    unfolding see addressOf
-    sees = go (decodes 2 p) e
+    unfolding see
+    sees = go (decodes 2 p) (e ∙ address-long p long)
       where
         go : (t : Bool) → x ≡ pick t (nib (getD p 0 0) + 16 * nib (getD p 1 0)) 256
             → pick t (pick (eqb (nib (getD p 0 0) % 8) (s .magazine % 8)) (seeY s (nib (getD p 0 0) / 8 + 2 * nib (getD p 1 0)) p) other) junk

@@ -3,7 +3,7 @@ use mathlib.Core.Bool.{Bool, true, not}
 use mathlib.Core.List.{List}
 use Prim.Native.Nat.{ℕ, zero, suc, _+_, _*_, _/_, _%_}
 use lib.Dec.{eqb, leb, ltb}
-use lib.ListN.{getD, drop}
+use lib.ListN.{length, getD, drop}
 use Rattle.laws.specs.Pick.{pick, both}
 use Rattle.octet.specs.Decoding.{nib, undecodable}
 use Rattle.guide.specs.declared.Setting.{Setting}
@@ -44,9 +44,9 @@ see s p =
     let two = nib (getD p 1 0) in
     pick (decodes 2 p) (pick (eqb (one % 8) (s .magazine % 8)) (seeY s (one / 8 + 2 * two) p) other) junk
 
--- a packet's address as one number, the magazine modulo 8 lowest and Y above it; over 255 where it can't be decoded
+-- a packet's address as one number, the magazine modulo 8 lowest and Y above it; over 255 where there is none that can be decoded
 unfoldable pub addressOf : List ℕ → ℕ
-addressOf p = pick (decodes 2 p) (nib (getD p 0 0) + 16 * nib (getD p 1 0)) 256
+addressOf p = pick (both (leb 2 (length p)) (decodes 2 p)) (nib (getD p 0 0) + 16 * nib (getD p 1 0)) 256
 
 -- an address that can be decoded and is another magazine's
 unfoldable pub elsewhere : Setting → ℕ → Bool

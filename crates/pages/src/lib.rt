@@ -66,11 +66,13 @@ pub fn step(
     }
 }
 
-// A packet's address: the magazine modulo 8, and Y times 8; 256 where it can't be decoded.
+// A packet's address: the magazine modulo 8, and Y times 8; 256 where there is none that can be decoded.
 pub fn address(packet: &[u8]) -> usize
-    requires { ⌜ length (now packet) ≡ packetLength ⌝ }
     ensures { λ r. ⌜ r ≡ addressOf (now (packet .entry)) ⌝ }
 {
+    if packet.len() < 2 {
+        return 256;
+    }
     let one = quick::decode(packet[0]);
     if one == 16 {
         return 256;

@@ -72,7 +72,7 @@ part-address-end : tie.Need-part-address-end Inv-loop μ-loop
 part-address-end c = search needs
 
 address-requires : tie.Need-address-requires Inv-loop μ-loop
-address-requires c κs = packet-length (now (c .before .before .before .before .before .before .before .args .packets)) (c .before .before .before .before .loop .at) (omega arith)
+address-requires c κs = search needs
 
 passes-by-requires : tie.Need-passes-by-requires Inv-loop μ-loop
 passes-by-requires c κs = search needs
@@ -87,7 +87,7 @@ loop-again c =
     let w = l .inv .6 .1 in
     let h : l .at + 42 ≤ length (now (a .packets)) = omega arith in
     let p = take (l .at + 42 - l .at) (drop (l .at) (now (a .packets))) in
-    let o = see-elsewhere (a .setting) p (c .before .before .address .ensures) (sym (c .before .passes-by .ensures) ∙ c .if2 .taken) in (
+    let o = see-elsewhere (a .setting) p (omega (arith, packet-length (now (a .packets)) (l .at) h)) (c .before .before .address .ensures) (sym (c .before .passes-by .ensures) ∙ c .if2 .taken) in (
       h,
       omega arith,
       l .inv .2,
