@@ -2,10 +2,11 @@
 ghost use mathlib.Core.Path.{_≡_};
 ghost use mathlib.Core.List.{_∷_, [], _++_};
 ghost use Prim.Native.Nat.{_+_, _*_, _/_, _%_, _<_, _≤_};
+ghost use lib.Dec.{ltb};
 ghost use lib.ListN.{length, getD, drop};
 ghost use Rattle.answer.specs.Writing.{answered, left};
 ghost use Rattle.table.specs.Tables.{per};
-ghost use Rattle.table.specs.Form.{spelled, wordsIn, tableIn};
+ghost use Rattle.table.specs.Form.{spelled, form, wordsIn, tableIn};
 ghost use Rattle.table.specs.Writing.{formRules};
 ghost use Rattle.listing.specs.Lines.{place as Lines·place, decimal, digit as Lines·digit, hexed, letter as Lines·letter, letters as Lines·letters, numberLine, kindLine, languageOf, languageLine, pageLine, entryLines, descriptorLine, headLines, descriptorLinesOf, linesOf, linesFrom};
 ghost use Rattle.listing.specs.Putting.{Put, reach};
@@ -46,14 +47,24 @@ fn list(table: &[u8], head: bool, out: &mut [u8]) -> Answer
     match table::judge_form(table) {
         Answer::Refused(why) => Answer::Refused(why),
         Answer::Done(_) => {
-            let need = measure(table, head);
-            if out.len() < need {
+            if is_short(table, head, out.len()) {
                 return Answer::Refused(Refusal { no: 1, at: 0 });
             }
-            put_lines(table, head, out);
-            Answer::Done(need)
+            Answer::Done(put_lines(table, head, out))
         }
     }
+}
+
+// Whether the lines are longer than the room. Nine bytes for each of the form are always enough, and the
+// lines are then not measured.
+fn is_short(table: &[u8], head: bool, room: usize) -> bool
+    requires { ⌜ length (now table) ≡ length (form (tableIn (now table))) ⌝ }
+    ensures { λ r. ⌜ r ≡ ltb room (length (linesFrom head (tableIn (now (table .entry))))) ⌝ }
+{
+    if table.len() <= room / 9 {
+        return false;
+    }
+    room < measure(table, head)
 }
 
 // How long the lines are: the walk that writes them, with next to no room.

@@ -1,15 +1,18 @@
 -- `listing::list` meets its contract: `judge_form` says which rule refuses, then the room decides. Assumes nothing.
 use borrow.Author.Needs.{needs}
+use borrow.Author.Tests.{ltb-true, ltb-false}
 use mathlib.Core.List.{List}
-use mathlib.Core.Path.{_∙_, ap}
+use mathlib.Core.Path.{_∙_, sym, ap}
 use Prim.Native.Nat.{ℕ}
-use native.Mathlib.Omega.{arith}
+use native.Mathlib.Nat.{zero-add}
 use denote.Ref.{now}
 use Rattle.answer.proofs.Lent.{lent-refused, lent-short, lent-done}
 use Rattle.answer.specs.declared.Answer.the-variants.{Done}
+use Rattle.table.specs.Tables.{bits}
 use Rattle.table.specs.Form.{tableIn}
 use Rattle.table.specs.Writing.{formRules}
 use Rattle.listing.specs.Lines.{linesFrom}
+use Rattle.listing.proofs.Room.{judged-long}
 use Rattle.listing.proofs.list.Statement.{statement}
 use Rattle.listing.proofs.list.Tie as tie
 
@@ -22,14 +25,16 @@ enum-known-why c = search needs
 enum-told : tie.Need-enum-told
 enum-told c = search needs
 
-measure-requires : tie.Need-measure-requires
-measure-requires c κs = search needs
+is-short-requires : tie.Need-is-short-requires
+is-short-requires c κs =
+    let f : List ℕ = now (c .before .before .before .before .before .args .table) in
+    judged-long f (bits (tableIn f)) _ (sym (c .before .before .judge-form .ensures) ∙ c .enum-told .given .1)
 
 returns : tie.Need-returns
 returns c =
     let a = c .before .before .before .before .before .before .before .args in
     let f : List ℕ = now (a .table) in
-    lent-short (formRules f) (linesFrom (a .head) (tableIn f)) (now (a .out)) _ (c .before .before .before .before .judge-form .ensures) (c .before .before .enum-told .given .1) (omega (arith, c .before .measure .ensures))
+    lent-short (formRules f) (linesFrom (a .head) (tableIn f)) (now (a .out)) _ (c .before .before .before .before .judge-form .ensures) (c .before .before .enum-told .given .1) (ltb-true _ _ (sym (c .before .is-short .ensures) ∙ c .if1 .taken))
 
 put-lines-requires : tie.Need-put-lines-requires
 put-lines-requires c κs = search needs
@@ -47,9 +52,9 @@ returns-3 : tie.Need-returns-3
 returns-3 c =
     let a = c .before .before .before .before .before .before .before .before .before .before .before .args in
     let f : List ℕ = now (a .table) in
-    let n = c .before .before .before .before .before .measure .ensures in
-    let p = lent-done (formRules f) (linesFrom (a .head) (tableIn f)) (now (a .out)) _ (c .before .before .before .before .before .before .before .before .judge-form .ensures) (c .before .before .before .before .before .before .enum-told .given .1) (omega (arith, n)) in
-    (ap Done n ∙ p .0, c .before .before .put-lines .ensures .stored ∙ p .1)
+    let w = c .before .before .put-lines .ensures in
+    let p = lent-done (formRules f) (linesFrom (a .head) (tableIn f)) (now (a .out)) _ (c .before .before .before .before .before .before .before .before .judge-form .ensures) (c .before .before .before .before .before .before .enum-told .given .1) (ltb-false _ _ (sym (c .before .before .before .before .before .is-short .ensures) ∙ c .before .before .before .before .if1 .left)) in
+    (ap Done (w .moved ∙ zero-add _) ∙ p .0, w .stored ∙ p .1)
 
 pub list-spec : {M : Type 1} → statement M
 list-spec =
@@ -58,7 +63,7 @@ list-spec =
     judge-form-requires
     enum-known-why
     enum-told
-    measure-requires
+    is-short-requires
     returns
     put-lines-requires
     returns-2
