@@ -20,7 +20,8 @@ sys.path[:0] = [str(HERE.parent / "tests"), str(HERE.parent / "tests" / "judge")
 import samples
 from cases import reader as reader_cases
 from cases import table as table_cases
-from cases.form import Dice, Script, line
+from cases.form import Dice, Script
+from cases.guide import Readers
 from cases.reader import Air
 from model import guide, pes
 from model.listing import DESK
@@ -56,23 +57,6 @@ def mixed(dice, packets):
 def lines(dice):
     frames = [b"".join(bytes([0x02, 0xE0 | line]) + dice.bytes(42) for line in range(7, 22)) for _ in range(200)]
     return b"".join(stamped(pes.write(0x10, frame)) for frame in frames)
-
-
-class Readers:
-    """Op 20: a fresh reader, kept for the ops 21 that follow."""
-
-    def fresh(self, payload, room):
-        self.reader = guide.Reader(guide.Setting(*payload[:4]))
-        return line(lambda: b"")
-
-    def feed(self, payload, room):
-        heard = guide.Heard(b"", 0, False)
-
-        def call():
-            nonlocal heard
-            heard = self.reader.feed(payload, room)
-            return heard.records
-        return line(call) + f" blocks={heard.blocks} dropped={'yes' if heard.dropped else 'no'}"
 
 
 def reader_script():
