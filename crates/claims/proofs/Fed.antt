@@ -17,13 +17,13 @@ use Rattle.guide.specs.Setting.{inRange}
 use Rattle.guide.proofs.Numbering.{FortyTwo, more}
 use Rattle.reader.specs.declared.Reader.{Reader}
 use Rattle.pages.specs.Seen.{see}
-use Rattle.pages.specs.Acting.{State, act, handed}
+use Rattle.pages.specs.Acting.{State, act, handed, dropped}
 use Rattle.reader.specs.State.{stateOf, readerOf, readerInRange}
 use Rattle.reader.specs.Feeding.{feedHeard, feedReader, feedOut, handedBytes}
 use Rattle.reader.proofs.Ranging.{Sound, sound-after, state-held, reader-in-range}
 use Rattle.reader.proofs.Sizing.{handed-sized}
 use Rattle.claims.specs.Carrying.{heardBlocks}
-use Rattle.claims.specs.Feeding.{Call, packetsOf, writtenOf, comesOut}
+use Rattle.claims.specs.Feeding.{Call, packetsOf, writtenOf, comesOut, droppedOf}
 
 module _ (s : Setting) (r : Reader) (p old : List ℕ) (a : inRange s ≡ true) (b : readerInRange r ≡ true) (c : length p ≡ 42) (d : 2112 ≤ length old) where
   -- a packet of 42 bytes, with setting and state in range and room, is taken
@@ -36,32 +36,42 @@ module _ (s : Setting) (r : Reader) (p old : List ℕ) (a : inRange s ≡ true) 
   taken-out : feedOut s r p old ≡ handedBytes s (stateOf r) p ++ drop (length (handedBytes s (stateOf r) p)) old
   taken-out = rw (a, b, eq-eqb (length p) 42 c, le-leb 2112 (length old) d)
 
+  taken-drops : droppedOf (feedHeard s r p old) ≡ dropped (stateOf r) (see s p)
+  taken-drops = rw (a, b, eq-eqb (length p) 42 c, le-leb 2112 (length old) d)
+
+-- a call to a reader whose state is sound
+module _ (s : Setting) (a : inRange s ≡ true) (st : State) (r : Sound st) (c : Call) (l : length (c .packet) ≡ 42) where
+  b : readerInRange (readerOf st) ≡ true
+  b = reader-in-range st r
+
+  held : stateOf (readerOf st) ≡ st
+  held = state-held st r
+
+  pub call-reader : feedReader s (readerOf st) (c .packet) (c .lent) ≡ readerOf (act st (see s (c .packet)))
+  call-reader =
+      taken-reader s (readerOf st) (c .packet) (c .lent) a b l (c .enough)
+      ∙ ap (λ (x : State). readerOf (act x (see s (c .packet)))) held
+
+  pub call-blocks :
+      blocks (take (writtenOf (feedHeard s (readerOf st) (c .packet) (c .lent))) (feedOut s (readerOf st) (c .packet) (c .lent)))
+      ≡ handed st (see s (c .packet))
+  call-blocks =
+      ap₂ (λ (n : ℕ) (x : List ℕ). blocks (take n x)) (taken-written s (readerOf st) (c .packet) (c .lent) a b l (c .enough))
+      (taken-out s (readerOf st) (c .packet) (c .lent) a b l (c .enough))
+      ∙ ap blocks (take-append-seam (handedBytes s (stateOf (readerOf st)) (c .packet)) _)
+      ∙ ap (λ (x : State). blocks (handedBytes s x (c .packet))) held
+      ∙ blocks-records (handed-sized st (see s (c .packet)) r)
+
+  pub call-drops : droppedOf (feedHeard s (readerOf st) (c .packet) (c .lent)) ≡ dropped st (see s (c .packet))
+  call-drops =
+      taken-drops s (readerOf st) (c .packet) (c .lent) a b l (c .enough) ∙ ap (λ (x : State). dropped x (see s (c .packet))) held
+
 pub fed-blocks :
     (s : Setting) → inRange s ≡ true → (st : State) → Sound st → (cs : List Call) → FortyTwo (packetsOf cs)
     → comesOut s (readerOf st) cs ≡ heardBlocks s st (packetsOf cs)
 unfolding packetsOf comesOut heardBlocks
 fed-blocks s a st r [] e = refl
 fed-blocks s a st r (c ∷ cs) (more l e) =
-    ap₂ (λ (x y : List Block). x ++ y) one
-    (ap (λ (x : Reader). comesOut s x cs) next ∙ fed-blocks s a (act st (see s (c .packet))) (sound-after s st (c .packet) r) cs e)
-  where
-    b : readerInRange (readerOf st) ≡ true
-    b = reader-in-range st r
-
-    held : stateOf (readerOf st) ≡ st
-    held = state-held st r
-
-    next : feedReader s (readerOf st) (c .packet) (c .lent) ≡ readerOf (act st (see s (c .packet)))
-    next =
-        taken-reader s (readerOf st) (c .packet) (c .lent) a b l (c .enough)
-        ∙ ap (λ (x : State). readerOf (act x (see s (c .packet)))) held
-
-    one :
-        blocks (take (writtenOf (feedHeard s (readerOf st) (c .packet) (c .lent))) (feedOut s (readerOf st) (c .packet) (c .lent)))
-        ≡ handed st (see s (c .packet))
-    one =
-        ap₂ (λ (n : ℕ) (x : List ℕ). blocks (take n x)) (taken-written s (readerOf st) (c .packet) (c .lent) a b l (c .enough))
-        (taken-out s (readerOf st) (c .packet) (c .lent) a b l (c .enough))
-        ∙ ap blocks (take-append-seam (handedBytes s (stateOf (readerOf st)) (c .packet)) _)
-        ∙ ap (λ (x : State). blocks (handedBytes s x (c .packet))) held
-        ∙ blocks-records (handed-sized st (see s (c .packet)) r)
+    ap₂ (λ (x y : List Block). x ++ y) (call-blocks s a st r c l)
+    (ap (λ (x : Reader). comesOut s x cs) (call-reader s a st r c l)
+    ∙ fed-blocks s a (act st (see s (c .packet))) (sound-after s st (c .packet) r) cs e)

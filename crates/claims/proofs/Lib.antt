@@ -13,3 +13,4 @@ pub mod Blocks
 pub mod Demands
 pub mod Marked
 pub mod Wrong
+pub mod Rows

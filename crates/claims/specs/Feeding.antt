@@ -1,15 +1,20 @@
 -- What comes out of the reader's calls, in terms of what the calls themselves say: "fed one by one from a fresh reader, each given
 -- room".
+use mathlib.Core.Path.{_≡_}
+use mathlib.Core.Bool.{Bool, false}
+use mathlib.Core.Logic.{_⊎_}
 use mathlib.Core.List.{List, [], _∷_, _++_}
-use Prim.Native.Nat.{ℕ, _≤_}
-use lib.ListN.{length, take}
-use Rattle.blocks.specs.Block.{Block, blocks}
+use Prim.Native.Nat.{ℕ, _+_, _≤_, _<_}
+use lib.ListN.{length, take, drop}
+use Rattle.laws.specs.Pick.{either}
+use Rattle.blocks.specs.Block.{Block, blocks, recordsOf}
 use Rattle.guide.specs.declared.Setting.{Setting}
 use Rattle.reader.specs.declared.Reader.{Reader}
 use Rattle.reader.specs.declared.Heard.{Heard}
 use Rattle.reader.specs.declared.Heard.the-variants.{Took, Refused}
+use Rattle.reader.specs.declared.HeardAll.the-variants.{TookAll}
 use Rattle.walk.specs.Reading.{room}
-use Rattle.reader.specs.Feeding.{feedHeard, feedReader, feedOut}
+use Rattle.reader.specs.Feeding.{feedHeard, feedReader, feedOut, feedAllHeard, feedAllReader, feedAllOut}
 
 -- how many bytes an answer reports as written
 abbrev pub writtenOf : Heard → ℕ
@@ -33,3 +38,38 @@ comesOut s r [] = []
 comesOut s r (c ∷ cs) =
     blocks (take (writtenOf (feedHeard s r (c .packet) (c .lent))) (feedOut s r (c .packet) (c .lent)))
     ++ comesOut s (feedReader s r (c .packet) (c .lent)) cs
+
+-- ---- a row of packets in one call
+
+-- whether an answer says that a block was dropped
+abbrev pub droppedOf : Heard → Bool
+droppedOf (Took blocks written dropped) = dropped
+droppedOf (Refused r) = false
+
+-- the reader that the calls leave
+unfoldable pub leaves : Setting → Reader → List Call → Reader
+leaves s r [] = r
+leaves s r (c ∷ cs) = leaves s (feedReader s r (c .packet) (c .lent)) cs
+
+-- whether one of them drops a block
+unfoldable pub drops : Setting → Reader → List Call → Bool
+drops s r [] = false
+drops s r (c ∷ cs) =
+    either (droppedOf (feedHeard s r (c .packet) (c .lent))) (drops s (feedReader s r (c .packet) (c .lent)) cs)
+
+-- their packets as one row
+unfoldable pub rowOf : List Call → List ℕ
+rowOf [] = []
+rowOf (c ∷ cs) = c .packet ++ rowOf cs
+
+-- the one call for a row of packets says, hands back and writes what a call for each of those in front does; those behind it leaves,
+-- and only where there is no room for one more
+pub record AsCalls (s : Setting) (r : Reader) (old : List ℕ) (front back : List Call) : Type 0 where
+  pub heard :
+      feedAllHeard s r (rowOf (front ++ back)) old
+      ≡ TookAll (length front) (length (comesOut s r front)) (length (recordsOf (comesOut s r front))) (drops s r front)
+  pub reader : feedAllReader s r (rowOf (front ++ back)) old ≡ leaves s r front
+  pub out :
+      feedAllOut s r (rowOf (front ++ back)) old
+      ≡ recordsOf (comesOut s r front) ++ drop (length (recordsOf (comesOut s r front))) old
+  pub stops : (back ≡ []) ⊎ (length old < length (recordsOf (comesOut s r front)) + room)
