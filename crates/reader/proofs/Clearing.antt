@@ -1,4 +1,4 @@
--- The zeros of the store, by their sum. Assumes nothing.
+-- The zeros of the store, all or-ed. Assumes nothing.
 use mathlib.Core.Path.{_≡_, refl}
 use mathlib.Core.Bool.{Bool, true, false}
 use mathlib.Core.List.{List}
@@ -8,6 +8,7 @@ use native.Mathlib.Omega.{arith}
 use lib.ListN.{length, getD, drop, drop-of-length-le}
 use lib.Seq.{drop-cons}
 use lib.Dec.{eqb}
+use lib.Bits.{bitOr, or-zero-l, or-add-and, and-le-r}
 use borrow.Author.Tests.{ne-eqb}
 use Rattle.laws.specs.Pick.{both}
 use Rattle.reader.specs.State.{zeros}
@@ -15,20 +16,20 @@ use Rattle.reader.specs.State.{zeros}
 pub untrue {ℓ} : {A : Type ℓ} → false ≡ true → A
 untrue e = let z : _≡_ {A = ℕ} 0 1 = cc in absurd (omega arith)
 
--- ---- the store's zeros, by their sum
+-- ---- the store's zeros, all or-ed
 
-sum-zero : (s b : ℕ) (z : Bool) → both (eqb (s + b) 0) z ≡ both (eqb s 0) (both (eqb b 0) z)
-sum-zero zero b z = let e : 0 + b ≡ b = omega arith in rw e
-sum-zero (suc s) b z =
-    let n : suc s + b ≡ 0 → ⊥ = λ e. omega arith in
+mixed-zero : (s b : ℕ) (z : Bool) → both (eqb (bitOr s b) 0) z ≡ both (eqb s 0) (both (eqb b 0) z)
+mixed-zero zero b z = rw (or-zero-l b)
+mixed-zero (suc s) b z =
+    let n : bitOr (suc s) b ≡ 0 → ⊥ = λ e. omega (arith, or-add-and (suc s) b, and-le-r (suc s) b, e) in
     let m : suc s ≡ 0 → ⊥ = λ e. omega arith in
     rw (ne-eqb _ _ n, ne-eqb _ _ m)
 
 pub clear-on :
     (l : List ℕ) (i s : ℕ) → i < length l
-    → both (eqb (s + getD l i 0) 0) (zeros (drop (i + 1) l)) ≡ both (eqb s 0) (zeros (drop i l))
+    → both (eqb (bitOr s (getD l i 0)) 0) (zeros (drop (i + 1) l)) ≡ both (eqb s 0) (zeros (drop i l))
 unfolding zeros
-clear-on l i s h = rw (drop-cons l i 0, add-one) (sum-zero s (getD l i 0) (zeros (drop (suc i) l)))
+clear-on l i s h = rw (drop-cons l i 0, add-one) (mixed-zero s (getD l i 0) (zeros (drop (suc i) l)))
 
 pub clear-ends : (l : List ℕ) (i s : ℕ) → length l ≤ i → both (eqb s 0) (zeros (drop i l)) ≡ eqb s 0
 unfolding zeros

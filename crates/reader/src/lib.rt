@@ -309,23 +309,16 @@ fn is_head(got: u8, bits: u16) -> bool
     bits == 0
 }
 
-// Whether every byte of the store from `from` on is zero: their sum is, so that no byte ends the loop.
+// Whether every byte of the store from `from` on is zero: all of them or-ed are, so that no byte ends the loop.
 fn is_clear(store: &[u8; 2047], from: usize) -> bool
     requires { ⌜ (from ≤ 2047) × (length (now store) ≡ 2047) ⌝ }
     ensures { λ r. ⌜ r ≡ zeros (drop from (now (store .entry))) ⌝ }
 {
-    let mut sum: usize = 0;
+    let mut mix: u8 = 0;
     let mut i = from;
     while i < 2047 {
-        sum += wide(store[i]);
+        mix = mix | store[i];
         i += 1;
     }
-    sum == 0
-}
-
-// A byte as a number.
-fn wide(b: u8) -> usize
-    ensures { λ r. ⌜ (r ≡ b) × (r ≤ 255) ⌝ }
-{
-    b as usize
+    mix == 0
 }

@@ -1,6 +1,6 @@
--- `reader::is_clear` meets its contract: the sum so far and the bytes still to come are zero where all are. Assumes nothing.
+-- `reader::is_clear` meets its contract: the bytes or-ed so far and those still to come are zero where all are. Assumes nothing.
 use mathlib.Core.Path.{_≡_, _∙_, refl, sym}
-use Prim.Native.Nat.{_-_, _*_, _≤_}
+use Prim.Native.Nat.{_-_, _≤_}
 use native.Mathlib.Omega.{arith}
 use lib.ListN.{drop}
 use lib.Dec.{eqb}
@@ -13,23 +13,16 @@ use Rattle.reader.proofs.is_clear.Statement.{statement}
 use Rattle.reader.proofs.is_clear.Tie as tie
 
 abbrev Inv-loop : tie.InvT-loop
-Inv-loop store from sum₀ i₀ sum i =
-    (i ≤ 2047) × (sum ≤ 255 * i) × (both (eqb sum 0) (zeros (drop i store)) ≡ zeros (drop from store))
+Inv-loop store from mix₀ i₀ mix i = (i ≤ 2047) × (both (eqb mix 0) (zeros (drop i store)) ≡ zeros (drop from store))
 
 abbrev μ-loop : tie.MeasureT-loop
-μ-loop store from sum₀ i₀ sum i = 2047 - i
+μ-loop store from mix₀ i₀ mix i = 2047 - i
 
 loop-holds : tie.Need-loop-holds Inv-loop μ-loop
-loop-holds c = (omega arith, omega arith, refl)
+loop-holds c = (omega arith, refl)
 
-element-copy-out-wide : tie.Need-element-copy-out-wide Inv-loop μ-loop
-element-copy-out-wide c = search needs
-
-wide-requires : tie.Need-wide-requires Inv-loop μ-loop
-wide-requires c κs = search needs
-
-add-sum : tie.Need-add-sum Inv-loop μ-loop
-add-sum c = search needs
+element-copy-out-mix : tie.Need-element-copy-out-mix Inv-loop μ-loop
+element-copy-out-mix c = search needs
 
 add-i : tie.Need-add-i Inv-loop μ-loop
 add-i c = search needs
@@ -39,29 +32,16 @@ loop-less c = search needs
 
 loop-again : tie.Need-loop-again Inv-loop μ-loop
 loop-again c =
-    let l = c .before .before .before .loop in
-    let a = c .before .before .before .before .args in (
-      omega arith,
-      omega arith,
-      rw (c .wide .ensures .0) (clear-on (now (a .store)) (l .i) (l .sum) (omega arith) ∙ l .inv .2),
-    )
+    let l = c .before .before .loop in
+    let a = c .before .before .before .args in
+    (omega arith, clear-on (now (a .store)) (l .i) (l .mix) (omega arith) ∙ l .inv .1)
 
 returns : tie.Need-returns Inv-loop μ-loop
 returns c =
     let l = c .before .loop in
-    sym (clear-ends (now (c .before .before .args .store)) (l .i) (l .sum) (omega arith)) ∙ l .inv .2
+    sym (clear-ends (now (c .before .before .args .store)) (l .i) (l .mix) (omega arith)) ∙ l .inv .1
 
 pub is-clear-spec : {M : Type 1} → statement M
 is-clear-spec =
     tie.close
-    (tie.spec
-    Inv-loop
-    μ-loop
-    loop-holds
-    element-copy-out-wide
-    wide-requires
-    add-sum
-    add-i
-    loop-less
-    loop-again
-    returns)
+    (tie.spec Inv-loop μ-loop loop-holds element-copy-out-mix add-i loop-less loop-again returns)
