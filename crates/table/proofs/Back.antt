@@ -37,9 +37,8 @@ unfolding laid
 header-lt application blockSize = omega arith
 
 head-back : (h : ℕ) (rest : List ℕ) → h < 65536 → headOf (parts 8 2 h ++ rest) ≡ h
-unfolding headOf
-head-back h rest l =
-    ap (whole 8) (take-at (parts 8 2 h) rest 2 (length-parts 8 2 h)) ∙ whole-parts 8 2 h ∙ mod-eq-of-lt l
+unfolding parts
+head-back h rest l = omega (arith, l)
 
 body-back : (h : ℕ) (rest : List ℕ) → nibblesOf (parts 8 2 h ++ rest) ≡ map nib rest
 unfolding nibblesOf

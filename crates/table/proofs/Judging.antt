@@ -24,13 +24,7 @@ use Rattle.table.specs.Writing.{formRules}
 use Rattle.table.specs.Block.{headOf, total, checksum}
 use Rattle.table.specs.Reading.{sound, frameRules, frontRules, wholeRules, lengthRules, readRules, tableOf}
 
--- ---- the head
-
-pub head-bytes : (r : List ℕ) → getD r 0 0 < 256 → getD r 1 0 < 256 → getD r 0 0 + 256 * getD r 1 0 ≡ headOf r
-unfolding headOf whole
-head-bytes [] h k = refl
-head-bytes (a ∷ []) h k = omega arith
-head-bytes (a ∷ b ∷ r) h k = omega arith
+-- ---- the frame
 
 module _ (application len head : ℕ) (a : Answer) where
   pub frame-16 : 32 ≤ application → judged refused (frameRules application len head) a ≡ refused 16 0

@@ -1,7 +1,7 @@
 -- What damage to a record's bytes can do: block reading goes by the head and by what the other bytes decode to, and a byte that
 -- can't be decoded is never passed over. Assumes nothing.
-use mathlib.Core.Path.{_≡_, _∙_, sym, ap, ap₂}
-use mathlib.Core.List.{List}
+use mathlib.Core.Path.{_≡_, _∙_, refl, sym, ap, ap₂}
+use mathlib.Core.List.{List, [], _∷_}
 use Prim.Native.Nat.{ℕ, _+_, _≤_, _<_}
 use native.Mathlib.Omega.{arith}
 use lib.ListN.{length, getD, take, drop, length-map, length-append, take-append-drop}
@@ -16,15 +16,21 @@ length-of : (r : List ℕ) → length r ≡ length (take headLength r) + length 
 unfolding nibblesOf
 length-of r = ap length (sym (take-append-drop 2 r)) ∙ length-append (take 2 r) (drop 2 r) ∙ ap (λ (x : ℕ). length (take 2 r) + x) (sym (length-map (drop 2 r) nib))
 
+head-taken : (r : List ℕ) → headOf (take headLength r) ≡ headOf r
+head-taken [] = refl
+head-taken (a ∷ []) = refl
+head-taken (a ∷ b ∷ r) = refl
+
 -- the same head, and each byte behind it decoding alike: the same outcome
 pub reads-alike :
     (application : ℕ) (r r′ : List ℕ) → take headLength r ≡ take headLength r′ → nibblesOf r ≡ nibblesOf r′
     → readBlock application r ≡ readBlock application r′
-unfolding readBlock headOf
+unfolding readBlock
 reads-alike application r r′ h n =
     let len : length r ≡ length r′ =
     length-of r ∙ ap₂ (λ (a b : List ℕ). length a + length b) h n ∙ sym (length-of r′) in
-    rw (n, len, h)
+    let head : headOf r ≡ headOf r′ = sym (head-taken r) ∙ ap headOf h ∙ head-taken r′ in
+    rw (n, len, head)
 
 -- a record with a byte behind its head that can't be decoded is never accepted
 pub broken-refused :

@@ -3,19 +3,15 @@ use mathlib.Core.Path.{_≡_}
 use mathlib.Core.Bool.{true}
 use mathlib.Core.List.{List, [], _∷_, map}
 use Prim.Native.Nat.{ℕ, _+_, _%_, _-_, _^_, _<_}
-use lib.ListN.{take, drop}
+use lib.ListN.{drop}
 use Rattle.octet.specs.Decoding.{nib}
-pub use Rattle.blocks.specs.Block.{headLength}
-use Rattle.fields.specs.Fields.{Field, laid, parts, whole}
+pub use Rattle.blocks.specs.Block.{headLength, headOf}
+use Rattle.fields.specs.Fields.{Field, laid, parts}
 use Rattle.table.specs.Tables.{Table, fields, control, fill, size, fits}
 
 -- table 5, the Overall Data Header
 abbrev pub header : ℕ → ℕ → List Field
 header application size = (5, application) ∷ (11, size) ∷ []
-
--- a record's head: "its 16 bits, low byte first"
-unfoldable pub headOf : List ℕ → ℕ
-headOf r = whole 8 (take headLength r)
 
 -- what the protected bytes behind it decode to
 unfoldable pub nibblesOf : List ℕ → List ℕ

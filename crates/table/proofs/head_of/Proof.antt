@@ -3,7 +3,6 @@ use borrow.Author.Needs.{needs}
 use mathlib.Core.Path.{_≡_}
 use native.Mathlib.Omega.{arith}
 use denote.Ref.{now}
-use Rattle.table.proofs.Judging.{head-bytes}
 use mathlib.Core.List.{List}
 use Prim.Native.Nat.{ℕ}
 use lib.ListN.{getD}
@@ -27,7 +26,7 @@ returns c =
     let l : List ℕ = now (c .before .before .before .args .rec) in
     let e₀ : c .before .byte-at .result ≡ getD l 0 0 = c .before .byte-at .ensures .0 in
     let e₁ : c .byte-at2 .result ≡ getD l 1 0 = c .byte-at2 .ensures .0 in
-    (rw (e₀, e₁) (head-bytes l (omega arith) (omega arith)), search needs)
+    (rw (e₀, e₁), search needs)
 
 pub head-of-spec : {M : Type 1} → statement M
 head-of-spec =
