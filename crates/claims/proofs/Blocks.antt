@@ -1,18 +1,17 @@
 -- Any blocks through the reader's calls: cut by our writer and fed call by call to a fresh reader. What comes out is what was sent, in
 -- order, each at most once; with no noise it is exactly what was sent. Over what may become of a byte (R) and whether loss is allowed
 -- (L). Assumes nothing.
-use mathlib.Core.Path.{_≡_, _∙_, refl, sym, ap, ap₂, subst}
-use mathlib.Core.Bool.{Bool, true}
-use mathlib.Core.Logic.{_⊎_, inl}
-use mathlib.Core.List.{List, [], _∷_}
+use mathlib.Core.Path.{_≡_, _∙_, refl, sym, ap, ap₂}
+use mathlib.Core.Bool.{true}
+use mathlib.Core.Logic.{inl}
+use mathlib.Core.List.{List, _∷_}
 use Prim.Native.Nat.{ℕ, _≤_, _<_}
 use native.Mathlib.Nat.{mod-eq-of-lt}
 use native.Mathlib.Omega.{arith}
 use lib.Dec.{leb}
 use borrow.Author.Tests.{leb-true}
 use Rattle.laws.proofs.Tests.{both-true}
-use Rattle.octet.specs.Image.{image}
-use Rattle.octet.specs.Decoding.{nib, undecodable}
+use Rattle.octet.specs.Decoding.{nib}
 use Rattle.octet.proofs.Laws.{near, nib-image}
 use Rattle.blocks.specs.Block.{Block, blocks}
 use Rattle.guide.specs.declared.Setting.{Setting}

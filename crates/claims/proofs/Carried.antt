@@ -1,32 +1,29 @@
 -- Blocks cut by our writer come through noise: what comes out of a fresh reader is what was sent, in order, each once, and a block
 -- is lost only where two flips are allowed. One induction along the pages for every number of flips and every page length; at each
 -- packet the reader stands where the clean walk does, or has dropped. Assumes nothing.
-use mathlib.Core.Path.{_≡_, _∙_, refl, sym, ap, subst}
-use mathlib.Core.Bool.{Bool, true, false, not}
+use mathlib.Core.Path.{_≡_, refl, ap, subst}
+use mathlib.Core.Bool.{Bool, true, false}
 use mathlib.Core.Logic.{_⊎_, inl, inr}
-use mathlib.Core.List.{List, [], _∷_, _++_, map, append-assoc, append-nil}
-use Prim.Native.Nat.{ℕ, zero, suc, _+_, _*_, _/_, _%_, _≤_, _<_}
+use mathlib.Core.List.{List, [], _∷_, _++_, map}
+use Prim.Native.Nat.{ℕ, zero, suc, _+_, _*_, _%_, _≤_, _<_}
 use native.Mathlib.Nat.{zero-mul, suc-mul}
 use native.Mathlib.Omega.{arith}
-use lib.Dec.{eqb, leb, ltb}
 use lib.ListN.{length, drop, length-drop}
 use lib.Seq.{drop-drop}
-use borrow.Author.Tests.{le-leb, le-ltb, eq-eqb, lt-ltb}
-use Rattle.laws.specs.Pick.{pick, both, either}
+use borrow.Author.Tests.{le-leb, le-ltb, eq-eqb}
 use Rattle.octet.specs.Decoding.{undecodable}
 use Rattle.blocks.specs.Block.{Block}
 use Rattle.guide.specs.declared.Setting.{Setting}
-use Rattle.guide.specs.Packet.{packetZero, packetOf}
-use Rattle.guide.specs.Stream.{Symbol, byteOf, perPacket, streamOf, grab, pointerOf, beforeStart}
+use Rattle.guide.specs.Packet.{packetZero}
+use Rattle.guide.specs.Stream.{Symbol, byteOf, perPacket, streamOf, grab, pointerOf}
 use Rattle.guide.specs.Cutting.{rowOf, rows, afterRows, pages, pagesFor}
 use Rattle.guide.proofs.Aligned.{Celled, stream-celled, after-celled, celled-aligned}
 use Rattle.guide.proofs.Counting.{covered}
 use Rattle.guide.proofs.Filling.{length-grab}
-use Rattle.pages.specs.declared.Page.{Page}
 use Rattle.pages.specs.declared.Page.the-variants.{Shut, Open}
 use Rattle.walk.specs.Mode.{Mode, off, scan, gives}
 use Rattle.pages.specs.Seen.{Seen, junk, other, ours, row, see}
-use Rattle.pages.specs.Acting.{State, incomplete, breaks, wrongY, act, handed}
+use Rattle.pages.specs.Acting.{State, incomplete, breaks, act, handed}
 use Rattle.walk.specs.Reading.{dropIf, readMode, readBlocks}
 use Rattle.reader.specs.State.{freshState}
 use Rattle.claims.specs.Noise.{Hears, Near, Elsewhere, Aired, ended, sent, between, Came, over, Alike, Each, Fits}

@@ -1,12 +1,12 @@
 -- Noise only loses, up to the pointed byte: the running block along what arrives is the one along what was sent, or, where loss is
 -- allowed, has been dropped. Assumes nothing.
-use mathlib.Core.Path.{_≡_, _∙_, refl, sym, ap}
+use mathlib.Core.Path.{_≡_, refl}
 use mathlib.Core.Bool.{Bool, true, false}
 use mathlib.Core.Logic.{_⊎_, inl, inr}
 use mathlib.Core.List.{List, [], _∷_, _++_, map, append-assoc, append-nil}
-use Prim.Native.Nat.{ℕ, zero, suc, _+_, _*_, _/_, _≤_, _<_}
+use Prim.Native.Nat.{ℕ, suc, _+_, _*_, _/_, _<_}
 use native.Mathlib.Omega.{arith}
-use lib.Dec.{eqb, leb, ltb, lit<}
+use lib.Dec.{eqb, ltb, lit<}
 use lib.ListN.{length}
 use borrow.Author.Tests.{ne-eqb}
 use Rattle.laws.specs.Pick.{pick}
@@ -16,8 +16,8 @@ use Rattle.octet.proofs.Laws.{nib-image}
 use Rattle.blocks.specs.Block.{Block}
 use Rattle.guide.specs.Stream.{Symbol, start, fill, bits, raw, byteOf, beforeStart}
 use Rattle.walk.specs.Mode.{Mode, off, scan, heading, body, full, step, emitted, ends, gives, behind, carry, carries, finished, unfinished}
-use Rattle.claims.specs.Noise.{Hears, Near, none, more, Came, over, kept, lost, Alike}
-use Rattle.claims.proofs.Losing.{near-length, near-snoc, lost-all}
+use Rattle.claims.specs.Noise.{Hears, Near, none, more, over}
+use Rattle.claims.proofs.Losing.{near-snoc, lost-all}
 use Rattle.claims.proofs.Walking.{Fit, skips, opens, nibble, byte, Plain, sentEnds, sentGives, nib-sent, full-near, Blocks, same-block}
 
 -- the mode and the blocks so far along what was sent, beside the running block along what arrives. A block that is full waits there

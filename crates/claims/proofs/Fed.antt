@@ -1,16 +1,13 @@
 -- Feeding one by one, call by call, gives what the definitions of reading give: every call is taken, since the state stays in range,
 -- and what it writes is whole records. Assumes nothing.
-use mathlib.Core.Path.{_≡_, _∙_, refl, sym, ap, ap₂, subst}
-use mathlib.Core.Bool.{Bool, true}
+use mathlib.Core.Path.{_≡_, _∙_, refl, ap, ap₂}
+use mathlib.Core.Bool.{true}
 use mathlib.Core.List.{List, [], _∷_, _++_}
 use Prim.Native.Nat.{ℕ, _≤_}
-use native.Mathlib.Omega.{arith}
-use lib.Dec.{eqb, leb}
 use lib.ListN.{length, take, drop}
 use lib.Seq.{take-append-seam}
 use borrow.Author.Tests.{le-leb, eq-eqb}
-use Rattle.laws.specs.Pick.{pick, both}
-use Rattle.blocks.specs.Block.{Block, blocks, recordsOf}
+use Rattle.blocks.specs.Block.{Block, blocks}
 use Rattle.blocks.proofs.Round.{blocks-records}
 use Rattle.guide.specs.declared.Setting.{Setting}
 use Rattle.guide.specs.Setting.{inRange}

@@ -1,23 +1,20 @@
 -- What a packet of our writer, or one of another magazine, is to the reader that hears it: itself, or, where two flips are allowed,
 -- one that can't be read. Assumes nothing.
 use mathlib.Core.Path.{_≡_, _∙_, refl, sym, ap}
-use mathlib.Core.Bool.{Bool, true, false}
+use mathlib.Core.Bool.{true, false}
 use mathlib.Core.Logic.{_⊎_, inl, inr}
 use mathlib.Core.List.{List, [], _∷_, _++_, map}
 use Prim.Native.Nat.{ℕ, zero, suc, _+_, _*_, _/_, _%_, _≤_, _<_}
 use native.Mathlib.Omega.{arith}
-use lib.Dec.{eqb, leb, ltb}
 use lib.ListN.{length, getD, drop}
 use lib.Seq.{getD-drop}
-use borrow.Author.Tests.{lt-ltb, le-ltb, eq-eqb, ne-eqb, le-leb, leb-true}
-use Rattle.laws.specs.Pick.{pick, both}
+use borrow.Author.Tests.{lt-ltb, eq-eqb, ne-eqb, le-leb}
 use Rattle.octet.specs.Image.{image}
 use Rattle.octet.specs.Decoding.{nib, undecodable}
 use Rattle.guide.specs.declared.Setting.{Setting}
-use Rattle.guide.specs.Setting.{inRange}
 use Rattle.guide.specs.Packet.{address, packetZero, packetOf}
-use Rattle.pages.specs.Seen.{Seen, junk, other, ours, row, decodes, see, seeY, seeZero}
-use Rattle.claims.specs.Noise.{Hears, Near, none, more, Each, nil, and, Elsewhere}
+use Rattle.pages.specs.Seen.{junk, other, ours, row, decodes, see, seeY, seeZero}
+use Rattle.claims.specs.Noise.{Hears, Near, more, Each, nil, and, Elsewhere}
 use Rattle.claims.proofs.Losing.{near-drop}
 
 -- l begins with bytes that decode to these nibbles

@@ -1,7 +1,7 @@
 -- Laws of nearness and of what may be lost. Assumes nothing.
 use mathlib.Core.Path.{_≡_, refl, sym, ap, ap₂, subst}
 use mathlib.Core.List.{List, [], _∷_, _++_}
-use Prim.Native.Nat.{ℕ, zero, suc, _≤_}
+use Prim.Native.Nat.{ℕ, zero, suc}
 use lib.ListN.{length, take, drop}
 use Rattle.claims.specs.Noise.{Near, none, more, Came, over, kept, lost}
 use Rattle.claims.specs.Lists.{Among, Paired}

@@ -1,13 +1,12 @@
 -- The customer's fault of March can't happen: once a packet's address, or one of the six bytes of our magazine's packet 0, can't be
 -- decoded, the reader hands out what a fresh reader would, whatever it held and whatever comes. So no block that it hands out holds
 -- a byte from before. Assumes nothing.
-use mathlib.Core.Path.{_≡_, _∙_, refl, sym, ap, ap₂}
+use mathlib.Core.Path.{_≡_, _∙_, refl, sym, ap₂}
 use mathlib.Core.Bool.{Bool, true, false}
 use mathlib.Core.List.{List, [], _∷_, _++_}
 use Prim.Native.Nat.{ℕ, _%_}
 use lib.ListN.{getD}
 use borrow.Author.Tests.{eq-eqb}
-use Rattle.laws.specs.Pick.{pick}
 use Rattle.octet.specs.Decoding.{nib}
 use Rattle.blocks.specs.Block.{Block}
 use Rattle.guide.specs.declared.Setting.{Setting}

@@ -1,7 +1,5 @@
 -- The marked cases A to K of document 01, from the definitions, as one list under one claim. Assumes nothing.
 use mathlib.Core.Path.{_≡_, refl, subst, sym}
-use mathlib.Core.List.{List, [], _∷_}
-use Prim.Native.Nat.{ℕ}
 use Rattle.answer.specs.declared.Answer.the-variants.{Done}
 use Rattle.answer.specs.Rules.{judged}
 use Rattle.answer.specs.Values.{refused}
@@ -11,8 +9,8 @@ use Rattle.octet.proofs.Cases.{CasesAtoE, cases-a-to-e, TheImages, the-images}
 use Rattle.guide.proofs.Cases.{CaseF, case-f, CaseG, recordG, case-g}
 use Rattle.pes.proofs.Cases.{CaseJ, case-j, CaseK, case-k}
 use Rattle.fields.specs.Fields.{row, width, laid, parts}
-use Rattle.table.specs.Tables.{Table, per, loops, fields, bits, fill, size}
-use Rattle.table.specs.Block.{header, total, checksum, nibbles, checksumOf}
+use Rattle.table.specs.Tables.{per, loops, fields, bits, fill, size}
+use Rattle.table.specs.Block.{total, checksum, nibbles, checksumOf}
 use Rattle.table.specs.Form.{form}
 use Rattle.table.specs.Writing.{recordOf, recordWith, writeRules}
 use Rattle.table.proofs.Cases.{G, H, I, case-G, case-H, case-I}

@@ -1,23 +1,22 @@
 -- One packet of our page: along its 39 bytes the reader that hears them does what the reader of the sent ones does, or has dropped.
 -- The pointer names the first start, so the bytes before it are the running block's and filler. Assumes nothing.
-use mathlib.Core.Path.{_≡_, _∙_, refl, sym, ap, subst}
-use mathlib.Core.Bool.{Bool, true, false}
+use mathlib.Core.Path.{_≡_, _∙_, refl, ap, subst}
+use mathlib.Core.Bool.{true, false}
 use mathlib.Core.List.{List, [], _∷_, _++_, map, append-assoc}
-use Prim.Native.Nat.{ℕ, zero, suc, _+_, _*_, _/_, _≤_, _<_}
+use Prim.Native.Nat.{ℕ, suc, _+_, _*_, _≤_, _<_}
 use native.Mathlib.Decide.{decLt}
 use native.Mathlib.Omega.{arith}
-use lib.Dec.{eqb, leb}
 use lib.ListN.{length, take, drop, take-append-drop}
-use borrow.Author.Tests.{le-leb, lt-leb, eq-eqb}
+use borrow.Author.Tests.{le-leb}
 use Rattle.laws.proofs.Maps.{map-take, map-drop}
 use Rattle.blocks.specs.Block.{Block}
 use Rattle.guide.specs.Stream.{Symbol, start, fill, bits, raw, byteOf, beforeStart, pointerOf}
-use Rattle.walk.specs.Mode.{Mode, off, scan, step, emitted, ends, gives, carries, finished, unfinished}
+use Rattle.walk.specs.Mode.{Mode, scan, step, ends, gives, carries, finished, unfinished}
 use Rattle.walk.specs.Reading.{readMode, readBlocks}
-use Rattle.claims.specs.Noise.{Hears, Near, Came, over}
+use Rattle.claims.specs.Noise.{Hears, Near}
 use Rattle.claims.proofs.Losing.{near-take, near-drop, lost-all, came-append}
-use Rattle.claims.proofs.Walking.{Fit, opens, Plain, sentEnds, sentGives, full-near, Sim, scans, heads, bodies, gone, Blocks, Follows, flow-follows}
-use Rattle.claims.proofs.Carrying.{Carried, Between, carries-follows, out-of, runs-on}
+use Rattle.claims.proofs.Walking.{Fit, opens, Plain, sentEnds, sentGives, full-near, Sim, scans, heads, bodies, gone, Blocks, flow-follows}
+use Rattle.claims.proofs.Carrying.{Between, carries-follows, out-of, runs-on}
 use Rattle.claims.proofs.Carrying
 
 -- ---- walks go on from one list to the next

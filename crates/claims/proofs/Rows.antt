@@ -3,14 +3,14 @@ use mathlib.Core.Path.{_≡_, _∙_, refl, sym, ap, ap₂}
 use mathlib.Core.Logic.{_⊎_, inl, inr}
 use mathlib.Core.Bool.{Bool, true, false}
 use mathlib.Core.List.{List, [], _∷_, _++_, append-assoc, append-nil}
-use Prim.Native.Nat.{ℕ, zero, suc, _+_, _*_, _/_, _%_, _≤_, _<_}
+use Prim.Native.Nat.{ℕ, _+_, _*_, _/_, _%_, _<_}
 use native.Mathlib.Nat.{zero-add}
 use native.Mathlib.Omega.{arith}
 use lib.Dec.{leb}
-use lib.ListN.{length, take, drop, length-append}
+use lib.ListN.{length, length-append}
 use lib.Seq.{take-at, drop-at}
 use borrow.Author.Tests.{leb-false, eq-eqb}
-use Rattle.laws.specs.Pick.{pick, either}
+use Rattle.laws.specs.Pick.{either}
 use Rattle.blocks.specs.Block.{Block, recordsOf}
 use Rattle.guide.specs.declared.Setting.{Setting}
 use Rattle.guide.specs.Setting.{inRange}
@@ -20,9 +20,9 @@ use Rattle.reader.specs.declared.Reader.{Reader}
 use Rattle.walk.specs.Reading.{room}
 use Rattle.walk.proofs.Adding.{either-false}
 use Rattle.pages.specs.Seen.{see}
-use Rattle.pages.specs.Acting.{State, act, handed, dropped}
+use Rattle.pages.specs.Acting.{State, handed, dropped}
 use Rattle.reader.specs.State.{stateOf, readerOf}
-use Rattle.reader.specs.Feeding.{Ran, begun, ranOn, run, feedAllHeard, feedAllReader, feedAllOut}
+use Rattle.reader.specs.Feeding.{Ran, begun, ranOn, run}
 use Rattle.reader.proofs.Ranging.{Sound, sound-after, state-held, reader-in-range}
 use Rattle.claims.specs.Feeding.{Call, packetsOf, comesOut, leaves, drops, rowOf, AsCalls}
 use Rattle.claims.proofs.Fed.{call-reader, call-blocks, call-drops}

@@ -1,20 +1,20 @@
 -- The clean round trip: the walk along what is sent of a list of blocks meets fitting symbols, gives those blocks and ends with
 -- nothing running. Equations only. Assumes nothing.
 use mathlib.Core.Path.{_≡_, _∙_, refl, sym, ap, ap₂, subst, subst₂}
-use mathlib.Core.Bool.{Bool, true, false}
-use mathlib.Core.List.{List, [], _∷_, _++_, map, append-assoc, append-nil}
+use mathlib.Core.Bool.{true, false}
+use mathlib.Core.List.{List, [], _∷_, _++_, map, append-assoc}
 use Prim.Native.Nat.{ℕ, zero, suc, _+_, _*_, _/_, _%_, _≤_, _<_}
 use native.Mathlib.Omega.{arith}
-use lib.Dec.{eqb, leb, ltb}
+use lib.Dec.{eqb}
 use lib.ListN.{length, length-append, replicate, drop}
 use lib.Seq.{drop-nil}
 use borrow.Author.Tests.{ne-eqb, le-leb, lt-leb, lt-ltb}
 use Rattle.laws.specs.Pick.{pick}
 use Rattle.octet.specs.Image.{image}
-use Rattle.octet.specs.Decoding.{nib, undecodable}
+use Rattle.octet.specs.Decoding.{undecodable}
 use Rattle.blocks.specs.Block.{Block, sizeOf}
 use Rattle.guide.specs.Stream.{Symbol, start, fill, bits, raw, byteOf, symbols, fillAfter, cell, cellsOf, streamOf, grab}
-use Rattle.walk.specs.Mode.{Mode, off, scan, heading, body, full, step, emitted, ends, gives}
+use Rattle.walk.specs.Mode.{Mode, scan, heading, body, full, step, emitted, ends, gives}
 use Rattle.claims.specs.Noise.{Fits, Each, nil, and}
 use Rattle.claims.proofs.Walking.{Fit, skips, opens, nibble, byte, Plain, sentEnds, sentGives, step-fill, step-start, nib-sent}
 use Rattle.claims.proofs.Packet.{sentEnds-append, sentGives-append, plain-append}

@@ -1,10 +1,10 @@
 -- Tables come through noise: a table's block is all images, so with noise it is read as the same table, or, where two flips are
 -- allowed, not at all. Assumes nothing.
-use mathlib.Core.Path.{_≡_, _∙_, refl, sym, ap, ap₂, subst}
-use mathlib.Core.Bool.{Bool, true}
+use mathlib.Core.Path.{_≡_, _∙_, refl, sym, ap, ap₂}
+use mathlib.Core.Bool.{true}
 use mathlib.Core.Logic.{_⊎_, inl, inr}
 use mathlib.Core.List.{List, [], _∷_, _++_, map}
-use Prim.Native.Nat.{ℕ, zero, suc, _+_, _*_, _/_, _%_, _^_, _≤_, _<_}
+use Prim.Native.Nat.{ℕ, zero, suc, _+_, _/_, _%_, _≤_, _<_}
 use native.Mathlib.Omega.{arith}
 use lib.ListN.{length, length-map, getD, take, drop}
 use Rattle.octet.specs.Image.{image}
@@ -16,10 +16,10 @@ use Rattle.blocks.proofs.Round.{blocks-records}
 use Rattle.fields.specs.Fields.{laid, parts}
 use Rattle.fields.proofs.Laid.{length-parts}
 use Rattle.table.specs.Tables.{Table, fits, size}
-use Rattle.table.specs.Block.{header, headLength, nibblesOf, nibbles, checksumOf}
+use Rattle.table.specs.Block.{header, nibblesOf, nibbles, checksumOf}
 use Rattle.table.specs.Reading.{Outcome, accepted, refused, readBlock}
 use Rattle.table.specs.Writing.{recordWith, recordOf}
-use Rattle.table.proofs.Inverse.{Sendable, sendable}
+use Rattle.table.proofs.Inverse.{sendable}
 use Rattle.table.proofs.Back.{nibbles-back, writes-back}
 use Rattle.table.proofs.Noise.{reads-alike, broken-refused}
 use Rattle.claims.specs.Noise.{Hears, Near, none, more, Came, over, kept, lost, Alike, Each, nil, and, Fits}

@@ -1,15 +1,14 @@
 -- Noise only loses, within a packet: the reader along bytes that arrive does what it does along the bytes that were sent, or, where
 -- loss is allowed, has dropped. The walk along what was sent meets a symbol that fits its mode at each byte, so wherever a nibble
 -- is read its image was sent. Assumes nothing.
-use mathlib.Core.Path.{_≡_, _∙_, refl, sym, ap, subst}
+use mathlib.Core.Path.{_≡_, _∙_, refl, sym, ap}
 use mathlib.Core.Bool.{Bool, true, false}
 use mathlib.Core.Logic.{_⊎_, inl, inr}
 use mathlib.Core.List.{List, [], _∷_, _++_, map}
-use Prim.Native.Nat.{ℕ, zero, suc, _+_, _*_, _/_, _%_, _≤_, _<_}
+use Prim.Native.Nat.{ℕ, suc, _+_, _*_, _/_, _<_}
 use native.Mathlib.Nat.{mod-eq-of-lt}
 use native.Mathlib.Omega.{arith}
 use lib.Dec.{eqb, leb, ltb, lit<}
-use lib.ListN.{length, length-append}
 use borrow.Author.Tests.{ne-eqb}
 use Rattle.laws.specs.Pick.{pick}
 use Rattle.octet.specs.Image.{image}
@@ -17,8 +16,8 @@ use Rattle.octet.specs.Decoding.{nib, undecodable}
 use Rattle.octet.proofs.Laws.{nib-image}
 use Rattle.blocks.specs.Block.{Block, sizeOf}
 use Rattle.guide.specs.Stream.{Symbol, start, fill, bits, raw, byteOf}
-use Rattle.walk.specs.Mode.{Mode, off, scan, heading, body, shifted, full, headed, step, emitted, ends, gives}
-use Rattle.claims.specs.Noise.{Hears, Near, none, more, Came, over, kept, lost, Alike}
+use Rattle.walk.specs.Mode.{Mode, off, scan, heading, body, full, step, emitted, ends, gives}
+use Rattle.claims.specs.Noise.{Hears, Near, none, more, Came, over, kept, Alike}
 use Rattle.claims.proofs.Losing.{near-length, near-snoc, lost-all, came-append}
 
 -- ---- what the modes do along what was sent

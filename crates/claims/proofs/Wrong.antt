@@ -5,7 +5,6 @@ use mathlib.Core.Path.{_≡_, _∙_, refl, sym, ap, subst}
 use mathlib.Core.Bool.{true}
 use mathlib.Core.List.{List, [], _∷_}
 use Prim.Native.Nat.{ℕ, _≤_}
-use native.Mathlib.Nat.{le-of-eq}
 use native.Mathlib.Omega.{arith}
 use lib.Dec.{lit<, lit≤}
 use lib.ListN.{length, replicate, drop}
@@ -16,7 +15,7 @@ use Rattle.blocks.specs.Block.{blocksWithin}
 use Rattle.fields.specs.Fields.{row, width, laid, parts, fitting}
 use Rattle.guide.specs.declared.Setting.{Setting}
 use Rattle.guide.specs.Setting.{inRange}
-use Rattle.guide.specs.Packet.{packetZero, packetOf}
+use Rattle.guide.specs.Packet.{packetZero}
 use Rattle.guide.specs.Stream.{symbols, cellsOf, streamOf, grab, beforeStart}
 use Rattle.guide.specs.Cutting.{rows, pages, packets}
 use Rattle.guide.proofs.Cases.{desk}
@@ -24,7 +23,7 @@ use Rattle.table.specs.Tables.{Table, per, loops, fields, fits, entire}
 use Rattle.table.specs.Block.{total, checksum, nibbles, checksumOf}
 use Rattle.table.specs.Writing.{recordWith}
 use Rattle.table.proofs.Cases.{G, H}
-use Rattle.claims.specs.Noise.{Flipped, Near, none, more, Aired, ended, sent as Aired·sent, Each, nil, and}
+use Rattle.claims.specs.Noise.{Flipped, Near, none, more, Aired, ended, sent as Aired·sent, nil, and}
 use Rattle.claims.specs.Feeding.{Call, packetsOf}
 use Rattle.claims.specs.Tables.{recordsOf, sent, received}
 use Rattle.claims.specs.Carries.{Carries}

@@ -1,5 +1,5 @@
 -- A choice by a test, taken apart: what holds of both choices holds of the one that is picked. Assumes nothing.
-use mathlib.Core.Path.{_≡_, refl}
+use mathlib.Core.Path.{_≡_}
 use mathlib.Core.Bool.{Bool, true, false}
 use Rattle.laws.specs.Pick.{pick}
 

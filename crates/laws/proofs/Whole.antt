@@ -1,13 +1,12 @@
 -- A test that antt computes over a whole range is handed out at each of its points, and a table that is tabulated from its
 -- rule has the rule at each of its entries. Assumes nothing.
-use mathlib.Core.Path.{_≡_, _∙_, refl, sym, subst, ap}
+use mathlib.Core.Path.{_≡_, _∙_, sym, subst, ap}
 use mathlib.Core.Bool.{Bool, true, false}
-use mathlib.Core.List.{List, [], _∷_}
 use Prim.Native.Nat.{ℕ, zero, suc, _+_, _<_}
 use native.Mathlib.Nat.{add-zero, zero-add, add-suc, suc-add, le-of-suc-le-suc, not-suc-le-zero}
 use lib.Dec.{T}
 use lib.ListN.{getD}
-use Rattle.laws.specs.Pick.{both, either}
+use Rattle.laws.specs.Pick.{both}
 use Rattle.laws.specs.Range.{all, tabulate}
 
 pub both-left : (a b : Bool) → T (both a b) → T a

@@ -1,5 +1,5 @@
 -- Tests and tables over the numbers from one place on.
-use mathlib.Core.Bool.{Bool, true, false}
+use mathlib.Core.Bool.{Bool, true}
 use mathlib.Core.List.{List, [], _∷_}
 use Prim.Native.Nat.{ℕ, zero, suc, _+_}
 use Rattle.laws.specs.Pick.{pick, both}

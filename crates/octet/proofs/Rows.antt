@@ -1,17 +1,17 @@
 -- The rows of the parity checks: each is eight bits, a row is multiplied with a byte's bits one place a step, and the search for
 -- the fault place goes one place a step. Assumes nothing.
-use mathlib.Core.Path.{_≡_, _∙_, refl, sym, ap}
-use mathlib.Core.List.{List, [], _∷_}
-use Prim.Native.Nat.{ℕ, zero, suc, _+_, _-_, _*_, _/_, _%_, _<_, _≤_}
+use mathlib.Core.Path.{_≡_}
+use mathlib.Core.List.{List, []}
+use Prim.Native.Nat.{ℕ, suc, _+_, _-_, _*_, _/_, _%_, _<_, _≤_}
 use native.Mathlib.Nat.{mul-le-mul}
 use native.Mathlib.Numerals.{add-one}
 use native.Mathlib.Omega.{arith}
-use lib.Dec.{T, eqb, leb, eqb→eq, leb→le}
+use lib.Dec.{eqb, leb, eqb→eq, leb→le}
 use lib.ListN.{length, getD, drop, drop-of-length-le}
 use lib.Seq.{drop-cons}
 use borrow.Author.Tests.{eq-eqb, ne-eqb}
 use Rattle.laws.proofs.Whole.{all-at, all2-at}
-use Rattle.octet.specs.Parity.{checks, product, fails, column, placeFrom}
+use Rattle.octet.specs.Parity.{checks, product, column, placeFrom}
 
 -- row k
 abbrev pub row : ℕ → List ℕ

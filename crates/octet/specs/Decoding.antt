@@ -1,5 +1,5 @@
 -- What a byte decodes to: "an image, or a byte one bit away from one, gives that nibble; the others are refused".
-use mathlib.Core.Bool.{Bool, true, false}
+use mathlib.Core.Bool.{true, false}
 use Prim.Native.Nat.{ℕ, zero, suc}
 use lib.Dec.{leb}
 use Rattle.octet.specs.Bits.{flips}

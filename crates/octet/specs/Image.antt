@@ -1,5 +1,5 @@
 -- The image of a nibble, by the parity formula.
-use mathlib.Core.List.{List, [], _∷_}
+use mathlib.Core.List.{[], _∷_}
 use Prim.Native.Nat.{ℕ, _+_, _/_, _%_}
 use Rattle.octet.specs.Bits.{number}
 

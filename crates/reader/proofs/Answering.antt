@@ -3,14 +3,13 @@ use mathlib.Core.Path.{_≡_, _∙_, refl}
 use mathlib.Core.Bool.{Bool, true, false}
 use mathlib.Core.List.{List}
 use Prim.Native.Nat.{ℕ, _%_, _/_, _≤_, _<_}
-use native.Mathlib.Nat.{zero-add}
 use native.Mathlib.Omega.{arith}
 use lib.Dec.{eqb}
 use lib.ListN.{length}
 use borrow.Author.Tests.{le-leb, lt-leb, eqb-true}
 use Rattle.laws.specs.Pick.{both}
 use Rattle.laws.proofs.Lists.{sets-front}
-use Rattle.blocks.specs.Block.{Block, recordsOf}
+use Rattle.blocks.specs.Block.{recordsOf}
 use Rattle.guide.specs.declared.Setting.{Setting}
 use Rattle.guide.specs.Setting.{inRange}
 use Rattle.guide.specs.Packet.{packetLength}
@@ -29,8 +28,8 @@ use Rattle.reader.specs.State.{stateOf, readerOf, readerInRange}
 use Rattle.walk.specs.Reading.{room}
 use Rattle.reader.specs.Feeding.{feedHeard, feedReader, feedOut, refusedHeard, begun, ranOn, run, ranAll, refusedAll, feedAllHeard, feedAllReader, feedAllOut}
 use Rattle.walk.specs.Places.{zeroed}
-use Rattle.walk.specs.Holding.{Good, Holds}
-use Rattle.pages.specs.Stepped.{stateIn, Acted}
+use Rattle.walk.specs.Holding.{Holds}
+use Rattle.pages.specs.Stepped.{stateIn}
 use Rattle.reader.specs.Holding.{started, RanTo}
 use Rattle.reader.proofs.Holding.{ready-whole}
 use Rattle.reader.proofs.Running.{run-one}

@@ -3,19 +3,19 @@ use mathlib.Core.Path.{_≡_, _∙_, refl, sym, ap, ap₂}
 use mathlib.Core.Bool.{true}
 use mathlib.Core.List.{List, _∷_, _++_, map}
 use Prim.Native.Nat.{ℕ, zero, suc, _/_, _%_, _^_, _<_}
-use native.Mathlib.Nat.{mod-eq-of-lt, mod-mod}
+use native.Mathlib.Nat.{mod-mod}
 use native.Mathlib.Omega.{arith}
 use borrow.Author.Tests.{ltb-true, lt-ltb, le-leb, eqb-true, eq-eqb}
 use lib.ListN.{length, getD}
 use lib.Pow.{pow-pos}
-use lib.Seq.{take-at, drop-at}
+use lib.Seq.{drop-at}
 use Rattle.answer.specs.Rules.{Every, none, more}
 use Rattle.answer.proofs.Steps.{first-holds, others-hold}
 use Rattle.octet.specs.Image.{image}
 use Rattle.octet.specs.Decoding.{nib}
 use Rattle.octet.proofs.Laws.{nib-image}
-use Rattle.fields.specs.Fields.{laid, parts, whole}
-use Rattle.fields.proofs.Laid.{length-parts, whole-parts}
+use Rattle.fields.specs.Fields.{laid, parts}
+use Rattle.fields.proofs.Laid.{length-parts}
 use Rattle.table.specs.Tables.{Table, known, fill, size, fits}
 use Rattle.table.specs.Form.{form, openingOf, tableIn}
 use Rattle.table.specs.Block.{header, headOf, nibblesOf, nibbles, checksumOf, Says}

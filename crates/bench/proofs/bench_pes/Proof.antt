@@ -1,6 +1,6 @@
 -- `bench::bench_pes` meets its contract: it says how many bytes the answer of `pes::read` reports. Assumes nothing.
 use borrow.Author.Needs.{needs}
-use mathlib.Core.Path.{_≡_, _∙_, ap, sym}
+use mathlib.Core.Path.{_∙_, ap, sym}
 use Rattle.answer.specs.Values.{writtenOf}
 use Rattle.bench.proofs.bench_pes.Statement.{statement}
 use Rattle.bench.proofs.bench_pes.Tie as tie

@@ -2,7 +2,7 @@
 -- what is left of the length. Assumes nothing.
 use borrow.Author.Needs.{needs}
 use mathlib.Core.Path.{_≡_, _∙_, sym}
-use Prim.Native.Nat.{_-_, _≤_}
+use Prim.Native.Nat.{_-_}
 use lib.ListN.{length, drop}
 use denote.Ref.{now}
 use Rattle.octet.specs.Turning.{turned}

@@ -1,9 +1,7 @@
 -- `bench::counted` meets its contract. Assumes nothing.
 use borrow.Author.Needs.{needs}
-use mathlib.Core.Path.{_≡_, ap, sym}
-use Prim.Native.Nat.{ℕ}
+use mathlib.Core.Path.{ap, sym}
 use native.Mathlib.Omega.{arith}
-use Rattle.reader.specs.declared.Heard.{Heard}
 use Rattle.bench.specs.Feeding.{added}
 use Rattle.bench.proofs.counted.Statement.{statement}
 use Rattle.bench.proofs.counted.Tie as tie

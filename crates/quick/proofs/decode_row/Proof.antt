@@ -1,5 +1,5 @@
 -- `quick::decode_row` meets its contract: each row is what antt computes for its number. Assumes nothing.
-use mathlib.Core.Path.{_≡_, refl}
+use mathlib.Core.Path.{refl}
 use Rattle.octet.specs.Bits.{number, differing}
 use Rattle.octet.specs.Image.{image, withParity}
 use Rattle.octet.specs.Decoding.{nib, nibbleFrom}

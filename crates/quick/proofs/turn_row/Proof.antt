@@ -1,5 +1,5 @@
 -- `quick::turn_row` meets its contract: each row is what antt computes for its number. Assumes nothing.
-use mathlib.Core.Path.{_≡_, refl}
+use mathlib.Core.Path.{refl}
 use Rattle.octet.specs.Bits.{bits, number}
 use Rattle.octet.specs.Turning.{turned}
 use Rattle.quick.specs.Packing.{packed}

@@ -1,6 +1,6 @@
 -- `desk::capture::list_records` is safe and ends: each turn goes on to a place further on, and not past the end. Assumes nothing.
 use borrow.Author.Needs.{needs}
-use mathlib.Core.Path.{_≡_, _∙_}
+use mathlib.Core.Path.{_≡_}
 use Prim.Native.Nat.{_≤_, _-_}
 use lib.ListN.{length}
 use Rattle.desk.proofs.capture.list_records.Statement.{statement}
