@@ -1,7 +1,7 @@
 // What bench/measure.c times: our calls in the shape in which C can call them on many bytes at once.
 // No product links this crate.
 use answer::Answer;
-use guide::Setting;
+use packet::Setting;
 use reader::Heard;
 use reader::HeardAll;
 ghost use mathlib.Core.Path.{_≡_};

@@ -14,8 +14,8 @@ use Rattle.laws.proofs.Tests.{both-true}
 use Rattle.octet.specs.Decoding.{nib}
 use Rattle.octet.proofs.Laws.{near, nib-image}
 use Rattle.blocks.specs.Block.{Block, blocks}
-use Rattle.guide.specs.declared.Setting.{Setting}
-use Rattle.guide.specs.Setting.{inRange}
+use Rattle.packet.specs.declared.Setting.{Setting}
+use Rattle.packet.specs.Setting.{inRange}
 use Rattle.guide.specs.Cutting.{packets}
 use Rattle.guide.proofs.Numbering.{FortyTwo, more, packets-forty}
 use Rattle.reader.specs.State.{readerOf, freshState}

@@ -13,8 +13,8 @@ use lib.Seq.{drop-drop}
 use borrow.Author.Tests.{le-leb, le-ltb, eq-eqb}
 use Rattle.octet.specs.Decoding.{undecodable}
 use Rattle.blocks.specs.Block.{Block}
-use Rattle.guide.specs.declared.Setting.{Setting}
-use Rattle.guide.specs.Packet.{packetZero}
+use Rattle.packet.specs.declared.Setting.{Setting}
+use Rattle.packet.specs.Packet.{packetZero}
 use Rattle.guide.specs.Stream.{Symbol, byteOf, perPacket, streamOf, grab, pointerOf}
 use Rattle.guide.specs.Cutting.{rowOf, rows, afterRows, pages, pagesFor}
 use Rattle.guide.proofs.Aligned.{Celled, stream-celled, after-celled, celled-aligned}

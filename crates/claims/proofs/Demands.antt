@@ -8,8 +8,8 @@ use Prim.Native.Nat.{ℕ, _≤_, _<_}
 use native.Mathlib.Omega.{arith}
 use Rattle.octet.proofs.Laws.{near}
 use Rattle.blocks.specs.Block.{Block, blocks}
-use Rattle.guide.specs.declared.Setting.{Setting}
-use Rattle.guide.specs.Setting.{inRange}
+use Rattle.packet.specs.declared.Setting.{Setting}
+use Rattle.packet.specs.Setting.{inRange}
 use Rattle.reader.specs.State.{readerOf, freshState}
 use Rattle.table.specs.Tables.{Table, fits}
 use Rattle.claims.specs.Noise.{Flipped, Hears, Aired, Came, Alike, Each, Fits}

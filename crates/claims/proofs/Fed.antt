@@ -9,8 +9,8 @@ use lib.Seq.{take-append-seam}
 use borrow.Author.Tests.{le-leb, eq-eqb}
 use Rattle.blocks.specs.Block.{Block, blocks}
 use Rattle.blocks.proofs.Round.{blocks-records}
-use Rattle.guide.specs.declared.Setting.{Setting}
-use Rattle.guide.specs.Setting.{inRange}
+use Rattle.packet.specs.declared.Setting.{Setting}
+use Rattle.packet.specs.Setting.{inRange}
 use Rattle.guide.proofs.Numbering.{FortyTwo, more}
 use Rattle.reader.specs.declared.Reader.{Reader}
 use Rattle.pages.specs.Seen.{see}

@@ -11,8 +11,8 @@ use lib.Seq.{getD-drop}
 use borrow.Author.Tests.{lt-ltb, eq-eqb, ne-eqb, le-leb}
 use Rattle.octet.specs.Image.{image}
 use Rattle.octet.specs.Decoding.{nib, undecodable}
-use Rattle.guide.specs.declared.Setting.{Setting}
-use Rattle.guide.specs.Packet.{address, packetZero, packetOf}
+use Rattle.packet.specs.declared.Setting.{Setting}
+use Rattle.packet.specs.Packet.{address, packetZero, packetOf}
 use Rattle.pages.specs.Seen.{junk, other, ours, row, decodes, see, seeY, seeZero}
 use Rattle.claims.specs.Noise.{Hears, Near, more, Each, nil, and, Elsewhere}
 use Rattle.claims.proofs.Losing.{near-drop}

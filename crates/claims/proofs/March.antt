@@ -9,8 +9,8 @@ use lib.ListN.{getD}
 use borrow.Author.Tests.{eq-eqb}
 use Rattle.octet.specs.Decoding.{nib}
 use Rattle.blocks.specs.Block.{Block}
-use Rattle.guide.specs.declared.Setting.{Setting}
-use Rattle.guide.specs.Setting.{inRange}
+use Rattle.packet.specs.declared.Setting.{Setting}
+use Rattle.packet.specs.Setting.{inRange}
 use Rattle.guide.proofs.Numbering.{FortyTwo, more}
 use Rattle.pages.specs.declared.Page.the-variants.{Shut}
 use Rattle.walk.specs.Mode.{off}

@@ -12,9 +12,9 @@ use lib.Seq.{take-at, drop-at}
 use borrow.Author.Tests.{leb-false, eq-eqb}
 use Rattle.laws.specs.Pick.{either}
 use Rattle.blocks.specs.Block.{Block, recordsOf}
-use Rattle.guide.specs.declared.Setting.{Setting}
-use Rattle.guide.specs.Setting.{inRange}
-use Rattle.guide.specs.Packet.{packetLength}
+use Rattle.packet.specs.declared.Setting.{Setting}
+use Rattle.packet.specs.Setting.{inRange}
+use Rattle.packet.specs.Packet.{packetLength}
 use Rattle.guide.proofs.Numbering.{FortyTwo, none, more}
 use Rattle.reader.specs.declared.Reader.{Reader}
 use Rattle.walk.specs.Reading.{room}

@@ -25,7 +25,7 @@ use Rattle.units.proofs.line_fits.Reads as units·line-fits
 use Rattle.pes.proofs.read.Reads as pes·read
 use Rattle.pes.proofs.write.Reads as pes·write
 use Rattle.blocks.proofs.record_at.Reads as blocks·record-at
-use Rattle.guide.proofs.is_in_range.Reads as guide·is-in-range
+use Rattle.packet.proofs.is_in_range.Reads as packet·is-in-range
 use Rattle.guide.proofs.cut.Reads as guide·cut
 use Rattle.guide.proofs.cut_pages.Reads as guide·cut-pages
 use Rattle.blocks.specs.Block.{Block}
@@ -95,8 +95,8 @@ pes·write-settled κs a x y s t p q = (same (p .0) (q .0), same (p .1) (q .1))
 pub blocks·record-at-settled : (κs : _) (a : _) (x y : _) (s t : _) → blocks·record-at.Post κs a x s → blocks·record-at.Post κs a y t → x ≡ y
 blocks·record-at-settled κs a x y s t p q = same p q
 
-pub guide·is-in-range-settled : (κs : _) (a : _) (x y : _) (s t : _) → guide·is-in-range.Post κs a x s → guide·is-in-range.Post κs a y t → x ≡ y
-guide·is-in-range-settled κs a x y s t p q = same p q
+pub packet·is-in-range-settled : (κs : _) (a : _) (x y : _) (s t : _) → packet·is-in-range.Post κs a x s → packet·is-in-range.Post κs a y t → x ≡ y
+packet·is-in-range-settled κs a x y s t p q = same p q
 
 pub guide·cut-settled :
     (κs : _) (a : _) (x y : _) (s t : _) → guide·cut.Post κs a x s → guide·cut.Post κs a y t → (x ≡ y) × (now (s .1 .1 .1 .0) ≡ now (t .1 .1 .1 .0))

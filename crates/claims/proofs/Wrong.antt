@@ -13,9 +13,9 @@ use Rattle.octet.specs.Image.{image, withParity}
 use Rattle.octet.proofs.Laws.{flips-self}
 use Rattle.blocks.specs.Block.{blocksWithin}
 use Rattle.fields.specs.Fields.{row, width, laid, parts, fitting}
-use Rattle.guide.specs.declared.Setting.{Setting}
-use Rattle.guide.specs.Setting.{inRange}
-use Rattle.guide.specs.Packet.{packetZero}
+use Rattle.packet.specs.declared.Setting.{Setting}
+use Rattle.packet.specs.Setting.{inRange}
+use Rattle.packet.specs.Packet.{packetZero}
 use Rattle.guide.specs.Stream.{symbols, cellsOf, streamOf, grab, beforeStart}
 use Rattle.guide.specs.Cutting.{rows, pages, packets}
 use Rattle.guide.proofs.Cases.{desk}

@@ -3,8 +3,8 @@ use mathlib.Core.Path.{_≡_}
 use mathlib.Core.Bool.{true}
 use mathlib.Core.List.{List}
 use Prim.Native.Nat.{ℕ, _≤_, _<_}
-use Rattle.guide.specs.declared.Setting.{Setting}
-use Rattle.guide.specs.Setting.{inRange}
+use Rattle.packet.specs.declared.Setting.{Setting}
+use Rattle.packet.specs.Setting.{inRange}
 use Rattle.table.specs.Tables.{Table, fits}
 use Rattle.claims.specs.Noise.{Flipped, Aired, Each}
 use Rattle.claims.specs.Feeding.{Call, packetsOf}

@@ -2,7 +2,7 @@
 use mathlib.Core.List.{List, [], _∷_, _++_}
 use Prim.Native.Nat.{ℕ}
 use Rattle.blocks.specs.Block.{Block}
-use Rattle.guide.specs.declared.Setting.{Setting}
+use Rattle.packet.specs.declared.Setting.{Setting}
 use Rattle.pages.specs.Seen.{see}
 use Rattle.pages.specs.Acting.{State, act, handed}
 

@@ -8,7 +8,7 @@ use Prim.Native.Nat.{ℕ, _+_, _≤_, _<_}
 use lib.ListN.{length, take, drop}
 use Rattle.laws.specs.Pick.{either}
 use Rattle.blocks.specs.Block.{Block, blocks, recordsOf}
-use Rattle.guide.specs.declared.Setting.{Setting}
+use Rattle.packet.specs.declared.Setting.{Setting}
 use Rattle.reader.specs.declared.Reader.{Reader}
 use Rattle.reader.specs.declared.Heard.{Heard}
 use Rattle.reader.specs.declared.Heard.the-variants.{Took, Refused}

@@ -5,7 +5,7 @@ use mathlib.Core.List.{List}
 use Prim.Native.Nat.{ℕ, _+_, _*_, _/_, _%_}
 use lib.ListN.{getD, drop}
 use Rattle.octet.specs.Decoding.{nib}
-use Rattle.guide.specs.declared.Setting.{Setting}
+use Rattle.packet.specs.declared.Setting.{Setting}
 use Rattle.pages.specs.Seen.{decodes}
 
 -- its address can't be decoded, or it is packet 0 of our magazine and one of its six bytes can't

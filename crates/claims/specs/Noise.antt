@@ -8,8 +8,8 @@ use Rattle.octet.specs.Bits.{flips}
 use Rattle.octet.specs.Image.{image}
 use Rattle.octet.specs.Decoding.{nib, undecodable}
 use Rattle.blocks.specs.Block.{Block, sizeOf}
-use Rattle.guide.specs.declared.Setting.{Setting}
-use Rattle.guide.specs.Packet.{address}
+use Rattle.packet.specs.declared.Setting.{Setting}
+use Rattle.packet.specs.Packet.{address}
 
 -- "at most one flipped bit in each byte", "up to two": the byte b that arrives is at most d flips from the byte a that was sent
 abbrev pub Flipped : ℕ → ℕ → ℕ → Type 0

@@ -2,7 +2,7 @@
 use mathlib.Core.List.{List, [], _∷_, _++_}
 use Prim.Native.Nat.{ℕ}
 use Rattle.blocks.specs.Block.{Block, recordOf as Block·recordOf}
-use Rattle.guide.specs.declared.Setting.{Setting}
+use Rattle.packet.specs.declared.Setting.{Setting}
 use Rattle.guide.specs.Cutting.{packets}
 use Rattle.reader.specs.State.{freshState, readerOf}
 use Rattle.table.specs.Tables.{Table}

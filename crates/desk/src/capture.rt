@@ -4,8 +4,8 @@
 use crate::front;
 use answer::Answer;
 use blocks::Found;
-use guide::Setting;
 use libc::STDOUT_FILENO;
+use packet::Setting;
 use reader::HeardAll;
 use reader::Reader;
 ghost use mathlib.Core.Path.{_≡_};

@@ -4,9 +4,9 @@
 // Words that the program is called with are heard twice: first all are judged, then the files are listed.
 mod capture;
 
-use guide::Setting;
 use libc::STDERR_FILENO;
 use libc::STDIN_FILENO;
+use packet::Setting;
 use wanted::Words;
 
 // Where the second hearing stands: the words so far, whether one of them was a name, and whether

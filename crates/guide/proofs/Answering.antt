@@ -17,9 +17,9 @@ use Rattle.answer.specs.Values.{refused}
 use Rattle.answer.proofs.Lent.{lent-short, lent-done}
 use Rattle.answer.specs.Writing.{answered, left}
 use Rattle.blocks.specs.Block.{whole, blocks}
-use Rattle.guide.specs.declared.Setting.{Setting}
+use Rattle.packet.specs.declared.Setting.{Setting}
 use Rattle.guide.specs.declared.Measured.the-variants.{Cells, Broken}
-use Rattle.guide.specs.Setting.{inRange}
+use Rattle.packet.specs.Setting.{inRange}
 use Rattle.guide.specs.Stream.{cell, streamOf}
 use Rattle.guide.specs.Cutting.{pagesFor, packets, cutBytes, cutRules}
 use Rattle.guide.specs.Pen.{measureOf, pagesBytes, takesOf}

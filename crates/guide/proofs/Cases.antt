@@ -7,8 +7,8 @@ use lib.ListN.{length, take, drop, replicate, getD}
 use Rattle.octet.specs.Bits.{number}
 use Rattle.octet.specs.Image.{image, withParity}
 use Rattle.blocks.specs.Block.{blocksWithin}
-use Rattle.guide.specs.declared.Setting.{Setting}
-use Rattle.guide.specs.Packet.{packetZero, packetOf}
+use Rattle.packet.specs.declared.Setting.{Setting}
+use Rattle.packet.specs.Packet.{packetZero, packetOf}
 use Rattle.guide.specs.Stream.{byteOf, symbols, cellsOf, streamOf, grab, beforeStart}
 use Rattle.guide.specs.Cutting.{rows, pages, packets, joined, cutBytes}
 

@@ -8,8 +8,8 @@ use lib.ListN.{set, replicate}
 use lib.Seq.{sets}
 use Rattle.laws.proofs.Runs.{set-sets}
 use Rattle.octet.specs.Image.{image}
-use Rattle.guide.specs.declared.Setting.{Setting}
-use Rattle.guide.specs.Packet.{address, packetZero, packetOf}
+use Rattle.packet.specs.declared.Setting.{Setting}
+use Rattle.packet.specs.Packet.{address, packetZero, packetOf}
 use Rattle.guide.specs.Stream.{Symbol, byteOf, perPacket, grab, beforeStart}
 use Rattle.guide.specs.Cutting.{rowOf}
 

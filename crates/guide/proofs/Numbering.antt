@@ -9,8 +9,8 @@ use lib.ListN.{length, getD, take, drop, length-append, List·getD-append}
 use lib.Seq.{drop-drop, getD-append-add, take-at, drop-at}
 use Rattle.octet.specs.Image.{image}
 use Rattle.blocks.specs.Block.{blocks}
-use Rattle.guide.specs.declared.Setting.{Setting}
-use Rattle.guide.specs.Packet.{packetLength, address, packetZero, packetOf}
+use Rattle.packet.specs.declared.Setting.{Setting}
+use Rattle.packet.specs.Packet.{packetLength, address, packetZero, packetOf}
 use Rattle.guide.specs.Stream.{Symbol, perPacket, streamOf}
 use Rattle.guide.specs.Cutting.{rowOf, rows, pages, pagesFor, packets, joined, cutBytes}
 use Rattle.guide.specs.Pen.{pageOf}

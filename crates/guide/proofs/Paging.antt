@@ -10,9 +10,9 @@ use lib.ListN.{length, drop, length-append, length-map}
 use lib.Seq.{sets, length-sets, drop-drop}
 use Rattle.laws.proofs.Stores.{sets-next}
 use Rattle.blocks.specs.Block.{blocks, blockOf}
-use Rattle.guide.specs.declared.Setting.{Setting}
+use Rattle.packet.specs.declared.Setting.{Setting}
 use Rattle.guide.specs.declared.Pen.{Pen}
-use Rattle.guide.specs.Packet.{packetLength, packetZero, packetOf}
+use Rattle.packet.specs.Packet.{packetLength, packetZero, packetOf}
 use Rattle.guide.specs.Stream.{Symbol, byteOf, perPacket, streamOf, grab}
 use Rattle.guide.specs.Cutting.{rowOf, rows, pages, joined}
 use Rattle.guide.specs.Pen.{restOf, Within, Goes, pageOf, pageLength}

@@ -10,8 +10,8 @@ use lib.ListN.{length, getD, drop, List·getD-eq-default}
 use lib.Seq.{getD-drop}
 use Rattle.octet.specs.Image.{image}
 use Rattle.blocks.specs.Block.{Block}
-use Rattle.guide.specs.declared.Setting.{Setting}
-use Rattle.guide.specs.Packet.{packetOf}
+use Rattle.packet.specs.declared.Setting.{Setting}
+use Rattle.packet.specs.Packet.{packetOf}
 use Rattle.guide.specs.Stream.{Symbol, start, fill, bits, raw, byteOf, cell, perPacket, symbols, cellsOf, streamOf, grab, beforeStart, pointerOf}
 use Rattle.guide.specs.Cutting.{rowOf}
 use Rattle.guide.specs.Order.{Names, first, none, Laid, end, and}

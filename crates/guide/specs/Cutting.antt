@@ -6,9 +6,9 @@ use lib.ListN.{length, drop}
 use Rattle.laws.specs.Pick.{both}
 use Rattle.answer.specs.Rules.{Rule, rule}
 use Rattle.blocks.specs.Block.{whole, blocks}
-use Rattle.guide.specs.declared.Setting.{Setting}
-use Rattle.guide.specs.Setting.{inRange}
-use Rattle.guide.specs.Packet.{packetZero, packetOf}
+use Rattle.packet.specs.declared.Setting.{Setting}
+use Rattle.packet.specs.Setting.{inRange}
+use Rattle.packet.specs.Packet.{packetZero, packetOf}
 use Rattle.guide.specs.Stream.{Symbol, byteOf, perPacket, streamOf, grab, pointerOf}
 
 -- packet y with the next symbols

@@ -1,5 +1,3 @@
-pub mod Setting
-pub mod Packet
 pub mod Stream
 pub mod Cutting
 pub mod Pen

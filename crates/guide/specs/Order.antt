@@ -4,8 +4,8 @@ use mathlib.Core.List.{List, [], _∷_, _++_}
 use Prim.Native.Nat.{ℕ, zero, suc, _+_, _*_, _%_, _<_}
 use lib.ListN.{getD, drop, replicate}
 use Rattle.blocks.specs.Block.{Block}
-use Rattle.guide.specs.declared.Setting.{Setting}
-use Rattle.guide.specs.Packet.{packetZero}
+use Rattle.packet.specs.declared.Setting.{Setting}
+use Rattle.packet.specs.Packet.{packetZero}
 use Rattle.guide.specs.Stream.{Symbol, start, fill, cell, perPacket, symbols}
 use Rattle.guide.specs.Cutting.{rowOf}
 

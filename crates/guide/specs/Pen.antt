@@ -11,9 +11,9 @@ use Rattle.guide.specs.declared.Pen.{Pen}
 use Rattle.guide.specs.declared.Sent.{Sent}
 use Rattle.guide.specs.declared.Measured.{Measured}
 use Rattle.guide.specs.declared.Measured.the-variants.{Cells, Broken}
-use Rattle.guide.specs.declared.Setting.{Setting}
-use Rattle.guide.specs.Setting.{inRange}
-use Rattle.guide.specs.Packet.{packetLength, packetZero}
+use Rattle.packet.specs.declared.Setting.{Setting}
+use Rattle.packet.specs.Setting.{inRange}
+use Rattle.packet.specs.Packet.{packetLength, packetZero}
 use Rattle.guide.specs.Stream.{Symbol, start, fill, bits, raw, byteOf, cell, cellsOf, streamOf}
 use Rattle.guide.specs.Cutting.{rows, pages, joined}
 

@@ -1,4 +1,4 @@
-// The packets of the guide page: the setting, and the writer that cuts records into packets.
+// The writer of the guide page: it cuts records into packets.
 //
 // The writer's 39 bytes after a packet's pointer are thirteen cells of three. A block goes in whole
 // cells: its start, its 16 bits in four nibbles, its raw bytes, then filler. So every start stands at
@@ -6,6 +6,7 @@
 use answer::Answer;
 use answer::Refusal;
 use blocks::Found;
+use packet::Setting;
 ghost use mathlib.Core.Path.{_≡_};
 ghost use mathlib.Core.List.{[], map};
 ghost use Prim.Native.Nat.{_+_, _*_, _/_, _^_, _≤_, _<_};
@@ -13,20 +14,10 @@ ghost use lib.ListN.{length, getD, replicate};
 ghost use lib.Seq.{sets};
 ghost use Rattle.answer.specs.Writing.{answered, left};
 ghost use Rattle.blocks.specs.Block.{blocks as Block·blocks};
-ghost use Rattle.guide.specs.Setting.{inRange};
-ghost use Rattle.guide.specs.Packet.{packetLength, address, packetZero};
+ghost use Rattle.packet.specs.Packet.{packetLength, address, packetZero};
 ghost use Rattle.guide.specs.Stream.{fill, byteOf, cell, perPacket, cellsOf, streamOf, grab, beforeStart};
 ghost use Rattle.guide.specs.Cutting.{rowOf, pages, pagesFor, joined, cutBytes, usualPage, cutRules};
 ghost use Rattle.guide.specs.Pen.{measureOf, nibbleOf, blockAt, movedOf, fillerAt, restOf, Within, Goes, Sends, firstOf, pageLength, pageOf, pagesBytes, takesOf};
-
-// Which page and stream carry the guide, and which application its blocks are of. In range:
-// magazine 1..8, page 0..255 (any byte), stream 0..15, application 0..31.
-pub struct Setting {
-    pub magazine: u8,
-    pub page: u8,
-    pub stream: u8,
-    pub application: u8,
-}
 
 // How many packets a page has unless told otherwise, and at most.
 const USUAL_PAGE: u8 = 25;
@@ -80,25 +71,6 @@ enum Measured {
     Broken,
 }
 
-// Whether a setting is in range.
-pub fn is_in_range(s: Setting) -> bool
-    ensures { λ r. ⌜ r ≡ inRange s ⌝ }
-{
-    if s.magazine < 1 {
-        return false;
-    }
-    if s.magazine > 8 {
-        return false;
-    }
-    if s.stream > 15 {
-        return false;
-    }
-    if s.application > 31 {
-        return false;
-    }
-    true
-}
-
 // Cuts a list of records into packets, one after the other at the front of `out`: pages of 25
 // packets and a packet 0, the first page with the given index. An empty list gives no packet.
 // Refused are 16 a setting or an index out of range, 13 a list that isn't whole records, 1 an output
@@ -128,7 +100,7 @@ pub fn cut_pages(s: Setting, index: u8, k: u8, records: &[u8], out: &mut [u8]) -
 fn takes(s: Setting, index: u8, k: u8) -> bool
     ensures { λ r. ⌜ r ≡ takesOf s index k ⌝ }
 {
-    if !is_in_range(s) {
+    if !packet::is_in_range(s) {
         return false;
     }
     if index > 15 {

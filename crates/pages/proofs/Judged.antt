@@ -11,7 +11,7 @@ use borrow.Author.Tests.{le-leb, lt-leb, lt-ltb, leb-true, eq-eqb, ne-eqb}
 use Rattle.laws.specs.Pick.{pick}
 use Rattle.laws.proofs.Tests.{both-first, both-second}
 use Rattle.octet.specs.Decoding.{nib}
-use Rattle.guide.specs.declared.Setting.{Setting}
+use Rattle.packet.specs.declared.Setting.{Setting}
 use Rattle.pages.specs.declared.Page.{Page}
 use Rattle.pages.specs.declared.Page.the-variants.{Shut, Open}
 use Rattle.walk.specs.declared.Got.{Got}

@@ -6,7 +6,7 @@ use lib.Dec.{eqb, leb, ltb}
 use lib.ListN.{length, getD, drop}
 use Rattle.laws.specs.Pick.{pick, both}
 use Rattle.octet.specs.Decoding.{nib, undecodable}
-use Rattle.guide.specs.declared.Setting.{Setting}
+use Rattle.packet.specs.declared.Setting.{Setting}
 
 pub data Seen : Type 0 where
   -- an address, or one of the six bytes of our magazine's packet 0, that can't be decoded

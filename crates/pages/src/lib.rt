@@ -1,6 +1,6 @@
 // What a packet does: to the page of ours that is open, to our last index, and to the running block. It is the reader's inside, and
 // `reader` alone calls it: that the state is in range, and that there is room for what one packet can give, its calls have tested.
-use guide::Setting;
+use packet::Setting;
 use walk::Got;
 ghost use mathlib.Core.Path.{_≡_};
 ghost use mathlib.Core.Bool.{not};
@@ -10,7 +10,7 @@ ghost use lib.Dec.{eqb, leb, ltb};
 ghost use lib.ListN.{length, getD, drop};
 ghost use Rattle.laws.specs.Pick.{pick, either};
 ghost use Rattle.octet.specs.Decoding.{nib};
-ghost use Rattle.guide.specs.Packet.{packetLength};
+ghost use Rattle.packet.specs.Packet.{packetLength};
 ghost use Rattle.walk.specs.Holding.{Kept, RowRoom};
 ghost use Rattle.pages.specs.declared.Page.the-variants.{Shut, Open};
 ghost use Rattle.pages.specs.Seen.{decodes, seeZero, see, addressOf, elsewhere};

@@ -10,9 +10,9 @@ use borrow.Author.Tests.{le-leb, lt-leb, eqb-true}
 use Rattle.laws.specs.Pick.{both}
 use Rattle.laws.proofs.Lists.{sets-front}
 use Rattle.blocks.specs.Block.{recordsOf}
-use Rattle.guide.specs.declared.Setting.{Setting}
-use Rattle.guide.specs.Setting.{inRange}
-use Rattle.guide.specs.Packet.{packetLength}
+use Rattle.packet.specs.declared.Setting.{Setting}
+use Rattle.packet.specs.Setting.{inRange}
+use Rattle.packet.specs.Packet.{packetLength}
 use Rattle.reader.specs.declared.Reader.{Reader}
 use Rattle.reader.specs.declared.Heard.{Heard}
 use Rattle.reader.specs.declared.Heard.the-variants.{Took}

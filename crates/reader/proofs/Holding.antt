@@ -11,8 +11,8 @@ use borrow.Author.Tests.{leb-true, eqb-true}
 use Rattle.laws.specs.Pick.{both}
 use Rattle.laws.proofs.Tests.{both-first, both-second}
 use Rattle.blocks.specs.Block.{sizeOf}
-use Rattle.guide.specs.declared.Setting.{Setting}
-use Rattle.guide.specs.Setting.{inRange}
+use Rattle.packet.specs.declared.Setting.{Setting}
+use Rattle.packet.specs.Setting.{inRange}
 use Rattle.walk.specs.declared.Run.{Run}
 use Rattle.walk.specs.declared.Run.the-variants.{Idle, Head, Body}
 use Rattle.reader.specs.declared.Reader.{Reader}

@@ -16,7 +16,7 @@ use Rattle.walk.proofs.Along.{drop-good, read-good}
 use Rattle.pages.proofs.Seeing.{decodes-at}
 use Rattle.octet.specs.Decoding.{nib}
 use Rattle.blocks.specs.Block.{sizeOf}
-use Rattle.guide.specs.declared.Setting.{Setting}
+use Rattle.packet.specs.declared.Setting.{Setting}
 use Rattle.pages.specs.declared.Page.{Page}
 use Rattle.pages.specs.declared.Page.the-variants.{Shut, Open}
 use Rattle.walk.specs.Mode.{Mode, off, scan, heading, body}

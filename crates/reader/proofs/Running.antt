@@ -11,8 +11,8 @@ use lib.Seq.{sets, drop-drop, length-take-le, take-all}
 use borrow.Author.Tests.{le-leb, lt-leb}
 use Rattle.laws.proofs.Lists.{sets-append, part-of}
 use Rattle.blocks.specs.Block.{Block, recordsOf}
-use Rattle.guide.specs.declared.Setting.{Setting}
-use Rattle.guide.specs.Packet.{packetLength}
+use Rattle.packet.specs.declared.Setting.{Setting}
+use Rattle.packet.specs.Packet.{packetLength}
 use Rattle.pages.specs.declared.Going.{Going}
 use Rattle.reader.specs.declared.Taking.{Taking}
 use Rattle.pages.specs.Seen.{see}

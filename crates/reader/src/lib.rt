@@ -1,7 +1,7 @@
 // The reader of the guide page: packets in, finished blocks out. A packet is lost only where a byte
 // can't be decoded, and then what was held is dropped: a missing table is fetched at the next repeat.
 use answer::Refusal;
-use guide::Setting;
+use packet::Setting;
 use pages::Going;
 use pages::Page;
 use walk::Got;
@@ -11,8 +11,8 @@ ghost use mathlib.Core.Bool.{true, false};
 ghost use Prim.Native.Nat.{_/_, _%_, _≤_};
 ghost use lib.ListN.{length, drop};
 ghost use Rattle.laws.specs.Pick.{both};
-ghost use Rattle.guide.specs.Setting.{inRange};
-ghost use Rattle.guide.specs.Packet.{packetLength};
+ghost use Rattle.packet.specs.Setting.{inRange};
+ghost use Rattle.packet.specs.Packet.{packetLength};
 ghost use Rattle.walk.specs.declared.Run.the-variants.{Head};
 ghost use Rattle.walk.specs.Holding.{Kept};
 ghost use Rattle.pages.specs.Stepped.{stateIn};
@@ -237,7 +237,7 @@ fn is_ready(
     ensures { λ r. ⌜ r ≡ both (inRange setting) (both (readerInRange (record { page = page; index = index; run = run; store = now (store .entry) })) whole) ⌝ }
     ensures { λ r. ⌜ (r ≡ true → Sixteen run) ⌝ }
 {
-    if !guide::is_in_range(setting) {
+    if !packet::is_in_range(setting) {
         return false;
     }
     if !whole {

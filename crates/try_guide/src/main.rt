@@ -1,6 +1,6 @@
 // Runs cases of the guide page's packets: op 20 takes a setting and a fresh reader, op 21 feeds it one
 // packet, op 22 cuts records into packets.
-use guide::Setting;
+use packet::Setting;
 use reader::Heard;
 use reader::Reader;
 use vectors::Found;

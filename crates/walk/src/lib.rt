@@ -10,7 +10,7 @@ ghost use lib.Seq.{sets};
 ghost use Rattle.laws.specs.Pick.{both as Pick·both, either as Pick·either};
 ghost use Rattle.octet.specs.Decoding.{nib};
 ghost use Rattle.blocks.specs.Block.{recordOf};
-ghost use Rattle.guide.specs.Packet.{packetLength};
+ghost use Rattle.packet.specs.Packet.{packetLength};
 ghost use Rattle.walk.specs.declared.Run.the-variants.{Body};
 ghost use Rattle.walk.specs.Mode.{body};
 ghost use Rattle.walk.specs.Store.{modeOf};

@@ -7,7 +7,7 @@ use native.Mathlib.Omega.{arith}
 use borrow.Author.Tests.{leb-true}
 use lib.Dec.{leb}
 use Rattle.laws.proofs.Tests.{both-second}
-use Rattle.guide.specs.declared.Setting.{Setting}
+use Rattle.packet.specs.declared.Setting.{Setting}
 use Rattle.wanted.specs.declared.Field.{Field}
 use Rattle.wanted.specs.declared.Field.the-variants.{Magazine, Page, Stream, Application}
 use Rattle.wanted.specs.declared.Stage.{Stage}

@@ -8,8 +8,8 @@ use borrow.Author.Tests.{le-leb, leb-true}
 use lib.Dec.{leb}
 use Rattle.laws.specs.Pick.{pick}
 use Rattle.laws.proofs.Tests.{both-true}
-use Rattle.guide.specs.declared.Setting.{Setting}
-use Rattle.guide.specs.Setting.{inRange}
+use Rattle.packet.specs.declared.Setting.{Setting}
+use Rattle.packet.specs.Setting.{inRange}
 use Rattle.wanted.specs.declared.Field.{Field}
 use Rattle.wanted.specs.declared.Field.the-variants.{Magazine, Page, Stream, Application}
 use Rattle.wanted.specs.declared.Stage.{Stage}

@@ -5,7 +5,7 @@ use Prim.Native.Nat.{ℕ}
 use lib.Dec.{eqb}
 use lib.ListN.{length, getD}
 use Rattle.laws.specs.Pick.{pick}
-use Rattle.guide.specs.declared.Setting.{Setting}
+use Rattle.packet.specs.declared.Setting.{Setting}
 use Rattle.wanted.specs.declared.Field.{Field}
 use Rattle.wanted.specs.declared.Field.the-variants.{Magazine, Page, Stream, Application}
 use Rattle.wanted.specs.declared.Stage.{Stage}

@@ -1,7 +1,7 @@
 // The words that the desk is called with: options that set the magazine, the page, the stream and the
 // application, then names of files. One word is heard at a time. A program hears them all, and asks
 // is_good, before it reads or prints anything; then it goes through them again for the names.
-use guide::Setting;
+use packet::Setting;
 ghost use mathlib.Core.Path.{_≡_};
 ghost use Rattle.wanted.specs.Words.{startWords, heard, setBy, takenAsName, isWhole, wordOf, optionOf, looksLikeName, afterOptions, afterNames};
 ghost use Rattle.wanted.specs.Values.{digitOf, decimalOf, hexPairOf, numberOf, leastOf, mostOf, isIn, withField};

@@ -5,7 +5,7 @@ use lib.ListN.{length}
 use denote.Ref.{now}
 use borrow.Author.Needs.{needs}
 use borrow.Author.Tests.{not-true, not-false, eqb-true}
-use Rattle.guide.specs.Packet.{packetLength}
+use Rattle.packet.specs.Packet.{packetLength}
 use Rattle.walk.specs.Store.{storeLength}
 use Rattle.reader.proofs.Holding.{ready-whole, ready-kept}
 use Rattle.reader.proofs.Answering.{not-ready, no-room, taken}

@@ -5,7 +5,7 @@ use native.Mathlib.Omega.{arith}
 use lib.ListN.{length, take, drop}
 use denote.Ref.{now}
 use borrow.Author.Needs.{needs}
-use Rattle.guide.specs.Packet.{packetLength}
+use Rattle.packet.specs.Packet.{packetLength}
 use Rattle.reader.specs.Feeding.{Ran, begun, run}
 use Rattle.reader.specs.Holding.{RanTo}
 use Rattle.pages.specs.Stepped.{stateIn}

@@ -1,10 +1,10 @@
--- `guide::is_in_range` meets its contract: each `return` is by the tests that led there, and a page is a byte. Assumes nothing.
+-- `packet::is_in_range` meets its contract: each `return` is by the tests that led there, and a page is a byte. Assumes nothing.
 use borrow.Author.Tests.{lt-leb, le-leb}
 use Prim.Native.Nat.{_≤_}
 use native.Mathlib.Omega.{arith}
-use Rattle.guide.specs.Setting.{inRange}
-use Rattle.guide.proofs.is_in_range.Statement.{statement}
-use Rattle.guide.proofs.is_in_range.Tie as tie
+use Rattle.packet.specs.Setting.{inRange}
+use Rattle.packet.proofs.is_in_range.Statement.{statement}
+use Rattle.packet.proofs.is_in_range.Tie as tie
 
 returns : tie.Need-returns
 unfolding inRange

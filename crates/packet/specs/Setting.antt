@@ -2,7 +2,7 @@
 use mathlib.Core.Bool.{Bool}
 use lib.Dec.{leb}
 use Rattle.laws.specs.Pick.{both}
-use Rattle.guide.specs.declared.Setting.{Setting}
+use Rattle.packet.specs.declared.Setting.{Setting}
 
 -- a setting is in range
 unfoldable pub inRange : Setting → Bool
