@@ -15,7 +15,7 @@ use Rattle.octet.specs.Decoding.{undecodable}
 use Rattle.blocks.specs.Block.{Block}
 use Rattle.packet.specs.declared.Setting.{Setting}
 use Rattle.packet.specs.Packet.{packetZero}
-use Rattle.guide.specs.Stream.{Symbol, byteOf, perPacket, streamOf, grab, pointerOf}
+use Rattle.pens.specs.Stream.{Symbol, byteOf, perPacket, streamOf, grab, pointerOf}
 use Rattle.guide.specs.Cutting.{rowOf, rows, afterRows, pages, pagesFor}
 use Rattle.guide.proofs.Aligned.{Celled, stream-celled, after-celled, celled-aligned}
 use Rattle.guide.proofs.Counting.{covered}

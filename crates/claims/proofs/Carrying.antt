@@ -14,7 +14,7 @@ use Rattle.octet.specs.Image.{image}
 use Rattle.octet.specs.Decoding.{nib, undecodable}
 use Rattle.octet.proofs.Laws.{nib-image}
 use Rattle.blocks.specs.Block.{Block}
-use Rattle.guide.specs.Stream.{Symbol, start, fill, bits, raw, byteOf, beforeStart}
+use Rattle.pens.specs.Stream.{Symbol, start, fill, bits, raw, byteOf, beforeStart}
 use Rattle.walk.specs.Mode.{Mode, off, scan, heading, body, full, step, emitted, ends, gives, behind, carry, carries, finished, unfinished}
 use Rattle.claims.specs.Noise.{Hears, Near, none, more, over}
 use Rattle.claims.proofs.Losing.{near-snoc, lost-all}

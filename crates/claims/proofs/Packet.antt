@@ -10,7 +10,7 @@ use lib.ListN.{length, take, drop, take-append-drop}
 use borrow.Author.Tests.{le-leb}
 use Rattle.laws.proofs.Maps.{map-take, map-drop}
 use Rattle.blocks.specs.Block.{Block}
-use Rattle.guide.specs.Stream.{Symbol, start, fill, bits, raw, byteOf, beforeStart, pointerOf}
+use Rattle.pens.specs.Stream.{Symbol, start, fill, bits, raw, byteOf, beforeStart, pointerOf}
 use Rattle.walk.specs.Mode.{Mode, scan, step, ends, gives, carries, finished, unfinished}
 use Rattle.walk.specs.Reading.{readMode, readBlocks}
 use Rattle.claims.specs.Noise.{Hears, Near}

@@ -26,6 +26,9 @@ use Rattle.pes.proofs.read.Reads as pes·read
 use Rattle.pes.proofs.write.Reads as pes·write
 use Rattle.blocks.proofs.record_at.Reads as blocks·record-at
 use Rattle.packet.proofs.is_in_range.Reads as packet·is-in-range
+use Rattle.pens.proofs.step.Reads as pens·step
+use Rattle.pens.proofs.first.Reads as pens·first
+use Rattle.pens.proofs.cells_of.Reads as pens·cells-of
 use Rattle.guide.proofs.cut.Reads as guide·cut
 use Rattle.guide.proofs.cut_pages.Reads as guide·cut-pages
 use Rattle.blocks.specs.Block.{Block}
@@ -97,6 +100,15 @@ blocks·record-at-settled κs a x y s t p q = same p q
 
 pub packet·is-in-range-settled : (κs : _) (a : _) (x y : _) (s t : _) → packet·is-in-range.Post κs a x s → packet·is-in-range.Post κs a y t → x ≡ y
 packet·is-in-range-settled κs a x y s t p q = same p q
+
+pub pens·step-settled : (κs : _) (a : _) (x y : _) (s t : _) → pens·step.Post κs a x s → pens·step.Post κs a y t → x ≡ y
+pens·step-settled κs a x y s t p q = same p q
+
+pub pens·first-settled : (κs : _) (a : _) (x y : _) (s t : _) → pens·first.Post κs a x s → pens·first.Post κs a y t → x ≡ y
+pens·first-settled κs a x y s t p q = same p q
+
+pub pens·cells-of-settled : (κs : _) (a : _) (x y : _) (s t : _) → pens·cells-of.Post κs a x s → pens·cells-of.Post κs a y t → x ≡ y
+pens·cells-of-settled κs a x y s t p q = same p q
 
 pub guide·cut-settled :
     (κs : _) (a : _) (x y : _) (s t : _) → guide·cut.Post κs a x s → guide·cut.Post κs a y t → (x ≡ y) × (now (s .1 .1 .1 .0) ≡ now (t .1 .1 .1 .0))

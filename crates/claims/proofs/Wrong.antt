@@ -16,7 +16,7 @@ use Rattle.fields.specs.Fields.{row, width, laid, parts, fitting}
 use Rattle.packet.specs.declared.Setting.{Setting}
 use Rattle.packet.specs.Setting.{inRange}
 use Rattle.packet.specs.Packet.{packetZero}
-use Rattle.guide.specs.Stream.{symbols, cellsOf, streamOf, grab, beforeStart}
+use Rattle.pens.specs.Stream.{symbols, cellsOf, streamOf, grab, beforeStart}
 use Rattle.guide.specs.Cutting.{rows, pages, packets}
 use Rattle.guide.proofs.Cases.{desk}
 use Rattle.table.specs.Tables.{Table, per, loops, fields, fits, entire}

@@ -7,7 +7,7 @@ use native.Mathlib.Omega.{arith}
 use lib.ListN.{length, getD, drop}
 use lib.Seq.{drop-drop}
 use Rattle.blocks.specs.Block.{Block}
-use Rattle.guide.specs.Stream.{Symbol, start, fill, bits, raw, cell, perPacket, fillAfter, symbols, cellsOf, streamOf, grab, beforeStart, pointerOf}
+use Rattle.pens.specs.Stream.{Symbol, start, fill, bits, raw, cell, perPacket, fillAfter, symbols, cellsOf, streamOf, grab, beforeStart, pointerOf}
 
 -- a symbol that is no start
 pub data Plain : Symbol → Type 0 where

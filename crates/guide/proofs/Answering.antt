@@ -20,9 +20,9 @@ use Rattle.blocks.specs.Block.{whole, blocks}
 use Rattle.packet.specs.declared.Setting.{Setting}
 use Rattle.guide.specs.declared.Measured.the-variants.{Cells, Broken}
 use Rattle.packet.specs.Setting.{inRange}
-use Rattle.guide.specs.Stream.{cell, streamOf}
+use Rattle.pens.specs.Stream.{cell, streamOf}
 use Rattle.guide.specs.Cutting.{pagesFor, packets, cutBytes, cutRules}
-use Rattle.guide.specs.Pen.{measureOf, pagesBytes, takesOf}
+use Rattle.guide.specs.Writing.{measureOf, pagesBytes, takesOf}
 
 -- ---- the room
 

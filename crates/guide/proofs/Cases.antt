@@ -9,7 +9,7 @@ use Rattle.octet.specs.Image.{image, withParity}
 use Rattle.blocks.specs.Block.{blocksWithin}
 use Rattle.packet.specs.declared.Setting.{Setting}
 use Rattle.packet.specs.Packet.{packetZero, packetOf}
-use Rattle.guide.specs.Stream.{byteOf, symbols, cellsOf, streamOf, grab, beforeStart}
+use Rattle.pens.specs.Stream.{byteOf, symbols, cellsOf, streamOf, grab, beforeStart}
 use Rattle.guide.specs.Cutting.{rows, pages, packets, joined, cutBytes}
 
 -- "F application 1, size 30 → 02 A1 5E 15": the four bytes behind the start

@@ -6,7 +6,7 @@ use native.Mathlib.Nat.{div-add-mod', mod-lt, mul-assoc}
 use native.Mathlib.Omega.{arith}
 use lib.ListN.{length}
 use Rattle.blocks.specs.Block.{Block}
-use Rattle.guide.specs.Stream.{perPacket, streamOf}
+use Rattle.pens.specs.Stream.{perPacket, streamOf}
 use Rattle.guide.specs.Cutting.{rowsFor, pagesFor}
 
 -- so many groups of k hold n

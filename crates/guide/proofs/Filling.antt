@@ -8,10 +8,10 @@ use native.Mathlib.Nat.{add-zero, sub-zero, le-refl}
 use native.Mathlib.Omega.{arith}
 use lib.ListN.{length, getD, drop, set, length-set}
 use lib.Seq.{sets, drop-drop}
-use Rattle.guide.specs.declared.Pen.{Pen}
-use Rattle.guide.specs.declared.Sent.{Sent}
-use Rattle.guide.specs.Stream.{Symbol, start, fill, bits, raw, byteOf, grab, beforeStart}
-use Rattle.guide.specs.Pen.{isStart, restOf, Within, Goes, Sends, firstOf}
+use Rattle.pens.specs.declared.Pen.{Pen}
+use Rattle.pens.specs.declared.Sent.{Sent}
+use Rattle.pens.specs.Stream.{Symbol, start, fill, bits, raw, byteOf, grab, beforeStart}
+use Rattle.pens.specs.Pen.{isStart, restOf, Within, Goes, Sends, firstOf}
 
 pub length-grab : (n : ℕ) (ss : List Symbol) → length (grab n ss) ≡ n
 unfolding grab

@@ -10,7 +10,7 @@ use Rattle.laws.proofs.Runs.{set-sets}
 use Rattle.octet.specs.Image.{image}
 use Rattle.packet.specs.declared.Setting.{Setting}
 use Rattle.packet.specs.Packet.{address, packetZero, packetOf}
-use Rattle.guide.specs.Stream.{Symbol, byteOf, perPacket, grab, beforeStart}
+use Rattle.pens.specs.Stream.{Symbol, byteOf, perPacket, grab, beforeStart}
 use Rattle.guide.specs.Cutting.{rowOf}
 
 pub address-laid :

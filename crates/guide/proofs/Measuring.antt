@@ -2,37 +2,23 @@
 use mathlib.Core.Path.{_≡_, _∙_, refl, ap}
 use mathlib.Core.Bool.{Bool, true, false}
 use mathlib.Core.List.{List, [], _∷_}
-use Prim.Native.Nat.{ℕ, zero, suc, _+_, _-_, _*_, _/_, _%_, _≤_}
+use Prim.Native.Nat.{ℕ, zero, suc, _+_, _-_, _/_, _≤_}
 use native.Mathlib.Nat.{zero-add, add-zero, add-assoc}
 use native.Mathlib.Omega.{arith}
-use lib.ListN.{length, drop, length-append, length-map, length-replicate, length-drop, drop-of-length-le}
+use lib.ListN.{length, drop, length-append, length-drop, drop-of-length-le}
 use lib.Seq.{length-take-le}
 use Rattle.laws.specs.Pick.{pick}
 use Rattle.blocks.specs.Block.{Block, headLength, sizeOf, headOf, recordLength, begins, blockOf, whole, blocks, wholeWithin, blocksWithin}
 use Rattle.blocks.proofs.Walking.{Standing, whole-not, whole-at, blocks-at, begins-fits}
 use Rattle.guide.specs.declared.Measured.{Measured}
 use Rattle.guide.specs.declared.Measured.the-variants.{Cells, Broken}
-use Rattle.guide.specs.Stream.{fill, raw, cell, symbols, cellsOf, streamOf, fillAfter}
-use Rattle.guide.specs.Pen.{measureOf}
-
--- a block's cells, in symbols
-pub cells-length : (b : Block) → length (cellsOf b) ≡ (length (b .raw) + 7) / 3 * 3
-unfolding cellsOf symbols
-cells-length b =
-    let n = length (symbols b) in
-    omega (arith, length-append (symbols b) (fillAfter n), length-replicate (n * 2 % cell) fill, length-map (b .raw) raw)
+use Rattle.pens.specs.Stream.{raw, cell, cellsOf, streamOf}
+use Rattle.pens.proofs.Sending.{cells-length, raw-length}
+use Rattle.guide.specs.Writing.{measureOf}
 
 stream-length : (b : Block) (bs : List Block) → length (streamOf (b ∷ bs)) / cell ≡ (length (b .raw) + 7) / 3 + length (streamOf bs) / cell
 unfolding streamOf
 stream-length b bs = omega (arith, length-append (cellsOf b) (streamOf bs), cells-length b)
-
--- a record's raw bytes are as many as stand between their place and the next record
-pub raw-length :
-    {l : List ℕ} {p head raw next : ℕ} → Standing l p head raw next → length (blockOf (drop p l) .raw) ≡ next - raw
-raw-length {l} {p} s =
-    length-take-le (sizeOf (headOf (drop p l))) (drop headLength (drop p l))
-    (omega (arith, begins-fits (drop p l) (s .whole-there), length-drop headLength (drop p l)))
-    ∙ omega (arith, s .its-raw, s .its-next)
 
 -- the measure of what is left, with so many cells before it
 abbrev pub measureFrom : ℕ → List ℕ → Measured

@@ -11,9 +11,9 @@ use Rattle.octet.specs.Image.{image}
 use Rattle.blocks.specs.Block.{blocks}
 use Rattle.packet.specs.declared.Setting.{Setting}
 use Rattle.packet.specs.Packet.{packetLength, address, packetZero, packetOf}
-use Rattle.guide.specs.Stream.{Symbol, perPacket, streamOf}
+use Rattle.pens.specs.Stream.{Symbol, perPacket, streamOf}
 use Rattle.guide.specs.Cutting.{rowOf, rows, pages, pagesFor, packets, joined, cutBytes}
-use Rattle.guide.specs.Pen.{pageOf}
+use Rattle.guide.specs.Writing.{pageOf}
 use Rattle.guide.specs.Order.{numbered}
 use Rattle.guide.proofs.Paging.{zero-length, row-length}
 

@@ -11,12 +11,13 @@ use lib.Seq.{sets, length-sets, drop-drop}
 use Rattle.laws.proofs.Stores.{sets-next}
 use Rattle.blocks.specs.Block.{blocks, blockOf}
 use Rattle.packet.specs.declared.Setting.{Setting}
-use Rattle.guide.specs.declared.Pen.{Pen}
+use Rattle.pens.specs.declared.Pen.{Pen}
 use Rattle.packet.specs.Packet.{packetLength, packetZero, packetOf}
-use Rattle.guide.specs.Stream.{Symbol, byteOf, perPacket, streamOf, grab}
+use Rattle.pens.specs.Stream.{Symbol, byteOf, perPacket, streamOf, grab}
 use Rattle.guide.specs.Cutting.{rowOf, rows, pages, joined}
-use Rattle.guide.specs.Pen.{restOf, Within, Goes, pageOf, pageLength}
-use Rattle.guide.proofs.Sending.{some-cells}
+use Rattle.pens.specs.Pen.{restOf, Within, Goes}
+use Rattle.guide.specs.Writing.{pageOf, pageLength}
+use Rattle.pens.proofs.Sending.{some-cells}
 use Rattle.guide.proofs.Filling.{length-grab}
 
 pub zero-length : (s : Setting) (index n : ℕ) → length (packetZero s index n) ≡ packetLength

@@ -12,7 +12,7 @@ use Rattle.octet.specs.Image.{image}
 use Rattle.blocks.specs.Block.{Block}
 use Rattle.packet.specs.declared.Setting.{Setting}
 use Rattle.packet.specs.Packet.{packetOf}
-use Rattle.guide.specs.Stream.{Symbol, start, fill, bits, raw, byteOf, cell, perPacket, symbols, cellsOf, streamOf, grab, beforeStart, pointerOf}
+use Rattle.pens.specs.Stream.{Symbol, start, fill, bits, raw, byteOf, cell, perPacket, symbols, cellsOf, streamOf, grab, beforeStart, pointerOf}
 use Rattle.guide.specs.Cutting.{rowOf}
 use Rattle.guide.specs.Order.{Names, first, none, Laid, end, and}
 use Rattle.guide.proofs.Aligned.{Celled, celled-aligned, after-celled, stream-celled}

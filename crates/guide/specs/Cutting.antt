@@ -9,7 +9,7 @@ use Rattle.blocks.specs.Block.{whole, blocks}
 use Rattle.packet.specs.declared.Setting.{Setting}
 use Rattle.packet.specs.Setting.{inRange}
 use Rattle.packet.specs.Packet.{packetZero, packetOf}
-use Rattle.guide.specs.Stream.{Symbol, byteOf, perPacket, streamOf, grab, pointerOf}
+use Rattle.pens.specs.Stream.{Symbol, byteOf, perPacket, streamOf, grab, pointerOf}
 
 -- packet y with the next symbols
 abbrev pub rowOf : Setting → ℕ → List Symbol → List ℕ

@@ -1,4 +1,3 @@
-pub mod Stream
 pub mod Cutting
-pub mod Pen
+pub mod Writing
 pub mod Order

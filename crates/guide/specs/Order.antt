@@ -6,7 +6,7 @@ use lib.ListN.{getD, drop, replicate}
 use Rattle.blocks.specs.Block.{Block}
 use Rattle.packet.specs.declared.Setting.{Setting}
 use Rattle.packet.specs.Packet.{packetZero}
-use Rattle.guide.specs.Stream.{Symbol, start, fill, cell, perPacket, symbols}
+use Rattle.pens.specs.Stream.{Symbol, start, fill, cell, perPacket, symbols}
 use Rattle.guide.specs.Cutting.{rowOf}
 
 -- packet y of page j: packet 0 has n = k and the index j above the first, "later ones rise modulo 16"; the others go on with the

@@ -7,17 +7,19 @@ use answer::Answer;
 use answer::Refusal;
 use blocks::Found;
 use packet::Setting;
+use pens::Pen;
 ghost use mathlib.Core.Path.{_≡_};
 ghost use mathlib.Core.List.{[], map};
 ghost use Prim.Native.Nat.{_+_, _*_, _/_, _^_, _≤_, _<_};
-ghost use lib.ListN.{length, getD, replicate};
+ghost use lib.ListN.{length, replicate};
 ghost use lib.Seq.{sets};
 ghost use Rattle.answer.specs.Writing.{answered, left};
 ghost use Rattle.blocks.specs.Block.{blocks as Block·blocks};
 ghost use Rattle.packet.specs.Packet.{packetLength, address, packetZero};
-ghost use Rattle.guide.specs.Stream.{fill, byteOf, cell, perPacket, cellsOf, streamOf, grab, beforeStart};
+ghost use Rattle.pens.specs.Stream.{byteOf, cell, perPacket, streamOf, grab, beforeStart};
+ghost use Rattle.pens.specs.Pen.{restOf, Within, Goes};
 ghost use Rattle.guide.specs.Cutting.{rowOf, pages, pagesFor, joined, cutBytes, usualPage, cutRules};
-ghost use Rattle.guide.specs.Pen.{measureOf, nibbleOf, blockAt, movedOf, fillerAt, restOf, Within, Goes, Sends, firstOf, pageLength, pageOf, pagesBytes, takesOf};
+ghost use Rattle.guide.specs.Writing.{measureOf, pageLength, pageOf, pagesBytes, takesOf};
 
 // How many packets a page has unless told otherwise, and at most.
 const USUAL_PAGE: u8 = 25;
@@ -33,30 +35,10 @@ const CELLS: usize = 13;
 
 const PER_PACKET: usize = CELLS * CELL;
 
-// A block's start and the four nibbles of its 16 bits.
-const LEAD: usize = 5;
-
-const START: u8 = 12;
-
-const FILLER: u8 = 3;
-
 // Packet 0's characters.
 const CHARACTERS: usize = 32;
 
 const BLANK: u8 = 0x20;
-
-// Where the writer stands: at which record, and how many of its symbols are sent.
-struct Pen {
-    at: usize,
-    sent: usize,
-}
-
-// A symbol as it is sent: its byte, whether it is a block's start, and where the writer stands then.
-struct Sent {
-    byte: u8,
-    starts: bool,
-    pen: Pen,
-}
 
 // The symbols of one packet as they were sent: how many stand before the first start, and where the
 // writer stands then.
@@ -123,19 +105,11 @@ fn measure(records: &[u8]) -> Measured
             Found::End => return Measured::Cells(cells),
             Found::Broken => return Measured::Broken,
             Found::Record { head: _, raw, next } => {
-                cells += cells_of(next - raw);
+                cells += pens::cells_of(next - raw);
                 at = next;
             }
         }
     }
-}
-
-// How many cells a block of so many raw bytes takes.
-fn cells_of(size: usize) -> usize
-    requires { ⌜ size < 2 ^ 63 ⌝ }
-    ensures { λ r. ⌜ r ≡ (size + 7) / 3 ⌝ }
-{
-    (size + LEAD + CELL - 1) / CELL
 }
 
 // How many pages of k packets so many cells need.
@@ -230,101 +204,13 @@ fn write_symbols(records: &[u8], pen: Pen, out: &mut [u8], q: usize) -> Row
     let mut before = PER_PACKET;
     let mut i = 0;
     while i < PER_PACKET {
-        let sent = step(records, at);
+        let sent = pens::step(records, at);
         out[q + i] = sent.byte;
-        before = first(before, sent.starts, i);
+        before = pens::first(before, sent.starts, i);
         at = sent.pen;
         i += 1;
     }
     Row { before, pen: at }
-}
-
-// The place of the first start up to place i.
-fn first(before: usize, starts: bool, i: usize) -> usize
-    ensures { λ r. ⌜ r ≡ firstOf before starts i ⌝ }
-{
-    if !starts {
-        return before;
-    }
-    if i < before {
-        return i;
-    }
-    before
-}
-
-// The symbol that stands at the pen, and the pen behind it: filler where there is no record.
-fn step(records: &[u8], pen: Pen) -> Sent
-    requires { ⌜ Within (now records) pen ⌝ }
-    ensures { λ r. ⌜ Sends (now (records .entry)) pen r ⌝ }
-{
-    let sent = pen.sent;
-    match blocks::record_at(records, pen.at) {
-        Found::Record { head, raw, next } => Sent {
-            byte: byte_at(records, head, raw, next, sent),
-            starts: sent == 0,
-            pen: moved(pen, next - raw, next),
-        },
-        Found::End => filler(pen),
-        Found::Broken => filler(pen),
-    }
-}
-
-// Filler, with the pen where it is.
-fn filler(pen: Pen) -> Sent
-    ensures { λ r. ⌜ r ≡ fillerAt pen ⌝ }
-{
-    Sent {
-        byte: octet::image(FILLER),
-        starts: false,
-        pen,
-    }
-}
-
-// The byte of a block's symbol i: its start, its 16 bits, its raw bytes, then filler.
-fn byte_at(records: &[u8], head: u16, raw: usize, next: usize, i: usize) -> u8
-    requires { ⌜ (raw ≤ next) × (next ≤ length (now records)) ⌝ }
-    ensures { λ r. ⌜ r ≡ byteOf (getD (cellsOf (blockAt (now (records .entry)) head raw next)) i fill) ⌝ }
-{
-    if i == 0 {
-        return octet::image(START);
-    }
-    if i < LEAD {
-        return octet::image(nibble(head, i - 1));
-    }
-    let at = i - LEAD;
-    if at < next - raw {
-        return records[raw + at];
-    }
-    octet::image(FILLER)
-}
-
-// Nibble i of a block's 16 bits, the lowest first.
-fn nibble(head: u16, i: usize) -> u8
-    requires { ⌜ i < 4 ⌝ }
-    ensures { λ r. ⌜ r ≡ nibbleOf i head ⌝ }
-{
-    if i == 0 {
-        return (head % 16) as u8;
-    }
-    if i == 1 {
-        return (head / 16 % 16) as u8;
-    }
-    if i == 2 {
-        return (head / 16 / 16 % 16) as u8;
-    }
-    (head / 16 / 16 / 16 % 16) as u8
-}
-
-// The pen behind one more symbol of a block of so many raw bytes, whose next record is at next.
-fn moved(pen: Pen, size: usize, next: usize) -> Pen
-    requires { ⌜ (size < 2 ^ 63) × (pen .sent < (size + 7) / 3 * 3) ⌝ }
-    ensures { λ r. ⌜ r ≡ movedOf pen size next ⌝ }
-{
-    let sent = pen.sent + 1;
-    if sent < cells_of(size) * CELL {
-        return Pen { at: pen.at, sent };
-    }
-    Pen { at: next, sent: 0 }
 }
 
 // Writes packet 0 of a page of n packets at q.

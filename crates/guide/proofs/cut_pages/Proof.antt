@@ -8,9 +8,9 @@ use native.Mathlib.Omega.{arith}
 use lib.ListN.{length}
 use borrow.Author.Tests.{not-true, not-false}
 use Rattle.blocks.specs.Block.{whole, blocks}
-use Rattle.guide.specs.Stream.{cell, streamOf}
+use Rattle.pens.specs.Stream.{cell, streamOf}
 use Rattle.guide.specs.Cutting.{pagesFor}
-use Rattle.guide.specs.Pen.{takesOf}
+use Rattle.guide.specs.Writing.{takesOf}
 use Rattle.guide.proofs.Aligned.{stream-cells}
 use Rattle.guide.proofs.Measuring.{cells-bound}
 use Rattle.guide.proofs.Answering.{measured-broken, measured-cells, Taken, taken, cut-out-of-range, cut-broken, cut-written}

@@ -6,7 +6,7 @@ use native.Mathlib.Omega.{arith}
 use lib.ListN.{length, drop}
 use borrow.Author.Needs.{needs}
 use Rattle.blocks.proofs.Walking.{Standing, standing, ended, broken}
-use Rattle.guide.specs.Pen.{measureOf}
+use Rattle.guide.specs.Writing.{measureOf}
 use Rattle.guide.proofs.Measuring.{measureFrom, measure-start, measure-step, measure-end, measure-broken, record-cells}
 use Rattle.guide.proofs.measure.Statement.{statement}
 use Rattle.guide.proofs.measure.Tie as tie

@@ -3,8 +3,8 @@ use borrow.Author.Needs.{needs}
 use native.Mathlib.Omega.{arith}
 use lib.ListN.{length}
 use Rattle.blocks.specs.Block.{blocks}
-use Rattle.guide.specs.Stream.{streamOf}
-use Rattle.guide.specs.Pen.{pageLength, pagesBytes}
+use Rattle.pens.specs.Stream.{streamOf}
+use Rattle.guide.specs.Writing.{pageLength, pagesBytes}
 use Rattle.guide.proofs.Paging.{pages-length}
 use Rattle.guide.proofs.Answering.{short-of-room, fits-room, room-enough}
 use Rattle.guide.proofs.write_all.Statement.{statement}

@@ -2,7 +2,7 @@
 -- behind packet 0. Assumes nothing.
 use Prim.Native.Nat.{suc, _-_}
 use borrow.Author.Needs.{needs}
-use Rattle.guide.specs.Pen.{restOf}
+use Rattle.pens.specs.Pen.{restOf}
 use Rattle.guide.proofs.Paging.{Rowed, rowed-none, rowed-more, rowed-all, page-laid}
 use Rattle.guide.proofs.write_page.Statement.{statement}
 use Rattle.guide.proofs.write_page.Tie as tie

@@ -1,7 +1,7 @@
 -- `guide::write_pages` meets its contract. The loop's invariant: the pages stored, with those still to be stored, are the whole. Assumes nothing.
 use borrow.Author.Needs.{needs}
 use Rattle.blocks.specs.Block.{blocks}
-use Rattle.guide.specs.Stream.{streamOf}
+use Rattle.pens.specs.Stream.{streamOf}
 use Rattle.guide.specs.Cutting.{pages, joined}
 use Rattle.guide.proofs.Paging.{Paged, paged-none, page-room, paged-more, paged-all}
 use Rattle.guide.proofs.write_pages.Statement.{statement}

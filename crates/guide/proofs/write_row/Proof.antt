@@ -3,8 +3,8 @@ use borrow.Author.Needs.{needs}
 use mathlib.Core.Path.{_∙_}
 use native.Mathlib.Omega.{arith}
 use lib.ListN.{length-set}
-use Rattle.guide.specs.Stream.{perPacket, grab}
-use Rattle.guide.specs.Pen.{restOf}
+use Rattle.pens.specs.Stream.{perPacket, grab}
+use Rattle.pens.specs.Pen.{restOf}
 use Rattle.guide.proofs.Filling.{length-grab, before-le}
 use Rattle.guide.proofs.Laying.{row-laid}
 use Rattle.guide.proofs.write_row.Statement.{statement}

@@ -2,7 +2,8 @@
 -- so is the place of the first start. Assumes nothing.
 use borrow.Author.Needs.{needs}
 use Prim.Native.Nat.{_-_}
-use Rattle.guide.specs.Stream.{perPacket}
+use Rattle.pens.specs.Stream.{perPacket}
+use Rattle.pens.proofs.Sending.{sends}
 use Rattle.guide.proofs.Filling.{Stored, stored-none, stored-more, stored-all}
 use Rattle.guide.proofs.write_symbols.Statement.{statement}
 use Rattle.guide.proofs.write_symbols.Tie as tie
@@ -37,7 +38,7 @@ loop-less c = search needs
 loop-again : tie.Need-loop-again Inv-loop μ-loop
 loop-again c =
     let s = c .before .before .step in
-    stored-more (c .before .before .before .before .loop .inv) (c .before .before .before .loop-test .taken) (s .result) (s .ensures)
+    stored-more (c .before .before .before .before .loop .inv) (c .before .before .before .loop-test .taken) (s .result) (sends _ _ (c .before .before .before .before .loop .inv .goes .stands) (s .result) (s .ensures))
     (c .before .first .result) (c .before .first .ensures)
 
 same-length : tie.Need-same-length Inv-loop μ-loop

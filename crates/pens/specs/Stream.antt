@@ -1,7 +1,7 @@
 -- What is sent of a list of blocks, one symbol a byte: "The writer puts each start at the next byte 1+3p, with filler before".
 -- 39 bytes follow a packet's pointer and 39 is 13 times 3, so the starts tile the stream in cells of three bytes.
 use mathlib.Core.List.{List, [], _∷_, _++_, map}
-use Prim.Native.Nat.{ℕ, zero, suc, _+_, _*_, _/_, _%_}
+use Prim.Native.Nat.{ℕ, zero, suc, _*_, _/_, _%_}
 use lib.ListN.{length, replicate}
 use Rattle.octet.specs.Image.{image}
 use Rattle.blocks.specs.Block.{Block}

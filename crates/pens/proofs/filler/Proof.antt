@@ -1,10 +1,10 @@
--- `guide::filler` meets its contract: filler's byte is the image of its nibble. Assumes nothing.
+-- `pens::filler` meets its contract: filler's byte is the image of its nibble. Assumes nothing.
 use borrow.Author.Needs.{needs}
 use mathlib.Core.Path.{ap}
 use mathlib.Core.Bool.{false}
 use Prim.Native.Nat.{ℕ}
-use Rattle.guide.proofs.filler.Statement.{statement}
-use Rattle.guide.proofs.filler.Tie as tie
+use Rattle.pens.proofs.filler.Statement.{statement}
+use Rattle.pens.proofs.filler.Tie as tie
 
 image-requires : tie.Need-image-requires
 image-requires c κs = search needs

@@ -1,10 +1,10 @@
--- `guide::byte_at` meets its contract: each `return` is one kind of a block's symbols, by its number. Assumes nothing.
+-- `pens::byte_at` meets its contract: each `return` is one kind of a block's symbols, by its number. Assumes nothing.
 use borrow.Author.Needs.{needs}
 use mathlib.Core.Path.{_∙_, ap}
 use Rattle.octet.specs.Image.{image}
-use Rattle.guide.proofs.Sending.{byte-start, byte-bits, byte-raw, byte-fill}
-use Rattle.guide.proofs.byte_at.Statement.{statement}
-use Rattle.guide.proofs.byte_at.Tie as tie
+use Rattle.pens.proofs.Sending.{byte-start, byte-bits, byte-raw, byte-fill}
+use Rattle.pens.proofs.byte_at.Statement.{statement}
+use Rattle.pens.proofs.byte_at.Tie as tie
 
 image-requires : tie.Need-image-requires
 image-requires c κs = search needs

@@ -1,25 +1,15 @@
--- What the writer's own functions promise one another: where the writer stands in the stream, and what it sends from there.
+-- Where the writer stands in the stream, and what it sends from there.
 use mathlib.Core.Path.{_≡_}
 use mathlib.Core.Bool.{Bool, true, false}
-use mathlib.Core.List.{List, _∷_}
+use mathlib.Core.List.{List}
 use Prim.Native.Nat.{ℕ, zero, suc, _+_, _-_, _*_, _/_, _%_, _<_, min}
-use lib.Dec.{leb, ltb}
+use lib.Dec.{eqb, ltb}
 use lib.ListN.{length, getD, take, drop}
-use Rattle.laws.specs.Pick.{pick, both}
-use Rattle.blocks.specs.Block.{Block, begins, blockOf, whole, blocks}
-use Rattle.guide.specs.declared.Pen.{Pen}
-use Rattle.guide.specs.declared.Sent.{Sent}
-use Rattle.guide.specs.declared.Measured.{Measured}
-use Rattle.guide.specs.declared.Measured.the-variants.{Cells, Broken}
-use Rattle.packet.specs.declared.Setting.{Setting}
-use Rattle.packet.specs.Setting.{inRange}
-use Rattle.packet.specs.Packet.{packetLength, packetZero}
-use Rattle.guide.specs.Stream.{Symbol, start, fill, bits, raw, byteOf, cell, cellsOf, streamOf}
-use Rattle.guide.specs.Cutting.{rows, pages, joined}
-
--- a list of whole records in cells; or that it isn't one
-abbrev pub measureOf : List ℕ → Measured
-measureOf l = pick (whole l) (Cells (length (streamOf (blocks l)) / cell)) Broken
+use Rattle.laws.specs.Pick.{pick}
+use Rattle.blocks.specs.Block.{Block, sizeOf, headOf, recordLength, begins, blockOf, blocks}
+use Rattle.pens.specs.declared.Pen.{Pen}
+use Rattle.pens.specs.declared.Sent.{Sent}
+use Rattle.pens.specs.Stream.{Symbol, start, fill, bits, raw, byteOf, cellsOf, streamOf}
 
 -- part i of the 16 bits, the lowest nibble first
 unfoldable pub nibbleOf : ℕ → ℕ → ℕ
@@ -48,6 +38,18 @@ movedOf pen size next =
 abbrev pub fillerAt : Pen → Sent
 fillerAt pen = record { byte = byteOf fill; starts = false; pen = pen }
 
+-- what is sent where the writer stands: the record's next symbol, or filler where no whole record stands there
+unfoldable pub sentOf : List ℕ → Pen → Sent
+sentOf l pen =
+    let rest = drop (pen .at) l in
+    pick (begins rest)
+    (record {
+      byte = byteOf (getD (cellsOf (blockOf rest)) (pen .sent) fill);
+      starts = eqb (pen .sent) 0;
+      pen = movedOf pen (sizeOf (headOf rest)) (pen .at + recordLength rest);
+    })
+    (fillerAt pen)
+
 -- the writer stands before one of its record's symbols, where there is a record
 pub record Within (l : List ℕ) (pen : Pen) : Type 0 where
   pub among : begins (drop (pen .at) l) ≡ true → pen .sent < length (cellsOf (blockOf (drop (pen .at) l)))
@@ -66,19 +68,3 @@ pub record Sends (l : List ℕ) (pen : Pen) (r : Sent) : Type 0 where
 -- the place of the first start so far, taking in whether one stands at i
 abbrev pub firstOf : ℕ → Bool → ℕ → ℕ
 firstOf before starts i = pick starts (min i before) before
-
--- a page of k packets and its packet 0
-abbrev pub pageOf : Setting → ℕ → ℕ → List Symbol → List (List ℕ)
-pageOf s k index ss = packetZero s index k ∷ rows s k 1 ss
-
--- how many bytes it has
-abbrev pub pageLength : ℕ → ℕ
-pageLength k = packetLength * (k + 1)
-
--- the bytes of so many pages from the first record on
-abbrev pub pagesBytes : Setting → ℕ → ℕ → ℕ → List ℕ → List ℕ
-pagesBytes s index k count l = joined (pages s k count index (streamOf (blocks l)))
-
--- "setting or state out of range"
-abbrev pub takesOf : Setting → ℕ → ℕ → Bool
-takesOf s index k = both (inRange s) (both (leb index 15) (both (leb 1 k) (leb k 25)))

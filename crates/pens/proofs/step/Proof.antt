@@ -1,11 +1,11 @@
--- `guide::step` meets its contract: where a record stands its next symbol is sent, and filler where none does. Assumes nothing.
+-- `pens::step` meets its contract: where a record stands its next symbol is sent, and filler where none does. Assumes nothing.
 use borrow.Author.Needs.{needs}
 use mathlib.Core.Path.{_∙_, sym}
 use native.Mathlib.Omega.{arith}
 use Rattle.blocks.proofs.Walking.{Standing, standing, ended, broken}
-use Rattle.guide.proofs.Sending.{end-not, unsent, sends-symbol, sends-filler}
-use Rattle.guide.proofs.step.Statement.{statement}
-use Rattle.guide.proofs.step.Tie as tie
+use Rattle.pens.proofs.Sending.{end-not, sent-symbol, sent-filler}
+use Rattle.pens.proofs.step.Statement.{statement}
+use Rattle.pens.proofs.step.Tie as tie
 
 record-at-requires : tie.Need-record-at-requires
 record-at-requires c κs = search needs
@@ -27,9 +27,7 @@ sub-moved : tie.Need-sub-moved
 sub-moved c = let s = stands (c .before) in omega arith
 
 moved-requires : tie.Need-moved-requires
-moved-requires c κs =
-    let s = stands (c .before) in
-    (omega arith, unsent _ _ _ _ _ s (c .before .before .before .before .before .before .pre))
+moved-requires c κs = let s = stands (c .before) in omega arith
 
 enum-told : tie.Need-enum-told
 enum-told c = search needs
@@ -44,13 +42,13 @@ filler-requires-2 : tie.Need-filler-requires-2
 filler-requires-2 c κs = search needs
 
 returns : tie.Need-returns
-returns c = sends-symbol _ _ _ _ _ (stands (c .before .before)) (c .before .before .before .before .before .before .before .pre) (c .before .byte-at .result) (c .moved .result) (c .before .byte-at .ensures) (c .moved .ensures)
+returns c = sent-symbol _ _ _ _ _ (stands (c .before .before)) (c .before .byte-at .result) (c .moved .result) (c .before .byte-at .ensures) (c .moved .ensures)
 
 returns-2 : tie.Need-returns-2
-returns-2 c = sends-filler _ _ (end-not _ _ (ended _ _ (sym (c .before .before .before .record-at .ensures) ∙ c .before .enum-told .given .1))) (c .filler .result) (c .filler .ensures)
+returns-2 c = sent-filler _ _ (end-not _ _ (ended _ _ (sym (c .before .before .before .record-at .ensures) ∙ c .before .enum-told .given .1))) (c .filler .result) (c .filler .ensures)
 
 returns-3 : tie.Need-returns-3
-returns-3 c = sends-filler _ _ (broken _ _ (sym (c .before .before .before .record-at .ensures) ∙ c .before .enum-told2 .given .1) .1) (c .filler2 .result) (c .filler2 .ensures)
+returns-3 c = sent-filler _ _ (broken _ _ (sym (c .before .before .before .record-at .ensures) ∙ c .before .enum-told2 .given .1) .1) (c .filler2 .result) (c .filler2 .ensures)
 
 pub step-spec : {M : Type 1} → statement M
 step-spec =

@@ -1,9 +1,9 @@
--- `guide::nibble` meets its contract: a nibble of a number is that of its sixteenth, one place lower. Assumes nothing.
+-- `pens::nibble` meets its contract: a nibble of a number is that of its sixteenth, one place lower. Assumes nothing.
 use borrow.Author.Needs.{needs}
 use mathlib.Core.Path.{_≡_}
-use Rattle.guide.specs.Pen.{nibbleOf}
-use Rattle.guide.proofs.nibble.Statement.{statement}
-use Rattle.guide.proofs.nibble.Tie as tie
+use Rattle.pens.specs.Pen.{nibbleOf}
+use Rattle.pens.proofs.nibble.Statement.{statement}
+use Rattle.pens.proofs.nibble.Tie as tie
 
 cast-result : tie.Need-cast-result
 cast-result c = search needs

@@ -1,6 +1,6 @@
 -- One symbol of the stream: which of a block's symbols it is, and what is left behind it. Assumes nothing.
 use mathlib.Core.Path.{_≡_, _∙_, refl, sym, ap}
-use mathlib.Core.Bool.{false}
+use mathlib.Core.Bool.{Bool, true, false}
 use mathlib.Core.List.{List, [], _∷_, _++_, map}
 use Prim.Native.Nat.{ℕ, zero, suc, _+_, _-_, _*_, _/_, _%_, _<_, _≤_}
 use native.Mathlib.Nat.{le-of-suc-le-suc, not-suc-le-zero}
@@ -8,17 +8,33 @@ use native.Mathlib.Numerals.{add-five}
 use native.Mathlib.Decide.{decLt}
 use native.Mathlib.Omega.{arith}
 use lib.Dec.{eqb}
-use lib.ListN.{length, getD, drop, replicate, length-drop}
+use lib.ListN.{length, getD, drop, replicate, length-append, length-map, length-replicate, length-drop}
 use lib.Seq.{drop-nil, drop-drop, drop-at, getD-take, getD-drop, length-take-le}
 use borrow.Author.Tests.{lt-ltb, le-ltb, ne-eqb}
 use Rattle.octet.specs.Image.{image}
-use Rattle.blocks.specs.Block.{Block, headLength, sizeOf, headOf, begins, blockOf, blocks}
-use Rattle.blocks.proofs.Walking.{Standing, blocks-at, blocks-not, begins-not}
-use Rattle.guide.specs.declared.Pen.{Pen}
-use Rattle.guide.specs.declared.Sent.{Sent}
-use Rattle.guide.specs.Stream.{Symbol, start, fill, bits, raw, byteOf, cell, symbols, cellsOf, streamOf}
-use Rattle.guide.specs.Pen.{nibbleOf, isStart, blockAt, movedOf, fillerAt, restOf, Within, Goes, Sends}
-use Rattle.guide.proofs.Measuring.{cells-length, raw-length}
+use Rattle.blocks.specs.Block.{Block, headLength, sizeOf, headOf, recordLength, begins, blockOf, blocks}
+use Rattle.blocks.proofs.Walking.{Standing, blocks-at, blocks-not, begins-head, begins-fits, begins-not}
+use Rattle.pens.specs.declared.Pen.{Pen}
+use Rattle.pens.specs.declared.Sent.{Sent}
+use Rattle.pens.specs.Stream.{Symbol, start, fill, bits, raw, byteOf, cell, fillAfter, symbols, cellsOf, streamOf}
+use Rattle.pens.specs.Pen.{nibbleOf, isStart, blockAt, movedOf, fillerAt, sentOf, restOf, Within, Goes, Sends}
+
+-- ---- how many symbols a block has
+
+-- a block's cells, in symbols
+pub cells-length : (b : Block) → length (cellsOf b) ≡ (length (b .raw) + 7) / 3 * 3
+unfolding cellsOf symbols
+cells-length b =
+    let n = length (symbols b) in
+    omega (arith, length-append (symbols b) (fillAfter n), length-replicate (n * 2 % cell) fill, length-map (b .raw) raw)
+
+-- a record's raw bytes are as many as stand between their place and the next record
+pub raw-length :
+    {l : List ℕ} {p head raw next : ℕ} → Standing l p head raw next → length (blockOf (drop p l) .raw) ≡ next - raw
+raw-length {l} {p} s =
+    length-take-le (sizeOf (headOf (drop p l))) (drop headLength (drop p l))
+    (omega (arith, begins-fits (drop p l) (s .whole-there), length-drop headLength (drop p l)))
+    ∙ omega (arith, s .its-raw, s .its-next)
 
 -- ---- a block's symbols by number
 
@@ -132,6 +148,26 @@ some-cells b = omega (arith, cells-length b)
 
 -- ---- one step
 
+-- from a record
+pub sent-symbol :
+    (l : List ℕ) (pen : Pen) (head from next : ℕ) → Standing l (pen .at) head from next → (b : ℕ) (p : Pen)
+    → b ≡ byteOf (getD (cellsOf (blockAt l head from next)) (pen .sent) fill) → p ≡ movedOf pen (next - from) next
+    → record { byte = b; starts = eqb (pen .sent) 0; pen = p } ≡ sentOf l pen
+unfolding sentOf
+sent-symbol l pen head from next s b p eb ep =
+    let n : next - from ≡ sizeOf (headOf (drop (pen .at) l)) = omega (arith, s .its-raw, s .its-next) in
+    rw (eb, ep, block-at s, n, s .its-next, s .whole-there)
+
+-- where there is none
+pub sent-filler : (l : List ℕ) (pen : Pen) → begins (drop (pen .at) l) ≡ false → (r : Sent) → r ≡ fillerAt pen → r ≡ sentOf l pen
+unfolding sentOf
+sent-filler l pen b r e = rw b e
+
+pub end-not : (l : List ℕ) (p : ℕ) → p ≡ length l → begins (drop p l) ≡ false
+end-not l p e = begins-not (drop p l) (omega (arith, length-drop p l))
+
+-- ---- what is sent is the stream's next symbol, and the writer goes on behind it
+
 module _ (l : List ℕ) (pen : Pen) (head from next : ℕ) (s : Standing l (pen .at) head from next) (w : Within l pen) where
   abbrev block : Block
   block = blockOf (drop (pen .at) l)
@@ -177,25 +213,23 @@ module _ (l : List ℕ) (pen : Pen) (head from next : ℕ) (s : Standing l (pen 
         | no n ↦ let h : (next - from + 7) / 3 * 3 ≤ pen .sent + 1 = omega arith in rw (le-ltb (pen .sent + 1) ((next - from + 7) / 3 * 3) h) (moves-over h)
       ]
 
-  -- from a record
-  pub sends-symbol :
-      (b : ℕ) (p : Pen) → b ≡ byteOf (getD (cellsOf (blockAt l head from next)) (pen .sent) fill) → p ≡ movedOf pen (next - from) next
-      → Sends l pen (record { byte = b; starts = eqb (pen .sent) 0; pen = p })
-  sends-symbol b p eb ep =
+  sends-symbol :
+      Sends l pen
+      (record {
+        byte = byteOf (getD (cellsOf (blockAt l head from next)) (pen .sent) fill);
+        starts = eqb (pen .sent) 0;
+        pen = movedOf pen (next - from) next;
+      })
+  sends-symbol =
       record {
-        its-byte = eb ∙ ap byteOf (ap (λ (k : Block). getD (cellsOf k) (pen .sent) fill) (block-at s) ∙ sym first);
+        its-byte = ap byteOf (ap (λ (k : Block). getD (cellsOf k) (pen .sent) fill) (block-at s) ∙ sym first);
         its-start = sym (ap isStart first ∙ starts-first block (pen .sent));
-        goes = rw ep moves;
+        goes = moves;
       }
 
--- where there is none
-pub end-not : (l : List ℕ) (p : ℕ) → p ≡ length l → begins (drop p l) ≡ false
-end-not l p e = begins-not (drop p l) (omega (arith, length-drop p l))
-
-pub sends-filler : (l : List ℕ) (pen : Pen) → begins (drop (pen .at) l) ≡ false → (r : Sent) → r ≡ fillerAt pen → Sends l pen r
-sends-filler l pen b r e =
-    rw e
-    (record {
+sends-filler : (l : List ℕ) (pen : Pen) → begins (drop (pen .at) l) ≡ false → Sends l pen (fillerAt pen)
+sends-filler l pen b =
+    record {
       its-byte = rw (rest-none l pen b);
       its-start = rw (rest-none l pen b);
       goes =
@@ -203,4 +237,24 @@ sends-filler l pen b r e =
             rest = rw (rest-none l pen b);
             stands = record { among = λ t. let z : _≡_ {A = ℕ} 0 1 = cc in absurd (omega arith) };
           };
-    })
+    }
+
+-- a whole record that begins at p stands there
+there : (l : List ℕ) (p : ℕ) → begins (drop p l) ≡ true → Standing l p (headOf (drop p l)) (p + headLength) (p + recordLength (drop p l))
+there l p b =
+    record {
+      whole-there = b;
+      its-head = refl;
+      its-raw = refl;
+      its-next = refl;
+      within = omega (arith, begins-head (drop p l) b, begins-fits (drop p l) b, length-drop p l);
+    }
+
+pub sends : (l : List ℕ) (pen : Pen) → Within l pen → (r : Sent) → r ≡ sentOf l pen → Sends l pen r
+sends l pen w r e = rw e (go (begins (drop (pen .at) l)) refl)
+  where
+    go : (t : Bool) → begins (drop (pen .at) l) ≡ t → Sends l pen (sentOf l pen)
+    go true b =
+        let s = there l (pen .at) b in
+        rw (← sent-symbol l pen _ _ _ s _ _ refl refl) (sends-symbol l pen _ _ _ s w)
+    go false b = rw (← sent-filler l pen b (fillerAt pen) refl) (sends-filler l pen b)
