@@ -26,6 +26,8 @@ use Rattle.pes.proofs.read.Reads as pes·read
 use Rattle.pes.proofs.write.Reads as pes·write
 use Rattle.blocks.proofs.record_at.Reads as blocks·record-at
 use Rattle.packet.proofs.is_in_range.Reads as packet·is-in-range
+use Rattle.zero.proofs.write_zero.Reads as zero·write-zero
+use Rattle.zero.proofs.write_address.Reads as zero·write-address
 use Rattle.pens.proofs.step.Reads as pens·step
 use Rattle.pens.proofs.first.Reads as pens·first
 use Rattle.pens.proofs.cells_of.Reads as pens·cells-of
@@ -100,6 +102,14 @@ blocks·record-at-settled κs a x y s t p q = same p q
 
 pub packet·is-in-range-settled : (κs : _) (a : _) (x y : _) (s t : _) → packet·is-in-range.Post κs a x s → packet·is-in-range.Post κs a y t → x ≡ y
 packet·is-in-range-settled κs a x y s t p q = same p q
+
+pub zero·write-zero-settled :
+    (κs : _) (a : _) (x y : _) (s t : _) → zero·write-zero.Post κs a x s → zero·write-zero.Post κs a y t → now (s .1 .1 .1 .0) ≡ now (t .1 .1 .1 .0)
+zero·write-zero-settled κs a x y s t p q = same p q
+
+pub zero·write-address-settled :
+    (κs : _) (a : _) (x y : _) (s t : _) → zero·write-address.Post κs a x s → zero·write-address.Post κs a y t → now (s .1 .1 .0) ≡ now (t .1 .1 .0)
+zero·write-address-settled κs a x y s t p q = same p q
 
 pub pens·step-settled : (κs : _) (a : _) (x y : _) (s t : _) → pens·step.Post κs a x s → pens·step.Post κs a y t → x ≡ y
 pens·step-settled κs a x y s t p q = same p q

@@ -11,11 +11,11 @@ use pens::Pen;
 ghost use mathlib.Core.Path.{_≡_};
 ghost use mathlib.Core.List.{[], map};
 ghost use Prim.Native.Nat.{_+_, _*_, _/_, _^_, _≤_, _<_};
-ghost use lib.ListN.{length, replicate};
+ghost use lib.ListN.{length};
 ghost use lib.Seq.{sets};
 ghost use Rattle.answer.specs.Writing.{answered, left};
 ghost use Rattle.blocks.specs.Block.{blocks as Block·blocks};
-ghost use Rattle.packet.specs.Packet.{packetLength, address, packetZero};
+ghost use Rattle.packet.specs.Packet.{packetLength, address};
 ghost use Rattle.pens.specs.Stream.{byteOf, cell, perPacket, streamOf, grab, beforeStart};
 ghost use Rattle.pens.specs.Pen.{restOf, Within, Goes};
 ghost use Rattle.guide.specs.Cutting.{rowOf, pages, pagesFor, joined, cutBytes, usualPage, cutRules};
@@ -34,11 +34,6 @@ const CELL: usize = 3;
 const CELLS: usize = 13;
 
 const PER_PACKET: usize = CELLS * CELL;
-
-// Packet 0's characters.
-const CHARACTERS: usize = 32;
-
-const BLANK: u8 = 0x20;
 
 // The symbols of one packet as they were sent: how many stand before the first start, and where the
 // writer stands then.
@@ -169,7 +164,7 @@ fn write_page(
     ensures { λ r. ⌜ now (out .exit) ≡ sets (now (out .entry)) q (joined (pageOf s k index (restOf (now (records .entry)) pen))) ⌝ }
     ensures { λ r. ⌜ Goes (now (records .entry)) pen (k * perPacket) r ⌝ }
 {
-    write_zero(s, index, k, out, q);
+    zero::write_zero(s, index, k, out, q);
     let mut at = pen;
     let mut to = q + PACKET;
     let mut y = 1;
@@ -187,7 +182,7 @@ fn write_row(s: Setting, y: u8, records: &[u8], pen: Pen, out: &mut [u8], q: usi
     ensures { λ r. ⌜ now (out .exit) ≡ sets (now (out .entry)) q (rowOf s y (restOf (now (records .entry)) pen)) ⌝ }
     ensures { λ r. ⌜ Goes (now (records .entry)) pen perPacket r ⌝ }
 {
-    write_address(s.magazine, y, out, q);
+    zero::write_address(s.magazine, y, out, q);
     let row = write_symbols(records, pen, out, q + 3);
     out[q + 2] = octet::image((row.before / CELL) as u8);
     row.pen
@@ -211,51 +206,4 @@ fn write_symbols(records: &[u8], pen: Pen, out: &mut [u8], q: usize) -> Row
         i += 1;
     }
     Row { before, pen: at }
-}
-
-// Writes packet 0 of a page of n packets at q.
-fn write_zero(s: Setting, index: u8, n: u8, out: &mut [u8], q: usize)
-    requires { ⌜ q + packetLength ≤ length (now out) ⌝ }
-    ensures { λ r. ⌜ now (out .exit) ≡ sets (now (out .entry)) q (packetZero s index n) ⌝ }
-{
-    let units = octet::image(s.page % 16);
-    let tens = octet::image(s.page / 16);
-    let s1 = octet::image(index);
-    let s2 = octet::image(n % 8);
-    let s3 = octet::image(s.stream);
-    let s4 = octet::image(n / 8);
-    let control = octet::image(0);
-    write_address(s.magazine, 0, out, q);
-    out[q + 2] = units;
-    out[q + 3] = tens;
-    out[q + 4] = s1;
-    out[q + 5] = s2;
-    out[q + 6] = s3;
-    out[q + 7] = s4;
-    out[q + 8] = control;
-    out[q + 9] = control;
-    write_blanks(out, q + 10);
-}
-
-// Writes the address of packet y at q.
-fn write_address(magazine: u8, y: u8, out: &mut [u8], q: usize)
-    requires { ⌜ q + 2 ≤ length (now out) ⌝ }
-    ensures { λ r. ⌜ now (out .exit) ≡ sets (now (out .entry)) q (address magazine y) ⌝ }
-{
-    let one = octet::image(magazine % 8 + 8 * (y % 2));
-    let two = octet::image(y / 2);
-    out[q] = one;
-    out[q + 1] = two;
-}
-
-// Writes packet 0's 32 characters at q, all blank.
-fn write_blanks(out: &mut [u8], q: usize)
-    requires { ⌜ q + 32 ≤ length (now out) ⌝ }
-    ensures { λ r. ⌜ now (out .exit) ≡ sets (now (out .entry)) q (replicate 32 0x20) ⌝ }
-{
-    let mut i = 0;
-    while i < CHARACTERS {
-        out[q + i] = BLANK;
-        i += 1;
-    }
 }

@@ -2,6 +2,9 @@
 -- behind packet 0. Assumes nothing.
 use Prim.Native.Nat.{suc, _-_}
 use borrow.Author.Needs.{needs}
+use lib.Seq.{sets}
+use Rattle.packet.specs.Packet.{packetZero}
+use Rattle.zero.proofs.Laying.{written}
 use Rattle.pens.specs.Pen.{restOf}
 use Rattle.guide.proofs.Paging.{Rowed, rowed-none, rowed-more, rowed-all, page-laid}
 use Rattle.guide.proofs.write_page.Statement.{statement}
@@ -49,7 +52,7 @@ returns c =
     let a = z .before .before .before .before .args in
     let e = rowed-all (c .before .loop .inv) (c .loop-test .left) in (
       page-laid (a .s) (a .k) (a .index) (restOf (a .records .now) (a .pen)) (a .out .now) (z .write-zero .last .1 .1 .1 .0) (c .before .loop .out)
-          (a .q) (z .write-zero .ensures) (e .0),
+          (a .q) (written (a .out .now) (z .write-zero .last .1 .1 .1 .0) (sets (a .out .now) (a .q) (packetZero (a .s) (a .index) (a .k))) (a .q) 42 (search needs) (z .write-zero .ensures)) (e .0),
       e .1,
     )
 

@@ -3,6 +3,7 @@ use borrow.Author.Needs.{needs}
 use mathlib.Core.Path.{_∙_}
 use native.Mathlib.Omega.{arith}
 use lib.ListN.{length-set}
+use Rattle.zero.proofs.Laying.{written}
 use Rattle.pens.specs.Stream.{perPacket, grab}
 use Rattle.pens.specs.Pen.{restOf}
 use Rattle.guide.proofs.Filling.{length-grab, before-le}
@@ -46,7 +47,7 @@ returns c =
     let w = c .before .before .before .before .before in
     let v = w .before .before .before .before in
     let a = v .before .before .before .before .args in (
-      row-laid (a .s) (a .y) (restOf (a .records .now) (a .pen)) (a .out .now) (v .write-address .last .1 .1 .0) (w .write-symbols .last .1 .1 .0) (a .q) (w .write-symbols .result .before) (c .before .image .result) (v .write-address .ensures)
+      row-laid (a .s) (a .y) (restOf (a .records .now) (a .pen)) (a .out .now) (v .write-address .last .1 .1 .0) (w .write-symbols .last .1 .1 .0) (a .q) (w .write-symbols .result .before) (c .before .image .result) (written (a .out .now) _ _ (a .q) 2 (search needs) (v .write-address .ensures))
           (w .write-symbols .ensures .0) (w .write-symbols .ensures .1 .0) (c .before .image .ensures),
       w .write-symbols .ensures .1 .1,
     )

@@ -1,4 +1,4 @@
--- `guide::write_blanks` meets its contract. The loop's invariant: the blanks stored, with those still to be stored, are the whole. Assumes nothing.
+-- `zero::write_blanks` meets its contract. The loop's invariant: the blanks stored, with those still to be stored, are the whole. Assumes nothing.
 use mathlib.Core.Path.{_≡_, _∙_, refl}
 use Prim.Native.Nat.{_+_, _-_, _≤_}
 use native.Mathlib.Nat.{add-zero}
@@ -6,8 +6,8 @@ use borrow.Author.Needs.{needs}
 use lib.ListN.{length, replicate, length-set}
 use lib.Seq.{sets}
 use Rattle.laws.proofs.Runs.{sets-run}
-use Rattle.guide.proofs.write_blanks.Statement.{statement}
-use Rattle.guide.proofs.write_blanks.Tie as tie
+use Rattle.zero.proofs.write_blanks.Statement.{statement}
+use Rattle.zero.proofs.write_blanks.Tie as tie
 
 abbrev Inv-loop : tie.InvT-loop
 Inv-loop out₀ q i₀ out i = (i ≤ 32) × (length out ≡ length out₀) × (sets out (q + i) (replicate (32 - i) 0x20) ≡ sets out₀ q (replicate 32 0x20))
