@@ -54,6 +54,10 @@ use Rattle.table.proofs.checksum.Reads as table·checksum
 use Rattle.table.proofs.known.Reads as table·known
 use Rattle.table.proofs.byte_at.Reads as table·byte-at
 use Rattle.table.proofs.word_at.Reads as table·word-at
+use Rattle.printing.proofs.put_text.Reads as printing·put-text
+use Rattle.printing.proofs.put_number.Reads as printing·put-number
+use Rattle.printing.proofs.put_language.Reads as printing·put-language
+use Rattle.printing.proofs.put_page.Reads as printing·put-page
 use Rattle.listing.proofs.list_table.Reads as listing·list-table
 use Rattle.listing.proofs.list_descriptors.Reads as listing·list-descriptors
 use Rattle.table_writer.proofs.write_block.Reads as table-writer·write-block
@@ -218,6 +222,22 @@ firmware·guide-turn-settled κs a x y s t p q = same p q
 
 pub firmware·guide-unit-at-settled : (κs : _) (a : _) (x y : _) (s t : _) → firmware·guide-unit-at.Post κs a x s → firmware·guide-unit-at.Post κs a y t → x ≡ y
 firmware·guide-unit-at-settled κs a x y s t p q = same p q
+
+pub printing·put-text-settled :
+    (κs : _) (a : _) (x y : _) (s t : _) → printing·put-text.Post κs a x s → printing·put-text.Post κs a y t → (x ≡ y) × (now (s .1 .0) ≡ now (t .1 .0))
+printing·put-text-settled κs a x y s t p q = (same (p .0 .moved) (q .0 .moved), same (p .0 .stored) (q .0 .stored))
+
+pub printing·put-number-settled :
+    (κs : _) (a : _) (x y : _) (s t : _) → printing·put-number.Post κs a x s → printing·put-number.Post κs a y t → (x ≡ y) × (now (s .1 .1 .0) ≡ now (t .1 .1 .0))
+printing·put-number-settled κs a x y s t p q = (same (p .0 .moved) (q .0 .moved), same (p .0 .stored) (q .0 .stored))
+
+pub printing·put-language-settled :
+    (κs : _) (a : _) (x y : _) (s t : _) → printing·put-language.Post κs a x s → printing·put-language.Post κs a y t → (x ≡ y) × (now (s .1 .0) ≡ now (t .1 .0))
+printing·put-language-settled κs a x y s t p q = (same (p .0 .moved) (q .0 .moved), same (p .0 .stored) (q .0 .stored))
+
+pub printing·put-page-settled :
+    (κs : _) (a : _) (x y : _) (s t : _) → printing·put-page.Post κs a x s → printing·put-page.Post κs a y t → (x ≡ y) × (now (s .1 .0) ≡ now (t .1 .0))
+printing·put-page-settled κs a x y s t p q = (same (p .0 .moved) (q .0 .moved), same (p .0 .stored) (q .0 .stored))
 
 pub listing·list-table-settled :
     (κs : _) (a : _) (x y : _) (s t : _) → listing·list-table.Post κs a x s → listing·list-table.Post κs a y t → (x ≡ y) × (now (s .1 .0) ≡ now (t .1 .0))

@@ -16,7 +16,8 @@ use Rattle.table.specs.Tables.{Descriptor, Table, TI}
 use Rattle.table.specs.Form.{spelled, listed, form, tableIn}
 use Rattle.table.specs.Writing.{formRules}
 use Rattle.table.proofs.Measures.{length-spelled, length-listed, length-form}
-use Rattle.listing.specs.Lines.{place, decimal, hexed, numberLine, blockName, networkName, descriptorName, kindLine, kindTI, kindLI, letters, languageOf, languageLine, pageLine, languageLines, subtitleLines, entryLines, descriptorLine, descriptorLines, headLines, descriptorLinesOf, linesOf, linesFrom}
+use Rattle.printing.specs.Lines.{place, decimal, hexed, numberLine, letters, languageOf, languageLine, pageLine}
+use Rattle.listing.specs.Lines.{blockName, networkName, descriptorName, kindLine, kindTI, kindLI, languageLines, subtitleLines, entryLines, descriptorLine, descriptorLines, headLines, descriptorLinesOf, linesOf, linesFrom}
 
 -- ---- a line each
 

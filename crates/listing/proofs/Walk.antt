@@ -1,39 +1,20 @@
 -- The lines of a form, an entry or a descriptor at a time. Assumes nothing.
 use mathlib.Core.Path.{_≡_, _∙_, refl, ap, ap₂}
 use mathlib.Core.Bool.{Bool, true, false}
-use mathlib.Core.List.{List, [], _∷_, _++_, append-nil}
-use Prim.Native.Nat.{ℕ, suc, _+_, _-_, _*_, _/_, _%_, _≤_, _<_}
+use mathlib.Core.List.{List, [], _++_, append-nil}
+use Prim.Native.Nat.{ℕ, suc, _+_, _-_, _*_, _≤_, _<_}
 use native.Mathlib.Nat.{add-zero, mul-one, mul-zero}
 use native.Mathlib.Omega.{arith}
 use borrow.Author.Tests.{eq-eqb, ne-eqb}
 use lib.Dec.{eqb}
 use lib.ListN.{getD, drop}
 use lib.Seq.{drop-drop, getD-drop}
-use Rattle.laws.specs.Pick.{pick, both}
+use Rattle.laws.specs.Pick.{pick}
 use Rattle.table.specs.Tables.{TI, per}
-use Rattle.table.specs.Form.{spelled, wordAt, wordsIn, descriptorsIn, tableIn}
+use Rattle.table.specs.Form.{wordAt, wordsIn, descriptorsIn, tableIn}
 use Rattle.table.proofs.Forms.{in-on, two-bytes}
-use Rattle.listing.specs.Lines.{kindLine, numberLine, blockName, networkName, headLines, letter, letters, languageLine, pageLine, languageLines, subtitleLines, entryLines, descriptorLine, descriptorLines}
-
--- ---- letters
-
-module _ (w : ℕ) where
-  pub letters-1 : letter (w / 256 / 256 % 256) ≡ false → letters (spelled (w ∷ [])) ≡ false
-  unfolding letters spelled
-  letters-1 a = rw a
-
-  pub letters-2 : letter (w / 256 / 256 % 256) ≡ true → letter (w / 256 % 256) ≡ false → letters (spelled (w ∷ [])) ≡ false
-  unfolding letters spelled
-  letters-2 a b = rw (a, b)
-
-  pub letters-3 :
-      letter (w / 256 / 256 % 256) ≡ true → letter (w / 256 % 256) ≡ true → letters (spelled (w ∷ [])) ≡ letter (w % 256)
-  unfolding letters spelled
-  letters-3 a b = rw (a, b) (both-one (letter (w % 256)))
-    where
-      both-one : (x : Bool) → both x true ≡ x
-      both-one true = refl
-      both-one false = refl
+use Rattle.printing.specs.Lines.{numberLine, languageLine, pageLine}
+use Rattle.listing.specs.Lines.{kindLine, blockName, networkName, headLines, languageLines, subtitleLines, entryLines, descriptorLine, descriptorLines}
 
 -- ---- entries
 

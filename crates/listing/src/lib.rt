@@ -1,15 +1,14 @@
 // A table as the desk's lines.
 ghost use mathlib.Core.Path.{_≡_};
-ghost use mathlib.Core.List.{_∷_, [], _++_};
-ghost use Prim.Native.Nat.{_+_, _*_, _/_, _%_, _<_, _≤_};
+ghost use Prim.Native.Nat.{_+_, _*_, _/_, _<_, _≤_};
 ghost use lib.Dec.{ltb};
 ghost use lib.ListN.{length, getD, drop};
 ghost use Rattle.answer.specs.Writing.{answered, left};
 ghost use Rattle.table.specs.Tables.{per};
-ghost use Rattle.table.specs.Form.{spelled, form, wordsIn, tableIn};
+ghost use Rattle.table.specs.Form.{form, wordsIn, tableIn};
 ghost use Rattle.table.specs.Writing.{formRules};
-ghost use Rattle.listing.specs.Lines.{place as Lines·place, decimal, digit as Lines·digit, hexed, letter as Lines·letter, letters as Lines·letters, numberLine, kindLine, languageOf, languageLine, pageLine, entryLines, descriptorLine, headLines, descriptorLinesOf, linesOf, linesFrom};
-ghost use Rattle.listing.specs.Putting.{Put, reach};
+ghost use Rattle.listing.specs.Lines.{kindLine, entryLines, descriptorLine, headLines, descriptorLinesOf, linesOf, linesFrom};
+ghost use Rattle.printing.specs.Putting.{Put, reach};
 use answer::Answer;
 use answer::Refusal;
 use table::OPENING;
@@ -94,8 +93,8 @@ fn put_head(table: &[u8], out: &mut [u8]) -> usize
     let block = table::byte_at(table, 2) + 256 * table::byte_at(table, 3);
     let network = table::byte_at(table, 4);
     let a = put_kind(kind, out, 0);
-    let b = put_number(b"block=", block, out, a);
-    put_number(b"network=", network, out, b)
+    let b = printing::put_number(b"block=", block, out, a);
+    printing::put_number(b"network=", network, out, b)
 }
 
 // The lines from `descriptor=` on.
@@ -133,7 +132,7 @@ fn put_descriptor(
         × (r ≤ q + 8000) ⌝ }
 {
     let id = table::byte_at(table, i);
-    let at = put_number(b"descriptor=", id, out, q);
+    let at = printing::put_number(b"descriptor=", id, out, q);
     put_entries(table, kind, i + 2, entries, out, at)
 }
 
@@ -163,101 +162,11 @@ fn put_entry(table: &[u8], kind: usize, i: usize, out: &mut [u8], q: usize) -> u
         ⌜ Put (now (out .entry)) q (entryLines kind (wordsIn (per kind) (drop i (now (table .entry))))) (now (out .exit)) r
         × (r ≤ q + 28) ⌝ }
 {
-    let at = put_language(table::word_at(table, i), out, q);
+    let at = printing::put_language(table::word_at(table, i), out, q);
     if kind != TI {
         return at;
     }
-    put_page(table::word_at(table, i + 3), out, at)
-}
-
-fn put_language(w: usize, out: &mut [u8], q: usize) -> usize
-    requires { ⌜ q + 16 ≤ reach ⌝ }
-    ensures { λ r. ⌜ Put (now (out .entry)) q (languageLine w) (now (out .exit)) r × (r ≤ q + 16) ⌝ }
-{
-    let a = put_text(b"language=", out, q);
-    let b = put_name(w, out, a);
-    put(10, out, b)
-}
-
-fn put_page(w: usize, out: &mut [u8], q: usize) -> usize
-    requires { ⌜ q + 12 ≤ reach ⌝ }
-    ensures { λ r. ⌜ Put (now (out .entry)) q (pageLine w) (now (out .exit)) r × (r ≤ q + 12) ⌝ }
-{
-    let a = put_text(b"page=", out, q);
-    let b = put_hex(w, out, a);
-    put(10, out, b)
-}
-
-// A language: three of a..z as they are, others in hex.
-fn put_name(w: usize, out: &mut [u8], q: usize) -> usize
-    requires { ⌜ q + 6 ≤ reach ⌝ }
-    ensures { λ r. ⌜ Put (now (out .entry)) q (languageOf w) (now (out .exit)) r × (r ≤ q + 6) ⌝ }
-{
-    if letters(w) {
-        return put_word(w, out, q);
-    }
-    put_hex(w, out, q)
-}
-
-// Whether the bytes of a word are three of a..z.
-fn letters(w: usize) -> bool
-    ensures { λ r. ⌜ r ≡ Lines·letters (spelled (w ∷ [])) ⌝ }
-{
-    if !letter(w / 256 / 256 % 256) {
-        return false;
-    }
-    if !letter(w / 256 % 256) {
-        return false;
-    }
-    letter(w % 256)
-}
-
-fn letter(b: usize) -> bool
-    ensures { λ r. ⌜ r ≡ Lines·letter b ⌝ }
-{
-    if b < 97 {
-        return false;
-    }
-    b <= 122
-}
-
-// A word as its three bytes.
-fn put_word(w: usize, out: &mut [u8], q: usize) -> usize
-    requires { ⌜ q + 6 ≤ reach ⌝ }
-    ensures { λ r. ⌜ Put (now (out .entry)) q (spelled (w ∷ [])) (now (out .exit)) r × (r ≤ q + 6) ⌝ }
-{
-    let a = put((w / 256 / 256 % 256) as u8, out, q);
-    let b = put((w / 256 % 256) as u8, out, a);
-    put((w % 256) as u8, out, b)
-}
-
-// A word as its six hex digits.
-fn put_hex(w: usize, out: &mut [u8], q: usize) -> usize
-    requires { ⌜ q + 6 ≤ reach ⌝ }
-    ensures { λ r. ⌜ Put (now (out .entry)) q (hexed (spelled (w ∷ []))) (now (out .exit)) r × (r ≤ q + 6) ⌝ }
-{
-    let a = put_pair(w / 256 / 256 % 256, out, q);
-    let b = put_pair(w / 256 % 256, out, a);
-    put_pair(w % 256, out, b)
-}
-
-// A byte as its two hex digits.
-fn put_pair(b: usize, out: &mut [u8], q: usize) -> usize
-    requires { ⌜ (b < 256) × (q + 2 ≤ reach) ⌝ }
-    ensures { λ r. ⌜ Put (now (out .entry)) q (hexed (b ∷ [])) (now (out .exit)) r × (r ≤ q + 2) ⌝ }
-{
-    let at = put(digit(b / 16), out, q);
-    put(digit(b % 16), out, at)
-}
-
-fn digit(n: usize) -> u8
-    requires { ⌜ n < 16 ⌝ }
-    ensures { λ r. ⌜ r ≡ Lines·digit n ⌝ }
-{
-    if n < 10 {
-        return (48 + n) as u8;
-    }
-    (87 + n) as u8
+    printing::put_page(table::word_at(table, i + 3), out, at)
 }
 
 fn put_kind(kind: usize, out: &mut [u8], q: usize) -> usize
@@ -265,67 +174,7 @@ fn put_kind(kind: usize, out: &mut [u8], q: usize) -> usize
     ensures { λ r. ⌜ Put (now (out .entry)) q (kindLine kind) (now (out .exit)) r × (r ≤ q + 8) ⌝ }
 {
     if kind == TI {
-        return put_text(b"kind=TI\n", out, q);
+        return printing::put_text(b"kind=TI\n", out, q);
     }
-    put_text(b"kind=LI\n", out, q)
-}
-
-// A line of a name and a number.
-fn put_number(name: &[u8], n: usize, out: &mut [u8], q: usize) -> usize
-    requires { ⌜ q + length (now name) + 6 ≤ reach ⌝ }
-    ensures { λ r.
-        ⌜ Put (now (out .entry)) q (numberLine (now (name .entry)) n) (now (out .exit)) r
-        × (r ≤ q + length (now (name .entry)) + 6) ⌝ }
-{
-    let a = put_text(name, out, q);
-    let b = put_decimal(n, out, a);
-    put(10, out, b)
-}
-
-fn put_decimal(n: usize, out: &mut [u8], q: usize) -> usize
-    requires { ⌜ q + 5 ≤ reach ⌝ }
-    ensures { λ r. ⌜ Put (now (out .entry)) q (decimal n) (now (out .exit)) r × (r ≤ q + 5) ⌝ }
-{
-    let a = put_place(10000, n, out, q);
-    let b = put_place(1000, n, out, a);
-    let c = put_place(100, n, out, b);
-    let d = put_place(10, n, out, c);
-    put((48 + n % 10) as u8, out, d)
-}
-
-// A decimal place that isn't a leading zero.
-fn put_place(unit: usize, n: usize, out: &mut [u8], q: usize) -> usize
-    requires { ⌜ (0 < unit) × (q + 1 ≤ reach) ⌝ }
-    ensures { λ r. ⌜ Put (now (out .entry)) q (Lines·place unit n) (now (out .exit)) r × (r ≤ q + 1) ⌝ }
-{
-    if unit <= n {
-        return put((48 + n / unit % 10) as u8, out, q);
-    }
-    q
-}
-
-fn put_text(text: &[u8], out: &mut [u8], q: usize) -> usize
-    requires { ⌜ q + length (now text) ≤ reach ⌝ }
-    ensures { λ r.
-        ⌜ Put (now (out .entry)) q (now (text .entry)) (now (out .exit)) r × (r ≤ q + length (now (text .entry))) ⌝ }
-{
-    let mut p = q;
-    let mut i = 0;
-    while i < text.len() {
-        p = put(text[i], out, p);
-        i += 1;
-    }
-    p
-}
-
-// A byte, where there is room for it, and the place after it.
-fn put(b: u8, out: &mut [u8], q: usize) -> usize
-    requires { ⌜ q < reach ⌝ }
-    ensures { λ r. ⌜ Put (now (out .entry)) q (b ∷ []) (now (out .exit)) r × (r ≤ q + 1) ⌝ }
-{
-    if out.len() <= q {
-        return q + 1;
-    }
-    out[q] = b;
-    q + 1
+    printing::put_text(b"kind=LI\n", out, q)
 }

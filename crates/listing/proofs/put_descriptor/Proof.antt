@@ -2,7 +2,7 @@
 use borrow.Author.Needs.{needs}
 use native.Mathlib.Omega.{arith}
 use Rattle.listing.specs.Lines.{descriptorLine}
-use Rattle.listing.proofs.Puts.{then, put-as}
+use Rattle.printing.proofs.Puts.{then, put-as, put-there}
 use Rattle.listing.proofs.put_descriptor.Statement.{statement}
 use Rattle.listing.proofs.put_descriptor.Tie as tie
 
@@ -30,7 +30,7 @@ returns c =
     let d = c .before .before .before .before .before .before .before .before .before .byte-at in
     let x = c .before .before .before .before .before .before .put-number in
     let y = c .before .before .put-entries in
-    (put-as (rw (d .ensures .0)) (then (x .ensures .0) (y .ensures .0)), omega (arith, x .ensures .1, y .ensures .1))
+    (put-as (rw (d .ensures .0)) (then (put-there (search needs) (x .ensures .0)) (y .ensures .0)), omega (arith, x .ensures .1, y .ensures .1))
 
 pub put-descriptor-spec : {M : Type 1} → statement M
 put-descriptor-spec =

@@ -10,7 +10,7 @@ use Rattle.table.proofs.Measures.{words-counted}
 use Rattle.table.specs.Form.{descriptorsIn, tableIn}
 use Rattle.table.specs.Tables.{per}
 use Rattle.listing.specs.Lines.{descriptorLines, descriptorLinesOf}
-use Rattle.listing.proofs.Puts.{Left, left-start, left-on, left-end}
+use Rattle.printing.proofs.Puts.{Left, left-start, left-on, left-end}
 use Rattle.listing.proofs.Walk.{descriptors-on, descriptors-end}
 use Rattle.listing.proofs.put_descriptors.Statement.{statement}
 use Rattle.listing.proofs.put_descriptors.Tie as tie

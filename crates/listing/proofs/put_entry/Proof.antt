@@ -4,7 +4,7 @@ use mathlib.Core.List.{List}
 use Prim.Native.Nat.{ℕ}
 use native.Mathlib.Omega.{arith}
 use denote.Ref.{now}
-use Rattle.listing.proofs.Puts.{then, put-as}
+use Rattle.printing.proofs.Puts.{then, put-as, put-there}
 use Rattle.listing.proofs.Walk.{entry-ti, entry-li}
 use Rattle.listing.proofs.put_entry.Statement.{statement}
 use Rattle.listing.proofs.put_entry.Tie as tie
@@ -24,7 +24,7 @@ returns c =
     let f : List ℕ = now (a .table) in
     let w = c .before .before .before .before .before .word-at in
     let l = c .before .before .before .put-language in
-    (put-as (entry-li (a .kind) (a .i) (w .result) f (w .ensures .0) (c .if1 .taken)) (l .ensures .0), omega (arith, l .ensures .1))
+    (put-as (entry-li (a .kind) (a .i) (w .result) f (w .ensures .0) (c .if1 .taken)) (put-there (search needs) (l .ensures .0)), omega (arith, l .ensures .1))
 
 add-word-at : tie.Need-add-word-at
 add-word-at c = search needs
@@ -46,7 +46,7 @@ returns-2 c =
     let l = c .before .before .before .before .before .before .before .before .put-language in
     let x = c .before .before .before .before .word-at2 in
     let p = c .before .before .put-page in
-    (put-as (entry-ti (a .kind) (a .i) (w .result) f (w .ensures .0) (x .result) (x .ensures .0) (c .before .before .before .before .before .if1 .left)) (then (l .ensures .0) (p .ensures .0)), omega (arith, l .ensures .1, p .ensures .1))
+    (put-as (entry-ti (a .kind) (a .i) (w .result) f (w .ensures .0) (x .result) (x .ensures .0) (c .before .before .before .before .before .if1 .left)) (then (put-there (search needs) (l .ensures .0)) (put-there (search needs) (p .ensures .0))), omega (arith, l .ensures .1, p .ensures .1))
 
 pub put-entry-spec : {M : Type 1} → statement M
 put-entry-spec =

@@ -4,7 +4,7 @@ use mathlib.Core.List.{List}
 use Prim.Native.Nat.{ℕ}
 use native.Mathlib.Omega.{arith}
 use denote.Ref.{now}
-use Rattle.listing.proofs.Puts.{then, put-as}
+use Rattle.printing.proofs.Puts.{then, put-as, put-there}
 use Rattle.listing.proofs.Walk.{head-of}
 use Rattle.listing.proofs.put_head.Statement.{statement}
 use Rattle.listing.proofs.put_head.Tie as tie
@@ -57,7 +57,7 @@ returns c =
     let y = c .before .before .before .before .before .before .before .put-number in
     let z = c .before .before .put-number2 in (
       put-as (head-of f (k .result) (a .result) (b .result) (n .result) (k .ensures .0) (a .ensures .0) (b .ensures .0) (n .ensures .0) (a .ensures .1) (b .ensures .1))
-          (then (then (x .ensures .0) (y .ensures .0)) (z .ensures .0)),
+          (then (then (x .ensures .0) (put-there (search needs) (y .ensures .0))) (put-there (search needs) (z .ensures .0))),
       omega (arith, x .ensures .1, y .ensures .1, z .ensures .1),
     )
 

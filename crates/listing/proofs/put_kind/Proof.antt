@@ -2,7 +2,7 @@
 use borrow.Author.Needs.{needs}
 use borrow.Author.Tests.{eq-eqb, ne-eqb}
 use Rattle.listing.specs.Lines.{kindLine}
-use Rattle.listing.proofs.Puts.{put-as}
+use Rattle.printing.proofs.Puts.{put-as, put-there}
 use Rattle.listing.proofs.put_kind.Statement.{statement}
 use Rattle.listing.proofs.put_kind.Tie as tie
 
@@ -17,7 +17,7 @@ same-length c = search needs
 
 returns : tie.Need-returns
 unfolding kindLine
-returns c = (put-as (simp (eq-eqb _ _ (c .before .before .before .before .before .if1 .taken))) (c .before .before .put-text .ensures .0), c .before .before .put-text .ensures .1)
+returns c = (put-as (simp (eq-eqb _ _ (c .before .before .before .before .before .if1 .taken))) (put-there (search needs) (c .before .before .put-text .ensures .0)), c .before .before .put-text .ensures .1)
 
 slice-aggregate-put-text-2 : tie.Need-slice-aggregate-put-text-2
 slice-aggregate-put-text-2 c = search needs
@@ -30,7 +30,7 @@ same-length-2 c = search needs
 
 returns-2 : tie.Need-returns-2
 unfolding kindLine
-returns-2 c = (put-as (simp (ne-eqb _ _ (c .before .before .before .before .before .if1 .left))) (c .before .before .put-text2 .ensures .0), c .before .before .put-text2 .ensures .1)
+returns-2 c = (put-as (simp (ne-eqb _ _ (c .before .before .before .before .before .if1 .left))) (put-there (search needs) (c .before .before .put-text2 .ensures .0)), c .before .before .put-text2 .ensures .1)
 
 pub put-kind-spec : {M : Type 1} → statement M
 put-kind-spec =

@@ -1,0 +1,26 @@
+-- Whether a word's bytes are letters, byte by byte. Assumes nothing.
+use mathlib.Core.Path.{_≡_, refl}
+use mathlib.Core.Bool.{Bool, true, false}
+use mathlib.Core.List.{[], _∷_}
+use Prim.Native.Nat.{ℕ, _/_, _%_}
+use Rattle.laws.specs.Pick.{both}
+use Rattle.table.specs.Form.{spelled}
+use Rattle.printing.specs.Lines.{letter, letters}
+
+module _ (w : ℕ) where
+  pub letters-1 : letter (w / 256 / 256 % 256) ≡ false → letters (spelled (w ∷ [])) ≡ false
+  unfolding letters spelled
+  letters-1 a = rw a
+
+  pub letters-2 : letter (w / 256 / 256 % 256) ≡ true → letter (w / 256 % 256) ≡ false → letters (spelled (w ∷ [])) ≡ false
+  unfolding letters spelled
+  letters-2 a b = rw (a, b)
+
+  pub letters-3 :
+      letter (w / 256 / 256 % 256) ≡ true → letter (w / 256 % 256) ≡ true → letters (spelled (w ∷ [])) ≡ letter (w % 256)
+  unfolding letters spelled
+  letters-3 a b = rw (a, b) (both-one (letter (w % 256)))
+    where
+      both-one : (x : Bool) → both x true ≡ x
+      both-one true = refl
+      both-one false = refl
