@@ -7,7 +7,9 @@ use answer::Answer;
 use answer::Refusal;
 use blocks::Found;
 use packet::Setting;
+use pens::CELL;
 use pens::Pen;
+use zero::PACKET;
 ghost use mathlib.Core.Path.{_≡_};
 ghost use mathlib.Core.List.{[], map};
 ghost use Prim.Native.Nat.{_+_, _*_, _/_, _^_, _≤_, _<_};
@@ -26,11 +28,7 @@ const USUAL_PAGE: u8 = 25;
 
 const MOST: u8 = 25;
 
-const PACKET: usize = 42;
-
 // A packet's cells, and the bytes after its pointer.
-const CELL: usize = 3;
-
 const CELLS: usize = 13;
 
 const PER_PACKET: usize = CELLS * CELL;

@@ -10,7 +10,8 @@ ghost use lib.ListN.{length, getD};
 ghost use Rattle.pens.specs.Stream.{fill, byteOf, cellsOf};
 ghost use Rattle.pens.specs.Pen.{nibbleOf, blockAt, movedOf, fillerAt, sentOf, firstOf};
 
-const CELL: usize = 3;
+// A block's symbols go in cells of so many.
+pub const CELL: usize = 3;
 
 // A block's start and the four nibbles of its 16 bits.
 const LEAD: usize = 5;

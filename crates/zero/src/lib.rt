@@ -10,7 +10,8 @@ ghost use Rattle.laws.specs.Pick.{pick};
 ghost use Rattle.octet.specs.Image.{image};
 ghost use Rattle.packet.specs.Packet.{packetLength, address, packetZero};
 
-const PACKET: usize = 42;
+// A packet's bytes.
+pub const PACKET: usize = 42;
 
 // An address, and all protected bytes of packet 0.
 const ADDRESS: usize = 2;
