@@ -14,7 +14,7 @@ use Rattle.packet.specs.Setting.{inRange}
 use Rattle.guide.proofs.Numbering.{FortyTwo, more}
 use Rattle.reader.specs.declared.Reader.{Reader}
 use Rattle.pages.specs.Seen.{see}
-use Rattle.pages.specs.Acting.{State, act, handed, dropped}
+use Rattle.reader.specs.Acting.{State, act, handed, dropped}
 use Rattle.reader.specs.State.{stateOf, readerOf, readerInRange}
 use Rattle.reader.specs.Feeding.{feedHeard, feedReader, feedOut, handedBytes}
 use Rattle.reader.proofs.Ranging.{Sound, sound-after, state-held, reader-in-range}

@@ -20,7 +20,7 @@ use Rattle.reader.specs.declared.Reader.{Reader}
 use Rattle.walk.specs.Reading.{room}
 use Rattle.walk.proofs.Adding.{either-false}
 use Rattle.pages.specs.Seen.{see}
-use Rattle.pages.specs.Acting.{State, handed, dropped}
+use Rattle.reader.specs.Acting.{State, handed, dropped}
 use Rattle.reader.specs.State.{stateOf, readerOf}
 use Rattle.reader.specs.Feeding.{Ran, begun, ranOn, run}
 use Rattle.reader.proofs.Ranging.{Sound, sound-after, state-held, reader-in-range}

@@ -13,7 +13,7 @@ use Rattle.laws.specs.Pick.{pick, both}
 use Rattle.laws.proofs.Tests.{both-true}
 use Rattle.walk.specs.Holding.{Good}
 use Rattle.walk.proofs.Along.{drop-good, read-good}
-use Rattle.pages.proofs.Seeing.{decodes-at}
+use Rattle.pages.proofs.Judged.{Shaped, shaped}
 use Rattle.octet.specs.Decoding.{nib}
 use Rattle.blocks.specs.Block.{sizeOf}
 use Rattle.packet.specs.declared.Setting.{Setting}
@@ -22,9 +22,11 @@ use Rattle.pages.specs.declared.Page.the-variants.{Shut, Open}
 use Rattle.walk.specs.Mode.{Mode, off, scan, heading, body}
 use Rattle.walk.specs.Store.{storeLength, modeOf, runOf}
 use Rattle.reader.specs.State.{stateOf, storeOf, readerOf, zeros, pageInRange, runInRange, heldBy, readerInRange, freshState}
-use Rattle.pages.specs.Acting.{State, incomplete, breaks, wrongY, openState, act}
+use Rattle.reader.specs.Acting.{State, pointerOf, bytesOf, act}
+use Rattle.pages.specs.declared.Verdict.{Verdict}
+use Rattle.pages.specs.Judging.{verdictOf}
 use Rattle.walk.specs.Reading.{dropIf, readMode}
-use Rattle.pages.specs.Seen.{Seen, junk, other, foreign, ours, row, decodes, see, seeY, seeZero}
+use Rattle.pages.specs.Seen.{Seen, junk, other, foreign, ours, row, see}
 
 -- ---- the state
 
@@ -34,72 +36,40 @@ pub record Sound (st : State) : Type 0 where
   pub index : st .index ≤ 15
   pub mode : Good (st .mode)
 
--- what is seen of a packet q: an index is a nibble, and the bytes after the pointer are q's from the fourth on
-abbrev pub Shaped : List ℕ → Seen → Type 0
-Shaped q junk = Unit {0}
-Shaped q other = Unit {0}
-Shaped q foreign = Unit {0}
-Shaped q (ours index n) = index ≤ 15
-Shaped q (row y p l) = l ≡ drop 3 q
-
-pub shaped : (s : Setting) (q : List ℕ) → Shaped q (see s q)
-unfolding see seeY seeZero
-shaped s q =
-    go (decodes 2 q) (eqb (nib (getD q 0 0) % 8) (s .magazine % 8)) (eqb (nib (getD q 0 0) / 8 + 2 * nib (getD q 1 0)) 0)
-    (leb (nib (getD q 0 0) / 8 + 2 * nib (getD q 1 0)) 25)
-    (decodes 6 (drop 2 q)) refl
-    (both (eqb (nib (getD (drop 2 q) 0 0) + 16 * nib (getD (drop 2 q) 1 0)) (s .page)) (eqb (nib (getD (drop 2 q) 4 0)) (s .stream)))
+-- a verdict leaves page and index in range
+verdict-sound :
+    (q : List ℕ) (page : Page) (index : ℕ) (x : Seen) → Shaped q x → pageInRange page ≡ true → index ≤ 15
+    → (pageInRange (verdictOf page index x .page) ≡ true) × (verdictOf page index x .index ≤ 15)
+verdict-sound q page index junk w e i = (refl, i)
+verdict-sound q page index other w e i = (e, i)
+verdict-sound q page index foreign w e i = (refl, i)
+verdict-sound q page index (ours k n) w e i = (go (leb n 25) refl, w)
   where
-    go :
-        (a b c d e : Bool) → decodes 6 (drop 2 q) ≡ e → (f : Bool)
-        → Shaped q
-        (pick a
-        (pick b
-        (pick c
-        (pick e
-        (pick f (ours (nib (getD (drop 2 q) 2 0)) (nib (getD (drop 2 q) 3 0) % 8 + 8 * (nib (getD (drop 2 q) 5 0) % 4))) foreign)
-        junk)
-        (pick d (row (nib (getD q 0 0) / 8 + 2 * nib (getD q 1 0)) (nib (getD q 2 0)) (drop 3 q)) other))
-        other)
-        junk)
-    go false b c d e p f = tt
-    go true false c d e p f = tt
-    go true true false true e p f = refl
-    go true true false false e p f = tt
-    go true true true d false p f = tt
-    go true true true d true p false = tt
-    go true true true d true p true = omega (arith, decodes-at 6 2 (drop 2 q) (sym p) (lit< tt))
+    go : (t : Bool) → leb n 25 ≡ t → pageInRange (pick t (Open n 0) Shut) ≡ true
+    go true f = rw (f, le-leb 0 n (omega arith))
+    go false f = refl
+verdict-sound q Shut index (row y p l) w e i = (refl, i)
+verdict-sound q (Open n last) index (row y p l) w e i = (go (leb y n) refl, i)
+  where
+    go : (t : Bool) → leb y n ≡ t → pageInRange (pick t (Open n y) (Open n last)) ≡ true
+    go true f = rw (both-true (leb n 25) (leb last n) e .0, f)
+    go false f = e
 
 act-sound : (q : List ℕ) (st : State) (x : Seen) → Shaped q x → Sound st → Sound (act st x)
 unfolding act
-act-sound q st junk w r = record { page = refl; index = r .index; mode = tt }
-act-sound q st other w r = r
-act-sound q st foreign w r = record { page = refl; index = r .index; mode = drop-good (incomplete (st .page)) (st .mode) (r .mode) }
-act-sound q st (ours index n) w r =
-    record { page = go (leb n 25) refl; index = w; mode = drop-good (breaks st index n) (st .mode) (r .mode) }
+act-sound q st x w r =
+    let u = verdict-sound q (st .page) (st .index) x w (r .page) (r .index) in
+    record { page = u .0; index = u .1; mode = go (v .reads) }
   where
-    go : (t : Bool) → leb n 25 ≡ t → pageInRange (pick t (Open n 0) Shut) ≡ true
-    go true e = rw (e, le-leb 0 n (omega arith))
-    go false e = refl
-act-sound q st (row y p l) w r = go (st .page) (r .page)
-  where
-    go : (g : Page) → pageInRange g ≡ true → Sound (openState g st y p l)
-    go Shut e = r
-    go (Open n last) e = on (leb y n) refl
-      where
-        m : Mode
-        m = dropIf (wrongY n last y) (st .mode)
+    v : Verdict
+    v = verdictOf (st .page) (st .index) x
 
-        few : leb n 25 ≡ true
-        few = both-true (leb n 25) (leb last n) e .0
+    m : Mode
+    m = dropIf (v .drops) (st .mode)
 
-        on :
-            (t : Bool) → leb y n ≡ t
-            → Sound
-            (pick t (record { page = Open n y; index = st .index; mode = readMode m p l }) (record { page = Open n last; index = st .index; mode = m }))
-        on true f =
-            record { page = rw (few, f); index = r .index; mode = read-good m p l (drop-good (wrongY n last y) (st .mode) (r .mode)) }
-        on false f = record { page = e; index = r .index; mode = drop-good (wrongY n last y) (st .mode) (r .mode) }
+    go : (t : Bool) → Good (pick t (readMode m (pointerOf x) (bytesOf x)) m)
+    go true = read-good m (pointerOf x) (bytesOf x) (drop-good (v .drops) (st .mode) (r .mode))
+    go false = drop-good (v .drops) (st .mode) (r .mode)
 
 -- a taken packet's state is in range again
 pub sound-after : (s : Setting) (st : State) (q : List ℕ) → Sound st → Sound (act st (see s q))

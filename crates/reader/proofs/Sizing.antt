@@ -14,7 +14,9 @@ use Rattle.blocks.specs.Sizes.{Sized, none, more}
 use Rattle.pages.specs.declared.Page.{Page}
 use Rattle.pages.specs.declared.Page.the-variants.{Shut, Open}
 use Rattle.walk.specs.Mode.{Mode, off, scan, heading, body, shifted, full, step, emitted, gives, carries, finished}
-use Rattle.pages.specs.Acting.{State, wrongY, openBlocks, handed}
+use Rattle.reader.specs.Acting.{State, pointerOf, bytesOf, handed}
+use Rattle.pages.specs.declared.Verdict.{Verdict}
+use Rattle.pages.specs.Judging.{verdictOf}
 use Rattle.walk.specs.Reading.{dropIf, readBlocks}
 use Rattle.pages.specs.Seen.{Seen, junk, other, foreign, ours, row}
 use Rattle.walk.proofs.Along.{Along, good-along, drop-good, carries-along}
@@ -99,16 +101,11 @@ read-sized m p l r = go (leb p 12) (eqb p 13)
 
 pub handed-sized : (st : State) (x : Seen) → Sound st → Sized (handed st x)
 unfolding handed
-handed-sized st junk r = none
-handed-sized st other r = none
-handed-sized st foreign r = none
-handed-sized st (ours index n) r = none
-handed-sized st (row y p l) r = go (st .page)
+handed-sized st x r = go (v .reads)
   where
-    go : (g : Page) → Sized (openBlocks g st y p l)
-    go Shut = none
-    go (Open n last) = on (leb y n)
-      where
-        on : (t : Bool) → Sized (pick t (readBlocks (dropIf (wrongY n last y) (st .mode)) p l) [])
-        on true = read-sized (dropIf (wrongY n last y) (st .mode)) p l (drop-good (wrongY n last y) (st .mode) (r .mode))
-        on false = none
+    v : Verdict
+    v = verdictOf (st .page) (st .index) x
+
+    go : (t : Bool) → Sized (pick t (readBlocks (dropIf (v .drops) (st .mode)) (pointerOf x) (bytesOf x)) [])
+    go true = read-sized (dropIf (v .drops) (st .mode)) (pointerOf x) (bytesOf x) (drop-good (v .drops) (st .mode) (r .mode))
+    go false = none

@@ -18,7 +18,7 @@ use Rattle.reader.specs.declared.HeardAll.{HeardAll}
 use Rattle.reader.specs.declared.HeardAll.the-variants.{TookAll, RefusedAll}
 use Rattle.walk.specs.Reading.{room}
 use Rattle.pages.specs.Seen.{see}
-use Rattle.pages.specs.Acting.{State, act, handed, dropped as Acting·dropped}
+use Rattle.reader.specs.Acting.{State, act, handed, dropped as Acting·dropped}
 use Rattle.reader.specs.State.{stateOf, readerOf, readerInRange}
 
 -- "Reader: 16, then 1"

@@ -9,7 +9,7 @@ use Rattle.blocks.specs.Block.{recordsOf}
 use Rattle.walk.specs.declared.Run.{Run}
 use Rattle.walk.specs.declared.Run.the-variants.{Idle, Head, Body}
 use Rattle.pages.specs.declared.Page.{Page}
-use Rattle.pages.specs.declared.Going.{Going}
+use Rattle.reader.specs.declared.Going.{Going}
 use Rattle.reader.specs.declared.Taking.{Taking}
 use Rattle.walk.specs.Holding.{Holds}
 use Rattle.reader.specs.Feeding.{Ran}

@@ -13,7 +13,7 @@ use Rattle.walk.specs.declared.Run.the-variants.{Idle, Head, Body}
 use Rattle.reader.specs.declared.Reader.{Reader}
 use Rattle.walk.specs.Store.{storeLength, modeOf, runOf, heldOf}
 use Rattle.walk.specs.Mode.{Mode, off}
-use Rattle.pages.specs.Acting.{State}
+use Rattle.reader.specs.Acting.{State}
 
 -- the state that a reader holds
 abbrev pub stateOf : Reader → State

@@ -1,21 +1,24 @@
 // The reader of the guide page: packets in, finished blocks out. A packet is lost only where a byte
 // can't be decoded, and then what was held is dropped: a missing table is fetched at the next repeat.
+mod held;
+
 use answer::Refusal;
 use packet::Setting;
-use pages::Going;
 use pages::Page;
+use pages::Verdict;
 use walk::Got;
 use walk::Run;
 ghost use mathlib.Core.Path.{_≡_};
 ghost use mathlib.Core.Bool.{true, false};
 ghost use Prim.Native.Nat.{_/_, _%_, _≤_};
-ghost use lib.ListN.{length, drop};
+ghost use lib.ListN.{length, getD, drop};
 ghost use Rattle.laws.specs.Pick.{both};
 ghost use Rattle.packet.specs.Setting.{inRange};
 ghost use Rattle.packet.specs.Packet.{packetLength};
 ghost use Rattle.walk.specs.declared.Run.the-variants.{Head};
-ghost use Rattle.walk.specs.Holding.{Kept};
-ghost use Rattle.pages.specs.Stepped.{stateIn};
+ghost use Rattle.octet.specs.Decoding.{nib};
+ghost use Rattle.walk.specs.Holding.{Kept, RowRoom};
+ghost use Rattle.reader.specs.Stepped.{stateIn, Heeded};
 ghost use Rattle.reader.specs.State.{zeros, pageInRange, runInRange, readerInRange, readerOf, freshState};
 ghost use Rattle.reader.specs.Feeding.{feedHeard, feedReader, feedOut, begun, run, feedAllHeard, feedAllReader, feedAllOut};
 ghost use Rattle.reader.specs.Holding.{started, RanTo, Sixteen};
@@ -60,6 +63,13 @@ pub enum HeardAll {
 pub struct FedAll {
     pub heard: HeardAll,
     pub reader: Reader,
+}
+
+// What packets taken one after the other have come to.
+struct Going {
+    page: Page,
+    index: u8,
+    got: Got,
 }
 
 // The same, and how many packets.
@@ -200,11 +210,37 @@ fn take_all(
         if pages::passes_by(setting, address) {
             continue;
         }
-        a = pages::step(setting, a, address, store, &packets[from..at], out);
+        let page = a.page;
+        let v = pages::judge(setting, page, a.index, address, &packets[from..at]);
+        a = heed(v, a, store, &packets[from..at], out);
     }
     Taking {
         going: a,
         packets: count,
+    }
+}
+
+// What the verdict says: the running block is dropped or not, and then the packet's bytes are read or not.
+fn heed(v: Verdict, a: Going, store: &mut [u8; 2047], packet: &[u8], out: &mut [u8]) -> Going
+    requires { ⌜ Kept (a .got .run) (now store) ⌝ }
+    requires { ⌜ length (now packet) ≡ packetLength ⌝ }
+    requires { ⌜ RowRoom (a .got) (now out) ⌝ }
+    ensures { λ r. ⌜ Heeded v (nib (getD (now (packet .entry)) 2 0)) (drop 3 (now (packet .entry))) (stateIn a (now (store .entry))) a r (now (store .exit)) (now (out .entry)) (now (out .exit)) ⌝ }
+{
+    let was = a.got;
+    let page = v.page;
+    let got = held::lose(v.drops, was, store);
+    if v.reads {
+        return Going {
+            page: page,
+            index: v.index,
+            got: held::read(got, store, packet, out),
+        };
+    }
+    Going {
+        page: page,
+        index: v.index,
+        got: got,
     }
 }
 
