@@ -23,10 +23,10 @@ use Rattle.guide.proofs.Filling.{length-grab}
 use Rattle.pages.specs.declared.Page.the-variants.{Shut, Open}
 use Rattle.walk.specs.Mode.{Mode, off, scan, gives}
 use Rattle.pages.specs.Seen.{Seen, junk, other, ours, row, see}
-use Rattle.reader.specs.Acting.{State, act, handed}
+use Rattle.state.specs.Acting.{State, act, handed}
 use Rattle.pages.specs.Judging.{incomplete, breaks}
 use Rattle.walk.specs.Reading.{dropIf, readMode, readBlocks}
-use Rattle.reader.specs.State.{freshState}
+use Rattle.state.specs.State.{freshState}
 use Rattle.claims.specs.Noise.{Hears, Near, Elsewhere, Aired, ended, sent, between, Came, over, Alike, Each, Fits}
 use Rattle.claims.specs.Carrying.{heardBlocks}
 use Rattle.claims.proofs.Losing.{lost-all, came-append}

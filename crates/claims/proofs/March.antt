@@ -15,11 +15,11 @@ use Rattle.guide.proofs.Numbering.{FortyTwo, more}
 use Rattle.pages.specs.declared.Page.the-variants.{Shut}
 use Rattle.walk.specs.Mode.{off}
 use Rattle.pages.specs.Seen.{Seen, junk, other, foreign, ours, row, see, seeY, seeZero}
-use Rattle.reader.specs.Acting.{State, act, handed}
+use Rattle.state.specs.Acting.{State, act, handed}
 use Rattle.pages.specs.Judging.{breaks}
 use Rattle.walk.specs.Reading.{dropIf}
-use Rattle.reader.specs.State.{readerOf, freshState}
-use Rattle.reader.proofs.Ranging.{Sound, sound-fresh}
+use Rattle.state.specs.State.{readerOf, freshState}
+use Rattle.state.proofs.Ranging.{Sound, sound-fresh}
 use Rattle.claims.specs.Carrying.{heardBlocks}
 use Rattle.claims.specs.Feeding.{Call, packetsOf, comesOut}
 use Rattle.claims.specs.March.{Unreadable, address, zero}

@@ -40,7 +40,7 @@ use Rattle.walk.proofs.falls.Reads as walk·falls
 use Rattle.pages.proofs.judge.Reads as pages·judge
 use Rattle.pages.proofs.address.Reads as pages·address
 use Rattle.pages.proofs.passes_by.Reads as pages·passes-by
-use Rattle.reader.proofs.fresh.Reads as reader·fresh
+use Rattle.state.proofs.fresh.Reads as reader·fresh
 use Rattle.reader.proofs.feed.Reads as reader·feed
 use Rattle.reader.proofs.feed_all.Reads as reader·feed-all
 use Rattle.table.proofs.read_block.Reads as table·read-block

@@ -21,7 +21,7 @@ use Rattle.walk.specs.Holding.{Kept, Went, ReadRow}
 use Rattle.walk.proofs.Keeping.{holds-mode}
 use Rattle.walk.proofs.Adding.{went-nowhere, went-on, either-false}
 use Rattle.reader.specs.declared.Going.{Going}
-use Rattle.reader.specs.Acting.{State, act, handed, dropped}
+use Rattle.state.specs.Acting.{State, act, handed, dropped}
 use Rattle.reader.specs.Stepped.{Heeded, Acted, stateIn}
 
 -- ---- what the code does by a verdict

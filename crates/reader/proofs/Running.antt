@@ -16,7 +16,7 @@ use Rattle.packet.specs.Packet.{packetLength}
 use Rattle.reader.specs.declared.Going.{Going}
 use Rattle.reader.specs.declared.Taking.{Taking}
 use Rattle.pages.specs.Seen.{see}
-use Rattle.reader.specs.Acting.{State, handed, dropped}
+use Rattle.state.specs.Acting.{State, handed, dropped}
 use Rattle.walk.specs.Reading.{room}
 use Rattle.reader.specs.Feeding.{Ran, begun, ranOn, run}
 use Rattle.walk.specs.Holding.{Good, Kept}
@@ -25,7 +25,7 @@ use Rattle.reader.specs.Holding.{RanTo}
 use Rattle.walk.proofs.Keeping.{holds-mode}
 use Rattle.walk.proofs.Adding.{recordsOf-append}
 use Rattle.walk.proofs.Room.{two-each}
-use Rattle.reader.proofs.Bounding.{packet-room}
+use Rattle.state.proofs.Bounding.{packet-room}
 
 abbrev pub taking : Going → ℕ → Taking
 taking a count = record { going = a; packets = count }

@@ -9,7 +9,7 @@ use Rattle.pages.specs.Seen.{Seen}
 use Rattle.walk.specs.Store.{modeOf}
 use Rattle.walk.specs.Holding.{Went}
 use Rattle.reader.specs.declared.Going.{Going}
-use Rattle.reader.specs.Acting.{State, heeded, heededBlocks, heededDrops, act, handed, dropped}
+use Rattle.state.specs.Acting.{State, heeded, heededBlocks, heededDrops, act, handed, dropped}
 
 -- the state that packets have come to
 abbrev pub stateIn : Going → List ℕ → State

@@ -6,6 +6,8 @@ use answer::Refusal;
 use packet::Setting;
 use pages::Page;
 use pages::Verdict;
+pub use state::Reader;
+pub use state::fresh;
 use walk::Got;
 use walk::Run;
 ghost use mathlib.Core.Path.{_≡_};
@@ -15,21 +17,12 @@ ghost use lib.ListN.{length, getD, drop};
 ghost use Rattle.laws.specs.Pick.{both};
 ghost use Rattle.packet.specs.Setting.{inRange};
 ghost use Rattle.packet.specs.Packet.{packetLength};
-ghost use Rattle.walk.specs.declared.Run.the-variants.{Head};
 ghost use Rattle.octet.specs.Decoding.{nib};
 ghost use Rattle.walk.specs.Holding.{Kept, RowRoom};
 ghost use Rattle.reader.specs.Stepped.{stateIn, Heeded};
-ghost use Rattle.reader.specs.State.{zeros, pageInRange, runInRange, readerInRange, readerOf, freshState};
+ghost use Rattle.state.specs.State.{readerInRange, Sixteen};
 ghost use Rattle.reader.specs.Feeding.{feedHeard, feedReader, feedOut, begun, run, feedAllHeard, feedAllReader, feedAllOut};
-ghost use Rattle.reader.specs.Holding.{started, RanTo, Sixteen};
-
-// What a reader keeps between packets. Every byte of the store past those held is zero.
-pub struct Reader {
-    pub page: Page,
-    pub index: u8,
-    pub run: Run,
-    pub store: [u8; 2047],
-}
+ghost use Rattle.reader.specs.Holding.{started, RanTo};
 
 // What one packet gave: so many blocks, as so many bytes of records at the front of the output, and
 // whether a block was dropped.
@@ -76,18 +69,6 @@ struct Going {
 struct Taking {
     going: Going,
     packets: usize,
-}
-
-// A fresh reader: no page of ours is open, and nothing runs.
-pub fn fresh() -> Reader
-    ensures { λ r. ⌜ r ≡ readerOf freshState ⌝ }
-{
-    Reader {
-        page: Page::Shut,
-        index: 15,
-        run: Run::Idle,
-        store: [0u8; 2047],
-    }
 }
 
 // One packet of 42 bytes. Refused with 16 where the setting or the state is out of range or the packet
@@ -261,15 +242,7 @@ fn start(page: Page, index: u8, run: Run) -> Going
 }
 
 // Whether a call goes on: setting and state are in range, and what came is whole packets.
-fn is_ready(
-    setting: Setting,
-    page: Page,
-    index: u8,
-    run: Run,
-    store: &[u8; 2047],
-    whole: bool,
-) -> bool
-    requires { ⌜ length (now store) ≡ 2047 ⌝ }
+fn is_ready(setting: Setting, page: Page, index: u8, run: Run, store: &[u8], whole: bool) -> bool
     ensures { λ r. ⌜ r ≡ both (inRange setting) (both (readerInRange (record { page = page; index = index; run = run; store = now (store .entry) })) whole) ⌝ }
     ensures { λ r. ⌜ (r ≡ true → Sixteen run) ⌝ }
 {
@@ -279,82 +252,5 @@ fn is_ready(
     if !whole {
         return false;
     }
-    in_range(page, index, run, store)
-}
-
-// Whether a state is in range.
-fn in_range(page: Page, index: u8, run: Run, store: &[u8; 2047]) -> bool
-    requires { ⌜ length (now store) ≡ 2047 ⌝ }
-    ensures { λ r. ⌜ r ≡ readerInRange (record { page = page; index = index; run = run; store = now (store .entry) }) ⌝ }
-    ensures { λ r. ⌜ (r ≡ true → Sixteen run) ⌝ }
-{
-    if !is_page(page) {
-        return false;
-    }
-    if index > 15 {
-        return false;
-    }
-    match run {
-        Run::Idle => is_clear(store, 0),
-        Run::Head { got, bits } => {
-            if !is_head(got, bits) {
-                return false;
-            }
-            is_clear(store, 0)
-        }
-        Run::Body { head, held } => {
-            if held > (head / 32) as usize {
-                return false;
-            }
-            is_clear(store, held)
-        }
-    }
-}
-
-// Whether an open page is in range.
-fn is_page(page: Page) -> bool
-    ensures { λ r. ⌜ r ≡ pageInRange page ⌝ }
-{
-    match page {
-        Page::Shut => true,
-        Page::Open { n, last } => {
-            if n > 25 {
-                return false;
-            }
-            last <= n
-        }
-    }
-}
-
-// Whether the bits of a header are those of the nibbles got and no others.
-fn is_head(got: u8, bits: u16) -> bool
-    ensures { λ r. ⌜ r ≡ runInRange (Head got bits) ⌝ }
-{
-    if got > 3 {
-        return false;
-    }
-    if got == 3 {
-        return bits % 16 == 0;
-    }
-    if got == 2 {
-        return bits % 256 == 0;
-    }
-    if got == 1 {
-        return bits % 4096 == 0;
-    }
-    bits == 0
-}
-
-// Whether every byte of the store from `from` on is zero: all of them or-ed are, so that no byte ends the loop.
-fn is_clear(store: &[u8; 2047], from: usize) -> bool
-    requires { ⌜ (from ≤ 2047) × (length (now store) ≡ 2047) ⌝ }
-    ensures { λ r. ⌜ r ≡ zeros (drop from (now (store .entry))) ⌝ }
-{
-    let mut mix: u8 = 0;
-    let mut i = from;
-    while i < 2047 {
-        mix = mix | store[i];
-        i += 1;
-    }
-    mix == 0
+    state::in_range(page, index, run, store)
 }

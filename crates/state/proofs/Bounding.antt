@@ -12,7 +12,7 @@ use Rattle.walk.specs.Reading.{dropIf, readBlocks}
 use Rattle.walk.specs.Holding.{Good}
 use Rattle.walk.proofs.Along.{drop-good}
 use Rattle.walk.proofs.Room.{Within, within-none, read-room}
-use Rattle.reader.specs.Acting.{State, pointerOf, bytesOf, handed}
+use Rattle.state.specs.Acting.{State, pointerOf, bytesOf, handed}
 use Rattle.pages.specs.declared.Verdict.{Verdict}
 use Rattle.pages.specs.Judging.{verdictOf}
 use Rattle.pages.specs.Seen.{Seen, junk, other, foreign, ours, row, see}

@@ -11,7 +11,7 @@ use lib.Dec.{eqb}
 use lib.Bits.{bitOr, or-zero-l, or-add-and, and-le-r}
 use borrow.Author.Tests.{ne-eqb}
 use Rattle.laws.specs.Pick.{both}
-use Rattle.reader.specs.State.{zeros}
+use Rattle.state.specs.State.{zeros}
 
 pub untrue {ℓ} : {A : Type ℓ} → false ≡ true → A
 untrue e = let z : _≡_ {A = ℕ} 0 1 = cc in absurd (omega arith)

@@ -15,12 +15,12 @@ use Rattle.packet.specs.declared.Setting.{Setting}
 use Rattle.packet.specs.Setting.{inRange}
 use Rattle.walk.specs.declared.Run.{Run}
 use Rattle.walk.specs.declared.Run.the-variants.{Idle, Head, Body}
-use Rattle.reader.specs.declared.Reader.{Reader}
+use Rattle.state.specs.declared.Reader.{Reader}
 use Rattle.walk.specs.Store.{storeLength}
-use Rattle.reader.specs.State.{zeros, pageInRange, runInRange, heldBy, readerInRange}
+use Rattle.state.specs.State.{zeros, pageInRange, runInRange, heldBy, readerInRange}
 use Rattle.walk.specs.Places.{zeroed}
 use Rattle.walk.specs.Holding.{Kept}
-use Rattle.reader.specs.Holding.{Sixteen}
+use Rattle.state.specs.State.{Sixteen}
 
 zeros-all : (l : List ℕ) → zeros l ≡ true → l ≡ replicate (length l) 0
 unfolding zeros

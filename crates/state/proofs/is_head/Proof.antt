@@ -1,10 +1,10 @@
--- `reader::is_head` meets its contract: one power of 16 for each number of nibbles. Assumes nothing.
+-- `state::is_head` meets its contract: one power of 16 for each number of nibbles. Assumes nothing.
 use mathlib.Core.Path.{_≡_}
 use Prim.Native.Nat.{_%_}
 use native.Mathlib.Omega.{arith}
 use borrow.Author.Tests.{lt-leb}
-use Rattle.reader.proofs.is_head.Statement.{statement}
-use Rattle.reader.proofs.is_head.Tie as tie
+use Rattle.state.proofs.is_head.Statement.{statement}
+use Rattle.state.proofs.is_head.Tie as tie
 
 returns : tie.Need-returns
 returns c = rw (lt-leb _ _ (c .if1 .taken))

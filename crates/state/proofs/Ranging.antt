@@ -21,8 +21,8 @@ use Rattle.pages.specs.declared.Page.{Page}
 use Rattle.pages.specs.declared.Page.the-variants.{Shut, Open}
 use Rattle.walk.specs.Mode.{Mode, off, scan, heading, body}
 use Rattle.walk.specs.Store.{storeLength, modeOf, runOf}
-use Rattle.reader.specs.State.{stateOf, storeOf, readerOf, zeros, pageInRange, runInRange, heldBy, readerInRange, freshState}
-use Rattle.reader.specs.Acting.{State, pointerOf, bytesOf, act}
+use Rattle.state.specs.State.{stateOf, storeOf, readerOf, zeros, pageInRange, runInRange, heldBy, readerInRange, freshState}
+use Rattle.state.specs.Acting.{State, pointerOf, bytesOf, act}
 use Rattle.pages.specs.declared.Verdict.{Verdict}
 use Rattle.pages.specs.Judging.{verdictOf}
 use Rattle.walk.specs.Reading.{dropIf, readMode}

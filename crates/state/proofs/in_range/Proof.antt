@@ -1,12 +1,12 @@
--- `reader::in_range` meets its contract: its tests in order. Assumes nothing.
+-- `state::in_range` meets its contract: its tests in order. Assumes nothing.
 use mathlib.Core.Path.{_∙_, sym}
 use native.Mathlib.Omega.{arith}
 use borrow.Author.Needs.{needs}
 use borrow.Author.Tests.{lt-leb, le-leb, not-true, not-false}
-use Rattle.reader.specs.State.{readerInRange}
-use Rattle.reader.proofs.Clearing.{untrue}
-use Rattle.reader.proofs.in_range.Statement.{statement}
-use Rattle.reader.proofs.in_range.Tie as tie
+use Rattle.state.specs.State.{readerInRange}
+use Rattle.state.proofs.Clearing.{untrue}
+use Rattle.state.proofs.in_range.Statement.{statement}
+use Rattle.state.proofs.in_range.Tie as tie
 
 is-page-requires : tie.Need-is-page-requires
 is-page-requires c κs = search needs

@@ -1,7 +1,7 @@
 -- The state as the reader holds it: the running block's bytes in a store of 2,047, all others zero.
 use mathlib.Core.Bool.{Bool, true}
 use mathlib.Core.List.{List, [], _∷_, _++_}
-use Prim.Native.Nat.{ℕ, _-_, _%_, _^_}
+use Prim.Native.Nat.{ℕ, _-_, _%_, _^_, _<_}
 use lib.Dec.{eqb, leb}
 use lib.ListN.{length, drop, replicate}
 use Rattle.laws.specs.Pick.{both}
@@ -10,10 +10,10 @@ use Rattle.pages.specs.declared.Page.{Page}
 use Rattle.pages.specs.declared.Page.the-variants.{Shut, Open}
 use Rattle.walk.specs.declared.Run.{Run}
 use Rattle.walk.specs.declared.Run.the-variants.{Idle, Head, Body}
-use Rattle.reader.specs.declared.Reader.{Reader}
+use Rattle.state.specs.declared.Reader.{Reader}
 use Rattle.walk.specs.Store.{storeLength, modeOf, runOf, heldOf}
 use Rattle.walk.specs.Mode.{Mode, off}
-use Rattle.reader.specs.Acting.{State}
+use Rattle.state.specs.Acting.{State}
 
 -- the state that a reader holds
 abbrev pub stateOf : Reader → State
@@ -56,3 +56,9 @@ unfoldable pub readerInRange : Reader → Bool
 readerInRange r =
     both (pageInRange (r .page))
     (both (leb (r .index) 15) (both (runInRange (r .run)) (zeros (drop (heldBy (r .run)) (r .store)))))
+
+-- a run's bits are 16, which its type alone says
+abbrev pub Sixteen : Run → Type 0
+Sixteen Idle = Unit
+Sixteen (Head got bits) = bits < 2 ^ 16
+Sixteen (Body head held) = head < 2 ^ 16

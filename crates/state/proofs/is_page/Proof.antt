@@ -1,8 +1,8 @@
--- `reader::is_page` meets its contract: its tests in order. Assumes nothing.
+-- `state::is_page` meets its contract: its tests in order. Assumes nothing.
 use borrow.Author.Needs.{needs}
 use borrow.Author.Tests.{lt-leb, le-leb}
-use Rattle.reader.proofs.is_page.Statement.{statement}
-use Rattle.reader.proofs.is_page.Tie as tie
+use Rattle.state.proofs.is_page.Statement.{statement}
+use Rattle.state.proofs.is_page.Tie as tie
 
 enum-told : tie.Need-enum-told
 enum-told c = search needs
