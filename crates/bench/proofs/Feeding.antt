@@ -7,7 +7,7 @@ use native.Mathlib.Omega.{arith}
 use lib.ListN.{take, drop}
 use lib.Seq.{drop-drop}
 use Rattle.laws.proofs.Lists.{part-of}
-use Rattle.reader.specs.declared.Reader.{Reader}
+use Rattle.state.specs.declared.Reader.{Reader}
 use Rattle.reader.specs.declared.Heard.{Heard}
 use Rattle.reader.specs.declared.HeardAll.{HeardAll}
 use Rattle.reader.specs.Feeding.{feedHeard, feedReader, feedOut, feedAllHeard, feedAllOut}

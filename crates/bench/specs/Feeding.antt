@@ -3,12 +3,12 @@ use mathlib.Core.List.{List}
 use Prim.Native.Nat.{ℕ, zero, suc, _+_, _%_}
 use lib.ListN.{take, drop}
 use Rattle.packet.specs.declared.Setting.{Setting}
-use Rattle.reader.specs.declared.Reader.{Reader}
+use Rattle.state.specs.declared.Reader.{Reader}
 use Rattle.reader.specs.declared.Heard.{Heard}
 use Rattle.reader.specs.declared.Heard.the-variants.{Took, Refused}
 use Rattle.reader.specs.declared.HeardAll.{HeardAll}
 use Rattle.reader.specs.declared.HeardAll.the-variants.{TookAll, RefusedAll}
-use Rattle.reader.specs.State.{readerOf, freshState}
+use Rattle.state.specs.State.{readerOf, freshState}
 use Rattle.reader.specs.Feeding.{feedHeard, feedReader, feedOut}
 
 -- the desk's setting

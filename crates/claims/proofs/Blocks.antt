@@ -18,8 +18,8 @@ use Rattle.packet.specs.declared.Setting.{Setting}
 use Rattle.packet.specs.Setting.{inRange}
 use Rattle.guide.specs.Cutting.{packets}
 use Rattle.guide.proofs.Numbering.{FortyTwo, more, packets-forty}
-use Rattle.reader.specs.State.{readerOf, freshState}
-use Rattle.reader.proofs.Ranging.{sound-fresh}
+use Rattle.state.specs.State.{readerOf, freshState}
+use Rattle.state.proofs.Ranging.{sound-fresh}
 use Rattle.claims.specs.Noise.{Flipped, Hears, Near, Aired, ended, sent, between, Came, Alike, Each, Fits}
 use Rattle.claims.specs.Noise
 use Rattle.claims.specs.Lists.{Paired}

@@ -23,9 +23,10 @@ use Rattle.guide.proofs.Filling.{length-grab}
 use Rattle.pages.specs.declared.Page.the-variants.{Shut, Open}
 use Rattle.walk.specs.Mode.{Mode, off, scan, gives}
 use Rattle.pages.specs.Seen.{Seen, junk, other, ours, row, see}
-use Rattle.pages.specs.Acting.{State, incomplete, breaks, act, handed}
+use Rattle.state.specs.Acting.{State, act, handed}
+use Rattle.pages.specs.Judging.{incomplete, breaks}
 use Rattle.walk.specs.Reading.{dropIf, readMode, readBlocks}
-use Rattle.reader.specs.State.{freshState}
+use Rattle.state.specs.State.{freshState}
 use Rattle.claims.specs.Noise.{Hears, Near, Elsewhere, Aired, ended, sent, between, Came, over, Alike, Each, Fits}
 use Rattle.claims.specs.Carrying.{heardBlocks}
 use Rattle.claims.proofs.Losing.{lost-all, came-append}
@@ -81,8 +82,8 @@ act-ours {R} {L} k {m} index st small r = opened (rw (le-leb k 25 small)) refl (
     dropped-off true = refl
     dropped-off false = refl
 
-    go : (st .mode ≡ off) ⊎ ((st .index + 1) % 16 ≡ index) → Between R L m (dropIf (breaks st index k) (st .mode))
-    go (inl e) = rw (e, dropped-off (breaks st index k)) (rw e at (r .mode))
+    go : (st .mode ≡ off) ⊎ ((st .index + 1) % 16 ≡ index) → Between R L m (dropIf (breaks (st .page) (st .index) index k) (st .mode))
+    go (inl e) = rw (e, dropped-off (breaks (st .page) (st .index) index k)) (rw e at (r .mode))
     go (inr e) = rw (r .whole, le-ltb 25 k small, e, eq-eqb index index refl) (r .mode)
 
 -- packet last + 1 of an open page is read

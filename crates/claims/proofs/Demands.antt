@@ -10,7 +10,7 @@ use Rattle.octet.proofs.Laws.{near}
 use Rattle.blocks.specs.Block.{Block, blocks}
 use Rattle.packet.specs.declared.Setting.{Setting}
 use Rattle.packet.specs.Setting.{inRange}
-use Rattle.reader.specs.State.{readerOf, freshState}
+use Rattle.state.specs.State.{readerOf, freshState}
 use Rattle.table.specs.Tables.{Table, fits}
 use Rattle.claims.specs.Noise.{Flipped, Hears, Aired, Came, Alike, Each, Fits}
 use Rattle.claims.specs.Lists.{Among}

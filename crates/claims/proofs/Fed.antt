@@ -12,13 +12,13 @@ use Rattle.blocks.proofs.Round.{blocks-records}
 use Rattle.packet.specs.declared.Setting.{Setting}
 use Rattle.packet.specs.Setting.{inRange}
 use Rattle.guide.proofs.Numbering.{FortyTwo, more}
-use Rattle.reader.specs.declared.Reader.{Reader}
+use Rattle.state.specs.declared.Reader.{Reader}
 use Rattle.pages.specs.Seen.{see}
-use Rattle.pages.specs.Acting.{State, act, handed, dropped}
-use Rattle.reader.specs.State.{stateOf, readerOf, readerInRange}
+use Rattle.state.specs.Acting.{State, act, handed, dropped}
+use Rattle.state.specs.State.{stateOf, readerOf, readerInRange}
 use Rattle.reader.specs.Feeding.{feedHeard, feedReader, feedOut, handedBytes}
-use Rattle.reader.proofs.Ranging.{Sound, sound-after, state-held, reader-in-range}
-use Rattle.reader.proofs.Sizing.{handed-sized}
+use Rattle.state.proofs.Ranging.{Sound, sound-after, state-held, reader-in-range}
+use Rattle.state.proofs.Sizing.{handed-sized}
 use Rattle.claims.specs.Carrying.{heardBlocks}
 use Rattle.claims.specs.Feeding.{Call, packetsOf, writtenOf, comesOut, droppedOf}
 

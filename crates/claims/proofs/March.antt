@@ -15,10 +15,11 @@ use Rattle.guide.proofs.Numbering.{FortyTwo, more}
 use Rattle.pages.specs.declared.Page.the-variants.{Shut}
 use Rattle.walk.specs.Mode.{off}
 use Rattle.pages.specs.Seen.{Seen, junk, other, foreign, ours, row, see, seeY, seeZero}
-use Rattle.pages.specs.Acting.{State, breaks, act, handed}
+use Rattle.state.specs.Acting.{State, act, handed}
+use Rattle.pages.specs.Judging.{breaks}
 use Rattle.walk.specs.Reading.{dropIf}
-use Rattle.reader.specs.State.{readerOf, freshState}
-use Rattle.reader.proofs.Ranging.{Sound, sound-fresh}
+use Rattle.state.specs.State.{readerOf, freshState}
+use Rattle.state.proofs.Ranging.{Sound, sound-fresh}
 use Rattle.claims.specs.Carrying.{heardBlocks}
 use Rattle.claims.specs.Feeding.{Call, packetsOf, comesOut}
 use Rattle.claims.specs.March.{Unreadable, address, zero}
@@ -42,7 +43,7 @@ unfolding act
 meets-after i j junk = both-idle
 meets-after i j other = both-idle
 meets-after i j foreign = both-idle
-meets-after i j (ours k n) = rw (dropped-off (breaks (idleAt i) k n), dropped-off (breaks (idleAt j) k n)) one
+meets-after i j (ours k n) = rw (dropped-off (breaks Shut i k n), dropped-off (breaks Shut j k n)) one
 meets-after i j (row y p l) = both-idle
 
 idle-hands : (i j : ℕ) (x : Seen) → handed (idleAt i) x ≡ handed (idleAt j) x

@@ -16,14 +16,14 @@ use Rattle.packet.specs.declared.Setting.{Setting}
 use Rattle.packet.specs.Setting.{inRange}
 use Rattle.packet.specs.Packet.{packetLength}
 use Rattle.guide.proofs.Numbering.{FortyTwo, none, more}
-use Rattle.reader.specs.declared.Reader.{Reader}
+use Rattle.state.specs.declared.Reader.{Reader}
 use Rattle.walk.specs.Reading.{room}
 use Rattle.walk.proofs.Adding.{either-false}
 use Rattle.pages.specs.Seen.{see}
-use Rattle.pages.specs.Acting.{State, handed, dropped}
-use Rattle.reader.specs.State.{stateOf, readerOf}
+use Rattle.state.specs.Acting.{State, handed, dropped}
+use Rattle.state.specs.State.{stateOf, readerOf}
 use Rattle.reader.specs.Feeding.{Ran, begun, ranOn, run}
-use Rattle.reader.proofs.Ranging.{Sound, sound-after, state-held, reader-in-range}
+use Rattle.state.proofs.Ranging.{Sound, sound-after, state-held, reader-in-range}
 use Rattle.claims.specs.Feeding.{Call, packetsOf, comesOut, leaves, drops, rowOf, AsCalls}
 use Rattle.claims.proofs.Fed.{call-reader, call-blocks, call-drops}
 

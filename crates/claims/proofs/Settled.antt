@@ -1,10 +1,11 @@
 -- Each call's statement settles its outcome: any two outcomes that it allows are equal, the answer, the state handed back and every
 -- lent byte. The statements are the contracts themselves, as the checker reads them (`Post`: of the arguments, the result and the
 -- parameters at exit). Assumes nothing.
-use mathlib.Core.Path.{_≡_, _∙_, sym}
-use mathlib.Core.Bool.{Bool}
-use mathlib.Core.List.{List, []}
-use Prim.Native.Nat.{ℕ}
+use mathlib.Core.Path.{_≡_, _∙_, refl, sym, ap}
+use mathlib.Core.List.{List}
+use Prim.Native.Nat.{ℕ, _-_, _≤_}
+use native.Mathlib.Omega.{arith}
+use lib.ListN.{length, drop, length-drop}
 use denote.Ref.{now}
 use Rattle.octet.proofs.image.Reads as octet·image
 use Rattle.octet.proofs.decode.Reads as octet·decode
@@ -34,18 +35,17 @@ use Rattle.pens.proofs.cells_of.Reads as pens·cells-of
 use Rattle.guide.proofs.cut.Reads as guide·cut
 use Rattle.guide.proofs.cut_pages.Reads as guide·cut-pages
 use Rattle.blocks.specs.Block.{Block}
-use Rattle.walk.specs.declared.Run.{Run}
-use Rattle.walk.specs.declared.Got.{Got}
-use Rattle.walk.specs.Mode.{Mode}
-use Rattle.walk.specs.Holding.{Went}
-use Rattle.walk.proofs.read.Reads as walk·read
-use Rattle.walk.proofs.lose.Reads as walk·lose
-use Rattle.pages.specs.declared.Page.{Page}
-use Rattle.pages.specs.declared.Going.{Going}
-use Rattle.pages.proofs.step.Reads as pages·step
+use Rattle.walk.specs.declared.Ahead.{Ahead}
+use Rattle.walk.specs.declared.Ahead.the-variants.{Nothing, Broken, Cut, Whole}
+use Rattle.walk.specs.Places.{Found, nothing, broken, cut, whole}
+use Rattle.walk.specs.Holding.{aheadIn, nextOf}
+use Rattle.walk.proofs.find.Reads as walk·find
+use Rattle.walk.proofs.head_on.Reads as walk·head-on
+use Rattle.walk.proofs.falls.Reads as walk·falls
+use Rattle.pages.proofs.judge.Reads as pages·judge
 use Rattle.pages.proofs.address.Reads as pages·address
 use Rattle.pages.proofs.passes_by.Reads as pages·passes-by
-use Rattle.reader.proofs.fresh.Reads as reader·fresh
+use Rattle.state.proofs.fresh.Reads as reader·fresh
 use Rattle.reader.proofs.feed.Reads as reader·feed
 use Rattle.reader.proofs.feed_all.Reads as reader·feed-all
 use Rattle.table.proofs.read_block.Reads as table·read-block
@@ -132,43 +132,48 @@ pub guide·cut-pages-settled :
     (κs : _) (a : _) (x y : _) (s t : _) → guide·cut-pages.Post κs a x s → guide·cut-pages.Post κs a y t → (x ≡ y) × (now (s .1 .1 .1 .1 .0) ≡ now (t .1 .1 .1 .1 .0))
 guide·cut-pages-settled κs a x y s t p q = (same (p .0) (q .0), same (p .1) (q .1))
 
--- ---- within the reader, where what each requires holds
+-- ---- within the reader
 
-same-got :
-    {r r′ : Run} {b b′ w w′ : ℕ} {d d′ : Bool} → r ≡ r′ → b ≡ b′ → w ≡ w′ → d ≡ d′
-    → _≡_ {A = Got} (record { run = r; blocks = b; written = w; dropped = d }) (record { run = r′; blocks = b′; written = w′; dropped = d′ })
-same-got p q r s = rw (p, q, r, s)
+-- what stands ahead, from what is found: the place is where the rest begins
+abbrev back : List ℕ → Found → Ahead
+back s nothing = Nothing
+back s broken = Broken
+back s (cut g v) = Cut g v
+back s (whole h l) = Whole h (length s - length l)
 
-went-settled :
-    {m : Mode} {bs : List Block} {d : Bool} {a x y : Got} {s t o p q : List ℕ} → Went m bs d a x s o p → Went m bs d a y t o q
-    → (x ≡ y) × (s ≡ t) × (p ≡ q)
-went-settled u v = (
-  same-got (same (u .holds .run) (v .holds .run)) (same (u .blocks) (v .blocks)) (same (u .written) (v .written)) (same (u .dropped) (v .dropped)),
-  same (u .holds .kept) (v .holds .kept),
-  same (u .out) (v .out),
-)
+back-ahead : (s : List ℕ) (r : Ahead) → nextOf r 0 ≤ length s → back s (aheadIn s r) ≡ r
+back-ahead s Nothing h = refl
+back-ahead s Broken h = refl
+back-ahead s (Cut g v) h = refl
+back-ahead s (Whole h n) k = let e : length s - length (drop n s) ≡ n = rw length-drop (omega arith) in rw e
 
-same-going :
-    {r r′ : Page} {i i′ : ℕ} {g g′ : Got} → r ≡ r′ → i ≡ i′ → g ≡ g′
-    → _≡_ {A = Going} (record { page = r; index = i; got = g }) (record { page = r′; index = i′; got = g′ })
-same-going p q r = rw (p, q, r)
+-- the same, where the place is told
+abbrev backAt : ℕ → Found → Ahead
+backAt d nothing = Nothing
+backAt d broken = Broken
+backAt d (cut g v) = Cut g v
+backAt d (whole h l) = Whole h d
 
-pub walk·read-settled :
-    (κs : _) (a : _) (x y : _) (s t : _) → walk·read.Post κs a x s → walk·read.Post κs a y t
-    → (x ≡ y) × (now (s .1 .0) ≡ now (t .1 .0)) × (now (s .1 .1 .1 .0) ≡ now (t .1 .1 .1 .0))
-walk·read-settled κs a x y s t p q = went-settled p q
+back-at : (s : List ℕ) (d : ℕ) (r : Ahead) → nextOf r d ≡ d → backAt d (aheadIn s r) ≡ r
+back-at s d Nothing e = refl
+back-at s d Broken e = refl
+back-at s d (Cut g v) e = refl
+back-at s d (Whole h n) e = rw e
 
-pub walk·lose-settled :
-    (κs : _) (a : _) (x y : _) (s t : _) → walk·lose.Post κs a x s → walk·lose.Post κs a y t
-    → (x ≡ y) × (now (s .1 .1 .0) ≡ now (t .1 .1 .0))
-walk·lose-settled κs a x y s t p q = let w = went-settled (p []) (q []) in (w .0, w .1)
+pub walk·find-settled : (κs : _) (a : _) (x y : _) (s t : _) → walk·find.Post κs a x s → walk·find.Post κs a y t → x ≡ y
+walk·find-settled κs a x y s t p q =
+    sym (back-ahead (now (a .0)) x (p .1 .1)) ∙ ap (back (now (a .0))) (sym (p .0) ∙ q .0) ∙ back-ahead (now (a .0)) y (q .1 .1)
 
-pub pages·step-settled :
-    (κs : _) (a : _) (x y : _) (s t : _) → pages·step.Post κs a x s → pages·step.Post κs a y t
-    → (x ≡ y) × (now (s .1 .1 .1 .0) ≡ now (t .1 .1 .1 .0)) × (now (s .1 .1 .1 .1 .1 .0) ≡ now (t .1 .1 .1 .1 .1 .0))
-pages·step-settled κs a x y s t p q =
-    let w = went-settled (p .went) (q .went) in
-    (same-going (same (p .page) (q .page)) (same (p .index) (q .index)) (w .0), w .1, w .2)
+pub walk·head-on-settled :
+    (κs : _) (a : _) (x y : _) (s t : _) → walk·head-on.Post κs a x s → walk·head-on.Post κs a y t → x ≡ y
+walk·head-on-settled κs a x y s t p q =
+    sym (back-at (now (a .0)) _ x (p .1 .0)) ∙ ap (backAt _) (sym (p .0) ∙ q .0) ∙ back-at (now (a .0)) _ y (q .1 .0)
+
+pub walk·falls-settled : (κs : _) (a : _) (x y : _) (s t : _) → walk·falls.Post κs a x s → walk·falls.Post κs a y t → x ≡ y
+walk·falls-settled κs a x y s t p q = same p q
+
+pub pages·judge-settled : (κs : _) (a : _) (x y : _) (s t : _) → pages·judge.Post κs a x s → pages·judge.Post κs a y t → x ≡ y
+pages·judge-settled κs a x y s t p q = same p q
 
 pub pages·address-settled : (κs : _) (a : _) (x y : _) (s t : _) → pages·address.Post κs a x s → pages·address.Post κs a y t → x ≡ y
 pages·address-settled κs a x y s t p q = same p q

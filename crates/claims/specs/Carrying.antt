@@ -4,7 +4,7 @@ use Prim.Native.Nat.{ℕ}
 use Rattle.blocks.specs.Block.{Block}
 use Rattle.packet.specs.declared.Setting.{Setting}
 use Rattle.pages.specs.Seen.{see}
-use Rattle.pages.specs.Acting.{State, act, handed}
+use Rattle.state.specs.Acting.{State, act, handed}
 
 -- the blocks, packet by packet
 unfoldable pub heardBlocks : Setting → State → List (List ℕ) → List Block

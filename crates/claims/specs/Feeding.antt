@@ -9,7 +9,7 @@ use lib.ListN.{length, take, drop}
 use Rattle.laws.specs.Pick.{either}
 use Rattle.blocks.specs.Block.{Block, blocks, recordsOf}
 use Rattle.packet.specs.declared.Setting.{Setting}
-use Rattle.reader.specs.declared.Reader.{Reader}
+use Rattle.state.specs.declared.Reader.{Reader}
 use Rattle.reader.specs.declared.Heard.{Heard}
 use Rattle.reader.specs.declared.Heard.the-variants.{Took, Refused}
 use Rattle.reader.specs.declared.HeardAll.the-variants.{TookAll}

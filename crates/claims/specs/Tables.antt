@@ -4,7 +4,7 @@ use Prim.Native.Nat.{ℕ}
 use Rattle.blocks.specs.Block.{Block, recordOf as Block·recordOf}
 use Rattle.packet.specs.declared.Setting.{Setting}
 use Rattle.guide.specs.Cutting.{packets}
-use Rattle.reader.specs.State.{freshState, readerOf}
+use Rattle.state.specs.State.{freshState, readerOf}
 use Rattle.table.specs.Tables.{Table}
 use Rattle.table.specs.Reading.{Outcome, accepted, refused, readBlock}
 use Rattle.table.specs.Writing.{recordOf}

@@ -7,6 +7,7 @@ use lib.ListN.{length, getD, drop}
 use Rattle.laws.specs.Pick.{pick, both}
 use Rattle.octet.specs.Decoding.{nib, undecodable}
 use Rattle.packet.specs.declared.Setting.{Setting}
+use Rattle.packet.specs.Packet.{packetLength}
 
 pub data Seen : Type 0 where
   -- an address, or one of the six bytes of our magazine's packet 0, that can't be decoded
@@ -51,3 +52,9 @@ addressOf p = pick (both (leb 2 (length p)) (decodes 2 p)) (nib (getD p 0 0) + 1
 -- an address that can be decoded and is another magazine's
 unfoldable pub elsewhere : Setting → ℕ → Bool
 elsewhere s address = both (leb address 255) (not (eqb (address % 8) (s .magazine % 8)))
+
+-- a packet of 42 bytes with this address; one of another length counts as one that can't be read
+unfoldable pub seenAs : Setting → ℕ → List ℕ → Seen
+seenAs s address p =
+    pick (both (eqb (length p) packetLength) (leb address 255))
+    (pick (eqb (address % 8) (s .magazine % 8)) (seeY s (address / 8) p) other) junk

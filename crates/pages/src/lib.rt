@@ -1,21 +1,16 @@
-// What a packet does: to the page of ours that is open, to our last index, and to the running block. It is the reader's inside, and
-// `reader` alone calls it: that the state is in range, and that there is room for what one packet can give, its calls have tested.
+// What a packet is to the open page of ours and to our last index, by its bytes alone: the two as they are then, whether it drops the
+// running block, and whether its 39 bytes are read. Every rule of the reader that doesn't look into those bytes stands here.
 use packet::Setting;
-use walk::Got;
 ghost use mathlib.Core.Path.{_≡_};
-ghost use mathlib.Core.Bool.{not};
-ghost use mathlib.Core.List.{List};
-ghost use Prim.Native.Nat.{ℕ, _+_, _%_, _≤_};
-ghost use lib.Dec.{eqb, leb, ltb};
-ghost use lib.ListN.{length, getD, drop};
-ghost use Rattle.laws.specs.Pick.{pick, either};
-ghost use Rattle.octet.specs.Decoding.{nib};
+ghost use mathlib.Core.Bool.{false};
+ghost use Prim.Native.Nat.{_+_, _≤_};
+ghost use lib.Dec.{leb, eqb};
+ghost use lib.ListN.{length, drop};
+ghost use Rattle.laws.specs.Pick.{pick, both};
 ghost use Rattle.packet.specs.Packet.{packetLength};
-ghost use Rattle.walk.specs.Holding.{Kept, RowRoom};
 ghost use Rattle.pages.specs.declared.Page.the-variants.{Shut, Open};
-ghost use Rattle.pages.specs.Seen.{decodes, seeZero, see, addressOf, elsewhere};
-ghost use Rattle.pages.specs.Acting.{incomplete, wrongY};
-ghost use Rattle.pages.specs.Stepped.{Turned, Acted, Rowed, stateIn};
+ghost use Rattle.pages.specs.Seen.{decodes, seeZero, seenAs, addressOf, elsewhere};
+ghost use Rattle.pages.specs.Judging.{incomplete, breaks, wrongY, rowVerdict, verdictOf};
 
 // The page of ours that is open, if one is: how many packets follow its packet 0, and the number of
 // the last one that came.
@@ -24,46 +19,52 @@ pub enum Page {
     Open { n: u8, last: u8 },
 }
 
-// What packets taken one after the other have come to.
-pub struct Going {
+// What a packet does: page and index as they are then, whether the running block is dropped, and
+// whether the packet's bytes are then read.
+pub struct Verdict {
     pub page: Page,
     pub index: u8,
-    pub got: Got,
+    pub drops: bool,
+    pub reads: bool,
 }
 
-// One packet of 42 bytes: what it is to a reader of this setting decides what it does to page, index and running block, and the records
-// of the blocks that it finishes stand in the output behind what is written.
-pub fn step(
-    setting: Setting,
-    a: Going,
-    address: usize,
-    store: &mut [u8; 2047],
-    packet: &[u8],
-    out: &mut [u8],
-) -> Going
-    requires { ⌜ Kept (a .got .run) (now store) ⌝ }
-    requires { ⌜ (length (now packet) ≡ packetLength) × (address ≡ addressOf (now packet)) ⌝ }
-    requires { ⌜ RowRoom (a .got) (now out) ⌝ }
-    ensures { λ r. ⌜ Acted (see setting (now (packet .entry))) (stateIn a (now (store .entry))) a r (now (store .exit)) (now (out .entry)) (now (out .exit)) ⌝ }
+// A packet with this address. One that isn't 42 bytes long counts as one that can't be read.
+pub fn judge(setting: Setting, page: Page, index: u8, address: usize, packet: &[u8]) -> Verdict
+    ensures { λ r. ⌜ r ≡ verdictOf page index (seenAs setting address (now (packet .entry))) ⌝ }
 {
+    let unread = Verdict {
+        page: Page::Shut,
+        index: index,
+        drops: true,
+        reads: false,
+    };
+    if packet.len() != 42 {
+        return unread;
+    }
     if 255 < address {
-        return turn(a, true, Page::Shut, a.index, store);
+        return unread;
     }
     if address % 8 != (setting.magazine % 8) as usize {
-        return a;
+        return Verdict {
+            page: page,
+            index: index,
+            drops: false,
+            reads: false,
+        };
     }
     let y = (address / 8) as u8;
     if y == 0 {
-        return zero(setting, a, store, packet);
+        return zero(setting, page, index, packet);
     }
     if y > 25 {
-        return a;
+        return Verdict {
+            page: page,
+            index: index,
+            drops: false,
+            reads: false,
+        };
     }
-    let page = a.page;
-    match page {
-        Page::Shut => a,
-        Page::Open { n, last } => row(a, n, last, y, store, packet, out),
-    }
+    row(page, index, y)
 }
 
 // A packet's address: the magazine modulo 8, and Y times 8; 256 where there is none that can be decoded.
@@ -95,75 +96,87 @@ pub fn passes_by(setting: Setting, address: usize) -> bool
 }
 
 // A packet 0 of our magazine.
-fn zero(setting: Setting, a: Going, store: &mut [u8; 2047], packet: &[u8]) -> Going
-    requires { ⌜ Kept (a .got .run) (now store) ⌝ }
+fn zero(setting: Setting, page: Page, last: u8, packet: &[u8]) -> Verdict
     requires { ⌜ length (now packet) ≡ packetLength ⌝ }
-    ensures { λ r. ⌜ ((out : List ℕ) → Acted (seeZero setting (drop 2 (now (packet .entry)))) (stateIn a (now (store .entry))) a r (now (store .exit)) out out) ⌝ }
+    ensures { λ r. ⌜ r ≡ verdictOf page last (seeZero setting (drop 2 (now (packet .entry)))) ⌝ }
 {
-    let page = a.page;
-    let last = a.index;
     if !readable(packet, 2, 6) {
-        return turn(a, true, Page::Shut, last, store);
+        return shut(last, true);
     }
     let number = quick::decode(packet[2]) + 16 * quick::decode(packet[3]);
-    if number != setting.page {
-        return turn(a, is_incomplete(page), Page::Shut, last, store);
-    }
-    if quick::decode(packet[6]) != setting.stream {
-        return turn(a, is_incomplete(page), Page::Shut, last, store);
+    let stream = quick::decode(packet[6]);
+    if !is_ours(setting, number, stream) {
+        return shut(last, is_incomplete(page));
     }
     let index = quick::decode(packet[4]);
     let n = quick::decode(packet[5]) % 8 + 8 * (quick::decode(packet[7]) % 4);
-    turn(a, is_break(page, last, index, n), page_of(n), index, store)
-}
-
-// Packet y of our magazine, our page open.
-fn row(
-    a: Going,
-    n: u8,
-    last: u8,
-    y: u8,
-    store: &mut [u8; 2047],
-    packet: &[u8],
-    out: &mut [u8],
-) -> Going
-    requires { ⌜ Kept (a .got .run) (now store) ⌝ }
-    requires { ⌜ (length (now packet) ≡ packetLength) × (1 ≤ y) ⌝ }
-    requires { ⌜ RowRoom (a .got) (now out) ⌝ }
-    ensures { λ r. ⌜ Rowed n last y (nib (getD (now (packet .entry)) 2 0)) (drop 3 (now (packet .entry))) (stateIn a (now (store .entry))) a r (now (store .exit)) (now (out .entry)) (now (out .exit)) ⌝ }
-{
-    let wrong = is_wrong(n, last, y);
-    if y > n {
-        return turn(a, wrong, Page::Open { n: n, last: last }, a.index, store);
-    }
-    let b = turn(a, wrong, Page::Open { n: n, last: y }, a.index, store);
-    let got = b.got;
-    let page = b.page;
-    let index = b.index;
-    Going {
-        page: page,
+    Verdict {
+        page: page_of(n),
         index: index,
-        got: walk::read(got, store, packet, out),
+        drops: is_break(page, last, index, n),
+        reads: false,
     }
 }
 
-// Page and index are set anew, and the running block is dropped where the test holds.
-fn turn(a: Going, t: bool, page: Page, index: u8, store: &mut [u8; 2047]) -> Going
-    requires { ⌜ Kept (a .got .run) (now store) ⌝ }
-    ensures { λ r. ⌜ ((out : List ℕ) → Turned t page index (stateIn a (now (store .entry))) a r (now (store .exit)) out out) ⌝ }
+// No page of ours is open then.
+fn shut(index: u8, drops: bool) -> Verdict
+    ensures { λ r. ⌜ r ≡ record { page = Shut; index = index; drops = drops; reads = false } ⌝ }
 {
-    let got = a.got;
-    Going {
+    let page = Page::Shut;
+    Verdict {
         page: page,
         index: index,
-        got: walk::lose(t, got, store),
+        drops: drops,
+        reads: false,
     }
+}
+
+// Packet y of our magazine.
+fn row(page: Page, index: u8, y: u8) -> Verdict
+    requires { ⌜ 1 ≤ y ⌝ }
+    ensures { λ r. ⌜ r ≡ rowVerdict page index y ⌝ }
+{
+    match page {
+        Page::Shut => Verdict {
+            page: page,
+            index: index,
+            drops: false,
+            reads: false,
+        },
+        Page::Open { n, last } => {
+            let wrong = is_wrong(n, last, y);
+            if y > n {
+                return Verdict {
+                    page: page,
+                    index: index,
+                    drops: wrong,
+                    reads: false,
+                };
+            }
+            Verdict {
+                page: Page::Open { n: n, last: y },
+                index: index,
+                drops: wrong,
+                reads: true,
+            }
+        }
+    }
+}
+
+// Whether page number and stream are ours.
+fn is_ours(setting: Setting, number: u8, stream: u8) -> bool
+    ensures { λ r. ⌜ r ≡ both (eqb number (setting .page)) (eqb stream (setting .stream)) ⌝ }
+{
+    if number != setting.page {
+        return false;
+    }
+    stream == setting.stream
 }
 
 // Whether a packet 0 of ours drops the running block: our page isn't complete, n is over 25, or the
 // index isn't one above our last.
 fn is_break(page: Page, last: u8, index: u8, n: u8) -> bool
-    ensures { λ r. ⌜ r ≡ either (incomplete page) (either (ltb 25 n) (not (eqb index ((last + 1) % 16)))) ⌝ }
+    ensures { λ r. ⌜ r ≡ breaks page last index n ⌝ }
 {
     if is_incomplete(page) {
         return true;

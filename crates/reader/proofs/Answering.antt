@@ -13,7 +13,7 @@ use Rattle.blocks.specs.Block.{recordsOf}
 use Rattle.packet.specs.declared.Setting.{Setting}
 use Rattle.packet.specs.Setting.{inRange}
 use Rattle.packet.specs.Packet.{packetLength}
-use Rattle.reader.specs.declared.Reader.{Reader}
+use Rattle.state.specs.declared.Reader.{Reader}
 use Rattle.reader.specs.declared.Heard.{Heard}
 use Rattle.reader.specs.declared.Heard.the-variants.{Took}
 use Rattle.reader.specs.declared.HeardAll.{HeardAll}
@@ -21,17 +21,17 @@ use Rattle.reader.specs.declared.HeardAll.the-variants.{TookAll}
 use Rattle.reader.specs.declared.Taking.{Taking}
 use Rattle.walk.specs.declared.Run.{Run}
 use Rattle.pages.specs.declared.Page.{Page}
-use Rattle.pages.specs.declared.Going.{Going}
+use Rattle.reader.specs.declared.Going.{Going}
 use Rattle.pages.specs.Seen.{see}
-use Rattle.pages.specs.Acting.{State, handed}
-use Rattle.reader.specs.State.{stateOf, readerOf, readerInRange}
+use Rattle.state.specs.Acting.{State, handed}
+use Rattle.state.specs.State.{stateOf, readerOf, readerInRange}
 use Rattle.walk.specs.Reading.{room}
 use Rattle.reader.specs.Feeding.{feedHeard, feedReader, feedOut, refusedHeard, begun, ranOn, run, ranAll, refusedAll, feedAllHeard, feedAllReader, feedAllOut}
 use Rattle.walk.specs.Places.{zeroed}
 use Rattle.walk.specs.Holding.{Holds}
-use Rattle.pages.specs.Stepped.{stateIn}
+use Rattle.reader.specs.Stepped.{stateIn}
 use Rattle.reader.specs.Holding.{started, RanTo}
-use Rattle.reader.proofs.Holding.{ready-whole}
+use Rattle.state.proofs.Holding.{ready-whole}
 use Rattle.reader.proofs.Running.{run-one}
 
 -- the answer, the reader and the output are these

@@ -1,7 +1,3 @@
 pub mod Answering
-pub mod Bounding
-pub mod Clearing
-pub mod Holding
-pub mod Ranging
+pub mod Heeding
 pub mod Running
-pub mod Sizing

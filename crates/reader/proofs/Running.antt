@@ -13,19 +13,19 @@ use Rattle.laws.proofs.Lists.{sets-append, part-of}
 use Rattle.blocks.specs.Block.{Block, recordsOf}
 use Rattle.packet.specs.declared.Setting.{Setting}
 use Rattle.packet.specs.Packet.{packetLength}
-use Rattle.pages.specs.declared.Going.{Going}
+use Rattle.reader.specs.declared.Going.{Going}
 use Rattle.reader.specs.declared.Taking.{Taking}
 use Rattle.pages.specs.Seen.{see}
-use Rattle.pages.specs.Acting.{State, handed, dropped}
+use Rattle.state.specs.Acting.{State, handed, dropped}
 use Rattle.walk.specs.Reading.{room}
 use Rattle.reader.specs.Feeding.{Ran, begun, ranOn, run}
 use Rattle.walk.specs.Holding.{Good, Kept}
-use Rattle.pages.specs.Stepped.{Acted, stateIn}
+use Rattle.reader.specs.Stepped.{Acted, stateIn}
 use Rattle.reader.specs.Holding.{RanTo}
 use Rattle.walk.proofs.Keeping.{holds-mode}
 use Rattle.walk.proofs.Adding.{recordsOf-append}
 use Rattle.walk.proofs.Room.{two-each}
-use Rattle.reader.proofs.Bounding.{packet-room}
+use Rattle.state.proofs.Bounding.{packet-room}
 
 abbrev pub taking : Going → ℕ → Taking
 taking a count = record { going = a; packets = count }

@@ -11,15 +11,15 @@ use Rattle.blocks.specs.Block.{Block, recordsOf}
 use Rattle.packet.specs.declared.Setting.{Setting}
 use Rattle.packet.specs.Setting.{inRange}
 use Rattle.packet.specs.Packet.{packetLength}
-use Rattle.reader.specs.declared.Reader.{Reader}
+use Rattle.state.specs.declared.Reader.{Reader}
 use Rattle.reader.specs.declared.Heard.{Heard}
 use Rattle.reader.specs.declared.Heard.the-variants.{Took, Refused}
 use Rattle.reader.specs.declared.HeardAll.{HeardAll}
 use Rattle.reader.specs.declared.HeardAll.the-variants.{TookAll, RefusedAll}
 use Rattle.walk.specs.Reading.{room}
 use Rattle.pages.specs.Seen.{see}
-use Rattle.pages.specs.Acting.{State, act, handed, dropped as Acting·dropped}
-use Rattle.reader.specs.State.{stateOf, readerOf, readerInRange}
+use Rattle.state.specs.Acting.{State, act, handed, dropped as Acting·dropped}
+use Rattle.state.specs.State.{stateOf, readerOf, readerInRange}
 
 -- "Reader: 16, then 1"
 abbrev pub feedRules : Setting → Reader → List ℕ → List ℕ → List Rule

@@ -1,24 +1,17 @@
--- What only private calls cite: that a run's bits are 16, and how the code holds what a row of packets has come to.
+-- What only private calls cite: how the code holds what a row of packets has come to.
 use mathlib.Core.Path.{_≡_}
 use mathlib.Core.Bool.{false}
 use mathlib.Core.List.{List}
-use Prim.Native.Nat.{ℕ, _^_, _<_}
+use Prim.Native.Nat.{ℕ}
 use lib.ListN.{length}
 use lib.Seq.{sets}
 use Rattle.blocks.specs.Block.{recordsOf}
 use Rattle.walk.specs.declared.Run.{Run}
-use Rattle.walk.specs.declared.Run.the-variants.{Idle, Head, Body}
 use Rattle.pages.specs.declared.Page.{Page}
-use Rattle.pages.specs.declared.Going.{Going}
+use Rattle.reader.specs.declared.Going.{Going}
 use Rattle.reader.specs.declared.Taking.{Taking}
 use Rattle.walk.specs.Holding.{Holds}
 use Rattle.reader.specs.Feeding.{Ran}
-
--- a run's bits are 16, which its type alone says
-abbrev pub Sixteen : Run → Type 0
-Sixteen Idle = Unit
-Sixteen (Head got bits) = bits < 2 ^ 16
-Sixteen (Body head held) = head < 2 ^ 16
 
 -- no packet has come yet
 abbrev pub started : Page → ℕ → Run → Going

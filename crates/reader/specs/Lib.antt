@@ -1,5 +1,4 @@
--- The reader: document 01, "Packets of the guide page", from "Reader, set to magazine .." on. What a packet does stands in `pages`, and
--- the reading of its 39 bytes in `walk`.
-pub mod State
+-- The calls of the reader: document 01, "Packets of the guide page". The state and what a packet does to it stand in `state`.
 pub mod Feeding
+pub mod Stepped
 pub mod Holding

@@ -1,32 +1,28 @@
 // The reader of the guide page: packets in, finished blocks out. A packet is lost only where a byte
 // can't be decoded, and then what was held is dropped: a missing table is fetched at the next repeat.
+mod held;
+
 use answer::Refusal;
 use packet::Setting;
-use pages::Going;
 use pages::Page;
+use pages::Verdict;
+pub use state::Reader;
+pub use state::fresh;
 use walk::Got;
 use walk::Run;
 ghost use mathlib.Core.Path.{_≡_};
 ghost use mathlib.Core.Bool.{true, false};
 ghost use Prim.Native.Nat.{_/_, _%_, _≤_};
-ghost use lib.ListN.{length, drop};
+ghost use lib.ListN.{length, getD, drop};
 ghost use Rattle.laws.specs.Pick.{both};
 ghost use Rattle.packet.specs.Setting.{inRange};
 ghost use Rattle.packet.specs.Packet.{packetLength};
-ghost use Rattle.walk.specs.declared.Run.the-variants.{Head};
-ghost use Rattle.walk.specs.Holding.{Kept};
-ghost use Rattle.pages.specs.Stepped.{stateIn};
-ghost use Rattle.reader.specs.State.{zeros, pageInRange, runInRange, readerInRange, readerOf, freshState};
+ghost use Rattle.octet.specs.Decoding.{nib};
+ghost use Rattle.walk.specs.Holding.{Kept, RowRoom};
+ghost use Rattle.reader.specs.Stepped.{stateIn, Heeded};
+ghost use Rattle.state.specs.State.{readerInRange, Sixteen};
 ghost use Rattle.reader.specs.Feeding.{feedHeard, feedReader, feedOut, begun, run, feedAllHeard, feedAllReader, feedAllOut};
-ghost use Rattle.reader.specs.Holding.{started, RanTo, Sixteen};
-
-// What a reader keeps between packets. Every byte of the store past those held is zero.
-pub struct Reader {
-    pub page: Page,
-    pub index: u8,
-    pub run: Run,
-    pub store: [u8; 2047],
-}
+ghost use Rattle.reader.specs.Holding.{started, RanTo};
 
 // What one packet gave: so many blocks, as so many bytes of records at the front of the output, and
 // whether a block was dropped.
@@ -62,22 +58,17 @@ pub struct FedAll {
     pub reader: Reader,
 }
 
+// What packets taken one after the other have come to.
+struct Going {
+    page: Page,
+    index: u8,
+    got: Got,
+}
+
 // The same, and how many packets.
 struct Taking {
     going: Going,
     packets: usize,
-}
-
-// A fresh reader: no page of ours is open, and nothing runs.
-pub fn fresh() -> Reader
-    ensures { λ r. ⌜ r ≡ readerOf freshState ⌝ }
-{
-    Reader {
-        page: Page::Shut,
-        index: 15,
-        run: Run::Idle,
-        store: [0u8; 2047],
-    }
 }
 
 // One packet of 42 bytes. Refused with 16 where the setting or the state is out of range or the packet
@@ -200,11 +191,37 @@ fn take_all(
         if pages::passes_by(setting, address) {
             continue;
         }
-        a = pages::step(setting, a, address, store, &packets[from..at], out);
+        let page = a.page;
+        let v = pages::judge(setting, page, a.index, address, &packets[from..at]);
+        a = heed(v, a, store, &packets[from..at], out);
     }
     Taking {
         going: a,
         packets: count,
+    }
+}
+
+// What the verdict says: the running block is dropped or not, and then the packet's bytes are read or not.
+fn heed(v: Verdict, a: Going, store: &mut [u8; 2047], packet: &[u8], out: &mut [u8]) -> Going
+    requires { ⌜ Kept (a .got .run) (now store) ⌝ }
+    requires { ⌜ length (now packet) ≡ packetLength ⌝ }
+    requires { ⌜ RowRoom (a .got) (now out) ⌝ }
+    ensures { λ r. ⌜ Heeded v (nib (getD (now (packet .entry)) 2 0)) (drop 3 (now (packet .entry))) (stateIn a (now (store .entry))) a r (now (store .exit)) (now (out .entry)) (now (out .exit)) ⌝ }
+{
+    let was = a.got;
+    let page = v.page;
+    let got = held::lose(v.drops, was, store);
+    if v.reads {
+        return Going {
+            page: page,
+            index: v.index,
+            got: held::read(got, store, packet, out),
+        };
+    }
+    Going {
+        page: page,
+        index: v.index,
+        got: got,
     }
 }
 
@@ -225,15 +242,7 @@ fn start(page: Page, index: u8, run: Run) -> Going
 }
 
 // Whether a call goes on: setting and state are in range, and what came is whole packets.
-fn is_ready(
-    setting: Setting,
-    page: Page,
-    index: u8,
-    run: Run,
-    store: &[u8; 2047],
-    whole: bool,
-) -> bool
-    requires { ⌜ length (now store) ≡ 2047 ⌝ }
+fn is_ready(setting: Setting, page: Page, index: u8, run: Run, store: &[u8], whole: bool) -> bool
     ensures { λ r. ⌜ r ≡ both (inRange setting) (both (readerInRange (record { page = page; index = index; run = run; store = now (store .entry) })) whole) ⌝ }
     ensures { λ r. ⌜ (r ≡ true → Sixteen run) ⌝ }
 {
@@ -243,82 +252,5 @@ fn is_ready(
     if !whole {
         return false;
     }
-    in_range(page, index, run, store)
-}
-
-// Whether a state is in range.
-fn in_range(page: Page, index: u8, run: Run, store: &[u8; 2047]) -> bool
-    requires { ⌜ length (now store) ≡ 2047 ⌝ }
-    ensures { λ r. ⌜ r ≡ readerInRange (record { page = page; index = index; run = run; store = now (store .entry) }) ⌝ }
-    ensures { λ r. ⌜ (r ≡ true → Sixteen run) ⌝ }
-{
-    if !is_page(page) {
-        return false;
-    }
-    if index > 15 {
-        return false;
-    }
-    match run {
-        Run::Idle => is_clear(store, 0),
-        Run::Head { got, bits } => {
-            if !is_head(got, bits) {
-                return false;
-            }
-            is_clear(store, 0)
-        }
-        Run::Body { head, held } => {
-            if held > (head / 32) as usize {
-                return false;
-            }
-            is_clear(store, held)
-        }
-    }
-}
-
-// Whether an open page is in range.
-fn is_page(page: Page) -> bool
-    ensures { λ r. ⌜ r ≡ pageInRange page ⌝ }
-{
-    match page {
-        Page::Shut => true,
-        Page::Open { n, last } => {
-            if n > 25 {
-                return false;
-            }
-            last <= n
-        }
-    }
-}
-
-// Whether the bits of a header are those of the nibbles got and no others.
-fn is_head(got: u8, bits: u16) -> bool
-    ensures { λ r. ⌜ r ≡ runInRange (Head got bits) ⌝ }
-{
-    if got > 3 {
-        return false;
-    }
-    if got == 3 {
-        return bits % 16 == 0;
-    }
-    if got == 2 {
-        return bits % 256 == 0;
-    }
-    if got == 1 {
-        return bits % 4096 == 0;
-    }
-    bits == 0
-}
-
-// Whether every byte of the store from `from` on is zero: all of them or-ed are, so that no byte ends the loop.
-fn is_clear(store: &[u8; 2047], from: usize) -> bool
-    requires { ⌜ (from ≤ 2047) × (length (now store) ≡ 2047) ⌝ }
-    ensures { λ r. ⌜ r ≡ zeros (drop from (now (store .entry))) ⌝ }
-{
-    let mut mix: u8 = 0;
-    let mut i = from;
-    while i < 2047 {
-        mix = mix | store[i];
-        i += 1;
-    }
-    mix == 0
+    state::in_range(page, index, run, store)
 }

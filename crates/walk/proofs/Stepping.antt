@@ -125,8 +125,8 @@ module _ (s : List ℕ) (from at : ℕ) (p : at ≡ from + fillers (drop from s)
       past-filler (drop from s) (simp length-drop (omega arith)) (rw (getD-drop, ← p) e)
 
   -- filler reaches the end, or it stops before
-  pub past-end : from ≤ length s → ltb at (length s) ≡ not (leb (length (drop from s)) (fillers (drop from s)))
-  past-end f =
+  pub past-end : ltb at (length s) ≡ not (leb (length (drop from s)) (fillers (drop from s)))
+  past-end =
       let d : length (drop from s) ≡ length s - from = length-drop from s in
       elim (decLt at (length s)) [
         | yes h ↦ let x : fillers (drop from s) < length (drop from s) = omega arith in rw (lt-ltb _ _ h, lt-leb _ _ x)

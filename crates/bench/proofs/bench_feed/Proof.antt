@@ -6,7 +6,7 @@ use Prim.Native.Nat.{_+_, _*_, _/_, _≤_, _<_}
 use native.Mathlib.Omega.{arith}
 use lib.ListN.{length, drop}
 use denote.Ref.{now}
-use Rattle.reader.specs.declared.Reader.{Reader}
+use Rattle.state.specs.declared.Reader.{Reader}
 use Rattle.bench.specs.Feeding.{start, wrap, eachCount, eachOut}
 use Rattle.bench.proofs.Feeding.{count-on, out-on, ended-count, ended-out}
 use Rattle.bench.proofs.bench_feed.Statement.{statement}

@@ -7,13 +7,16 @@ use borrow.Author.Needs.{needs}
 use borrow.Author.Tests.{not-true, not-false, eqb-true}
 use Rattle.packet.specs.Packet.{packetLength}
 use Rattle.walk.specs.Store.{storeLength}
-use Rattle.reader.proofs.Holding.{ready-whole, ready-kept}
+use Rattle.state.proofs.Holding.{ready-whole, ready-kept}
 use Rattle.reader.proofs.Answering.{not-ready, no-room, taken}
 use Rattle.reader.proofs.feed.Statement.{statement}
 use Rattle.reader.proofs.feed.Tie as tie
 
 long : (c : tie.Start) → length (c .args .reader .store) ≡ storeLength
 long c = search needs
+
+slice-aggregate-is-ready : tie.Need-slice-aggregate-is-ready
+slice-aggregate-is-ready c = search needs
 
 is-ready-requires : tie.Need-is-ready-requires
 is-ready-requires c κs = search needs
@@ -57,7 +60,7 @@ pub feed-spec : {M : Type 1} → statement M
 feed-spec =
     tie.close
     (tie.spec
-    is-ready-requires
+    slice-aggregate-is-ready is-ready-requires
     returns
     returns-2
     start-requires

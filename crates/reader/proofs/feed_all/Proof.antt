@@ -5,13 +5,16 @@ use denote.Ref.{now}
 use borrow.Author.Needs.{needs}
 use borrow.Author.Tests.{not-true, not-false, eqb-true}
 use Rattle.walk.specs.Store.{storeLength}
-use Rattle.reader.proofs.Holding.{ready-whole, ready-kept}
+use Rattle.state.proofs.Holding.{ready-whole, ready-kept}
 use Rattle.reader.proofs.Answering.{not-ready-all, taken-all}
 use Rattle.reader.proofs.feed_all.Statement.{statement}
 use Rattle.reader.proofs.feed_all.Tie as tie
 
 long : (c : tie.Start) → length (c .args .reader .store) ≡ storeLength
 long c = search needs
+
+slice-aggregate-is-ready : tie.Need-slice-aggregate-is-ready
+slice-aggregate-is-ready c = search needs
 
 is-ready-requires : tie.Need-is-ready-requires
 is-ready-requires c κs = search needs
@@ -47,4 +50,4 @@ returns-2 c =
 pub feed-all-spec : {M : Type 1} → statement M
 feed-all-spec =
     tie.close
-    (tie.spec is-ready-requires returns start-requires take-all-requires same-length returns-2)
+    (tie.spec slice-aggregate-is-ready is-ready-requires returns start-requires take-all-requires same-length returns-2)

@@ -8,9 +8,10 @@ use borrow.Author.Needs.{needs}
 use Rattle.packet.specs.Packet.{packetLength}
 use Rattle.reader.specs.Feeding.{Ran, begun, run}
 use Rattle.reader.specs.Holding.{RanTo}
-use Rattle.pages.specs.Stepped.{stateIn}
+use Rattle.reader.specs.Stepped.{stateIn}
 use Rattle.walk.proofs.Keeping.{holds-kept}
-use Rattle.pages.proofs.Judged.{see-elsewhere, act-other}
+use Rattle.pages.proofs.Judged.{see-elsewhere}
+use Rattle.reader.proofs.Heeding.{acted, act-other}
 use Rattle.reader.proofs.Running.{taking, begins, further, run-full, run-out, packet-length, still-room}
 use Rattle.reader.proofs.take_all.Statement.{statement}
 use Rattle.reader.proofs.take_all.Tie as tie
@@ -99,23 +100,35 @@ loop-again c =
           (act-other (l .a) (l .out) (holds-kept _ (w .holds)) o) (l .inv .6 .2),
     )
 
-sub-step : tie.Need-sub-step Inv-loop μ-loop
-sub-step c = search needs
+sub-judge : tie.Need-sub-judge Inv-loop μ-loop
+sub-judge c = search needs
 
-part-step-start : tie.Need-part-step-start Inv-loop μ-loop
-part-step-start c = search needs
+part-judge-start : tie.Need-part-judge-start Inv-loop μ-loop
+part-judge-start c = search needs
 
-part-step-end : tie.Need-part-step-end Inv-loop μ-loop
-part-step-end c = search needs
+part-judge-end : tie.Need-part-judge-end Inv-loop μ-loop
+part-judge-end c = search needs
 
-step-requires : tie.Need-step-requires Inv-loop μ-loop
-step-requires c κs =
-    let l = c .before .before .before .before .before .before .before .before .before .before .loop in
+judge-requires : tie.Need-judge-requires Inv-loop μ-loop
+judge-requires c κs = search needs
+
+sub-heed : tie.Need-sub-heed Inv-loop μ-loop
+sub-heed c = search needs
+
+part-heed-start : tie.Need-part-heed-start Inv-loop μ-loop
+part-heed-start c = search needs
+
+part-heed-end : tie.Need-part-heed-end Inv-loop μ-loop
+part-heed-end c = search needs
+
+heed-requires : tie.Need-heed-requires Inv-loop μ-loop
+heed-requires c κs =
+    let l = c .before .before .before .before .before .before .before .before .before .before .before .before .loop in
     let w = l .inv .6 .1 in (
       holds-kept _ (w .holds),
       (
-        (packet-length (now (c .before .before .before .before .before .before .before .before .before .before .before .before .before .args .packets)) (l .at) (omega arith), c .before .before .before .before .before .address .ensures),
-        record { long = omega (arith, l .inv .2, l .inv .3, c .before .before .before .before .before .before .before .if1 .left); few = l .inv .4 },
+        packet-length (now (c .before .before .before .before .before .before .before .before .before .before .before .before .before .before .before .args .packets)) (l .at) (omega arith),
+        record { long = omega (arith, l .inv .2, l .inv .3, c .before .before .before .before .before .before .before .before .before .if1 .left); few = l .inv .4 },
       ),
     )
 
@@ -124,21 +137,23 @@ loop-less-2 c = search needs
 
 loop-again-2 : tie.Need-loop-again-2 Inv-loop μ-loop
 loop-again-2 c =
-    let a = c .before .before .before .before .before .before .before .before .before .before .before .before .before .before .before .before .args in
-    let l = c .before .before .before .before .before .before .before .before .before .before .before .before .before .loop in
+    let a = c .before .before .before .before .before .before .before .before .before .before .before .before .before .before .before .before .before .before .args in
+    let l = c .before .before .before .before .before .before .before .before .before .before .before .before .before .before .before .loop in
     let w = l .inv .6 .1 in
-    let x = c .before .before .step .ensures in
-    let h : l .at + 42 ≤ length (now (a .packets)) = omega arith in
+    let e = c .before .before .before .before .before .before .before .before .before .before .before .before .before .before .loop-test .taken in
+    let h : l .at + 42 ≤ length (now (a .packets)) = omega (arith, l .inv .0, l .inv .1, e) in
     let p = take (l .at + 42 - l .at) (drop (l .at) (now (a .packets))) in
-    let g = still-room (a .setting) p (stateIn (l .a) (l .store)) (holds-kept _ (w .holds) .good) (packet-length (now (a .packets)) (l .at) h) x (l .inv .4) in (
+    let k = packet-length (now (a .packets)) (l .at) h in
+    let x = acted (a .setting) p (stateIn (l .a) (l .store)) _ _ _ _ _ k (c .before .before .before .before .before .before .before .before .before .before .address .ensures) (c .before .before .before .before .before .before .judge .ensures) (c .before .before .heed .ensures) in
+    let g = still-room (a .setting) p (stateIn (l .a) (l .store)) (holds-kept _ (w .holds) .good) k x (l .inv .4) in (
       h,
-      omega arith,
-      c .before .before .step .kept .1 .1 .1 .1 .1 .0 ∙ l .inv .2,
-      omega (arith, g .0, c .before .before .before .before .before .before .before .before .before .before .if1 .left, l .inv .2, l .inv .3),
+      omega (arith, l .inv .1, h),
+      c .before .before .heed .kept .1 .1 .1 .1 .0 ∙ l .inv .2,
+      omega (arith, g .0, c .before .before .before .before .before .before .before .before .before .before .before .before .if1 .left, l .inv .2, l .inv .3),
       g .1,
-      omega arith,
+      omega (arith, l .inv .5),
       further (a .setting) (length (now (a .out))) (now (a .packets)) (l .at) (l .inv .6 .0) w h
-          (omega (arith, w .written, l .inv .2, l .inv .3, c .before .before .before .before .before .before .before .before .before .before .if1 .left)) x (l .inv .6 .2),
+          (omega (arith, w .written, l .inv .2, l .inv .3, c .before .before .before .before .before .before .before .before .before .before .before .before .if1 .left)) x (l .inv .6 .2),
     )
 
 same-length-2 : tie.Need-same-length-2 Inv-loop μ-loop
@@ -171,10 +186,14 @@ take-all-spec =
     passes-by-requires
     loop-less
     loop-again
-    sub-step
-    part-step-start
-    part-step-end
-    step-requires
+    sub-judge
+    part-judge-start
+    part-judge-end
+    judge-requires
+    sub-heed
+    part-heed-start
+    part-heed-end
+    heed-requires
     loop-less-2
     loop-again-2
     same-length-2

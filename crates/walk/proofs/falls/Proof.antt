@@ -35,7 +35,7 @@ returns-4 : tie.Need-returns-4
 returns-4 c =
     let a = c .before .before .before .before .before .before .args in
     rw (c .before .before .before .run .given .1, le-leb _ _ (c .before .if1 .left))
-    (past-end (now (a .s)) (a .next) (c .skip .result) (c .skip .ensures) (omega arith))
+    (past-end (now (a .s)) (a .next) (c .skip .result) (c .skip .ensures))
 
 pub falls-spec : {M : Type 1} → statement M
 falls-spec =

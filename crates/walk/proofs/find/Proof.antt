@@ -49,7 +49,7 @@ returns-3 c =
     let e = c .before .before .before .before .before .skip .ensures in
     let h = c .head-on .ensures in (
       found-at (now (a .s)) (a .from) at e ∙ found-start (now (a .s)) at (omega arith) (omega arith) ∙ h .0,
-      (next-later (c .head-on .result) (at + 1 + (4 - 0)) (a .from + 5) (h .1 .0) (omega arith), h .1 .1),
+      (next-later (c .head-on .result) (at + 1 + (4 - 0)) (a .from + 5) (h .1 .0) (omega arith), h .1 .1 (omega arith)),
     )
 
 pub find-spec : {M : Type 1} → statement M

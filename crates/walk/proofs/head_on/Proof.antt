@@ -14,7 +14,7 @@ use Rattle.walk.proofs.head_on.Tie as tie
 
 abbrev Inv-loop : tie.InvT-loop
 Inv-loop s from got bits i₀ g₀ v₀ i g v =
-    (i ≤ length s) × (g ≤ 4) × (i + (4 - g) ≡ from + (4 - got)) × (v < 2 ^ 16)
+    (from ≤ length s → i ≤ length s) × (i + (4 - g) ≡ from + (4 - got)) × (v < 2 ^ 16)
     × (heads (4 - g) v (drop i s) ≡ heads (4 - got) bits (drop from s))
 
 abbrev μ-loop : tie.MeasureT-loop
@@ -27,7 +27,7 @@ returns : tie.Need-returns Inv-loop μ-loop
 returns c =
     let l = c .before .before .loop in
     let a = c .before .before .before .before .args in
-    (sym (l .inv .4) ∙ head-cut (now (a .s)) (l .i) (l .g) (l .v) (omega arith) (omega arith), (search needs, search needs))
+    (sym (l .inv .3) ∙ head-cut (now (a .s)) (l .i) (l .g) (l .v) (omega arith) (omega arith), (search needs, search needs))
 
 shared-slice-read-decode : tie.Need-shared-slice-read-decode Inv-loop μ-loop
 shared-slice-read-decode c = search needs
@@ -39,7 +39,7 @@ returns-2 : tie.Need-returns-2 Inv-loop μ-loop
 returns-2 c =
     let l = c .before .before .before .before .before .loop in
     let a = c .before .before .before .before .before .before .before .args in
-    (sym (l .inv .4) ∙ head-broken (now (a .s)) (l .i) (l .g) (l .v) (omega arith) (omega arith) (omega arith), (search needs, search needs))
+    (sym (l .inv .3) ∙ head-broken (now (a .s)) (l .i) (l .g) (l .v) (omega arith) (omega arith) (omega arith), (search needs, search needs))
 
 cast-v : tie.Need-cast-v Inv-loop μ-loop
 cast-v c = search needs
@@ -71,18 +71,17 @@ loop-again c =
     let s = now (c .before .before .before .before .before .before .before .args .s) in
     let n = c .before .decode .result in
     let e = c .before .decode .ensures in (
-      omega arith,
-      omega arith,
+      λ w. omega arith,
       omega arith,
       omega (arith, e, nib-le (getD s (l .i) 0)),
-      head-on s (l .i) (l .g) (l .v) n (omega arith) (omega arith) e (c .if2 .left) ∙ l .inv .4,
+      head-on s (l .i) (l .g) (l .v) n (omega arith) (omega arith) e (c .if2 .left) ∙ l .inv .3,
     )
 
 returns-3 : tie.Need-returns-3 Inv-loop μ-loop
 returns-3 c =
     let l = c .before .loop in
     let a = c .before .before .before .args in
-    (sym (l .inv .4) ∙ head-whole (now (a .s)) (l .i) (l .g) (l .v) (omega arith), (omega arith, omega arith))
+    (sym (l .inv .3) ∙ head-whole (now (a .s)) (l .i) (l .g) (l .v) (omega arith), (omega arith, l .inv .0))
 
 pub head-on-spec : {M : Type 1} → statement M
 head-on-spec =

@@ -11,7 +11,7 @@ use Rattle.walk.proofs.skip.Statement.{statement}
 use Rattle.walk.proofs.skip.Tie as tie
 
 abbrev Inv-loop : tie.InvT-loop
-Inv-loop s from i₀ i = (i ≤ length s) × (i + fillers (drop i s) ≡ from + fillers (drop from s))
+Inv-loop s from i₀ i = i + fillers (drop i s) ≡ from + fillers (drop from s)
 
 abbrev μ-loop : tie.MeasureT-loop
 μ-loop s from i₀ i = length s - i
@@ -35,18 +35,18 @@ loop-again : tie.Need-loop-again Inv-loop μ-loop
 loop-again c =
     let l = c .before .before .before .before .loop in
     let a = c .before .before .before .before .before .before .args in
-    (omega arith, filler-on (now (a .s)) (l .i) (omega arith) (omega arith) ∙ l .inv .1)
+    filler-on (now (a .s)) (l .i) (omega arith) (omega arith) ∙ l .inv
 
 returns : tie.Need-returns Inv-loop μ-loop
 returns c =
     let a = c .before .before .before .args in
-    filler-ends (now (a .s)) (c .before .loop .i) (c .if1 .taken) ∙ c .before .loop .inv .1
+    filler-ends (now (a .s)) (c .before .loop .i) (c .if1 .taken) ∙ c .before .loop .inv
 
 returns-2 : tie.Need-returns-2 Inv-loop μ-loop
 returns-2 c =
     let l = c .before .before .before .before .loop in
     let a = c .before .before .before .before .before .before .args in
-    filler-stops (now (a .s)) (l .i) (omega arith) (λ e. c .if2 .taken (c .before .decode .ensures ∙ e)) ∙ l .inv .1
+    filler-stops (now (a .s)) (l .i) (omega arith) (λ e. c .if2 .taken (c .before .decode .ensures ∙ e)) ∙ l .inv
 
 pub skip-spec : {M : Type 1} → statement M
 skip-spec =

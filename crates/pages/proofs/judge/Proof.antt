@@ -1,0 +1,68 @@
+-- `pages::judge` meets its contract: length, address and Y decide. Assumes nothing.
+use mathlib.Core.Path.{refl}
+use native.Mathlib.Omega.{arith}
+use denote.Ref.{now}
+use borrow.Author.Needs.{needs}
+use Rattle.pages.proofs.Judged.{as-short, as-junk, as-other, as-zero, as-over, as-row, as-lost, as-stays, as-rowed, as-same}
+use Rattle.pages.proofs.judge.Statement.{statement}
+use Rattle.pages.proofs.judge.Tie as tie
+
+returns : tie.Need-returns
+returns c =
+    let a = c .before .before .args in
+    as-lost (a .page) (a .index) refl (as-short (a .setting) (now (a .packet)) (a .address) (c .if1 .taken))
+
+returns-2 : tie.Need-returns-2
+returns-2 c =
+    let a = c .before .before .before .args in
+    as-lost (a .page) (a .index) refl (as-junk (a .setting) (now (a .packet)) (c .before .if1 .left) (c .if2 .taken))
+
+cast-if3 : tie.Need-cast-if3
+cast-if3 c = search needs
+
+returns-3 : tie.Need-returns-3
+returns-3 c =
+    let a = c .before .before .before .before .before .args in
+    as-stays (a .page) (a .index) (as-other (a .setting) (now (a .packet)) (c .before .before .before .if1 .left) (c .before .before .if2 .left) (c .if3 .taken))
+
+cast-y : tie.Need-cast-y
+cast-y c = search needs
+
+zero-requires : tie.Need-zero-requires
+zero-requires c κs = search needs
+
+returns-4 : tie.Need-returns-4
+returns-4 c =
+    let a = c .before .before .before .before .before .before .before .args in
+    as-same (a .page) (a .index) (c .zero .ensures)
+    (as-zero (a .setting) (now (a .packet)) (c .before .before .before .before .before .if1 .left) (c .before .before .before .before .if2 .left) (c .before .before .if3 .left) (c .before .if4 .taken))
+
+returns-5 : tie.Need-returns-5
+returns-5 c =
+    let a = c .before .before .before .before .before .before .before .args in
+    as-stays (a .page) (a .index)
+    (as-over (a .setting) (now (a .packet)) (c .before .before .before .before .before .if1 .left) (c .before .before .before .before .if2 .left) (c .before .before .if3 .left) (c .if5 .taken))
+
+row-requires : tie.Need-row-requires
+row-requires c κs = omega arith
+
+returns-6 : tie.Need-returns-6
+returns-6 c =
+    let a = c .before .before .before .before .before .before .before .before .args in
+    as-rowed (a .page) (a .index) (c .row .ensures)
+    (as-row (a .setting) (now (a .packet)) (c .before .before .before .before .before .before .if1 .left) (c .before .before .before .before .before .if2 .left) (c .before .before .before .if3 .left) (c .before .before .if4 .left) (c .before .if5 .left))
+
+pub judge-spec : {M : Type 1} → statement M
+judge-spec =
+    tie.close
+    (tie.spec
+    returns
+    returns-2
+    cast-if3
+    returns-3
+    cast-y
+    zero-requires
+    returns-4
+    returns-5
+    row-requires
+    returns-6)

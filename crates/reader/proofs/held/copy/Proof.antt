@@ -1,0 +1,77 @@
+-- `reader::held::copy` meets its contract: the bytes still to come are stored from the place on. Assumes nothing.
+use mathlib.Core.Path.{_≡_, _∙_, refl, sym}
+use Prim.Native.Nat.{_+_, _-_, _≤_}
+use native.Mathlib.Omega.{arith}
+use lib.ListN.{length, take, drop, length-set}
+use lib.Seq.{sets}
+use denote.Ref.{now}
+use borrow.Author.Needs.{needs}
+use Rattle.walk.proofs.Storing.{copy-begins, copy-on, copy-ends}
+use Rattle.reader.proofs.held.copy.Statement.{statement}
+use Rattle.reader.proofs.held.copy.Tie as tie
+
+abbrev Inv-loop : tie.InvT-loop
+Inv-loop src from n dst₀ to i₀ dst i =
+    (i ≤ n) × (length dst ≡ length dst₀)
+    × (sets dst (to + i) (take (n - i) (drop (from + i) src)) ≡ sets dst₀ to (take n (drop from src)))
+
+abbrev μ-loop : tie.MeasureT-loop
+μ-loop src from n dst₀ to i₀ dst i = n - i
+
+loop-holds : tie.Need-loop-holds Inv-loop μ-loop
+loop-holds c =
+    let a = c .args in
+    (omega arith, refl, copy-begins (now (a .dst)) (now (a .src)) (a .to) (a .from) (a .n))
+
+add-dst : tie.Need-add-dst Inv-loop μ-loop
+add-dst c = search needs
+
+shared-slice-read-dst : tie.Need-shared-slice-read-dst Inv-loop μ-loop
+shared-slice-read-dst c = search needs
+
+add-dst-2 : tie.Need-add-dst-2 Inv-loop μ-loop
+add-dst-2 c = search needs
+
+slice-write-dst : tie.Need-slice-write-dst Inv-loop μ-loop
+slice-write-dst c = search needs
+
+add-i : tie.Need-add-i Inv-loop μ-loop
+add-i c = search needs
+
+loop-less : tie.Need-loop-less Inv-loop μ-loop
+loop-less c = search needs
+
+loop-again : tie.Need-loop-again Inv-loop μ-loop
+loop-again c =
+    let l = c .before .before .loop in
+    let a = c .before .before .before .args in (
+      omega arith,
+      simp length-set (l .inv .1),
+      copy-on (l .dst) (now (a .src)) (a .to) (a .from) (a .n) (l .i) (omega arith) (omega arith) ∙ l .inv .2,
+    )
+
+same-length : tie.Need-same-length Inv-loop μ-loop
+same-length c = search needs
+
+returns : tie.Need-returns Inv-loop μ-loop
+returns c =
+    let l = c .before .loop in
+    let a = c .before .before .args in
+    sym (copy-ends (l .dst) (drop (a .from + l .i) (now (a .src))) (a .to + l .i) (a .n) (l .i) (omega arith)) ∙ l .inv .2
+
+pub copy-spec : {M : Type 1} → statement M
+copy-spec =
+    tie.close
+    (tie.spec
+    Inv-loop
+    μ-loop
+    loop-holds
+    add-dst
+    shared-slice-read-dst
+    add-dst-2
+    slice-write-dst
+    add-i
+    loop-less
+    loop-again
+    same-length
+    returns)

@@ -1,0 +1,5 @@
+pub mod Bounding
+pub mod Clearing
+pub mod Holding
+pub mod Ranging
+pub mod Sizing

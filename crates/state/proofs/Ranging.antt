@@ -1,0 +1,113 @@
+-- The states that calls leave: a taken packet's state is in range again, and a reader holds it without loss. So a fresh reader, and
+-- whatever a run of packets makes of it, is never refused for its state. Assumes nothing.
+use mathlib.Core.Path.{_≡_, refl, sym, ap}
+use mathlib.Core.Bool.{Bool, true, false}
+use mathlib.Core.List.{List}
+use Prim.Native.Nat.{ℕ, zero, suc, _+_, _-_, _*_, _/_, _%_, _≤_}
+use native.Mathlib.Omega.{arith}
+use lib.Dec.{eqb, leb, lit<}
+use lib.ListN.{length, getD, drop, replicate}
+use lib.Seq.{take-append-seam, drop-append-seam}
+use borrow.Author.Tests.{le-leb}
+use Rattle.laws.specs.Pick.{pick, both}
+use Rattle.laws.proofs.Tests.{both-true}
+use Rattle.walk.specs.Holding.{Good}
+use Rattle.walk.proofs.Along.{drop-good, read-good}
+use Rattle.pages.proofs.Judged.{Shaped, shaped}
+use Rattle.octet.specs.Decoding.{nib}
+use Rattle.blocks.specs.Block.{sizeOf}
+use Rattle.packet.specs.declared.Setting.{Setting}
+use Rattle.pages.specs.declared.Page.{Page}
+use Rattle.pages.specs.declared.Page.the-variants.{Shut, Open}
+use Rattle.walk.specs.Mode.{Mode, off, scan, heading, body}
+use Rattle.walk.specs.Store.{storeLength, modeOf, runOf}
+use Rattle.state.specs.State.{stateOf, storeOf, readerOf, zeros, pageInRange, runInRange, heldBy, readerInRange, freshState}
+use Rattle.state.specs.Acting.{State, pointerOf, bytesOf, act}
+use Rattle.pages.specs.declared.Verdict.{Verdict}
+use Rattle.pages.specs.Judging.{verdictOf}
+use Rattle.walk.specs.Reading.{dropIf, readMode}
+use Rattle.pages.specs.Seen.{Seen, junk, other, foreign, ours, row, see}
+
+-- ---- the state
+
+-- a state that calls leave
+pub record Sound (st : State) : Type 0 where
+  pub page : pageInRange (st .page) ≡ true
+  pub index : st .index ≤ 15
+  pub mode : Good (st .mode)
+
+-- a verdict leaves page and index in range
+verdict-sound :
+    (q : List ℕ) (page : Page) (index : ℕ) (x : Seen) → Shaped q x → pageInRange page ≡ true → index ≤ 15
+    → (pageInRange (verdictOf page index x .page) ≡ true) × (verdictOf page index x .index ≤ 15)
+verdict-sound q page index junk w e i = (refl, i)
+verdict-sound q page index other w e i = (e, i)
+verdict-sound q page index foreign w e i = (refl, i)
+verdict-sound q page index (ours k n) w e i = (go (leb n 25) refl, w)
+  where
+    go : (t : Bool) → leb n 25 ≡ t → pageInRange (pick t (Open n 0) Shut) ≡ true
+    go true f = rw (f, le-leb 0 n (omega arith))
+    go false f = refl
+verdict-sound q Shut index (row y p l) w e i = (refl, i)
+verdict-sound q (Open n last) index (row y p l) w e i = (go (leb y n) refl, i)
+  where
+    go : (t : Bool) → leb y n ≡ t → pageInRange (pick t (Open n y) (Open n last)) ≡ true
+    go true f = rw (both-true (leb n 25) (leb last n) e .0, f)
+    go false f = e
+
+act-sound : (q : List ℕ) (st : State) (x : Seen) → Shaped q x → Sound st → Sound (act st x)
+unfolding act
+act-sound q st x w r =
+    let u = verdict-sound q (st .page) (st .index) x w (r .page) (r .index) in
+    record { page = u .0; index = u .1; mode = go (v .reads) }
+  where
+    v : Verdict
+    v = verdictOf (st .page) (st .index) x
+
+    m : Mode
+    m = dropIf (v .drops) (st .mode)
+
+    go : (t : Bool) → Good (pick t (readMode m (pointerOf x) (bytesOf x)) m)
+    go true = read-good m (pointerOf x) (bytesOf x) (drop-good (v .drops) (st .mode) (r .mode))
+    go false = drop-good (v .drops) (st .mode) (r .mode)
+
+-- a taken packet's state is in range again
+pub sound-after : (s : Setting) (st : State) (q : List ℕ) → Sound st → Sound (act st (see s q))
+sound-after s st q r = act-sound q st (see s q) (shaped s q) r
+
+pub sound-fresh : Sound freshState
+sound-fresh = record { page = refl; index = omega arith; mode = tt }
+
+-- ---- as the reader holds it
+
+zeros-replicate : (n : ℕ) → zeros (replicate n 0) ≡ true
+unfolding zeros
+zeros-replicate zero = refl
+zeros-replicate (suc n) = zeros-replicate n
+
+mode-held : (m : Mode) → Good m → modeOf (runOf m) (storeOf m) ≡ m
+mode-held off r = refl
+mode-held scan r = absurd r
+mode-held (heading g v) r = refl
+mode-held (body h held) r = ap (body h) (take-append-seam held (replicate (storeLength - length held) 0))
+
+-- nothing is lost in holding it
+pub state-held : (st : State) → Sound st → stateOf (readerOf st) ≡ st
+state-held st r = ap (λ (m : Mode). record { page = st .page; index = st .index; mode = m }) (mode-held (st .mode) (r .mode))
+
+run-in-range : (m : Mode) → Good m → runInRange (runOf m) ≡ true
+run-in-range off r = refl
+run-in-range scan r = absurd r
+run-in-range (heading g v) r = rw (le-leb g 3 (r .got), r .only)
+run-in-range (body h held) r = le-leb (length held) (sizeOf h) (r .1)
+
+zeros-past : (m : Mode) → zeros (drop (heldBy (runOf m)) (storeOf m)) ≡ true
+zeros-past off = zeros-replicate 2047
+zeros-past scan = zeros-replicate 2047
+zeros-past (heading g v) = zeros-replicate 2047
+zeros-past (body h held) = rw (drop-append-seam held (replicate (storeLength - length held) 0)) (zeros-replicate (storeLength - length held))
+
+-- and what is held is in range
+pub reader-in-range : (st : State) → Sound st → readerInRange (readerOf st) ≡ true
+unfolding readerInRange
+reader-in-range st r = rw (r .page, le-leb (st .index) 15 (r .index), run-in-range (st .mode) (r .mode)) (zeros-past (st .mode))

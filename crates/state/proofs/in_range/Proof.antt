@@ -1,0 +1,85 @@
+-- `state::in_range` meets its contract: its tests in order. Assumes nothing.
+use mathlib.Core.Path.{_∙_, sym}
+use native.Mathlib.Omega.{arith}
+use borrow.Author.Needs.{needs}
+use borrow.Author.Tests.{lt-leb, le-leb, not-true, not-false}
+use Rattle.state.specs.State.{readerInRange}
+use Rattle.state.proofs.Clearing.{untrue}
+use Rattle.state.proofs.in_range.Statement.{statement}
+use Rattle.state.proofs.in_range.Tie as tie
+
+is-page-requires : tie.Need-is-page-requires
+is-page-requires c κs = search needs
+
+returns : tie.Need-returns
+unfolding readerInRange
+returns c = (rw (sym (c .before .is-page .ensures) ∙ not-true _ (c .if1 .taken)), λ e. untrue e)
+
+returns-2 : tie.Need-returns-2
+unfolding readerInRange
+returns-2 c = (rw (sym (c .before .before .is-page .ensures) ∙ not-false _ (c .before .if1 .left), lt-leb _ _ (c .if2 .taken)), λ e. untrue e)
+
+enum-told : tie.Need-enum-told
+enum-told c = search needs
+
+is-clear-requires : tie.Need-is-clear-requires
+is-clear-requires c κs = search needs
+
+enum-known-run : tie.Need-enum-known-run
+enum-known-run c = search needs
+
+is-head-requires : tie.Need-is-head-requires
+is-head-requires c κs = search needs
+
+returns-3 : tie.Need-returns-3
+unfolding readerInRange
+returns-3 c = (rw (sym (c .before .before .before .before .before .before .before .is-page .ensures) ∙ not-false _ (c .before .before .before .before .before .before .if1 .left), le-leb _ _ (c .before .before .before .before .before .if2 .left), c .before .before .before .run .given .1, sym (c .before .is-head .ensures) ∙ not-true _ (c .if3 .taken)), λ e. untrue e)
+
+is-clear-requires-2 : tie.Need-is-clear-requires-2
+is-clear-requires-2 c κs = search needs
+
+enum-known-run-2 : tie.Need-enum-known-run-2
+enum-known-run-2 c = search needs
+
+cast-if4 : tie.Need-cast-if4
+cast-if4 c = search needs
+
+returns-4 : tie.Need-returns-4
+unfolding readerInRange
+returns-4 c = (rw (sym (c .before .before .before .before .before .before .is-page .ensures) ∙ not-false _ (c .before .before .before .before .before .if1 .left), le-leb _ _ (c .before .before .before .before .if2 .left), c .before .before .run2 .given .1, lt-leb _ _ (c .if4 .taken)), λ e. untrue e)
+
+is-clear-requires-3 : tie.Need-is-clear-requires-3
+is-clear-requires-3 c κs = search needs
+
+returns-5 : tie.Need-returns-5
+unfolding readerInRange
+returns-5 c = (rw (sym (c .before .before .before .before .before .is-page .ensures) ∙ not-false _ (c .before .before .before .before .if1 .left), le-leb _ _ (c .before .before .before .if2 .left), c .before .enum-told .given .1) (c .is-clear .ensures), λ e. rw (c .before .enum-told .given .1) tt)
+
+returns-6 : tie.Need-returns-6
+unfolding readerInRange
+returns-6 c = (rw (sym (c .before .before .before .before .before .before .before .before .is-page .ensures) ∙ not-false _ (c .before .before .before .before .before .before .before .if1 .left), le-leb _ _ (c .before .before .before .before .before .before .if2 .left), c .before .before .before .before .run .given .1, sym (c .before .before .is-head .ensures) ∙ not-false _ (c .before .if3 .left)) (c .is-clear2 .ensures), λ e. rw (c .before .before .before .before .run .given .1) (omega arith))
+
+returns-7 : tie.Need-returns-7
+unfolding readerInRange
+returns-7 c = (rw (sym (c .before .before .before .before .before .before .before .is-page .ensures) ∙ not-false _ (c .before .before .before .before .before .before .if1 .left), le-leb _ _ (c .before .before .before .before .before .if2 .left), c .before .before .before .run2 .given .1, le-leb _ _ (c .before .if4 .left)) (c .is-clear3 .ensures), λ e. rw (c .before .before .before .run2 .given .1) (omega arith))
+
+pub in-range-spec : {M : Type 1} → statement M
+in-range-spec =
+    tie.close
+    (tie.spec
+    is-page-requires
+    returns
+    returns-2
+    enum-told
+    is-clear-requires
+    enum-known-run
+    is-head-requires
+    returns-3
+    is-clear-requires-2
+    enum-known-run-2
+    cast-if4
+    returns-4
+    is-clear-requires-3
+    returns-5
+    returns-6
+    returns-7)

@@ -1,0 +1,58 @@
+-- What a packet does to the reader's state, which blocks it finishes, and whether it drops one.
+use mathlib.Core.Bool.{Bool}
+use mathlib.Core.List.{List, []}
+use Prim.Native.Nat.{ℕ}
+use Rattle.laws.specs.Pick.{pick, both, either}
+use Rattle.blocks.specs.Block.{Block}
+use Rattle.pages.specs.declared.Page.{Page}
+use Rattle.pages.specs.declared.Verdict.{Verdict}
+use Rattle.pages.specs.Seen.{Seen, junk, other, foreign, ours, row}
+use Rattle.pages.specs.Judging.{verdictOf}
+use Rattle.walk.specs.Mode.{Mode, running}
+use Rattle.walk.specs.Reading.{dropIf, readMode, readBlocks, readDrops}
+
+-- the reader's state: the open page, our last index, the running block
+pub record State : Type 0 where
+  pub page : Page
+  pub index : ℕ
+  pub mode : Mode
+
+-- ---- a verdict on a packet whose pointer is p, and the 39 bytes l after it: the running block is dropped or not, and then they are
+-- read or not
+
+abbrev pub heeded : Verdict → ℕ → List ℕ → State → State
+heeded v p l st =
+    let m = dropIf (v .drops) (st .mode) in
+    record { page = v .page; index = v .index; mode = pick (v .reads) (readMode m p l) m }
+
+abbrev pub heededBlocks : Verdict → ℕ → List ℕ → State → List Block
+heededBlocks v p l st = pick (v .reads) (readBlocks (dropIf (v .drops) (st .mode)) p l) []
+
+abbrev pub heededDrops : Verdict → ℕ → List ℕ → State → Bool
+heededDrops v p l st =
+    either (both (v .drops) (running (st .mode))) (both (v .reads) (readDrops (dropIf (v .drops) (st .mode)) p l))
+
+-- ---- any packet; only a packet Y has a pointer and bytes that can be read
+
+abbrev pub pointerOf : Seen → ℕ
+pointerOf junk = 0
+pointerOf other = 0
+pointerOf foreign = 0
+pointerOf (ours index n) = 0
+pointerOf (row y p l) = p
+
+abbrev pub bytesOf : Seen → List ℕ
+bytesOf junk = []
+bytesOf other = []
+bytesOf foreign = []
+bytesOf (ours index n) = []
+bytesOf (row y p l) = l
+
+unfoldable pub act : State → Seen → State
+act st x = heeded (verdictOf (st .page) (st .index) x) (pointerOf x) (bytesOf x) st
+
+unfoldable pub handed : State → Seen → List Block
+handed st x = heededBlocks (verdictOf (st .page) (st .index) x) (pointerOf x) (bytesOf x) st
+
+unfoldable pub dropped : State → Seen → Bool
+dropped st x = heededDrops (verdictOf (st .page) (st .index) x) (pointerOf x) (bytesOf x) st

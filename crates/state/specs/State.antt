@@ -1,0 +1,64 @@
+-- The state as the reader holds it: the running block's bytes in a store of 2,047, all others zero.
+use mathlib.Core.Bool.{Bool, true}
+use mathlib.Core.List.{List, [], _∷_, _++_}
+use Prim.Native.Nat.{ℕ, _-_, _%_, _^_, _<_}
+use lib.Dec.{eqb, leb}
+use lib.ListN.{length, drop, replicate}
+use Rattle.laws.specs.Pick.{both}
+use Rattle.blocks.specs.Block.{sizeOf}
+use Rattle.pages.specs.declared.Page.{Page}
+use Rattle.pages.specs.declared.Page.the-variants.{Shut, Open}
+use Rattle.walk.specs.declared.Run.{Run}
+use Rattle.walk.specs.declared.Run.the-variants.{Idle, Head, Body}
+use Rattle.state.specs.declared.Reader.{Reader}
+use Rattle.walk.specs.Store.{storeLength, modeOf, runOf, heldOf}
+use Rattle.walk.specs.Mode.{Mode, off}
+use Rattle.state.specs.Acting.{State}
+
+-- the state that a reader holds
+abbrev pub stateOf : Reader → State
+stateOf r = record { page = r .page; index = r .index; mode = modeOf (r .run) (r .store) }
+
+-- how a reader holds it
+abbrev pub storeOf : Mode → List ℕ
+storeOf m = heldOf m ++ replicate (storeLength - length (heldOf m)) 0
+
+abbrev pub readerOf : State → Reader
+readerOf st = record { page = st .page; index = st .index; run = runOf (st .mode); store = storeOf (st .mode) }
+
+-- a fresh reader: no page is open and nothing runs. Any index does; nothing can be dropped by it.
+abbrev pub freshState : State
+freshState = record { page = Shut; index = 15; mode = off }
+
+-- ---- in range: "bytes past those held are always zero. A state that breaks this, or has n over 25, last over n or more bytes than
+-- its size, is out of range." The representation adds: an index below 16, at most three nibbles, and no bits but those of the
+-- nibbles got
+
+unfoldable pub zeros : List ℕ → Bool
+zeros [] = true
+zeros (b ∷ bs) = both (eqb b 0) (zeros bs)
+
+abbrev pub pageInRange : Page → Bool
+pageInRange Shut = true
+pageInRange (Open n last) = both (leb n 25) (leb last n)
+
+abbrev pub runInRange : Run → Bool
+runInRange Idle = true
+runInRange (Head got bits) = both (leb got 3) (eqb (bits % 16 ^ (4 - got)) 0)
+runInRange (Body head held) = leb held (sizeOf head)
+
+abbrev pub heldBy : Run → ℕ
+heldBy Idle = 0
+heldBy (Head got bits) = 0
+heldBy (Body head held) = held
+
+unfoldable pub readerInRange : Reader → Bool
+readerInRange r =
+    both (pageInRange (r .page))
+    (both (leb (r .index) 15) (both (runInRange (r .run)) (zeros (drop (heldBy (r .run)) (r .store)))))
+
+-- a run's bits are 16, which its type alone says
+abbrev pub Sixteen : Run → Type 0
+Sixteen Idle = Unit
+Sixteen (Head got bits) = bits < 2 ^ 16
+Sixteen (Body head held) = head < 2 ^ 16
