@@ -19,9 +19,8 @@ use Rattle.guide.specs.Packet.{packetZero}
 use Rattle.guide.specs.Stream.{symbols, cellsOf, streamOf, grab, beforeStart}
 use Rattle.guide.specs.Cutting.{rows, pages, packets}
 use Rattle.guide.proofs.Cases.{desk}
-use Rattle.table.specs.Tables.{Table, per, loops, fields, fits, entire}
-use Rattle.table.specs.Block.{total, checksum, nibbles, checksumOf}
-use Rattle.table.specs.Writing.{recordWith}
+use Rattle.forms.specs.Tables.{Table, per, loops, fields, fits, entire}
+use Rattle.table.specs.Block.{total, checksum, nibbles, checksumOf, recordWith}
 use Rattle.table.proofs.Cases.{G, H}
 use Rattle.claims.specs.Noise.{Flipped, Near, none, more, Aired, ended, sent as Aired·sent, nil, and}
 use Rattle.claims.specs.Feeding.{Call, packetsOf}

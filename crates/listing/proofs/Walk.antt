@@ -10,9 +10,9 @@ use lib.Dec.{eqb}
 use lib.ListN.{getD, drop}
 use lib.Seq.{drop-drop, getD-drop}
 use Rattle.laws.specs.Pick.{pick, both}
-use Rattle.table.specs.Tables.{TI, per}
-use Rattle.table.specs.Form.{spelled, wordAt, wordsIn, descriptorsIn, tableIn}
-use Rattle.table.proofs.Forms.{in-on, two-bytes}
+use Rattle.forms.specs.Tables.{TI, per}
+use Rattle.forms.specs.Form.{spelled, wordAt, wordsIn, descriptorsIn, tableIn}
+use Rattle.forms.proofs.Forms.{in-on, two-bytes}
 use Rattle.listing.specs.Lines.{kindLine, numberLine, blockName, networkName, headLines, letter, letters, languageLine, pageLine, languageLines, subtitleLines, entryLines, descriptorLine, descriptorLines}
 
 -- ---- letters

@@ -4,8 +4,8 @@ use mathlib.Core.List.{List, [], _∷_, _++_}
 use Prim.Native.Nat.{ℕ, _+_, _/_, _%_}
 use lib.Dec.{eqb, ltb, leb}
 use Rattle.laws.specs.Pick.{pick, both}
-use Rattle.table.specs.Tables.{Descriptor, Table, TI}
-use Rattle.table.specs.Form.{spelled}
+use Rattle.forms.specs.Tables.{Descriptor, Table, TI}
+use Rattle.forms.specs.Form.{spelled}
 
 -- ---- numbers
 

@@ -16,15 +16,15 @@ use Rattle.octet.specs.Decoding.{nib}
 use Rattle.octet.proofs.Laws.{nib-image}
 use Rattle.fields.specs.Fields.{laid, parts}
 use Rattle.fields.proofs.Laid.{length-parts}
-use Rattle.table.specs.Tables.{Table, known, fill, size, fits}
-use Rattle.table.specs.Form.{form, openingOf, tableIn}
-use Rattle.table.specs.Block.{header, headOf, nibblesOf, nibbles, checksumOf, Says}
+use Rattle.forms.specs.Tables.{Table, known, fill, size, fits}
+use Rattle.forms.specs.Form.{form, openingOf, tableIn}
+use Rattle.table.specs.Block.{header, headOf, nibblesOf, nibbles, checksumOf, Says, recordWith, recordOf}
 use Rattle.table.specs.Reading.{accepted, readBlock}
-use Rattle.table.specs.Writing.{recordWith, recordOf, formRules, writeRules}
-use Rattle.table.proofs.Inverse.{sendable}
-use Rattle.table.proofs.Measures.{length-form}
+use Rattle.forms.specs.Writing.{formRules, writeRules}
+use Rattle.forms.proofs.Sendable.{sendable}
+use Rattle.forms.proofs.Measures.{length-form}
 use Rattle.table.proofs.Exact.{reads-exactly}
-use Rattle.table.proofs.Forms.{Bytes, form-in, in-form}
+use Rattle.forms.proofs.Forms.{Bytes, form-in, in-form}
 
 -- images of nibbles decode to them
 pub nibbles-back : (k n : ℕ) → map nib (map image (parts 4 k n)) ≡ parts 4 k n

@@ -19,11 +19,12 @@ use Rattle.answer.proofs.Steps.{first-holds, others-hold}
 use Rattle.octet.specs.Decoding.{nib}
 use Rattle.fields.specs.Fields.{width, laid, field, parts, whole}
 use Rattle.fields.proofs.Laid.{laid-lt, laid-next, field-lt, length-parts, whole-lt, whole-parts, parts-whole}
-use Rattle.table.specs.Tables.{Table, known, fields, bits, control, fill, size}
+use Rattle.forms.specs.Tables.{Table, known, fields, bits, control, fill, size}
 use Rattle.table.specs.Block.{header, headOf, nibblesOf, total, checksum, nibbles, checksumOf, Says}
 use Rattle.table.specs.Reading.{accepted, refused, sound, frameRules, frontRules, wholeRules, lengthRules, readRules, tableOf, tableRead, readBlock}
-use Rattle.table.proofs.Inverse.{Sendable, sendable, sends, relaid, read-sendable, reread, at-sum, at-control, at-access}
-use Rattle.table.proofs.Measures.{bits-of}
+use Rattle.forms.proofs.Sendable.{Sendable, sendable, sends}
+use Rattle.table.proofs.Inverse.{relaid, read-sendable, reread, at-sum, at-control, at-access}
+use Rattle.forms.proofs.Measures.{bits-of}
 
 -- ---- nibbles that decode
 

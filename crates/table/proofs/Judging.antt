@@ -11,16 +11,14 @@ use lib.Dec.{ltb}
 use lib.ListN.{length, getD, take, drop, drop-of-length-le}
 use lib.Seq.{drop-cons}
 use Rattle.laws.specs.Pick.{pick}
-use Rattle.answer.specs.Rules.{rule, judged}
+use Rattle.answer.specs.Rules.{judged}
 use Rattle.answer.specs.declared.Answer.{Answer}
 use Rattle.answer.specs.declared.Answer.the-variants.{Done}
 use Rattle.answer.specs.Values.{refused}
 use Rattle.answer.proofs.Steps.{done-every, first-holds, others-hold}
 use Rattle.octet.specs.Decoding.{nib}
 use Rattle.fields.specs.Fields.{field, whole, parts}
-use Rattle.table.specs.Tables.{known, control, size, fits}
-use Rattle.table.specs.Form.{form, tableIn}
-use Rattle.table.specs.Writing.{formRules}
+use Rattle.forms.specs.Tables.{known, control, size}
 use Rattle.table.specs.Block.{headOf, total, checksum}
 use Rattle.table.specs.Reading.{sound, frameRules, frontRules, wholeRules, lengthRules, readRules, tableOf}
 
@@ -134,29 +132,6 @@ module _ (blockSize n : ℕ) (a : Answer) where
     pub lengths-done : blockSize ≡ size (tableOf n) → judged refused (lengthRules blockSize n) a ≡ a
     unfolding lengthRules
     lengths-done h = rw (eq-eqb (field 8 10 n) (control (tableOf n)) h₁, eq-eqb blockSize (size (tableOf n)) h)
-
--- ---- a form
-
-module _ (f : List ℕ) (a : Answer) where
-  pub form-13 : length f < 6 → judged refused (formRules f) a ≡ refused 13 0
-  unfolding formRules
-  form-13 h = rw (lt-leb 6 (length f) h)
-
-  module _ (h₁ : 6 ≤ length f) where
-    pub form-15 : known (getD f 0 0) ≡ false → judged refused (formRules f) a ≡ refused 15 0
-    unfolding formRules
-    form-15 h = rw (le-leb 6 (length f) h₁, h)
-
-    module _ (h₂ : known (getD f 0 0) ≡ true) where
-      pub form-13′ : (length f ≡ length (form (tableIn f)) → ⊥) → judged refused (formRules f) a ≡ refused 13 0
-      unfolding formRules
-      form-13′ h = rw (le-leb 6 (length f) h₁, h₂, ne-eqb (length f) (length (form (tableIn f))) h)
-
-      pub form-values :
-          length f ≡ length (form (tableIn f))
-          → judged refused (formRules f) a ≡ judged refused (rule (fits (tableIn f)) 15 0 ∷ []) a
-      unfolding formRules
-      form-values h = rw (le-leb 6 (length f) h₁, h₂, eq-eqb (length f) (length (form (tableIn f))) h)
 
 -- ---- the bytes that decode
 

@@ -6,7 +6,7 @@ use Prim.Native.Nat.{ℕ, _+_, _≤_, _<_}
 use native.Mathlib.Omega.{arith}
 use lib.ListN.{length, getD, take, drop, length-map, length-append, take-append-drop}
 use Rattle.octet.specs.Decoding.{nib}
-use Rattle.table.specs.Tables.{Table}
+use Rattle.forms.specs.Tables.{Table}
 use Rattle.table.specs.Block.{headLength, headOf, nibblesOf}
 use Rattle.table.specs.Reading.{accepted, readBlock}
 use Rattle.table.proofs.Exact.{sound-at, decodes-all}

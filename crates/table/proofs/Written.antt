@@ -11,11 +11,12 @@ use lib.Pow.{shr-shr}
 use lib.Seq.{sets}
 use Rattle.laws.proofs.Lists.{sets-append}
 use Rattle.fields.specs.Fields.{field, parts}
-use Rattle.table.specs.Tables.{Table, per}
-use Rattle.table.specs.Form.{spelled, listed, openingOf, form}
+use Rattle.forms.specs.Tables.{Table, per}
+use Rattle.forms.specs.Form.{spelled, listed, openingOf, form}
 use Rattle.table.specs.Reading.{descriptorsOf, tableOf}
 use Rattle.fields.proofs.Laid.{field-past, length-parts}
-use Rattle.table.proofs.Measures.{length-descriptors, length-spelled, per-pos}
+use Rattle.forms.proofs.Measures.{length-spelled, per-pos}
+use Rattle.table.proofs.Loops.{length-descriptors}
 
 pub word-on :
     (left n at p w : ℕ) (out out′ whole : List ℕ) → 0 < left → w ≡ field at 24 n → out′ ≡ sets out p (spelled (w ∷ []))

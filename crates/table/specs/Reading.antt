@@ -6,7 +6,7 @@ use lib.ListN.{length, take}
 use Rattle.laws.specs.Pick.{pick, both}
 use Rattle.answer.specs.Rules.{Rule, rule, judged}
 use Rattle.fields.specs.Fields.{field, parts, whole}
-use Rattle.table.specs.Tables.{Descriptor, Table, known, per, control, size}
+use Rattle.forms.specs.Tables.{Descriptor, Table, known, per, control, size}
 use Rattle.table.specs.Block.{headLength, headOf, nibblesOf, checksum}
 
 -- the k descriptors at the front of the bits n, whose entries have `each` words

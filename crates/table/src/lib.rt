@@ -1,33 +1,30 @@
 // Subtitle and Language blocks.
-ghost use mathlib.Core.Bool.{true};
 ghost use mathlib.Core.Path.{_≡_};
 ghost use mathlib.Core.List.{map, _∷_, []};
-ghost use Prim.Native.Nat.{_+_, _-_, _*_, _/_, _%_, _^_, _<_, _≤_, min};
-ghost use lib.ListN.{length, getD, take, drop};
+ghost use Prim.Native.Nat.{_+_, _-_, _*_, _/_, _%_, _^_, _<_, _≤_};
+ghost use lib.ListN.{length};
 ghost use lib.Seq.{sets};
-ghost use Rattle.answer.specs.Rules.{rule, judged};
+ghost use Rattle.answer.specs.Rules.{judged};
 ghost use Rattle.answer.specs.Values.{refused};
 ghost use Rattle.answer.specs.Writing.{answered, left};
 ghost use Rattle.answer.specs.declared.Answer.the-variants.{Done};
 ghost use Rattle.octet.specs.Decoding.{nib};
-ghost use Rattle.fields.specs.Fields.{field, fitting, parts};
-ghost use Rattle.table.specs.Tables.{per, bits, loops, fits, known as Tables·known};
-ghost use Rattle.table.specs.Form.{form, spelled, listed, openingOf, wordAt, tableIn};
+ghost use Rattle.fields.specs.Fields.{field, parts};
+ghost use Rattle.forms.specs.Tables.{per, bits};
+ghost use Rattle.forms.specs.Form.{form, spelled, listed, openingOf};
 ghost use Rattle.fields.specs.Compound.{compound};
 ghost use Rattle.table.specs.Block.{headOf, total, checksum as checksumOf};
 ghost use Rattle.table.specs.Reading.{frameRules, frontRules, wholeRules, lengthRules, bodyRules, readRules, tableOf, tableRead, sound as soundOf};
-ghost use Rattle.table.specs.Writing.{formRules};
 use answer::Answer;
 use answer::Refusal;
 use blocks::HEAD;
-
-// 11.12.3: the datatype_id of a Subtitle and of a Language table.
-pub const TI: usize = 8;
-
-const LI: usize = 7;
+use forms::HEADING;
+use forms::LOOPS;
+use forms::OPENING;
+use forms::WORD;
 
 // Where the fields of tables 15 and 17 begin, in bits: checksum, control_block_size, datatype_id, CA_mode,
-// copyright, block_no, netwop_no, the number of descriptors; and behind them the first descriptor.
+// copyright, block_no, netwop_no, the number of descriptors.
 const SUM: usize = 0;
 
 const CONTROL: usize = 8;
@@ -43,20 +40,6 @@ const BLOCK: usize = 28;
 const NETWORK: usize = 44;
 
 const COUNT: usize = 52;
-
-const LOOPS: usize = 58;
-
-// A descriptor's id, 6 bits, and its number of entries, 4, stand before its words.
-pub const HEADING: usize = 10;
-
-// A language or a page.
-pub const WORD: usize = 24;
-
-// The bytes of a form before its descriptors.
-pub const OPENING: usize = 6;
-
-// What control_block_size can count: 1,023 times 8 bits.
-const MOST: usize = 8184;
 
 // The table of a block of this application: its form is written to the front of `out`. Each protected
 // byte is decoded at most eight times: once or twice to see that it can be and for the sum, twice
@@ -118,7 +101,7 @@ fn judge_frame(application: u8, rec: &[u8]) -> Answer
 fn head_of(rec: &[u8]) -> usize
     ensures { λ r. ⌜ (r ≡ headOf (now (rec .entry))) × (r < 65536) ⌝ }
 {
-    byte_at(rec, 0) + 256 * byte_at(rec, 1)
+    forms::byte_at(rec, 0) + 256 * forms::byte_at(rec, 1)
 }
 
 // The rules after those of the frame; where all hold, the bytes of the table's form.
@@ -148,7 +131,7 @@ fn judge_front(size: usize, body: &[u8]) -> Answer
         return refuse(10, HEAD + good);
     }
     let kind = fields::field_of(body, KIND, 6);
-    if !known(kind) {
+    if !forms::known(kind) {
         return refuse(12, 0);
     }
     if fields::field_of(body, ACCESS, 2) != 0 {
@@ -230,7 +213,7 @@ fn measure(body: &[u8]) -> usize
     let mut left = fields::field_of(body, COUNT, 6);
     let mut at = LOOPS;
     while 0 < left {
-        let words = words_of(kind, fields::field_of(body, at + 6, 4));
+        let words = forms::words_of(kind, fields::field_of(body, at + 6, 4));
         at += HEADING + WORD * words;
         left -= 1;
     }
@@ -334,7 +317,7 @@ fn write_descriptor(body: &[u8], kind: usize, at: usize, out: &mut [u8], q: usiz
 {
     let id = fields::field_of(body, at, 6);
     let entries = fields::field_of(body, at + 6, 4);
-    let words = words_of(kind, entries);
+    let words = forms::words_of(kind, entries);
     out[q] = (id % 256) as u8;
     out[q + 1] = (entries % 256) as u8;
     write_words(body, at + HEADING, words, out, q + 2);
@@ -370,128 +353,6 @@ fn write_word(w: usize, out: &mut [u8], q: usize)
     out[q] = high;
     out[q + 1] = middle;
     out[q + 2] = low;
-}
-
-// 13, 15: whether a form is one that can be written; where it is, the bits that its table takes.
-pub fn judge_form(table: &[u8]) -> Answer
-    ensures { λ r. ⌜ r ≡ judged refused (formRules (now (table .entry))) (Done (bits (tableIn (now (table .entry))))) ⌝ }
-{
-    if table.len() < OPENING {
-        return refuse(13, 0);
-    }
-    if !known(byte_at(table, 0)) {
-        return refuse(15, 0);
-    }
-    if table.len() != form_size(table) {
-        return refuse(13, 0);
-    }
-    judge_values(table)
-}
-
-// The length of a form by its counts as they stand.
-fn form_size(table: &[u8]) -> usize
-    ensures { λ r. ⌜ (r ≡ length (form (tableIn (now (table .entry))))) × (r ≤ 390666) ⌝ }
-{
-    let kind = byte_at(table, 0);
-    let mut left = byte_at(table, 5);
-    let mut at = OPENING;
-    while 0 < left {
-        at += 2 + 3 * words_of(kind, byte_at(table, at + 1));
-        left -= 1;
-    }
-    at
-}
-
-// 15: each value fits its field. Blocks, networks and words always do.
-fn judge_values(table: &[u8]) -> Answer
-    requires { ⌜ (Tables·known (getD (now table) 0 0) ≡ true)
-        × (length (now table) ≡ length (form (tableIn (now table))))
-        × (length (now table) ≤ 390666) ⌝ }
-    ensures { λ r.
-        ⌜ r
-        ≡ judged refused (rule (fits (tableIn (now (table .entry)))) 15 0 ∷ []) (Done (bits (tableIn (now (table .entry))))) ⌝ }
-{
-    let count = byte_at(table, 5);
-    if 1 < byte_at(table, 1) {
-        return refuse(15, 0);
-    }
-    if 63 < count {
-        return refuse(15, 0);
-    }
-    if !loops_fit(table) {
-        return refuse(15, 0);
-    }
-    let bits = LOOPS + 8 * (table.len() - OPENING) - 6 * count;
-    if MOST < bits {
-        return refuse(15, 0);
-    }
-    Answer::Done(bits)
-}
-
-// Whether each descriptor's id and number of entries fit their fields.
-fn loops_fit(table: &[u8]) -> bool
-    ensures { λ r.
-        ⌜ r ≡ fitting (loops (tableIn (now (table .entry)) .kind) (tableIn (now (table .entry)) .descriptors)) ⌝ }
-{
-    let kind = byte_at(table, 0);
-    let mut left = byte_at(table, 5);
-    let mut at = OPENING;
-    while 0 < left {
-        let entries = byte_at(table, at + 1);
-        if 63 < byte_at(table, at) {
-            return false;
-        }
-        if 15 < entries {
-            return false;
-        }
-        at += 2 + 3 * words_of(kind, entries);
-        left -= 1;
-    }
-    true
-}
-
-// TI or LI.
-pub fn known(kind: usize) -> bool
-    ensures { λ r. ⌜ r ≡ Tables·known kind ⌝ }
-{
-    if kind == TI {
-        return true;
-    }
-    kind == LI
-}
-
-// The words that so many entries of a kind have. Only a byte's worth of entries counts.
-pub fn words_of(kind: usize, entries: usize) -> usize
-    ensures { λ r. ⌜ (r ≡ per kind * (entries % 256)) × (r ≤ 2 * (entries % 256)) ⌝ }
-{
-    let n = entries % 256;
-    if kind == TI {
-        return 2 * n;
-    }
-    n
-}
-
-// The word at a place of a form, high byte first. Past its end a form reads as zeros.
-pub fn word_at(table: &[u8], i: usize) -> usize
-    ensures { λ r. ⌜ (r ≡ wordAt (now (table .entry)) i) × (r < 2 ^ 24) ⌝ }
-{
-    if table.len() <= i {
-        return 0;
-    }
-    let high = byte_at(table, i);
-    let middle = byte_at(table, i + 1);
-    let low = byte_at(table, i + 2);
-    (high * 256 + middle) * 256 + low
-}
-
-// The byte i; 0 past the end.
-pub fn byte_at(s: &[u8], i: usize) -> usize
-    ensures { λ r. ⌜ (r ≡ getD (now (s .entry)) i 0) × (r < 256) ⌝ }
-{
-    if i < s.len() {
-        return s[i] as usize;
-    }
-    0
 }
 
 fn refuse(no: u8, at: usize) -> Answer

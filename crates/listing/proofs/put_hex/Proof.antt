@@ -1,6 +1,6 @@
 -- `listing::put_hex` meets its contract: two digits for each of three bytes. Assumes nothing.
 use borrow.Author.Needs.{needs}
-use Rattle.table.specs.Form.{spelled}
+use Rattle.forms.specs.Form.{spelled}
 use Rattle.listing.specs.Lines.{hexed}
 use Rattle.listing.proofs.Puts.{then}
 use Rattle.listing.proofs.put_hex.Statement.{statement}

@@ -1,6 +1,6 @@
 -- `listing::put_word` meets its contract: three bytes, one after the other. Assumes nothing.
 use borrow.Author.Needs.{needs}
-use Rattle.table.specs.Form.{spelled}
+use Rattle.forms.specs.Form.{spelled}
 use Rattle.listing.proofs.Puts.{then}
 use Rattle.listing.proofs.put_word.Statement.{statement}
 use Rattle.listing.proofs.put_word.Tie as tie

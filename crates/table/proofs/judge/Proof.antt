@@ -14,7 +14,7 @@ use Rattle.answer.proofs.Steps.{ends, goes-on, done-value}
 use Rattle.laws.proofs.Lists.{part-rest}
 use Rattle.octet.specs.Decoding.{nib}
 use Rattle.fields.specs.Fields.{whole}
-use Rattle.table.specs.Form.{form}
+use Rattle.forms.specs.Form.{form}
 use Rattle.table.specs.Block.{headOf, nibblesOf}
 use Rattle.table.specs.Reading.{frameRules, bodyRules, tableOf}
 use Rattle.table.proofs.Judging.{framed}

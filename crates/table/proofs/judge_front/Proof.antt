@@ -12,7 +12,7 @@ use Rattle.laws.proofs.Maps.{map-take}
 use Rattle.octet.specs.Decoding.{nib}
 use Rattle.table.specs.Reading.{sound}
 use Rattle.table.proofs.Judging.{front-10, front-12, front-12′, front-13, front-done, sound-le}
-use Rattle.table.specs.Tables.{known}
+use Rattle.forms.specs.Tables.{known}
 use borrow.Author.Tests.{not-true, not-false}
 use Rattle.table.proofs.judge_front.Statement.{statement}
 use Rattle.table.proofs.judge_front.Tie as tie

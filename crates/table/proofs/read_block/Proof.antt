@@ -11,7 +11,7 @@ use Rattle.laws.proofs.Lists.{part-rest}
 use Rattle.answer.proofs.Lent.{lent-refused, lent-short, lent-done, lent-value}
 use Rattle.octet.specs.Decoding.{nib}
 use Rattle.fields.specs.Fields.{whole}
-use Rattle.table.specs.Form.{form}
+use Rattle.forms.specs.Form.{form}
 use Rattle.table.specs.Block.{nibblesOf}
 use Rattle.table.specs.Reading.{readRules, tableOf, tableRead}
 use Rattle.table.proofs.Judging.{long-enough}

@@ -7,10 +7,10 @@ use lib.ListN.{length-set}
 use denote.Ref.{now}
 use Rattle.fields.specs.Compound.{compound}
 use Rattle.fields.specs.Fields.{field, parts}
-use Rattle.table.specs.Tables.{per}
-use Rattle.table.proofs.Measures.{words-counted}
+use Rattle.forms.specs.Tables.{per}
+use Rattle.forms.proofs.Measures.{words-counted}
 use Rattle.table.proofs.Written.{two-stores}
-use Rattle.table.specs.Form.{spelled}
+use Rattle.forms.specs.Form.{spelled}
 use Rattle.table.proofs.write_descriptor.Statement.{statement}
 use Rattle.table.proofs.write_descriptor.Tie as tie
 

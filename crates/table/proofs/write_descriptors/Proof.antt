@@ -8,11 +8,11 @@ use lib.ListN.{length}
 use lib.Seq.{sets}
 use denote.Ref.{now}
 use Rattle.fields.specs.Fields.{field}
-use Rattle.table.specs.Tables.{per}
-use Rattle.table.specs.Form.{listed}
+use Rattle.forms.specs.Tables.{per}
+use Rattle.forms.specs.Form.{listed}
 use Rattle.fields.specs.Compound.{compound}
 use Rattle.table.specs.Reading.{descriptorsOf, tableOf}
-use Rattle.table.proofs.Measures.{length-form}
+use Rattle.forms.proofs.Measures.{length-form}
 use Rattle.table.proofs.Written.{listed-long, descriptor-on, descriptors-end}
 use Rattle.table.proofs.write_descriptors.Statement.{statement}
 use Rattle.table.proofs.write_descriptors.Tie as tie

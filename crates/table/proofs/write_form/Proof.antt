@@ -4,7 +4,7 @@ use native.Mathlib.Omega.{arith}
 use denote.Ref.{now}
 use Rattle.fields.specs.Compound.{compound}
 use Rattle.table.specs.Reading.{tableOf}
-use Rattle.table.proofs.Measures.{length-form}
+use Rattle.forms.proofs.Measures.{length-form}
 use Rattle.table.proofs.Written.{form-stored}
 use Rattle.table.proofs.write_form.Statement.{statement}
 use Rattle.table.proofs.write_form.Tie as tie

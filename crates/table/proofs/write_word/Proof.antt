@@ -4,7 +4,7 @@ use mathlib.Core.Path.{refl}
 use native.Mathlib.Numerals.{add-one, add-two}
 use native.Mathlib.Omega.{arith}
 use lib.ListN.{length-set}
-use Rattle.table.specs.Form.{spelled}
+use Rattle.forms.specs.Form.{spelled}
 use Rattle.table.proofs.write_word.Statement.{statement}
 use Rattle.table.proofs.write_word.Tie as tie
 

@@ -8,7 +8,7 @@ use lib.ListN.{length}
 use lib.Seq.{sets}
 use denote.Ref.{now}
 use Rattle.fields.specs.Fields.{parts}
-use Rattle.table.specs.Form.{spelled}
+use Rattle.forms.specs.Form.{spelled}
 use Rattle.fields.specs.Compound.{compound}
 use Rattle.table.proofs.Written.{word-on, words-end}
 use Rattle.table.proofs.write_words.Statement.{statement}

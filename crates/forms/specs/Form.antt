@@ -4,7 +4,7 @@ use mathlib.Core.List.{List, [], _∷_, _++_}
 use Prim.Native.Nat.{ℕ, zero, suc, _+_, _*_, _/_, _%_}
 use lib.ListN.{length, getD, drop}
 use Rattle.fields.specs.Fields.{whole}
-use Rattle.table.specs.Tables.{Descriptor, Table, per, entries}
+use Rattle.forms.specs.Tables.{Descriptor, Table, per, entries}
 
 -- a word, high byte first
 unfoldable pub spelled : List ℕ → List ℕ

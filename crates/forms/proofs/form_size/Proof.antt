@@ -1,4 +1,4 @@
--- `table::form_size` meets its contract: the bytes passed and those of the descriptors left make the form's length. The measure
+-- `forms::form_size` meets its contract: the bytes passed and those of the descriptors left make the form's length. The measure
 -- is the descriptors left. Assumes nothing.
 use borrow.Author.Needs.{needs}
 use mathlib.Core.Path.{_≡_, refl, sym}
@@ -7,12 +7,12 @@ use Prim.Native.Nat.{ℕ, _+_, _*_, _≤_}
 use native.Mathlib.Omega.{arith}
 use lib.ListN.{length, drop}
 use denote.Ref.{now}
-use Rattle.table.specs.Tables.{per}
-use Rattle.table.specs.Form.{listed, form, descriptorsIn, tableIn}
-use Rattle.table.proofs.Measures.{words-counted, length-form}
-use Rattle.table.proofs.Forms.{form-on, form-end}
-use Rattle.table.proofs.form_size.Statement.{statement}
-use Rattle.table.proofs.form_size.Tie as tie
+use Rattle.forms.specs.Tables.{per}
+use Rattle.forms.specs.Form.{listed, form, descriptorsIn, tableIn}
+use Rattle.forms.proofs.Measures.{words-counted, length-form}
+use Rattle.forms.proofs.Forms.{form-on, form-end}
+use Rattle.forms.proofs.form_size.Statement.{statement}
+use Rattle.forms.proofs.form_size.Tie as tie
 
 abbrev Inv-loop : tie.InvT-loop
 Inv-loop table kind left₀ at₀ left at =

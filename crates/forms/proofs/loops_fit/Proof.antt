@@ -1,4 +1,4 @@
--- `table::loops_fit` meets its contract: whether the descriptors left fit is whether all do. The measure is the descriptors
+-- `forms::loops_fit` meets its contract: whether the descriptors left fit is whether all do. The measure is the descriptors
 -- left. Assumes nothing.
 use borrow.Author.Needs.{needs}
 use mathlib.Core.Path.{_≡_, _∙_, refl, sym}
@@ -9,12 +9,12 @@ use borrow.Author.Tests.{lt-ltb, le-ltb}
 use lib.ListN.{drop}
 use denote.Ref.{now}
 use Rattle.fields.specs.Fields.{fitting}
-use Rattle.table.specs.Tables.{per, loops}
-use Rattle.table.specs.Form.{descriptorsIn, tableIn}
-use Rattle.table.proofs.Measures.{words-counted}
-use Rattle.table.proofs.Forms.{fits-on, fits-end}
-use Rattle.table.proofs.loops_fit.Statement.{statement}
-use Rattle.table.proofs.loops_fit.Tie as tie
+use Rattle.forms.specs.Tables.{per, loops}
+use Rattle.forms.specs.Form.{descriptorsIn, tableIn}
+use Rattle.forms.proofs.Measures.{words-counted}
+use Rattle.forms.proofs.Forms.{fits-on, fits-end}
+use Rattle.forms.proofs.loops_fit.Statement.{statement}
+use Rattle.forms.proofs.loops_fit.Tie as tie
 
 abbrev Inv-loop : tie.InvT-loop
 Inv-loop table kind left₀ at₀ left at =

@@ -1,8 +1,8 @@
--- `table::known` meets its contract, kind by kind. Assumes nothing.
+-- `forms::known` meets its contract, kind by kind. Assumes nothing.
 use mathlib.Core.Path.{refl}
 use borrow.Author.Tests.{eq-eqb, ne-eqb}
-use Rattle.table.proofs.known.Statement.{statement}
-use Rattle.table.proofs.known.Tie as tie
+use Rattle.forms.proofs.known.Statement.{statement}
+use Rattle.forms.proofs.known.Tie as tie
 
 returns : tie.Need-returns
 returns c = rw (eq-eqb _ _ (c .if1 .taken)) refl

@@ -1,4 +1,4 @@
--- `table::judge_form` meets its contract: each `return` is the first rule that doesn't hold; the values come last. Assumes
+-- `forms::judge_form` meets its contract: each `return` is the first rule that doesn't hold; the values come last. Assumes
 -- nothing.
 use borrow.Author.Needs.{needs}
 use mathlib.Core.Path.{_∙_, sym, ap}
@@ -7,10 +7,10 @@ use Prim.Native.Nat.{ℕ}
 use native.Mathlib.Omega.{arith}
 use borrow.Author.Tests.{not-true, not-false}
 use denote.Ref.{now}
-use Rattle.table.specs.Tables.{known}
-use Rattle.table.proofs.Judging.{form-13, form-15, form-13′, form-values}
-use Rattle.table.proofs.judge_form.Statement.{statement}
-use Rattle.table.proofs.judge_form.Tie as tie
+use Rattle.forms.specs.Tables.{known}
+use Rattle.forms.proofs.Judging.{form-13, form-15, form-13′, form-values}
+use Rattle.forms.proofs.judge_form.Statement.{statement}
+use Rattle.forms.proofs.judge_form.Tie as tie
 
 refuse-requires : tie.Need-refuse-requires
 refuse-requires c κs = search needs

@@ -13,10 +13,10 @@ use Rattle.laws.specs.Pick.{both, either}
 use Rattle.laws.proofs.Tests.{both-true}
 use Rattle.fields.specs.Fields.{row, fitting, parts, whole}
 use Rattle.fields.proofs.Laid.{fitting-append, whole-parts, whole-first, whole-next, whole-lt}
-use Rattle.table.specs.Tables.{Descriptor, Table, TI, LI, known, per, entries, loops, bits, entire, fits}
-use Rattle.table.specs.Form.{spelled, listed, openingOf, form, wordAt, wordsIn, descriptorsIn, tableIn}
-use Rattle.table.proofs.Inverse.{Sendable, sendable, sends, entries-whole}
-use Rattle.table.proofs.Measures.{per-pos, length-spelled, length-listed, length-form, bits-of, eights}
+use Rattle.forms.specs.Tables.{Descriptor, Table, TI, LI, known, per, entries, loops, bits, entire, fits}
+use Rattle.forms.specs.Form.{spelled, listed, openingOf, form, wordAt, wordsIn, descriptorsIn, tableIn}
+use Rattle.forms.proofs.Sendable.{Sendable, sendable, sends, entries-whole}
+use Rattle.forms.proofs.Measures.{per-pos, length-spelled, length-listed, length-form, bits-of, eights}
 
 -- ---- the table out of its form
 

@@ -1,11 +1,11 @@
--- `table::words_of` meets its contract, kind by kind. Assumes nothing.
+-- `forms::words_of` meets its contract, kind by kind. Assumes nothing.
 use borrow.Author.Needs.{needs}
 use native.Mathlib.Nat.{one-mul}
 use borrow.Author.Tests.{eq-eqb, ne-eqb}
-use Rattle.table.specs.Tables.{per}
+use Rattle.forms.specs.Tables.{per}
 use mathlib.Core.Path.{refl, sym}
-use Rattle.table.proofs.words_of.Statement.{statement}
-use Rattle.table.proofs.words_of.Tie as tie
+use Rattle.forms.proofs.words_of.Statement.{statement}
+use Rattle.forms.proofs.words_of.Tie as tie
 
 mul-result : tie.Need-mul-result
 mul-result c = search needs

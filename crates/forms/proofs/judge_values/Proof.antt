@@ -1,4 +1,4 @@
--- `table::judge_values` meets its contract: each `return` is a value that doesn't fit, and the last is all of them fitting.
+-- `forms::judge_values` meets its contract: each `return` is a value that doesn't fit, and the last is all of them fitting.
 -- Assumes nothing.
 use borrow.Author.Needs.{needs}
 use mathlib.Core.Path.{_≡_, _∙_, sym, ap}
@@ -10,12 +10,12 @@ use borrow.Author.Tests.{not-true, not-false}
 use lib.ListN.{length}
 use denote.Ref.{now}
 use Rattle.answer.specs.declared.Answer.the-variants.{Done}
-use Rattle.table.specs.Tables.{bits, fits}
-use Rattle.table.specs.Form.{tableIn}
-use Rattle.table.proofs.Measures.{length-form}
-use Rattle.table.proofs.Forms.{in-sendable, out-copyright, out-count, out-loops, out-bits, bits-in, count-room}
-use Rattle.table.proofs.judge_values.Statement.{statement}
-use Rattle.table.proofs.judge_values.Tie as tie
+use Rattle.forms.specs.Tables.{bits, fits}
+use Rattle.forms.specs.Form.{tableIn}
+use Rattle.forms.proofs.Measures.{length-form}
+use Rattle.forms.proofs.Forms.{in-sendable, out-copyright, out-count, out-loops, out-bits, bits-in, count-room}
+use Rattle.forms.proofs.judge_values.Statement.{statement}
+use Rattle.forms.proofs.judge_values.Tie as tie
 
 byte-at-requires : tie.Need-byte-at-requires
 byte-at-requires c κs = search needs
