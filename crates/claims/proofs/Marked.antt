@@ -10,7 +10,8 @@ use Rattle.guide.proofs.Cases.{CaseF, case-f, CaseG, recordG, case-g}
 use Rattle.pes.proofs.Cases.{CaseJ, case-j, CaseK, case-k}
 use Rattle.fields.specs.Fields.{row, width, laid, parts}
 use Rattle.forms.specs.Tables.{per, loops, fields, bits, fill, size}
-use Rattle.table.specs.Block.{total, checksum, nibbles, checksumOf, recordOf, recordWith}
+use Rattle.sums.specs.Sums.{total, checksum}
+use Rattle.sums.specs.Block.{nibbles, checksumOf, recordOf, recordWith}
 use Rattle.forms.specs.Form.{form}
 use Rattle.forms.specs.Writing.{writeRules}
 use Rattle.table.proofs.Cases.{G, H, I, case-G, case-H, case-I}

@@ -45,7 +45,10 @@ use Rattle.reader.proofs.feed.Reads as reader·feed
 use Rattle.reader.proofs.feed_all.Reads as reader·feed-all
 use Rattle.table.proofs.read_block.Reads as table·read-block
 use Rattle.forms.proofs.judge_form.Reads as forms·judge-form
-use Rattle.table.proofs.checksum.Reads as table·checksum
+use Rattle.sums.proofs.Summing.{one-sum}
+use Rattle.sums.proofs.checksum.Reads as sums·checksum
+use Rattle.sums.proofs.sound.Reads as sums·sound
+use Rattle.sums.proofs.sum_of.Reads as sums·sum-of
 use Rattle.forms.proofs.known.Reads as forms·known
 use Rattle.forms.proofs.byte_at.Reads as forms·byte-at
 use Rattle.forms.proofs.word_at.Reads as forms·word-at
@@ -172,8 +175,14 @@ table·read-block-settled κs a x y s t p q = (same (p .0) (q .0), same (p .1) (
 pub forms·judge-form-settled : (κs : _) (a : _) (x y : _) (s t : _) → forms·judge-form.Post κs a x s → forms·judge-form.Post κs a y t → x ≡ y
 forms·judge-form-settled κs a x y s t p q = same p q
 
-pub table·checksum-settled : (κs : _) (a : _) (x y : _) (s t : _) → table·checksum.Post κs a x s → table·checksum.Post κs a y t → x ≡ y
-table·checksum-settled κs a x y s t p q = same p q
+pub sums·checksum-settled : (κs : _) (a : _) (x y : _) (s t : _) → sums·checksum.Post κs a x s → sums·checksum.Post κs a y t → x ≡ y
+sums·checksum-settled κs a x y s t p q = same p q
+
+pub sums·sound-settled : (κs : _) (a : _) (x y : _) (s t : _) → sums·sound.Post κs a x s → sums·sound.Post κs a y t → x ≡ y
+sums·sound-settled κs a x y s t p q = same p q
+
+pub sums·sum-of-settled : (κs : _) (a : _) (x y : _) (s t : _) → sums·sum-of.Post κs a x s → sums·sum-of.Post κs a y t → x ≡ y
+sums·sum-of-settled κs a x y s t p q = one-sum _ _ _ x y (p .0) (p .1 .0) (p .1 .1) (q .0) (q .1 .0) (q .1 .1)
 
 pub forms·known-settled : (κs : _) (a : _) (x y : _) (s t : _) → forms·known.Post κs a x s → forms·known.Post κs a y t → x ≡ y
 forms·known-settled κs a x y s t p q = same p q

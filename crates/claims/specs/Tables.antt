@@ -7,7 +7,7 @@ use Rattle.guide.specs.Cutting.{packets}
 use Rattle.reader.specs.State.{freshState, readerOf}
 use Rattle.forms.specs.Tables.{Table}
 use Rattle.table.specs.Reading.{Outcome, accepted, refused, readBlock}
-use Rattle.table.specs.Block.{recordOf}
+use Rattle.sums.specs.Block.{recordOf}
 use Rattle.claims.specs.Feeding.{Call, comesOut}
 
 -- the records that block writing makes of a list of tables, one after the other

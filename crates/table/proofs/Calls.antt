@@ -10,7 +10,7 @@ use Rattle.answer.proofs.Judging.{passes}
 use Rattle.answer.proofs.Lent.{lent-accepted, lent-all}
 use Rattle.forms.specs.Tables.{Table}
 use Rattle.forms.specs.Form.{form}
-use Rattle.table.specs.Block.{Says}
+use Rattle.sums.specs.Block.{Says}
 use Rattle.table.specs.Reading.{accepted, refused, readRules, tableRead, readBlock}
 use Rattle.table.proofs.Exact.{accepts, reads-exactly}
 

@@ -11,7 +11,7 @@ use Rattle.octet.specs.Image.{image, withParity}
 use Rattle.fields.specs.Fields.{row, width, laid, fitting, parts, whole}
 use Rattle.forms.specs.Tables.{Table, TI, per, loops, fields, bits, fill, size, entire, fits}
 use Rattle.forms.specs.Form.{spelled, listed, openingOf, form, wordsIn, descriptorsIn, tableIn}
-use Rattle.table.specs.Block.{header}
+use Rattle.sums.specs.Block.{header}
 use Rattle.forms.specs.Writing.{formRules, writeRules}
 
 -- TI, block_no 0, network 2, descriptor 5, "dut", page value 000888

@@ -3,11 +3,12 @@ use mathlib.Core.List.{List, [], _∷_, _++_}
 use Prim.Native.Nat.{ℕ, zero, suc, _+_, _*_, _/_, _%_, _^_}
 use lib.Dec.{eqb, ltb, leb}
 use lib.ListN.{length, take}
-use Rattle.laws.specs.Pick.{pick, both}
+use Rattle.laws.specs.Pick.{both}
 use Rattle.answer.specs.Rules.{Rule, rule, judged}
 use Rattle.fields.specs.Fields.{field, parts, whole}
 use Rattle.forms.specs.Tables.{Descriptor, Table, known, per, control, size}
-use Rattle.table.specs.Block.{headLength, headOf, nibblesOf, checksum}
+use Rattle.sums.specs.Sums.{checksum, sound}
+use Rattle.sums.specs.Block.{headLength, headOf, nibblesOf}
 
 -- the k descriptors at the front of the bits n, whose entries have `each` words
 unfoldable pub descriptorsOf : ℕ → ℕ → ℕ → List Descriptor
@@ -26,11 +27,6 @@ tableOf n =
       network = field 44 8 n;
       descriptors = descriptorsOf (per (field 18 6 n)) (field 52 6 n) (n / 2 ^ 58);
     }
-
--- how many of these come before the first that can't be decoded
-unfoldable pub sound : List ℕ → ℕ
-sound [] = 0
-sound (n ∷ ns) = pick (ltb n 16) (suc (sound ns)) 0
 
 -- ---- the order of block reading, in parts
 

@@ -13,8 +13,8 @@ ghost use Rattle.fields.specs.Fields.{field, parts};
 ghost use Rattle.forms.specs.Tables.{per, bits};
 ghost use Rattle.forms.specs.Form.{form, spelled, listed, openingOf};
 ghost use Rattle.fields.specs.Compound.{compound};
-ghost use Rattle.table.specs.Block.{headOf, total, checksum as checksumOf};
-ghost use Rattle.table.specs.Reading.{frameRules, frontRules, wholeRules, lengthRules, bodyRules, readRules, tableOf, tableRead, sound as soundOf};
+ghost use Rattle.sums.specs.Block.{headOf};
+ghost use Rattle.table.specs.Reading.{frameRules, frontRules, wholeRules, lengthRules, bodyRules, readRules, tableOf, tableRead};
 use answer::Answer;
 use answer::Refusal;
 use blocks::HEAD;
@@ -126,7 +126,7 @@ fn judge_front(size: usize, body: &[u8]) -> Answer
     requires { ⌜ 8 ≤ length (now body) ⌝ }
     ensures { λ r. ⌜ r ≡ judged refused (frontRules size (map nib (now (body .entry)))) (Done 0) ⌝ }
 {
-    let good = sound(&body[..8]);
+    let good = sums::sound(&body[..8]);
     if good != 8 {
         return refuse(10, HEAD + good);
     }
@@ -148,43 +148,14 @@ fn judge_whole(head: usize, body: &[u8]) -> Answer
     requires { ⌜ 8 ≤ length (now body) ⌝ }
     ensures { λ r. ⌜ r ≡ judged refused (wholeRules head (map nib (now (body .entry)))) (Done 0) ⌝ }
 {
-    let sum = sum_of(head, body);
+    let sum = sums::sum_of(head, body);
     if 255 < sum {
-        return refuse(10, HEAD + sound(body));
+        return refuse(10, HEAD + sums::sound(body));
     }
     if fields::field_of(body, SUM, 8) != sum {
         return refuse(11, 0);
     }
     Answer::Done(0)
-}
-
-// What a block's first two bytes should hold, or 256 where a byte of it can't be decoded: `sound` and
-// `checksum` in one pass.
-fn sum_of(head: usize, body: &[u8]) -> usize
-    requires { ⌜ 2 ≤ length (now body) ⌝ }
-    ensures broken { λ r. ⌜ (255 < r → soundOf (map nib (now (body .entry))) < length (now (body .entry))) ⌝ }
-    ensures whole { λ r.
-        ⌜ (r ≤ 255
-        → (soundOf (map nib (now (body .entry))) ≡ length (now (body .entry)))
-        × (r ≡ checksumOf head (map nib (now (body .entry))))) ⌝ }
-{
-    if 15 < quick::decode(body[0]) {
-        return 256;
-    }
-    if 15 < quick::decode(body[1]) {
-        return 256;
-    }
-    let mut sum = head_total(head);
-    let mut i = 2;
-    while i < body.len() {
-        let n = quick::decode(body[i]);
-        if 15 < n {
-            return 256;
-        }
-        sum = (sum + n as usize) % 256;
-        i += 1;
-    }
-    (256 - sum) % 256
 }
 
 // 14: where loops, control size and fill fit, the bytes of the table's form.
@@ -218,40 +189,6 @@ fn measure(body: &[u8]) -> usize
         left -= 1;
     }
     at
-}
-
-// 11.1.2: the checksum of a block with this head, whose first two bytes are the checksum's own.
-pub fn checksum(head: usize, body: &[u8]) -> usize
-    ensures { λ r. ⌜ r ≡ checksumOf head (map nib (now (body .entry))) ⌝ }
-{
-    let mut sum = head_total(head);
-    let mut i = 2;
-    while i < body.len() {
-        sum = (sum + quick::decode(body[i]) as usize) % 256;
-        i += 1;
-    }
-    (256 - sum) % 256
-}
-
-// The sum of the four nibbles of a head.
-fn head_total(head: usize) -> usize
-    ensures { λ r. ⌜ (r ≡ total (parts 4 4 head)) × (r < 256) ⌝ }
-{
-    head % 16 + head / 16 % 16 + head / 16 / 16 % 16 + head / 16 / 16 / 16 % 16
-}
-
-// How many bytes come before the first that can't be decoded.
-fn sound(s: &[u8]) -> usize
-    ensures { λ r. ⌜ r ≡ soundOf (map nib (now (s .entry))) ⌝ }
-{
-    let mut i = 0;
-    while i < s.len() {
-        if 15 < quick::decode(s[i]) {
-            return i;
-        }
-        i += 1;
-    }
-    i
 }
 
 // The form of the table that a block holds.

@@ -7,7 +7,7 @@ ghost use lib.ListN.{length, drop};
 ghost use Rattle.fields.specs.Fields.{row, laid, fitting};
 ghost use Rattle.forms.specs.Tables.{loops, size, fits, bits as Tables·bits};
 ghost use Rattle.forms.specs.Form.{wordsIn, tableIn};
-ghost use Rattle.table.specs.Block.{nibbles};
+ghost use Rattle.sums.specs.Block.{nibbles, recordOf};
 ghost use Rattle.octet.specs.Image.{image};
 ghost use lib.Seq.{sets};
 ghost use Rattle.table_writer.specs.Ink.{ready, inked, moved, Fine};
@@ -17,7 +17,6 @@ ghost use Rattle.answer.specs.Values.{refused};
 ghost use Rattle.answer.specs.Writing.{answered, left};
 ghost use Rattle.answer.specs.declared.Answer.the-variants.{Done};
 ghost use Rattle.forms.specs.Writing.{writeRules};
-ghost use Rattle.table.specs.Block.{recordOf};
 ghost use Rattle.table_writer.specs.Parts.{firstFields, secondFields};
 use answer::Answer;
 use answer::Refusal;
@@ -93,7 +92,7 @@ fn seal(head: usize, size: usize, out: &mut [u8])
     ensures { λ _. ⌜ now (out .exit) ≡ sealed head size (now (out .entry)) ⌝ }
 {
     let end = HEAD + size;
-    let sum = table::checksum(head, &out[HEAD..end]);
+    let sum = sums::checksum(head, &out[HEAD..end]);
     let low = octet::image((sum % 16) as u8);
     let high = octet::image((sum / 16 % 16) as u8);
     out[2] = low;

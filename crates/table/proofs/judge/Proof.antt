@@ -15,7 +15,7 @@ use Rattle.laws.proofs.Lists.{part-rest}
 use Rattle.octet.specs.Decoding.{nib}
 use Rattle.fields.specs.Fields.{whole}
 use Rattle.forms.specs.Form.{form}
-use Rattle.table.specs.Block.{headOf, nibblesOf}
+use Rattle.sums.specs.Block.{headOf, nibblesOf}
 use Rattle.table.specs.Reading.{frameRules, bodyRules, tableOf}
 use Rattle.table.proofs.Judging.{framed}
 use Rattle.table.proofs.judge.Statement.{statement}

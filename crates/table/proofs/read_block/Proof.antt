@@ -12,7 +12,7 @@ use Rattle.answer.proofs.Lent.{lent-refused, lent-short, lent-done, lent-value}
 use Rattle.octet.specs.Decoding.{nib}
 use Rattle.fields.specs.Fields.{whole}
 use Rattle.forms.specs.Form.{form}
-use Rattle.table.specs.Block.{nibblesOf}
+use Rattle.sums.specs.Block.{nibblesOf}
 use Rattle.table.specs.Reading.{readRules, tableOf, tableRead}
 use Rattle.table.proofs.Judging.{long-enough}
 use Rattle.answer.specs.declared.Answer.the-variants.{Done}

@@ -1,4 +1,4 @@
--- `table::sound` meets its contract: the bytes passed and those still to come before the first that can't be decoded are as
+-- `sums::sound` meets its contract: the bytes passed and those still to come before the first that can't be decoded are as
 -- many as at the start. The measure is what is left of the length. Assumes nothing.
 use borrow.Author.Needs.{needs}
 use mathlib.Core.Path.{_≡_, _∙_}
@@ -9,10 +9,10 @@ use native.Mathlib.Omega.{arith}
 use lib.ListN.{length, drop}
 use denote.Ref.{now}
 use Rattle.octet.specs.Decoding.{nib}
-use Rattle.table.specs.Reading.{sound}
-use Rattle.table.proofs.Judging.{sound-step, sound-stop, sound-end}
-use Rattle.table.proofs.sound.Statement.{statement}
-use Rattle.table.proofs.sound.Tie as tie
+use Rattle.sums.specs.Sums.{sound}
+use Rattle.sums.proofs.Summing.{sound-step, sound-stop, sound-end}
+use Rattle.sums.proofs.sound.Statement.{statement}
+use Rattle.sums.proofs.sound.Tie as tie
 
 abbrev Inv-loop : tie.InvT-loop
 Inv-loop s i₀ i = (i ≤ length s) × (i + sound (map nib (drop i s)) ≡ sound (map nib s))

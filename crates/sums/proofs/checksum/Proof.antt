@@ -1,4 +1,4 @@
--- `table::checksum` meets its contract: the sum so far and the nibbles still to come make, modulo 256, the sum of all. The
+-- `sums::checksum` meets its contract: the sum so far and the nibbles still to come make, modulo 256, the sum of all. The
 -- measure is what is left of the length. Assumes nothing.
 use borrow.Author.Needs.{needs}
 use mathlib.Core.Path.{_≡_, _∙_, ap}
@@ -9,10 +9,10 @@ use denote.Ref.{now}
 use Rattle.laws.proofs.Maps.{map-drop}
 use Rattle.octet.specs.Decoding.{nib}
 use Rattle.fields.specs.Fields.{parts}
-use Rattle.table.specs.Block.{total}
-use Rattle.table.proofs.Judging.{sum-step, sum-end}
-use Rattle.table.proofs.checksum.Statement.{statement}
-use Rattle.table.proofs.checksum.Tie as tie
+use Rattle.sums.specs.Sums.{total}
+use Rattle.sums.proofs.Summing.{sum-step, sum-end}
+use Rattle.sums.proofs.checksum.Statement.{statement}
+use Rattle.sums.proofs.checksum.Tie as tie
 
 abbrev Inv-loop : tie.InvT-loop
 Inv-loop head body sum₀ i₀ sum i =

@@ -2,13 +2,14 @@
 use mathlib.Core.Path.{_≡_}
 use mathlib.Core.Bool.{true}
 use mathlib.Core.List.{List, [], _∷_, _++_, map}
-use Prim.Native.Nat.{ℕ, _+_, _%_, _-_, _^_, _<_}
+use Prim.Native.Nat.{ℕ, _^_, _<_}
 use lib.ListN.{drop}
 use Rattle.octet.specs.Decoding.{nib}
 use Rattle.octet.specs.Image.{image}
 pub use Rattle.blocks.specs.Block.{headLength, headOf}
 use Rattle.fields.specs.Fields.{Field, laid, parts}
 use Rattle.forms.specs.Tables.{Table, fields, control, fill, size, fits}
+use Rattle.sums.specs.Sums.{checksum}
 
 -- table 5, the Overall Data Header
 abbrev pub header : ℕ → ℕ → List Field
@@ -17,16 +18,6 @@ header application size = (5, application) ∷ (11, size) ∷ []
 -- what the protected bytes behind it decode to
 unfoldable pub nibblesOf : List ℕ → List ℕ
 nibblesOf r = map nib (drop headLength r)
-
-unfoldable pub total : List ℕ → ℕ
-total [] = 0
-total (n ∷ ns) = n + total ns
-
--- 11.1.2: application_id, block_size and all control data but the checksum itself, "divided into nibbles", "expanded into 8 bit
--- bytes", "are summed (modulo 256) and the checksum is (0x100 − sum of bytes) modulo 256". Of a block's nibbles the first two
--- are the checksum's
-unfoldable pub checksum : ℕ → List ℕ → ℕ
-checksum head nibbles = (256 - (total (parts 4 4 head) + total (drop 2 nibbles)) % 256) % 256
 
 -- the nibbles of a table's block, for any checksum, reserved bit and fill
 unfoldable pub nibbles : ℕ → ℕ → ℕ → Table → List ℕ

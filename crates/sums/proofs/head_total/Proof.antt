@@ -1,9 +1,9 @@
--- `table::head_total` meets its contract: the four nibbles are the parts of the head. Assumes nothing.
+-- `sums::head_total` meets its contract: the four nibbles are the parts of the head. Assumes nothing.
 use borrow.Author.Needs.{needs}
 use native.Mathlib.Omega.{arith}
-use Rattle.table.proofs.Judging.{sum-head}
-use Rattle.table.proofs.head_total.Statement.{statement}
-use Rattle.table.proofs.head_total.Tie as tie
+use Rattle.sums.proofs.Summing.{sum-head}
+use Rattle.sums.proofs.head_total.Statement.{statement}
+use Rattle.sums.proofs.head_total.Tie as tie
 
 add-result : tie.Need-add-result
 add-result c = search needs
