@@ -45,6 +45,7 @@ use Rattle.reader.proofs.feed.Reads as reader·feed
 use Rattle.reader.proofs.feed_all.Reads as reader·feed-all
 use Rattle.table.proofs.read_block.Reads as table·read-block
 use Rattle.forms.proofs.judge_form.Reads as forms·judge-form
+use Rattle.spelling.proofs.write_form.Reads as spelling·write-form
 use Rattle.sums.proofs.Summing.{one-sum}
 use Rattle.sums.proofs.checksum.Reads as sums·checksum
 use Rattle.sums.proofs.sound.Reads as sums·sound
@@ -183,6 +184,10 @@ sums·sound-settled κs a x y s t p q = same p q
 
 pub sums·sum-of-settled : (κs : _) (a : _) (x y : _) (s t : _) → sums·sum-of.Post κs a x s → sums·sum-of.Post κs a y t → x ≡ y
 sums·sum-of-settled κs a x y s t p q = one-sum _ _ _ x y (p .0) (p .1 .0) (p .1 .1) (q .0) (q .1 .0) (q .1 .1)
+
+pub spelling·write-form-settled :
+    (κs : _) (a : _) (x y : _) (s t : _) → spelling·write-form.Post κs a x s → spelling·write-form.Post κs a y t → now (s .1 .0) ≡ now (t .1 .0)
+spelling·write-form-settled κs a x y s t p q = same p q
 
 pub forms·known-settled : (κs : _) (a : _) (x y : _) (s t : _) → forms·known.Post κs a x s → forms·known.Post κs a y t → x ≡ y
 forms·known-settled κs a x y s t p q = same p q

@@ -22,7 +22,8 @@ use Rattle.fields.proofs.Laid.{laid-lt, field-lt, length-parts, whole-lt, whole
 use Rattle.forms.specs.Tables.{Table, known, fields, bits, control, fill, size}
 use Rattle.sums.specs.Block.{header, headOf, nibblesOf, nibbles, checksumOf, Says}
 use Rattle.sums.specs.Sums.{checksum, sound}
-use Rattle.table.specs.Reading.{accepted, refused, frameRules, frontRules, wholeRules, lengthRules, readRules, tableOf, tableRead, readBlock}
+use Rattle.spelling.specs.Control.{tableOf}
+use Rattle.table.specs.Reading.{accepted, refused, frameRules, frontRules, wholeRules, lengthRules, readRules, tableRead, readBlock}
 use Rattle.forms.proofs.Sendable.{Sendable, sendable, sends}
 use Rattle.sums.proofs.Summing.{checksum-lt}
 use Rattle.sums.proofs.Nibbles.{sound-parts, parts-sound, sound-take, sum-apart}

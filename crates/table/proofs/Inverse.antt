@@ -12,10 +12,10 @@ use Rattle.laws.proofs.Tests.{both-true}
 use Rattle.fields.specs.Fields.{Field, row, width, laid, fitting, field, parts}
 use Rattle.fields.proofs.Laid.{lay, lay-parts, parts-laid, laid-append, laid-past, laid-drop, laid-at, laid-first, length-parts, width-row, fitting-append, fitting-parts, field-first, field-lt}
 use Rattle.forms.specs.Tables.{Descriptor, Table, known, per, entries, loops, fields, bits, control, entire}
-use Rattle.table.specs.Reading.{descriptorsOf, tableOf}
+use Rattle.spelling.specs.Control.{descriptorsOf, tableOf}
 use Rattle.forms.proofs.Measures.{per-pos, width-loops, bits-of}
 use Rattle.forms.proofs.Sendable.{Sendable, entries-whole}
-use Rattle.table.proofs.Loops.{length-descriptors}
+use Rattle.spelling.proofs.Written.{length-descriptors}
 
 -- ---- what is read, laid again
 

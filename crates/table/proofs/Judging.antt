@@ -15,7 +15,8 @@ use Rattle.fields.specs.Fields.{field, whole}
 use Rattle.forms.specs.Tables.{known, control, size}
 use Rattle.sums.specs.Block.{headOf}
 use Rattle.sums.specs.Sums.{checksum, sound}
-use Rattle.table.specs.Reading.{frameRules, frontRules, wholeRules, lengthRules, readRules, tableOf}
+use Rattle.spelling.specs.Control.{tableOf}
+use Rattle.table.specs.Reading.{frameRules, frontRules, wholeRules, lengthRules, readRules}
 
 -- ---- the frame
 

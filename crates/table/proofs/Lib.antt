@@ -1,6 +1,5 @@
 pub mod Loops
 pub mod Judging
-pub mod Written
 pub mod Inverse
 pub mod Exact
 pub mod Back

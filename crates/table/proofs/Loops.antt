@@ -1,7 +1,7 @@
 -- The descriptors of a block as they are read: how a walk along them counts the bits, and what room their form takes. Assumes
 -- nothing.
-use mathlib.Core.Path.{_≡_, _∙_, refl, sym, ap, subst}
-use Prim.Native.Nat.{ℕ, zero, suc, _+_, _-_, _*_, _/_, _^_, _≤_, _<_}
+use mathlib.Core.Path.{_≡_, _∙_, sym, ap, subst}
+use Prim.Native.Nat.{ℕ, suc, _+_, _-_, _*_, _/_, _^_, _≤_, _<_}
 use native.Mathlib.Nat.{add-zero}
 use native.Mathlib.Omega.{arith}
 use lib.ListN.{length}
@@ -11,12 +11,8 @@ use Rattle.fields.proofs.Laid.{length-parts, field-past}
 use Rattle.forms.specs.Tables.{per, loops, bits}
 use Rattle.forms.specs.Form.{listed, form}
 use Rattle.forms.proofs.Measures.{width-loops, bits-of, length-form, eights}
-use Rattle.table.specs.Reading.{descriptorsOf, tableOf}
-
-pub length-descriptors : (each k n : ℕ) → length (descriptorsOf each k n) ≡ k
-unfolding descriptorsOf
-length-descriptors each zero n = refl
-length-descriptors each (suc k) n = ap suc (length-descriptors each k _)
+use Rattle.spelling.specs.Control.{descriptorsOf, tableOf}
+use Rattle.spelling.proofs.Written.{length-descriptors}
 
 -- one descriptor on, at the place `at` of the bits n
 pub walk-step :

@@ -1,20 +1,19 @@
 // Subtitle and Language blocks.
 ghost use mathlib.Core.Path.{_≡_};
-ghost use mathlib.Core.List.{map, _∷_, []};
-ghost use Prim.Native.Nat.{_+_, _-_, _*_, _/_, _%_, _^_, _<_, _≤_};
+ghost use mathlib.Core.List.{map};
+ghost use Prim.Native.Nat.{_+_, _-_, _*_, _/_, _%_, _<_, _≤_};
 ghost use lib.ListN.{length};
-ghost use lib.Seq.{sets};
 ghost use Rattle.answer.specs.Rules.{judged};
 ghost use Rattle.answer.specs.Values.{refused};
 ghost use Rattle.answer.specs.Writing.{answered, left};
 ghost use Rattle.answer.specs.declared.Answer.the-variants.{Done};
 ghost use Rattle.octet.specs.Decoding.{nib};
-ghost use Rattle.fields.specs.Fields.{field, parts};
-ghost use Rattle.forms.specs.Tables.{per, bits};
-ghost use Rattle.forms.specs.Form.{form, spelled, listed, openingOf};
+ghost use Rattle.forms.specs.Tables.{bits};
+ghost use Rattle.forms.specs.Form.{form};
 ghost use Rattle.fields.specs.Compound.{compound};
 ghost use Rattle.sums.specs.Block.{headOf};
-ghost use Rattle.table.specs.Reading.{frameRules, frontRules, wholeRules, lengthRules, bodyRules, readRules, tableOf, tableRead};
+ghost use Rattle.table.specs.Reading.{frameRules, frontRules, wholeRules, lengthRules, bodyRules, readRules, tableRead};
+ghost use Rattle.spelling.specs.Control.{tableOf};
 use answer::Answer;
 use answer::Refusal;
 use blocks::HEAD;
@@ -22,24 +21,16 @@ use forms::HEADING;
 use forms::LOOPS;
 use forms::OPENING;
 use forms::WORD;
+use spelling::COUNT;
+use spelling::KIND;
 
-// Where the fields of tables 15 and 17 begin, in bits: checksum, control_block_size, datatype_id, CA_mode,
-// copyright, block_no, netwop_no, the number of descriptors.
+// Where those fields of tables 15 and 17 begin that aren't the table's own, in bits: checksum,
+// control_block_size, CA_mode.
 const SUM: usize = 0;
 
 const CONTROL: usize = 8;
 
-const KIND: usize = 18;
-
 const ACCESS: usize = 24;
-
-const COPYRIGHT: usize = 26;
-
-const BLOCK: usize = 28;
-
-const NETWORK: usize = 44;
-
-const COUNT: usize = 52;
 
 // The table of a block of this application: its form is written to the front of `out`. Each protected
 // byte is decoded at most eight times: once or twice to see that it can be and for the sum, twice
@@ -57,7 +48,7 @@ pub fn read_block(application: u8, rec: &[u8], out: &mut [u8]) -> Answer
             if out.len() < need {
                 return refuse(1, 0);
             }
-            write_form(&rec[HEAD..], out);
+            spelling::write_form(&rec[HEAD..], out);
             Answer::Done(need)
         }
     }
@@ -189,107 +180,6 @@ fn measure(body: &[u8]) -> usize
         left -= 1;
     }
     at
-}
-
-// The form of the table that a block holds.
-fn write_form(body: &[u8], out: &mut [u8])
-    requires { ⌜ length (form (tableOf (compound (now body)))) ≤ length (now out) ⌝ }
-    ensures { λ _. ⌜ now (out .exit) ≡ sets (now (out .entry)) 0 (form (tableOf (compound (now (body .entry))))) ⌝ }
-{
-    write_opening(body, out);
-    write_descriptors(body, out);
-}
-
-// The six bytes before the descriptors.
-fn write_opening(body: &[u8], out: &mut [u8])
-    requires { ⌜ 6 ≤ length (now out) ⌝ }
-    ensures { λ _. ⌜ now (out .exit) ≡ sets (now (out .entry)) 0 (openingOf (tableOf (compound (now (body .entry))))) ⌝ }
-{
-    let kind = (fields::field_of(body, KIND, 6) % 256) as u8;
-    let copyright = (fields::field_of(body, COPYRIGHT, 1) % 256) as u8;
-    let block = fields::field_of(body, BLOCK, 16);
-    let network = (fields::field_of(body, NETWORK, 8) % 256) as u8;
-    let count = (fields::field_of(body, COUNT, 6) % 256) as u8;
-    let low = (block % 256) as u8;
-    let high = (block / 256 % 256) as u8;
-    out[0] = kind;
-    out[1] = copyright;
-    out[2] = low;
-    out[3] = high;
-    out[4] = network;
-    out[5] = count;
-}
-
-// The descriptors, behind the opening.
-fn write_descriptors(body: &[u8], out: &mut [u8])
-    requires { ⌜ length (form (tableOf (compound (now body)))) ≤ length (now out) ⌝ }
-    ensures { λ _.
-        ⌜ now (out .exit)
-        ≡ sets (now (out .entry)) 6
-        (listed (tableOf (compound (now (body .entry))) .kind) (tableOf (compound (now (body .entry))) .descriptors)) ⌝ }
-{
-    let kind = fields::field_of(body, KIND, 6);
-    let mut left = fields::field_of(body, COUNT, 6);
-    let mut at = LOOPS;
-    let mut q = OPENING;
-    while 0 < left {
-        let words = write_descriptor(body, kind, at, out, q);
-        at += HEADING + WORD * words;
-        q += 2 + 3 * words;
-        left -= 1;
-    }
-}
-
-// The descriptor at the place `at`; how many words it has.
-fn write_descriptor(body: &[u8], kind: usize, at: usize, out: &mut [u8], q: usize) -> usize
-    requires { ⌜ (q + (2 + 3 * (per kind * field (at + 6) 4 (compound (now body)))) ≤ length (now out)) × (at < 60000) ⌝ }
-    ensures { λ r.
-        ⌜ (r ≡ per kind * field (at + 6) 4 (compound (now (body .entry))))
-        × (r ≤ 30)
-        × (now (out .exit)
-        ≡ sets (now (out .entry)) q
-        (field at 6 (compound (now (body .entry)))
-        ∷ field (at + 6) 4 (compound (now (body .entry)))
-        ∷ spelled (parts 24 r (compound (now (body .entry)) / 2 ^ (at + 10))))) ⌝ }
-{
-    let id = fields::field_of(body, at, 6);
-    let entries = fields::field_of(body, at + 6, 4);
-    let words = forms::words_of(kind, entries);
-    out[q] = (id % 256) as u8;
-    out[q + 1] = (entries % 256) as u8;
-    write_words(body, at + HEADING, words, out, q + 2);
-    words
-}
-
-// The k words of a block from the place `from` on.
-fn write_words(body: &[u8], from: usize, k: usize, out: &mut [u8], q: usize)
-    requires { ⌜ (q + 3 * k ≤ length (now out)) × (from + 24 * k < 65536) ⌝ }
-    ensures { λ _.
-        ⌜ now (out .exit) ≡ sets (now (out .entry)) q (spelled (parts 24 k (compound (now (body .entry)) / 2 ^ from))) ⌝ }
-{
-    let mut at = from;
-    let mut p = q;
-    let mut left = k;
-    while 0 < left {
-        let w = fields::field_of(body, at, WORD);
-        write_word(w, out, p);
-        at += WORD;
-        p += 3;
-        left -= 1;
-    }
-}
-
-// A word, high byte first.
-fn write_word(w: usize, out: &mut [u8], q: usize)
-    requires { ⌜ q + 3 ≤ length (now out) ⌝ }
-    ensures { λ _. ⌜ now (out .exit) ≡ sets (now (out .entry)) q (spelled (w ∷ [])) ⌝ }
-{
-    let high = (w / 256 / 256 % 256) as u8;
-    let middle = (w / 256 % 256) as u8;
-    let low = (w % 256) as u8;
-    out[q] = high;
-    out[q + 1] = middle;
-    out[q + 2] = low;
 }
 
 fn refuse(no: u8, at: usize) -> Answer

@@ -6,7 +6,7 @@ use native.Mathlib.Omega.{arith}
 use denote.Ref.{now}
 use Rattle.answer.specs.declared.Answer.the-variants.{Done}
 use Rattle.fields.specs.Compound.{compound}
-use Rattle.table.specs.Reading.{tableOf}
+use Rattle.spelling.specs.Control.{tableOf}
 use Rattle.table.proofs.Judging.{lengths-14, lengths-14′, lengths-done}
 use Rattle.forms.proofs.Measures.{bits-of}
 use Rattle.table.proofs.Loops.{form-need}

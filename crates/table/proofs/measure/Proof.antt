@@ -8,7 +8,7 @@ use denote.Ref.{now}
 use Rattle.fields.specs.Fields.{width}
 use Rattle.forms.specs.Tables.{bits, per, loops}
 use Rattle.fields.specs.Compound.{compound}
-use Rattle.table.specs.Reading.{tableOf, descriptorsOf}
+use Rattle.spelling.specs.Control.{tableOf, descriptorsOf}
 use Rattle.forms.proofs.Measures.{words-counted, bits-of}
 use Rattle.table.proofs.Loops.{walk-on, walk-end}
 use Rattle.table.proofs.measure.Statement.{statement}

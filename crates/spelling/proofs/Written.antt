@@ -1,22 +1,28 @@
 -- Writing the table form: one word, one descriptor on. Each says that what is left to be stored from here makes what was to be
 -- stored from the start. Assumes nothing.
-use mathlib.Core.Path.{_≡_, _∙_, sym, ap, subst}
+use mathlib.Core.Path.{_≡_, _∙_, refl, sym, ap, ap₂, subst}
 use mathlib.Core.List.{List, [], _∷_, _++_}
-use Prim.Native.Nat.{ℕ, suc, _+_, _-_, _*_, _/_, _%_, _^_, _≤_, _<_}
+use Prim.Native.Nat.{ℕ, zero, suc, _+_, _-_, _*_, _/_, _%_, _^_, _≤_, _<_}
 use native.Mathlib.Nat.{add-zero, mul-div-cancel-left}
-use native.Mathlib.Numerals.{add-one, add-two}
 use native.Mathlib.Omega.{arith}
-use lib.ListN.{length, set, length-append}
+use lib.ListN.{length, set}
 use lib.Pow.{shr-shr}
 use lib.Seq.{sets}
 use Rattle.laws.proofs.Lists.{sets-append}
 use Rattle.fields.specs.Fields.{field, parts}
 use Rattle.forms.specs.Tables.{Table, per}
 use Rattle.forms.specs.Form.{spelled, listed, openingOf, form}
-use Rattle.table.specs.Reading.{descriptorsOf, tableOf}
+use Rattle.spelling.specs.Control.{descriptorsOf, tableOf}
 use Rattle.fields.proofs.Laid.{field-past, length-parts}
 use Rattle.forms.proofs.Measures.{length-spelled, per-pos}
-use Rattle.table.proofs.Loops.{length-descriptors}
+
+-- ---- one store, and those behind it
+
+pub stored :
+    (l l′ l″ : List ℕ) (i j a : ℕ) (vs : List ℕ) → j ≡ suc i → l′ ≡ set l i a → l″ ≡ sets l′ j vs → l″ ≡ sets l i (a ∷ vs)
+stored l l′ l″ i j a vs n e f = f ∙ ap₂ (λ (x : List ℕ) (k : ℕ). sets x k vs) e n
+
+-- ---- words
 
 pub word-on :
     (left n at p w : ℕ) (out out′ whole : List ℕ) → 0 < left → w ≡ field at 24 n → out′ ≡ sets out p (spelled (w ∷ []))
@@ -37,6 +43,13 @@ words-end left n at p out whole h inv =
     let e : left ≡ 0 = omega arith in
     subst (λ (k : ℕ). sets out p (spelled (parts 24 k (n / 2 ^ at))) ≡ whole) e inv
 
+-- ---- the opening
+
+pub length-descriptors : (each k n : ℕ) → length (descriptorsOf each k n) ≡ k
+unfolding descriptorsOf
+length-descriptors each zero n = refl
+length-descriptors each (suc k) n = ap suc (length-descriptors each k _)
+
 -- the six bytes that open a form
 pub opened :
     (n k c b w d : ℕ) → k ≡ field 18 6 n → c ≡ field 26 1 n → b ≡ field 28 16 n → w ≡ field 44 8 n → d ≡ field 52 6 n → k < 256
@@ -55,6 +68,8 @@ opened n k c b w d ek ec eb ew ed hk hc hb hw hd =
     let fd : d % 256 ≡ field 52 6 n = omega arith in
     rw (length-descriptors, fk, fc, fl, fb, fw, fd)
 
+-- ---- descriptors
+
 -- a descriptor as it is stored is the first of the form's, and the others follow
 pub listed-first :
     (kind left n at words : ℕ) → words ≡ per kind * field (at + 6) 4 n
@@ -64,12 +79,6 @@ pub listed-first :
 unfolding listed descriptorsOf
 listed-first kind left n at words e =
     rw (e, field-past 0 6 at n, field-past 6 4 at n, add-zero at, shr-shr n at 10, shr-shr n at _, length-parts, mul-div-cancel-left, per-pos kind)
-
--- its two stores, and then its words
-pub two-stores :
-    (out out′ : List ℕ) (q a b x y : ℕ) (l : List ℕ) → a % 256 ≡ x → b % 256 ≡ y
-    → out′ ≡ sets (set (set out q (a % 256)) (q + 1) (b % 256)) (q + 2) l → out′ ≡ sets out q (x ∷ y ∷ l)
-two-stores out out′ q a b x y l ea eb e = rw (ea, eb, add-one, add-two) at e
 
 module _ (kind left n at words : ℕ) (h : 0 < left) (e : words ≡ per kind * field (at + 6) 4 n) where
   first : List ℕ
@@ -86,11 +95,6 @@ module _ (kind left n at words : ℕ) (h : 0 < left) (e : words ≡ per kind * f
   length-first : length first ≡ 2 + 3 * words
   unfolding first
   length-first = rw (length-spelled, length-parts) (omega arith)
-
-  pub listed-long :
-      length (listed kind (descriptorsOf (per kind) left (n / 2 ^ at)))
-      ≡ 2 + 3 * words + length (listed kind (descriptorsOf (per kind) (left - 1) (n / 2 ^ (at + (10 + 24 * words)))))
-  listed-long = rw (split-first, length-append, length-first)
 
   pub descriptor-on :
       (q : ℕ) (out out′ whole : List ℕ)

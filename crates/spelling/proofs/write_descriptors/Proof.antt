@@ -1,4 +1,4 @@
--- `table::write_descriptors` meets its contract: what is left to be stored from here makes what was to be stored. The measure is
+-- `spelling::write_descriptors` meets its contract: what is left to be stored from here makes what was to be stored. The measure is
 -- the descriptors left. Assumes nothing.
 use borrow.Author.Needs.{needs}
 use mathlib.Core.Path.{_≡_, _∙_, refl}
@@ -7,20 +7,17 @@ use native.Mathlib.Omega.{arith}
 use lib.ListN.{length}
 use lib.Seq.{sets}
 use denote.Ref.{now}
-use Rattle.fields.specs.Fields.{field}
 use Rattle.forms.specs.Tables.{per}
 use Rattle.forms.specs.Form.{listed}
 use Rattle.fields.specs.Compound.{compound}
-use Rattle.table.specs.Reading.{descriptorsOf, tableOf}
-use Rattle.forms.proofs.Measures.{length-form}
-use Rattle.table.proofs.Written.{listed-long, descriptor-on, descriptors-end}
-use Rattle.table.proofs.write_descriptors.Statement.{statement}
-use Rattle.table.proofs.write_descriptors.Tie as tie
+use Rattle.spelling.specs.Control.{descriptorsOf, tableOf}
+use Rattle.spelling.proofs.Written.{descriptor-on, descriptors-end}
+use Rattle.spelling.proofs.write_descriptors.Statement.{statement}
+use Rattle.spelling.proofs.write_descriptors.Tie as tie
 
 abbrev Inv-loop : tie.InvT-loop
 Inv-loop body out₀ kind left₀ at₀ q₀ out left at q =
-    (length out ≡ length out₀) × (q + length (listed kind (descriptorsOf (per kind) left (compound body / 2 ^ at))) ≤ length out)
-    × (at + 730 * left ≤ 46048)
+    (length out ≡ length out₀) × (q + 92 * left ≤ 5802) × (at + 730 * left ≤ 46048)
     × (sets out q (listed kind (descriptorsOf (per kind) left (compound body / 2 ^ at)))
     ≡ sets out₀ 6 (listed (tableOf (compound body) .kind) (tableOf (compound body) .descriptors)))
 
@@ -36,23 +33,15 @@ field-of-requires-2 c κs = search needs
 loop-holds : tie.Need-loop-holds Inv-loop μ-loop
 unfolding tableOf
 loop-holds c =
-    let a = c .before .before .before .before .args in
-    let e = c .before .field-of .ensures .0 in
-    let n = compound (now (a .body)) in (
+    let e = c .before .field-of .ensures .0 in (
       refl,
-      rw (e, c .field-of2 .ensures .0) (omega (arith, length-form (tableOf n), c .before .before .before .before .pre)),
+      omega (arith, c .field-of2 .ensures .1),
       omega (arith, c .field-of2 .ensures .1),
       rw (e, c .field-of2 .ensures .0) refl,
     )
 
 write-descriptor-requires : tie.Need-write-descriptor-requires Inv-loop μ-loop
-write-descriptor-requires c κs =
-    let l = c .before .before .loop in
-    let kind = c .before .before .before .before .field-of .result in
-    let n = compound (now (c .before .before .before .before .before .before .before .args .body)) in (
-      omega (arith, l .inv .1, listed-long kind (l .left) n (l .at) (per kind * field (l .at + 6) 4 n) (search needs) refl),
-      search needs,
-    )
+write-descriptor-requires c κs = search needs
 
 mul-at : tie.Need-mul-at Inv-loop μ-loop
 mul-at c = search needs
@@ -86,7 +75,7 @@ loop-again c =
     let n = compound (now (a .body)) in
     let kind = c .before .before .before .before .before .before .before .field-of .result in (
       d .kept .1 .1 .1 .0 ∙ l .inv .0,
-      omega (arith, d .kept .1 .1 .1 .0, l .inv .1, listed-long kind (l .left) n (l .at) (d .result) (search needs) (d .ensures .0)),
+      omega (arith, d .ensures .1, l .inv .1),
       omega (arith, d .ensures .1, l .inv .2),
       descriptor-on kind (l .left) n (l .at) (d .result) (search needs) (d .ensures .0) (l .q) (l .out) (d .last .1 .1 .1 .0) _
           (d .ensures .2) (l .inv .3),

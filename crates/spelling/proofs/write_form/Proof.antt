@@ -1,17 +1,14 @@
--- `table::write_form` meets its contract: the opening and then the descriptors are the form. Assumes nothing.
+-- `spelling::write_form` meets its contract: the opening and then the descriptors are the form. Assumes nothing.
 use borrow.Author.Needs.{needs}
-use native.Mathlib.Omega.{arith}
 use denote.Ref.{now}
 use Rattle.fields.specs.Compound.{compound}
-use Rattle.table.specs.Reading.{tableOf}
-use Rattle.forms.proofs.Measures.{length-form}
-use Rattle.table.proofs.Written.{form-stored}
-use Rattle.table.proofs.write_form.Statement.{statement}
-use Rattle.table.proofs.write_form.Tie as tie
+use Rattle.spelling.specs.Control.{tableOf}
+use Rattle.spelling.proofs.Written.{form-stored}
+use Rattle.spelling.proofs.write_form.Statement.{statement}
+use Rattle.spelling.proofs.write_form.Tie as tie
 
 write-opening-requires : tie.Need-write-opening-requires
-write-opening-requires c κs =
-    omega (arith, length-form (tableOf (compound (now (c .before .before .before .args .body)))), c .before .before .before .pre)
+write-opening-requires c κs = search needs
 
 write-descriptors-requires : tie.Need-write-descriptors-requires
 write-descriptors-requires c κs = search needs

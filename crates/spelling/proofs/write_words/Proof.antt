@@ -1,22 +1,21 @@
--- `table::write_words` meets its contract: what is left to be stored from here makes what was to be stored. The measure is the
+-- `spelling::write_words` meets its contract: what is left to be stored from here makes what was to be stored. The measure is the
 -- words left. Assumes nothing.
 use borrow.Author.Needs.{needs}
 use mathlib.Core.Path.{_≡_, _∙_, refl}
-use Prim.Native.Nat.{_+_, _*_, _/_, _^_, _≤_, _<_}
-use native.Mathlib.Omega.{arith}
+use Prim.Native.Nat.{_+_, _*_, _/_, _^_, _<_}
 use lib.ListN.{length}
 use lib.Seq.{sets}
 use denote.Ref.{now}
 use Rattle.fields.specs.Fields.{parts}
 use Rattle.forms.specs.Form.{spelled}
 use Rattle.fields.specs.Compound.{compound}
-use Rattle.table.proofs.Written.{word-on, words-end}
-use Rattle.table.proofs.write_words.Statement.{statement}
-use Rattle.table.proofs.write_words.Tie as tie
+use Rattle.spelling.proofs.Written.{word-on, words-end}
+use Rattle.spelling.proofs.write_words.Statement.{statement}
+use Rattle.spelling.proofs.write_words.Tie as tie
 
 abbrev Inv-loop : tie.InvT-loop
 Inv-loop body from k out₀ q at₀ p₀ left₀ out at p left =
-    (length out ≡ length out₀) × (p + 3 * left ≤ length out) × (at + 24 * left < 65536)
+    (length out ≡ length out₀) × (p + 3 * left < 65536) × (at + 24 * left < 65536)
     × (sets out p (spelled (parts 24 left (compound body / 2 ^ at))) ≡ sets out₀ q (spelled (parts 24 k (compound body / 2 ^ from))))
 
 abbrev μ-loop : tie.MeasureT-loop
@@ -50,7 +49,7 @@ loop-again c =
     let a = c .before .before .before .before .before .before .before .before .before .args in
     let f = c .before .before .before .before .field-of in (
       k ∙ l .inv .0,
-      omega (arith, k),
+      search needs,
       search needs,
       word-on (l .left) (compound (now (a .body))) (l .at) (l .p) (f .result) (l .out) (c .before .before .write-word .last .1 .0) _ (search needs)
           (f .ensures .0) (c .before .before .write-word .ensures) (l .inv .3),
