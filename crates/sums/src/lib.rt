@@ -46,13 +46,13 @@ pub fn sum_of(head: usize, body: &[u8]) -> usize
 pub fn checksum(head: usize, body: &[u8]) -> usize
     ensures { λ r. ⌜ r ≡ checksumOf head (map nib (now (body .entry))) ⌝ }
 {
-    let mut sum = head_total(head);
+    let mut total = head_total(head);
     let mut i = 2;
     while i < body.len() {
-        sum = (sum + quick::decode(body[i]) as usize) % 256;
+        total = (total + quick::decode(body[i]) as usize) % 256;
         i += 1;
     }
-    (256 - sum) % 256
+    (256 - total) % 256
 }
 
 // How many bytes come before the first that can't be decoded.

@@ -1,4 +1,4 @@
-// Subtitle and Language blocks.
+// Block reading: the rules by which a Subtitle or Language block is taken, and the table that it gives.
 ghost use mathlib.Core.Path.{_≡_};
 ghost use mathlib.Core.List.{map};
 ghost use Prim.Native.Nat.{_+_, _-_, _*_, _/_, _%_, _<_, _≤_};

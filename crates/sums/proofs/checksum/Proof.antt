@@ -36,11 +36,11 @@ shared-slice-read-decode c = search needs
 decode-requires : tie.Need-decode-requires Inv-loop μ-loop
 decode-requires c κs = search needs
 
-cast-sum : tie.Need-cast-sum Inv-loop μ-loop
-cast-sum c = search needs
+cast-total : tie.Need-cast-total Inv-loop μ-loop
+cast-total c = search needs
 
-add-sum : tie.Need-add-sum Inv-loop μ-loop
-add-sum c = search needs
+add-total : tie.Need-add-total Inv-loop μ-loop
+add-total c = search needs
 
 add-i : tie.Need-add-i Inv-loop μ-loop
 add-i c = search needs
@@ -53,8 +53,8 @@ loop-again c =
     let l = c .before .before .before .loop in
     let a = c .before .before .before .before .before .before .args in (
       search needs,
-      ap (λ (x : ℕ). ((l .sum + x) % 256 + total (map nib (drop (l .i + 1) (now (a .body))))) % 256) (c .decode .ensures)
-          ∙ sum-step (now (a .body)) (l .i) (l .sum) (search needs)
+      ap (λ (x : ℕ). ((l .total + x) % 256 + total (map nib (drop (l .i + 1) (now (a .body))))) % 256) (c .decode .ensures)
+          ∙ sum-step (now (a .body)) (l .i) (l .total) (search needs)
           ∙ l .inv .1,
     )
 
@@ -65,7 +65,7 @@ returns : tie.Need-returns Inv-loop μ-loop
 returns c =
     let l = c .before .loop in
     let a = c .before .before .before .before .args in
-    sum-end (a .head) (now (a .body)) (l .i) (l .sum) (search needs) (l .inv .0) (l .inv .1)
+    sum-end (a .head) (now (a .body)) (l .i) (l .total) (search needs) (l .inv .0) (l .inv .1)
 
 pub checksum-spec : {M : Type 1} → statement M
 checksum-spec =
@@ -77,8 +77,8 @@ checksum-spec =
     loop-holds
     shared-slice-read-decode
     decode-requires
-    cast-sum
-    add-sum
+    cast-total
+    add-total
     add-i
     loop-less
     loop-again
