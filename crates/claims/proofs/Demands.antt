@@ -11,7 +11,7 @@ use Rattle.blocks.specs.Block.{Block, blocks}
 use Rattle.packet.specs.declared.Setting.{Setting}
 use Rattle.packet.specs.Setting.{inRange}
 use Rattle.state.specs.State.{readerOf, freshState}
-use Rattle.table.specs.Tables.{Table, fits}
+use Rattle.forms.specs.Tables.{Table, fits}
 use Rattle.claims.specs.Noise.{Flipped, Hears, Aired, Came, Alike, Each, Fits}
 use Rattle.claims.specs.Lists.{Among}
 use Rattle.claims.specs.Feeding.{Call, packetsOf, comesOut}

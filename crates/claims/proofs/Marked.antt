@@ -9,10 +9,11 @@ use Rattle.octet.proofs.Cases.{CasesAtoE, cases-a-to-e, TheImages, the-images}
 use Rattle.guide.proofs.Cases.{CaseF, case-f, CaseG, recordG, case-g}
 use Rattle.pes.proofs.Cases.{CaseJ, case-j, CaseK, case-k}
 use Rattle.fields.specs.Fields.{row, width, laid, parts}
-use Rattle.table.specs.Tables.{per, loops, fields, bits, fill, size}
-use Rattle.table.specs.Block.{total, checksum, nibbles, checksumOf}
-use Rattle.table.specs.Form.{form}
-use Rattle.table.specs.Writing.{recordOf, recordWith, writeRules}
+use Rattle.forms.specs.Tables.{per, loops, fields, bits, fill, size}
+use Rattle.sums.specs.Sums.{total, checksum}
+use Rattle.sums.specs.Block.{nibbles, checksumOf, recordOf, recordWith}
+use Rattle.forms.specs.Form.{form}
+use Rattle.forms.specs.Writing.{writeRules}
 use Rattle.table.proofs.Cases.{G, H, I, case-G, case-H, case-I}
 
 -- G's record, as block writing makes it, is the one whose packets case G shows

@@ -14,7 +14,7 @@ use Rattle.octet.proofs.turn.Reads as octet·turn
 use Rattle.quick.proofs.decode.Reads as quick·decode
 use Rattle.quick.proofs.turn.Reads as quick·turn
 use Rattle.fields.proofs.field_of.Reads as fields·field-of
-use Rattle.table.proofs.words_of.Reads as table·words-of
+use Rattle.forms.proofs.words_of.Reads as forms·words-of
 use Rattle.wanted.proofs.start.Reads as wanted·start
 use Rattle.wanted.proofs.next.Reads as wanted·next
 use Rattle.wanted.proofs.is_name.Reads as wanted·is-name
@@ -49,11 +49,15 @@ use Rattle.state.proofs.fresh.Reads as reader·fresh
 use Rattle.reader.proofs.feed.Reads as reader·feed
 use Rattle.reader.proofs.feed_all.Reads as reader·feed-all
 use Rattle.table.proofs.read_block.Reads as table·read-block
-use Rattle.table.proofs.judge_form.Reads as table·judge-form
-use Rattle.table.proofs.checksum.Reads as table·checksum
-use Rattle.table.proofs.known.Reads as table·known
-use Rattle.table.proofs.byte_at.Reads as table·byte-at
-use Rattle.table.proofs.word_at.Reads as table·word-at
+use Rattle.forms.proofs.judge_form.Reads as forms·judge-form
+use Rattle.spelling.proofs.write_form.Reads as spelling·write-form
+use Rattle.sums.proofs.Summing.{one-sum}
+use Rattle.sums.proofs.checksum.Reads as sums·checksum
+use Rattle.sums.proofs.sound.Reads as sums·sound
+use Rattle.sums.proofs.sum_of.Reads as sums·sum-of
+use Rattle.forms.proofs.known.Reads as forms·known
+use Rattle.forms.proofs.byte_at.Reads as forms·byte-at
+use Rattle.forms.proofs.word_at.Reads as forms·word-at
 use Rattle.printing.proofs.put_text.Reads as printing·put-text
 use Rattle.printing.proofs.put_number.Reads as printing·put-number
 use Rattle.printing.proofs.put_language.Reads as printing·put-language
@@ -200,20 +204,30 @@ pub table·read-block-settled :
     (κs : _) (a : _) (x y : _) (s t : _) → table·read-block.Post κs a x s → table·read-block.Post κs a y t → (x ≡ y) × (now (s .1 .1 .0) ≡ now (t .1 .1 .0))
 table·read-block-settled κs a x y s t p q = (same (p .0) (q .0), same (p .1) (q .1))
 
-pub table·judge-form-settled : (κs : _) (a : _) (x y : _) (s t : _) → table·judge-form.Post κs a x s → table·judge-form.Post κs a y t → x ≡ y
-table·judge-form-settled κs a x y s t p q = same p q
+pub forms·judge-form-settled : (κs : _) (a : _) (x y : _) (s t : _) → forms·judge-form.Post κs a x s → forms·judge-form.Post κs a y t → x ≡ y
+forms·judge-form-settled κs a x y s t p q = same p q
 
-pub table·checksum-settled : (κs : _) (a : _) (x y : _) (s t : _) → table·checksum.Post κs a x s → table·checksum.Post κs a y t → x ≡ y
-table·checksum-settled κs a x y s t p q = same p q
+pub sums·checksum-settled : (κs : _) (a : _) (x y : _) (s t : _) → sums·checksum.Post κs a x s → sums·checksum.Post κs a y t → x ≡ y
+sums·checksum-settled κs a x y s t p q = same p q
 
-pub table·known-settled : (κs : _) (a : _) (x y : _) (s t : _) → table·known.Post κs a x s → table·known.Post κs a y t → x ≡ y
-table·known-settled κs a x y s t p q = same p q
+pub sums·sound-settled : (κs : _) (a : _) (x y : _) (s t : _) → sums·sound.Post κs a x s → sums·sound.Post κs a y t → x ≡ y
+sums·sound-settled κs a x y s t p q = same p q
 
-pub table·byte-at-settled : (κs : _) (a : _) (x y : _) (s t : _) → table·byte-at.Post κs a x s → table·byte-at.Post κs a y t → x ≡ y
-table·byte-at-settled κs a x y s t p q = same (p .0) (q .0)
+pub sums·sum-of-settled : (κs : _) (a : _) (x y : _) (s t : _) → sums·sum-of.Post κs a x s → sums·sum-of.Post κs a y t → x ≡ y
+sums·sum-of-settled κs a x y s t p q = one-sum _ _ _ x y (p .0) (p .1 .0) (p .1 .1) (q .0) (q .1 .0) (q .1 .1)
 
-pub table·word-at-settled : (κs : _) (a : _) (x y : _) (s t : _) → table·word-at.Post κs a x s → table·word-at.Post κs a y t → x ≡ y
-table·word-at-settled κs a x y s t p q = same (p .0) (q .0)
+pub spelling·write-form-settled :
+    (κs : _) (a : _) (x y : _) (s t : _) → spelling·write-form.Post κs a x s → spelling·write-form.Post κs a y t → now (s .1 .0) ≡ now (t .1 .0)
+spelling·write-form-settled κs a x y s t p q = same p q
+
+pub forms·known-settled : (κs : _) (a : _) (x y : _) (s t : _) → forms·known.Post κs a x s → forms·known.Post κs a y t → x ≡ y
+forms·known-settled κs a x y s t p q = same p q
+
+pub forms·byte-at-settled : (κs : _) (a : _) (x y : _) (s t : _) → forms·byte-at.Post κs a x s → forms·byte-at.Post κs a y t → x ≡ y
+forms·byte-at-settled κs a x y s t p q = same (p .0) (q .0)
+
+pub forms·word-at-settled : (κs : _) (a : _) (x y : _) (s t : _) → forms·word-at.Post κs a x s → forms·word-at.Post κs a y t → x ≡ y
+forms·word-at-settled κs a x y s t p q = same (p .0) (q .0)
 
 pub table-writer·write-block-settled :
     (κs : _) (a : _) (x y : _) (s t : _) → table-writer·write-block.Post κs a x s → table-writer·write-block.Post κs a y t → (x ≡ y) × (now (s .1 .1 .0) ≡ now (t .1 .1 .0))
@@ -261,8 +275,8 @@ quick·turn-settled κs a x y s t p q = same p q
 pub fields·field-of-settled : (κs : _) (a : _) (x y : _) (s t : _) → fields·field-of.Post κs a x s → fields·field-of.Post κs a y t → x ≡ y
 fields·field-of-settled κs a x y s t p q = same (p .0) (q .0)
 
-pub table·words-of-settled : (κs : _) (a : _) (x y : _) (s t : _) → table·words-of.Post κs a x s → table·words-of.Post κs a y t → x ≡ y
-table·words-of-settled κs a x y s t p q = same (p .0) (q .0)
+pub forms·words-of-settled : (κs : _) (a : _) (x y : _) (s t : _) → forms·words-of.Post κs a x s → forms·words-of.Post κs a y t → x ≡ y
+forms·words-of-settled κs a x y s t p q = same (p .0) (q .0)
 
 pub wanted·start-settled : (κs : _) (a : _) (x y : _) (s t : _) → wanted·start.Post κs a x s → wanted·start.Post κs a y t → x ≡ y
 wanted·start-settled κs a x y s t p q = same p q

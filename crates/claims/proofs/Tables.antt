@@ -15,12 +15,12 @@ use Rattle.blocks.specs.Sizes
 use Rattle.blocks.proofs.Round.{blocks-records}
 use Rattle.fields.specs.Fields.{laid, parts}
 use Rattle.fields.proofs.Laid.{length-parts}
-use Rattle.table.specs.Tables.{Table, fits, size}
-use Rattle.table.specs.Block.{header, nibblesOf, nibbles, checksumOf}
+use Rattle.forms.specs.Tables.{Table, fits, size}
+use Rattle.sums.specs.Block.{header, nibblesOf, nibbles, checksumOf, recordWith, recordOf}
 use Rattle.table.specs.Reading.{Outcome, accepted, refused, readBlock}
-use Rattle.table.specs.Writing.{recordWith, recordOf}
-use Rattle.table.proofs.Inverse.{sendable}
-use Rattle.table.proofs.Back.{nibbles-back, writes-back}
+use Rattle.forms.proofs.Sendable.{sendable}
+use Rattle.sums.proofs.Nibbles.{nibbles-back}
+use Rattle.table.proofs.Back.{writes-back}
 use Rattle.table.proofs.Noise.{reads-alike, broken-refused}
 use Rattle.claims.specs.Noise.{Hears, Near, none, more, Came, over, kept, lost, Alike, Each, nil, and, Fits}
 use Rattle.claims.specs.Tables.{recordsOf, taken, tablesOf}

@@ -19,9 +19,9 @@ use Rattle.packet.specs.Packet.{packetZero}
 use Rattle.pens.specs.Stream.{symbols, cellsOf, streamOf, grab, beforeStart}
 use Rattle.guide.specs.Cutting.{rows, pages, packets}
 use Rattle.guide.proofs.Cases.{desk}
-use Rattle.table.specs.Tables.{Table, per, loops, fields, fits, entire}
-use Rattle.table.specs.Block.{total, checksum, nibbles, checksumOf}
-use Rattle.table.specs.Writing.{recordWith}
+use Rattle.forms.specs.Tables.{Table, per, loops, fields, fits, entire}
+use Rattle.sums.specs.Sums.{total, checksum}
+use Rattle.sums.specs.Block.{nibbles, checksumOf, recordWith}
 use Rattle.table.proofs.Cases.{G, H}
 use Rattle.claims.specs.Noise.{Flipped, Near, none, more, Aired, ended, sent as Aired·sent, nil, and}
 use Rattle.claims.specs.Feeding.{Call, packetsOf}

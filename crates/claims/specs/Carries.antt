@@ -5,7 +5,7 @@ use mathlib.Core.List.{List}
 use Prim.Native.Nat.{ℕ, _≤_, _<_}
 use Rattle.packet.specs.declared.Setting.{Setting}
 use Rattle.packet.specs.Setting.{inRange}
-use Rattle.table.specs.Tables.{Table, fits}
+use Rattle.forms.specs.Tables.{Table, fits}
 use Rattle.claims.specs.Noise.{Flipped, Aired, Each}
 use Rattle.claims.specs.Feeding.{Call, packetsOf}
 use Rattle.claims.specs.Tables.{sent}

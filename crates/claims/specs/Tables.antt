@@ -5,9 +5,9 @@ use Rattle.blocks.specs.Block.{Block, recordOf as Block·recordOf}
 use Rattle.packet.specs.declared.Setting.{Setting}
 use Rattle.guide.specs.Cutting.{packets}
 use Rattle.state.specs.State.{freshState, readerOf}
-use Rattle.table.specs.Tables.{Table}
+use Rattle.forms.specs.Tables.{Table}
 use Rattle.table.specs.Reading.{Outcome, accepted, refused, readBlock}
-use Rattle.table.specs.Writing.{recordOf}
+use Rattle.sums.specs.Block.{recordOf}
 use Rattle.claims.specs.Feeding.{Call, comesOut}
 
 -- the records that block writing makes of a list of tables, one after the other

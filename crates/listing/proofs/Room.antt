@@ -12,10 +12,10 @@ use Rattle.answer.specs.Values.{refused}
 use Rattle.answer.specs.Rules.{judged}
 use Rattle.answer.specs.declared.Answer.the-variants.{Done}
 use Rattle.answer.proofs.Steps.{done-every, first-holds, others-hold}
-use Rattle.table.specs.Tables.{Descriptor, Table, TI}
-use Rattle.table.specs.Form.{spelled, listed, form, tableIn}
-use Rattle.table.specs.Writing.{formRules}
-use Rattle.table.proofs.Measures.{length-spelled, length-listed, length-form}
+use Rattle.forms.specs.Tables.{Descriptor, Table, TI}
+use Rattle.forms.specs.Form.{spelled, listed, form, tableIn}
+use Rattle.forms.specs.Writing.{formRules}
+use Rattle.forms.proofs.Measures.{length-spelled, length-listed, length-form}
 use Rattle.printing.specs.Lines.{place, decimal, hexed, numberLine, letters, languageOf, languageLine, pageLine}
 use Rattle.listing.specs.Lines.{blockName, networkName, descriptorName, kindLine, kindTI, kindLI, languageLines, subtitleLines, entryLines, descriptorLine, descriptorLines, headLines, descriptorLinesOf, linesOf, linesFrom}
 

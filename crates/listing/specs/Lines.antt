@@ -4,7 +4,7 @@ use mathlib.Core.List.{List, [], _∷_, _++_}
 use Prim.Native.Nat.{ℕ}
 use lib.Dec.{eqb}
 use Rattle.laws.specs.Pick.{pick}
-use Rattle.table.specs.Tables.{Descriptor, Table, TI}
+use Rattle.forms.specs.Tables.{Descriptor, Table, TI}
 use Rattle.printing.specs.Lines.{numberLine, languageLine, pageLine}
 
 -- ---- a line each

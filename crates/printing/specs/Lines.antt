@@ -4,7 +4,7 @@ use mathlib.Core.List.{List, [], _∷_, _++_}
 use Prim.Native.Nat.{ℕ, _+_, _/_, _%_}
 use lib.Dec.{ltb, leb}
 use Rattle.laws.specs.Pick.{pick, both}
-use Rattle.table.specs.Form.{spelled}
+use Rattle.forms.specs.Form.{spelled}
 
 -- ---- numbers
 

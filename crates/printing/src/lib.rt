@@ -7,7 +7,7 @@ ghost use mathlib.Core.Path.{_≡_};
 ghost use mathlib.Core.List.{_∷_, []};
 ghost use Prim.Native.Nat.{_+_, _^_, _≤_, _<_};
 ghost use lib.ListN.{length};
-ghost use Rattle.table.specs.Form.{spelled};
+ghost use Rattle.forms.specs.Form.{spelled};
 ghost use Rattle.printing.specs.Lines.{place as Lines·place, decimal, digit as Lines·digit, hexed, letter as Lines·letter, letters as Lines·letters, numberLine, languageOf, languageLine, pageLine};
 ghost use Rattle.printing.specs.Putting.{Put, within};
 

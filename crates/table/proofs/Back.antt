@@ -1,9 +1,8 @@
 -- What is written reads back as the same table, and what is read can be written. Assumes nothing.
-use mathlib.Core.Path.{_≡_, _∙_, refl, sym, ap, ap₂}
+use mathlib.Core.Path.{_≡_, _∙_, refl, sym, ap}
 use mathlib.Core.Bool.{true}
-use mathlib.Core.List.{List, _∷_, _++_, map}
-use Prim.Native.Nat.{ℕ, zero, suc, _/_, _%_, _^_, _<_}
-use native.Mathlib.Nat.{mod-mod}
+use mathlib.Core.List.{List, _++_, map}
+use Prim.Native.Nat.{ℕ, _^_, _<_}
 use native.Mathlib.Omega.{arith}
 use borrow.Author.Tests.{ltb-true, lt-ltb, le-leb, eqb-true, eq-eqb}
 use lib.ListN.{length, getD}
@@ -13,24 +12,18 @@ use Rattle.answer.specs.Rules.{Every, none, more}
 use Rattle.answer.proofs.Steps.{first-holds, others-hold}
 use Rattle.octet.specs.Image.{image}
 use Rattle.octet.specs.Decoding.{nib}
-use Rattle.octet.proofs.Laws.{nib-image}
 use Rattle.fields.specs.Fields.{laid, parts}
 use Rattle.fields.proofs.Laid.{length-parts}
-use Rattle.table.specs.Tables.{Table, known, fill, size, fits}
-use Rattle.table.specs.Form.{form, openingOf, tableIn}
-use Rattle.table.specs.Block.{header, headOf, nibblesOf, nibbles, checksumOf, Says}
+use Rattle.forms.specs.Tables.{Table, known, fill, size, fits}
+use Rattle.forms.specs.Form.{form, openingOf, tableIn}
+use Rattle.sums.specs.Block.{header, headOf, nibblesOf, nibbles, checksumOf, Says, recordWith, recordOf}
 use Rattle.table.specs.Reading.{accepted, readBlock}
-use Rattle.table.specs.Writing.{recordWith, recordOf, formRules, writeRules}
-use Rattle.table.proofs.Inverse.{sendable}
-use Rattle.table.proofs.Measures.{length-form}
+use Rattle.forms.specs.Writing.{formRules, writeRules}
+use Rattle.forms.proofs.Sendable.{sendable}
+use Rattle.forms.proofs.Measures.{length-form}
+use Rattle.sums.proofs.Nibbles.{nibbles-again}
 use Rattle.table.proofs.Exact.{reads-exactly}
-use Rattle.table.proofs.Forms.{Bytes, form-in, in-form}
-
--- images of nibbles decode to them
-pub nibbles-back : (k n : ℕ) → map nib (map image (parts 4 k n)) ≡ parts 4 k n
-unfolding parts
-nibbles-back zero n = refl
-nibbles-back (suc k) n = ap₂ (λ (x : ℕ) (xs : List ℕ). x ∷ xs) (nib-image (n % 16) ∙ mod-mod n 16) (nibbles-back k (n / 16))
+use Rattle.forms.proofs.Forms.{Bytes, form-in, in-form}
 
 header-lt : (application blockSize : ℕ) → laid (header application blockSize) 0 < 65536
 unfolding laid
@@ -43,12 +36,6 @@ head-back h rest l = omega (arith, l)
 body-back : (h : ℕ) (rest : List ℕ) → nibblesOf (parts 8 2 h ++ rest) ≡ map nib rest
 unfolding nibblesOf
 body-back h rest = ap (map nib) (drop-at (parts 8 2 h) rest 2 (length-parts 8 2 h))
-
-pub nibbles-again :
-    (sum reserved filling : ℕ) (t : Table)
-    → map nib (map image (nibbles sum reserved filling t)) ≡ nibbles sum reserved filling t
-unfolding nibbles
-nibbles-again sum reserved filling t = nibbles-back (size t) _
 
 form-kind : (t : Table) → getD (form t) 0 0 ≡ t .kind
 unfolding form openingOf

@@ -8,9 +8,9 @@ use Rattle.answer.specs.declared.Answer.the-variants.{Done}
 use Rattle.answer.specs.Writing.{answered, left}
 use Rattle.answer.proofs.Judging.{passes}
 use Rattle.answer.proofs.Lent.{lent-accepted, lent-all}
-use Rattle.table.specs.Tables.{Table}
-use Rattle.table.specs.Form.{form}
-use Rattle.table.specs.Block.{Says}
+use Rattle.forms.specs.Tables.{Table}
+use Rattle.forms.specs.Form.{form}
+use Rattle.sums.specs.Block.{Says}
 use Rattle.table.specs.Reading.{accepted, refused, readRules, tableRead, readBlock}
 use Rattle.table.proofs.Exact.{accepts, reads-exactly}
 

@@ -9,10 +9,10 @@ use Rattle.answer.specs.declared.Answer.the-variants.{Done}
 use Rattle.octet.specs.Bits.{number}
 use Rattle.octet.specs.Image.{image, withParity}
 use Rattle.fields.specs.Fields.{row, width, laid, fitting, parts, whole}
-use Rattle.table.specs.Tables.{Table, TI, per, loops, fields, bits, fill, size, entire, fits}
-use Rattle.table.specs.Form.{spelled, listed, openingOf, form, wordsIn, descriptorsIn, tableIn}
-use Rattle.table.specs.Block.{header}
-use Rattle.table.specs.Writing.{formRules, writeRules}
+use Rattle.forms.specs.Tables.{Table, TI, per, loops, fields, bits, fill, size, entire, fits}
+use Rattle.forms.specs.Form.{spelled, listed, openingOf, form, wordsIn, descriptorsIn, tableIn}
+use Rattle.sums.specs.Block.{header}
+use Rattle.forms.specs.Writing.{formRules, writeRules}
 
 -- TI, block_no 0, network 2, descriptor 5, "dut", page value 000888
 abbrev pub G : Table

@@ -3,14 +3,14 @@
 use mathlib.Core.Path.{_≡_, _∙_, refl, sym, ap, ap₂, subst}
 use mathlib.Core.Bool.{Bool, true, false}
 use mathlib.Core.Logic.{_↔_}
-use mathlib.Core.List.{List, [], _∷_, map}
-use Prim.Native.Nat.{ℕ, zero, suc, _+_, _-_, _*_, _/_, _%_, _^_, _≤_, _<_}
-use native.Mathlib.Nat.{mod-eq-of-lt, le-of-suc-le-suc, not-suc-le-zero}
+use mathlib.Core.List.{List, [], _∷_}
+use Prim.Native.Nat.{ℕ, _+_, _-_, _*_, _/_, _%_, _^_, _≤_, _<_}
+use native.Mathlib.Nat.{mod-eq-of-lt}
 use native.Mathlib.Omega.{arith}
 use borrow.Author.Tests.{ltb-true, lt-ltb, le-leb, eqb-true, eq-eqb}
-use lib.Dec.{ltb, eqb}
-use lib.ListN.{length, getD, take, drop, length-map, length-drop}
-use lib.Pow.{shr-lt, shr-shr}
+use lib.Dec.{eqb}
+use lib.ListN.{length, take, drop, length-map, length-drop}
+use lib.Pow.{shr-lt}
 use Rattle.laws.specs.Pick.{pick}
 use Rattle.laws.proofs.Tests.{both-true, both-holds}
 use Rattle.answer.specs.Rules.{Rule, judged, Every, none, more}
@@ -18,94 +18,17 @@ use Rattle.answer.proofs.Judging.{passes}
 use Rattle.answer.proofs.Steps.{first-holds, others-hold}
 use Rattle.octet.specs.Decoding.{nib}
 use Rattle.fields.specs.Fields.{width, laid, field, parts, whole}
-use Rattle.fields.proofs.Laid.{laid-lt, laid-next, field-lt, length-parts, whole-lt, whole-parts, parts-whole}
-use Rattle.table.specs.Tables.{Table, known, fields, bits, control, fill, size}
-use Rattle.table.specs.Block.{header, headOf, nibblesOf, total, checksum, nibbles, checksumOf, Says}
-use Rattle.table.specs.Reading.{accepted, refused, sound, frameRules, frontRules, wholeRules, lengthRules, readRules, tableOf, tableRead, readBlock}
-use Rattle.table.proofs.Inverse.{Sendable, sendable, sends, relaid, read-sendable, reread, at-sum, at-control, at-access}
-use Rattle.table.proofs.Measures.{bits-of}
-
--- ---- nibbles that decode
-
-lowered : (ns : List ℕ) → sound ns ≡ length ns → map (λ (x : ℕ). x % 2 ^ 4) ns ≡ ns
-unfolding sound
-lowered [] h = refl
-lowered (n ∷ ns) h = go (ltb n 16) refl h (lowered ns)
-  where
-    go :
-        (b : Bool) → ltb n 16 ≡ b → pick b (suc (sound ns)) 0 ≡ suc (length ns)
-        → (sound ns ≡ length ns → map (λ (x : ℕ). x % 2 ^ 4) ns ≡ ns)
-        → n % 2 ^ 4 ∷ map (λ (x : ℕ). x % 2 ^ 4) ns ≡ n ∷ ns
-    go true e h′ ih =
-        let small : n < 16 = ltb-true n 16 e in
-        ap₂ (λ (x : ℕ) (xs : List ℕ). x ∷ xs) (omega arith) (ih (omega arith))
-    go false e h′ ih = absurd (omega arith)
-
--- where all decode, the nibbles are those of the number that they make
-pub sound-parts : (ns : List ℕ) → sound ns ≡ length ns → parts 4 (length ns) (whole 4 ns) ≡ ns
-sound-parts ns h = parts-whole 4 ns ∙ lowered ns h
-
--- parts of four bits all decode
-pub parts-sound : (k n : ℕ) → sound (parts 4 k n) ≡ k
-unfolding sound parts
-parts-sound zero n = refl
-parts-sound (suc k) n = rw (lt-ltb (n % 16) 16 (omega arith)) (ap suc (parts-sound k (n / 16)))
-
--- where all decode, so do the first
-sound-take : (k : ℕ) (ns : List ℕ) → sound ns ≡ length ns → k ≤ length ns → sound (take k ns) ≡ k
-unfolding sound
-sound-take zero ns h l = refl
-sound-take (suc k) [] h l = absurd (not-suc-le-zero l)
-sound-take (suc k) (n ∷ ns) h l = go (ltb n 16) refl h (sound-take k ns)
-  where
-    go :
-        (b : Bool) → ltb n 16 ≡ b → pick b (suc (sound ns)) 0 ≡ suc (length ns)
-        → (sound ns ≡ length ns → k ≤ length ns → sound (take k ns) ≡ k)
-        → pick (ltb n 16) (suc (sound (take k ns))) 0 ≡ suc k
-    go true e h′ ih = rw e (ap suc (ih (omega arith) (le-of-suc-le-suc l)))
-    go false e h′ ih = absurd (omega arith)
-
--- and each by itself
-pub sound-at : (ns : List ℕ) (k : ℕ) → sound ns ≡ length ns → k < length ns → getD ns k 0 < 16
-unfolding sound
-sound-at [] k h l = absurd (not-suc-le-zero l)
-sound-at (n ∷ ns) k h l = go k (ltb n 16) refl h l (λ (j : ℕ). sound-at ns j)
-  where
-    go :
-        (k : ℕ) (b : Bool) → ltb n 16 ≡ b → pick b (suc (sound ns)) 0 ≡ suc (length ns) → k < suc (length ns)
-        → ((j : ℕ) → sound ns ≡ length ns → j < length ns → getD ns j 0 < 16)
-        → getD (n ∷ ns) k 0 < 16
-    go zero true e h′ l′ ih = ltb-true n 16 e
-    go (suc j) true e h′ l′ ih = ih j (omega arith) (le-of-suc-le-suc l′)
-    go zero false e h′ l′ ih = absurd (omega arith)
-    go (suc j) false e h′ l′ ih = absurd (omega arith)
-
--- ---- the checksum leaves itself out
-
-drop-parts : (k n : ℕ) → drop 2 (parts 4 (suc (suc k)) n) ≡ parts 4 k (n / 2 ^ 8)
-unfolding parts
-drop-parts k n = ap (parts 4 k) (shr-shr n 4 4)
-
--- the nibbles behind the checksum's two are those of the other fields
-pub behind-sum :
-    (sum reserved filling : ℕ) (t : Table)
-    → drop 2 (nibbles sum reserved filling t)
-    ≡ parts 4 (size t - 2) (laid (drop 1 (fields 0 (control t) reserved t)) filling)
-unfolding nibbles fields
-behind-sum sum reserved filling t =
-    let two : size t ≡ suc (suc (size t - 2)) = omega (arith, bits-of t) in
-    let n = laid (fields sum (control t) reserved t) filling in
-    ap (λ (k : ℕ). drop 2 (parts 4 k n)) two ∙ drop-parts (size t - 2) n
-    ∙ ap (parts 4 (size t - 2)) (laid-next (8, sum) (drop 1 (fields 0 (control t) reserved t)) filling)
-
--- a block's checksum is the same whatever stands in its place
-pub sum-apart :
-    (head s₁ s₂ reserved filling : ℕ) (t : Table)
-    → checksum head (nibbles s₁ reserved filling t) ≡ checksum head (nibbles s₂ reserved filling t)
-unfolding checksum
-sum-apart head s₁ s₂ reserved filling t =
-    ap (λ (ns : List ℕ). (256 - (total (parts 4 4 head) + total ns) % 256) % 256)
-    (behind-sum s₁ reserved filling t ∙ sym (behind-sum s₂ reserved filling t))
+use Rattle.fields.proofs.Laid.{laid-lt, field-lt, length-parts, whole-lt, whole-parts}
+use Rattle.forms.specs.Tables.{Table, known, fields, bits, control, fill, size}
+use Rattle.sums.specs.Block.{header, headOf, nibblesOf, nibbles, checksumOf, Says}
+use Rattle.sums.specs.Sums.{checksum, sound}
+use Rattle.spelling.specs.Control.{tableOf}
+use Rattle.table.specs.Reading.{accepted, refused, frameRules, frontRules, wholeRules, lengthRules, readRules, tableRead, readBlock}
+use Rattle.forms.proofs.Sendable.{Sendable, sendable, sends}
+use Rattle.sums.proofs.Summing.{checksum-lt}
+use Rattle.sums.proofs.Nibbles.{sound-parts, parts-sound, sound-take, sum-apart}
+use Rattle.table.proofs.Inverse.{relaid, read-sendable, reread, at-sum, at-control, at-access}
+use Rattle.forms.proofs.Measures.{bits-of}
 
 -- ---- accepted: every rule holds
 
@@ -166,10 +89,6 @@ unfold-nibbles sum reserved filling t = refl
 nibbles-sound : (sum reserved filling : ℕ) (t : Table) → sound (nibbles sum reserved filling t) ≡ size t
 unfolding nibbles
 nibbles-sound sum reserved filling t = parts-sound (size t) _
-
-pub checksum-lt : (head : ℕ) (ns : List ℕ) → checksum head ns < 256
-unfolding checksum
-checksum-lt head ns = omega arith
 
 header-of :
     (application blockSize h : ℕ) → application < 32 → blockSize < 2048 → h % 32 ≡ application → h / 32 ≡ blockSize

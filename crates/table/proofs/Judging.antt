@@ -1,28 +1,22 @@
 -- How the rules of block reading decide, a lemma for each way that the code goes. Assumes nothing.
-use mathlib.Core.Path.{_≡_, _∙_, sym, ap}
-use mathlib.Core.Bool.{Bool, true, false}
-use mathlib.Core.List.{List, [], _∷_, map}
-use Prim.Native.Nat.{ℕ, suc, _+_, _-_, _/_, _%_, _≤_, _<_, zero-le, suc-le-suc}
-use native.Mathlib.Numerals.{add-one}
-use native.Mathlib.Nat.{le-refl, add-zero, zero-add, add-assoc, mod-add-mod, mod-eq-of-lt}
+use mathlib.Core.Path.{_≡_}
+use mathlib.Core.Bool.{true, false}
+use mathlib.Core.List.{List}
+use Prim.Native.Nat.{ℕ, _+_, _-_, _/_, _%_, _≤_, _<_}
 use native.Mathlib.Omega.{arith}
 use borrow.Author.Tests.{lt-ltb, le-ltb, le-leb, lt-leb, eq-eqb, ne-eqb, eqb-true, leb-true}
-use lib.Dec.{ltb}
-use lib.ListN.{length, getD, take, drop, drop-of-length-le}
-use lib.Seq.{drop-cons}
-use Rattle.laws.specs.Pick.{pick}
-use Rattle.answer.specs.Rules.{rule, judged}
+use lib.ListN.{length, take}
+use Rattle.answer.specs.Rules.{judged}
 use Rattle.answer.specs.declared.Answer.{Answer}
 use Rattle.answer.specs.declared.Answer.the-variants.{Done}
 use Rattle.answer.specs.Values.{refused}
 use Rattle.answer.proofs.Steps.{done-every, first-holds, others-hold}
-use Rattle.octet.specs.Decoding.{nib}
-use Rattle.fields.specs.Fields.{field, whole, parts}
-use Rattle.table.specs.Tables.{known, control, size, fits}
-use Rattle.table.specs.Form.{form, tableIn}
-use Rattle.table.specs.Writing.{formRules}
-use Rattle.table.specs.Block.{headOf, total, checksum}
-use Rattle.table.specs.Reading.{sound, frameRules, frontRules, wholeRules, lengthRules, readRules, tableOf}
+use Rattle.fields.specs.Fields.{field, whole}
+use Rattle.forms.specs.Tables.{known, control, size}
+use Rattle.sums.specs.Block.{headOf}
+use Rattle.sums.specs.Sums.{checksum, sound}
+use Rattle.spelling.specs.Control.{tableOf}
+use Rattle.table.specs.Reading.{frameRules, frontRules, wholeRules, lengthRules, readRules}
 
 -- ---- the frame
 
@@ -134,82 +128,3 @@ module _ (blockSize n : ℕ) (a : Answer) where
     pub lengths-done : blockSize ≡ size (tableOf n) → judged refused (lengthRules blockSize n) a ≡ a
     unfolding lengthRules
     lengths-done h = rw (eq-eqb (field 8 10 n) (control (tableOf n)) h₁, eq-eqb blockSize (size (tableOf n)) h)
-
--- ---- a form
-
-module _ (f : List ℕ) (a : Answer) where
-  pub form-13 : length f < 6 → judged refused (formRules f) a ≡ refused 13 0
-  unfolding formRules
-  form-13 h = rw (lt-leb 6 (length f) h)
-
-  module _ (h₁ : 6 ≤ length f) where
-    pub form-15 : known (getD f 0 0) ≡ false → judged refused (formRules f) a ≡ refused 15 0
-    unfolding formRules
-    form-15 h = rw (le-leb 6 (length f) h₁, h)
-
-    module _ (h₂ : known (getD f 0 0) ≡ true) where
-      pub form-13′ : (length f ≡ length (form (tableIn f)) → ⊥) → judged refused (formRules f) a ≡ refused 13 0
-      unfolding formRules
-      form-13′ h = rw (le-leb 6 (length f) h₁, h₂, ne-eqb (length f) (length (form (tableIn f))) h)
-
-      pub form-values :
-          length f ≡ length (form (tableIn f))
-          → judged refused (formRules f) a ≡ judged refused (rule (fits (tableIn f)) 15 0 ∷ []) a
-      unfolding formRules
-      form-values h = rw (le-leb 6 (length f) h₁, h₂, eq-eqb (length f) (length (form (tableIn f))) h)
-
--- ---- the bytes that decode
-
-pub sound-le : (ns : List ℕ) → sound ns ≤ length ns
-unfolding sound
-sound-le [] = le-refl 0
-sound-le (n ∷ ns) = go (ltb n 16) (sound-le ns)
-  where
-    go : (b : Bool) → sound ns ≤ length ns → pick b (suc (sound ns)) 0 ≤ suc (length ns)
-    go true h = suc-le-suc h
-    go false h = zero-le
-
-pub sound-step : (s : List ℕ) (i : ℕ) → i < length s → nib (getD s i 0) < 16 → i + 1 + sound (map nib (drop (i + 1) s)) ≡ i + sound (map nib (drop i s))
-unfolding sound
-sound-step s i h k = rw (add-one i, drop-cons s i 0 h, lt-ltb _ 16 k) (omega arith)
-
-pub sound-stop : (s : List ℕ) (i : ℕ) → i < length s → 16 ≤ nib (getD s i 0) → i ≡ i + sound (map nib (drop i s))
-unfolding sound
-sound-stop s i h k = rw (drop-cons s i 0 h, le-ltb _ 16 k) (sym (add-zero i))
-
-pub sound-end : (s : List ℕ) (i : ℕ) → length s ≤ i → i ≡ i + sound (map nib (drop i s))
-unfolding sound
-sound-end s i h = rw (drop-of-length-le s h) (sym (add-zero i))
-
--- the first two bytes passed; a byte that can't be decoded, and none: where a pass that has found i bytes sound ends
-pub sound-two :
-    (s : List ℕ) → 2 ≤ length s → nib (getD s 0 0) < 16 → nib (getD s 1 0) < 16 → 2 + sound (map nib (drop 2 s)) ≡ sound (map nib s)
-sound-two s h k l = sound-step s 1 (omega arith) l ∙ sound-step s 0 (omega arith) k ∙ zero-add _
-
-module _ (s : List ℕ) (i : ℕ) (e : i + sound (map nib (drop i s)) ≡ sound (map nib s)) where
-  pub sound-short : i < length s → 16 ≤ nib (getD s i 0) → sound (map nib s) < length s
-  sound-short h k = omega (arith, sound-stop s i h k)
-
-  pub sound-all : i ≤ length s → length s ≤ i → sound (map nib s) ≡ length s
-  sound-all h k = omega (arith, sound-end s i k)
-
--- ---- the checksum
-
-pub sum-head : (head : ℕ) → head % 16 + head / 16 % 16 + head / 16 / 16 % 16 + head / 16 / 16 / 16 % 16 ≡ total (parts 4 4 head)
-unfolding total parts
-sum-head head = omega arith
-
-pub sum-step :
-    (s : List ℕ) (i sum : ℕ) → i < length s
-    → ((sum + nib (getD s i 0)) % 256 + total (map nib (drop (i + 1) s))) % 256 ≡ (sum + total (map nib (drop i s))) % 256
-unfolding total
-sum-step s i sum h = rw (add-one i, drop-cons s i 0 h) (mod-add-mod _ 256 _ ∙ ap (λ (x : ℕ). x % 256) (add-assoc _ _ _))
-
-pub sum-end :
-    (head : ℕ) (s : List ℕ) (i sum : ℕ) → length s ≤ i → sum < 256
-    → (sum + total (map nib (drop i s))) % 256 ≡ (total (parts 4 4 head) + total (drop 2 (map nib s))) % 256
-    → (256 - sum) % 256 ≡ checksum head (map nib s)
-unfolding checksum
-sum-end head s i sum h l e =
-    ap (λ (x : ℕ). (256 - x) % 256)
-    (sym (mod-eq-of-lt l) ∙ ap (λ (x : ℕ). x % 256) (sym (add-zero sum)) ∙ (unfold total in (rw (drop-of-length-le s h) at e)))

@@ -1,9 +1,7 @@
-pub mod Measures
+pub mod Loops
 pub mod Judging
-pub mod Written
 pub mod Inverse
 pub mod Exact
-pub mod Forms
 pub mod Back
 pub mod Noise
 pub mod Calls

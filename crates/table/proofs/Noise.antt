@@ -6,10 +6,11 @@ use Prim.Native.Nat.{ℕ, _+_, _≤_, _<_}
 use native.Mathlib.Omega.{arith}
 use lib.ListN.{length, getD, take, drop, length-map, length-append, take-append-drop}
 use Rattle.octet.specs.Decoding.{nib}
-use Rattle.table.specs.Tables.{Table}
-use Rattle.table.specs.Block.{headLength, headOf, nibblesOf}
+use Rattle.forms.specs.Tables.{Table}
+use Rattle.sums.specs.Block.{headLength, headOf, nibblesOf}
 use Rattle.table.specs.Reading.{accepted, readBlock}
-use Rattle.table.proofs.Exact.{sound-at, decodes-all}
+use Rattle.sums.proofs.Nibbles.{sound-at}
+use Rattle.table.proofs.Exact.{decodes-all}
 
 -- a record's length by its head and its nibbles
 length-of : (r : List ℕ) → length r ≡ length (take headLength r) + length (nibblesOf r)

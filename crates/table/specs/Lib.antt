@@ -1,6 +1,2 @@
--- Subtitle (TI) and Language (LI) blocks: EN 300 707, tables 15 and 17, with document 01, "The tables".
-pub mod Tables
-pub mod Form
-pub mod Block
+-- Reading Subtitle (TI) and Language (LI) blocks: EN 300 707, tables 15 and 17, with document 01, "The tables".
 pub mod Reading
-pub mod Writing

@@ -1,38 +1,15 @@
 -- Block reading: its rules in document 01's order, and the table that it gives.
 use mathlib.Core.List.{List, [], _∷_, _++_}
-use Prim.Native.Nat.{ℕ, zero, suc, _+_, _*_, _/_, _%_, _^_}
+use Prim.Native.Nat.{ℕ, _+_, _/_, _%_}
 use lib.Dec.{eqb, ltb, leb}
 use lib.ListN.{length, take}
-use Rattle.laws.specs.Pick.{pick, both}
+use Rattle.laws.specs.Pick.{both}
 use Rattle.answer.specs.Rules.{Rule, rule, judged}
-use Rattle.fields.specs.Fields.{field, parts, whole}
-use Rattle.table.specs.Tables.{Descriptor, Table, known, per, control, size}
-use Rattle.table.specs.Block.{headLength, headOf, nibblesOf, checksum}
-
--- the k descriptors at the front of the bits n, whose entries have `each` words
-unfoldable pub descriptorsOf : ℕ → ℕ → ℕ → List Descriptor
-descriptorsOf each zero n = []
-descriptorsOf each (suc k) n =
-    let words = each * field 6 4 n in
-    record { id = field 0 6 n; words = parts 24 words (n / 2 ^ 10) } ∷ descriptorsOf each k (n / 2 ^ (10 + 24 * words))
-
--- the table that control data n holds: each field at its place in tables 15 and 17
-unfoldable pub tableOf : ℕ → Table
-tableOf n =
-    record {
-      kind = field 18 6 n;
-      copyright = field 26 1 n;
-      block = field 28 16 n;
-      network = field 44 8 n;
-      descriptors = descriptorsOf (per (field 18 6 n)) (field 52 6 n) (n / 2 ^ 58);
-    }
-
--- how many of these come before the first that can't be decoded
-unfoldable pub sound : List ℕ → ℕ
-sound [] = 0
-sound (n ∷ ns) = pick (ltb n 16) (suc (sound ns)) 0
-
--- ---- the order of block reading, in parts
+use Rattle.fields.specs.Fields.{field, whole}
+use Rattle.forms.specs.Tables.{Table, known, control, size}
+use Rattle.spelling.specs.Control.{tableOf}
+use Rattle.sums.specs.Sums.{checksum, sound}
+use Rattle.sums.specs.Block.{headLength, headOf, nibblesOf}
 
 -- 16, 13, 12, 13: the record as it is lent, by its length and its head
 unfoldable pub frameRules : ℕ → ℕ → ℕ → List Rule

@@ -1,62 +1,36 @@
-// Subtitle and Language blocks.
-ghost use mathlib.Core.Bool.{true};
+// Block reading: the rules by which a Subtitle or Language block is taken, and the table that it gives.
 ghost use mathlib.Core.Path.{_≡_};
-ghost use mathlib.Core.List.{map, _∷_, []};
-ghost use Prim.Native.Nat.{_+_, _-_, _*_, _/_, _%_, _^_, _<_, _≤_, min};
-ghost use lib.ListN.{length, getD, take, drop};
-ghost use lib.Seq.{sets};
-ghost use Rattle.answer.specs.Rules.{rule, judged};
+ghost use mathlib.Core.List.{map};
+ghost use Prim.Native.Nat.{_+_, _-_, _*_, _/_, _%_, _<_, _≤_};
+ghost use lib.ListN.{length};
+ghost use Rattle.answer.specs.Rules.{judged};
 ghost use Rattle.answer.specs.Values.{refused};
 ghost use Rattle.answer.specs.Writing.{answered, left};
 ghost use Rattle.answer.specs.declared.Answer.the-variants.{Done};
 ghost use Rattle.octet.specs.Decoding.{nib};
-ghost use Rattle.fields.specs.Fields.{field, fitting, parts};
-ghost use Rattle.table.specs.Tables.{per, bits, loops, fits, known as Tables·known};
-ghost use Rattle.table.specs.Form.{form, spelled, listed, openingOf, wordAt, tableIn};
+ghost use Rattle.forms.specs.Tables.{bits};
+ghost use Rattle.forms.specs.Form.{form};
 ghost use Rattle.fields.specs.Compound.{compound};
-ghost use Rattle.table.specs.Block.{headOf, total, checksum as checksumOf};
-ghost use Rattle.table.specs.Reading.{frameRules, frontRules, wholeRules, lengthRules, bodyRules, readRules, tableOf, tableRead, sound as soundOf};
-ghost use Rattle.table.specs.Writing.{formRules};
+ghost use Rattle.sums.specs.Block.{headOf};
+ghost use Rattle.table.specs.Reading.{frameRules, frontRules, wholeRules, lengthRules, bodyRules, readRules, tableRead};
+ghost use Rattle.spelling.specs.Control.{tableOf};
 use answer::Answer;
 use answer::Refusal;
 use blocks::HEAD;
+use forms::HEADING;
+use forms::LOOPS;
+use forms::OPENING;
+use forms::WORD;
+use spelling::COUNT;
+use spelling::KIND;
 
-// 11.12.3: the datatype_id of a Subtitle and of a Language table.
-pub const TI: usize = 8;
-
-const LI: usize = 7;
-
-// Where the fields of tables 15 and 17 begin, in bits: checksum, control_block_size, datatype_id, CA_mode,
-// copyright, block_no, netwop_no, the number of descriptors; and behind them the first descriptor.
+// Where those fields of tables 15 and 17 begin that aren't the table's own, in bits: checksum,
+// control_block_size, CA_mode.
 const SUM: usize = 0;
 
 const CONTROL: usize = 8;
 
-const KIND: usize = 18;
-
 const ACCESS: usize = 24;
-
-const COPYRIGHT: usize = 26;
-
-const BLOCK: usize = 28;
-
-const NETWORK: usize = 44;
-
-const COUNT: usize = 52;
-
-const LOOPS: usize = 58;
-
-// A descriptor's id, 6 bits, and its number of entries, 4, stand before its words.
-pub const HEADING: usize = 10;
-
-// A language or a page.
-pub const WORD: usize = 24;
-
-// The bytes of a form before its descriptors.
-pub const OPENING: usize = 6;
-
-// What control_block_size can count: 1,023 times 8 bits.
-const MOST: usize = 8184;
 
 // The table of a block of this application: its form is written to the front of `out`. Each protected
 // byte is decoded at most eight times: once or twice to see that it can be and for the sum, twice
@@ -74,7 +48,7 @@ pub fn read_block(application: u8, rec: &[u8], out: &mut [u8]) -> Answer
             if out.len() < need {
                 return refuse(1, 0);
             }
-            write_form(&rec[HEAD..], out);
+            spelling::write_form(&rec[HEAD..], out);
             Answer::Done(need)
         }
     }
@@ -118,7 +92,7 @@ fn judge_frame(application: u8, rec: &[u8]) -> Answer
 fn head_of(rec: &[u8]) -> usize
     ensures { λ r. ⌜ (r ≡ headOf (now (rec .entry))) × (r < 65536) ⌝ }
 {
-    byte_at(rec, 0) + 256 * byte_at(rec, 1)
+    forms::byte_at(rec, 0) + 256 * forms::byte_at(rec, 1)
 }
 
 // The rules after those of the frame; where all hold, the bytes of the table's form.
@@ -143,12 +117,12 @@ fn judge_front(size: usize, body: &[u8]) -> Answer
     requires { ⌜ 8 ≤ length (now body) ⌝ }
     ensures { λ r. ⌜ r ≡ judged refused (frontRules size (map nib (now (body .entry)))) (Done 0) ⌝ }
 {
-    let good = sound(&body[..8]);
+    let good = sums::sound(&body[..8]);
     if good != 8 {
         return refuse(10, HEAD + good);
     }
     let kind = fields::field_of(body, KIND, 6);
-    if !known(kind) {
+    if !forms::known(kind) {
         return refuse(12, 0);
     }
     if fields::field_of(body, ACCESS, 2) != 0 {
@@ -165,43 +139,14 @@ fn judge_whole(head: usize, body: &[u8]) -> Answer
     requires { ⌜ 8 ≤ length (now body) ⌝ }
     ensures { λ r. ⌜ r ≡ judged refused (wholeRules head (map nib (now (body .entry)))) (Done 0) ⌝ }
 {
-    let sum = sum_of(head, body);
+    let sum = sums::sum_of(head, body);
     if 255 < sum {
-        return refuse(10, HEAD + sound(body));
+        return refuse(10, HEAD + sums::sound(body));
     }
     if fields::field_of(body, SUM, 8) != sum {
         return refuse(11, 0);
     }
     Answer::Done(0)
-}
-
-// What a block's first two bytes should hold, or 256 where a byte of it can't be decoded: `sound` and
-// `checksum` in one pass.
-fn sum_of(head: usize, body: &[u8]) -> usize
-    requires { ⌜ 2 ≤ length (now body) ⌝ }
-    ensures broken { λ r. ⌜ (255 < r → soundOf (map nib (now (body .entry))) < length (now (body .entry))) ⌝ }
-    ensures whole { λ r.
-        ⌜ (r ≤ 255
-        → (soundOf (map nib (now (body .entry))) ≡ length (now (body .entry)))
-        × (r ≡ checksumOf head (map nib (now (body .entry))))) ⌝ }
-{
-    if 15 < quick::decode(body[0]) {
-        return 256;
-    }
-    if 15 < quick::decode(body[1]) {
-        return 256;
-    }
-    let mut sum = head_total(head);
-    let mut i = 2;
-    while i < body.len() {
-        let n = quick::decode(body[i]);
-        if 15 < n {
-            return 256;
-        }
-        sum = (sum + n as usize) % 256;
-        i += 1;
-    }
-    (256 - sum) % 256
 }
 
 // 14: where loops, control size and fill fit, the bytes of the table's form.
@@ -230,268 +175,11 @@ fn measure(body: &[u8]) -> usize
     let mut left = fields::field_of(body, COUNT, 6);
     let mut at = LOOPS;
     while 0 < left {
-        let words = words_of(kind, fields::field_of(body, at + 6, 4));
+        let words = forms::words_of(kind, fields::field_of(body, at + 6, 4));
         at += HEADING + WORD * words;
         left -= 1;
     }
     at
-}
-
-// 11.1.2: the checksum of a block with this head, whose first two bytes are the checksum's own.
-pub fn checksum(head: usize, body: &[u8]) -> usize
-    ensures { λ r. ⌜ r ≡ checksumOf head (map nib (now (body .entry))) ⌝ }
-{
-    let mut sum = head_total(head);
-    let mut i = 2;
-    while i < body.len() {
-        sum = (sum + quick::decode(body[i]) as usize) % 256;
-        i += 1;
-    }
-    (256 - sum) % 256
-}
-
-// The sum of the four nibbles of a head.
-fn head_total(head: usize) -> usize
-    ensures { λ r. ⌜ (r ≡ total (parts 4 4 head)) × (r < 256) ⌝ }
-{
-    head % 16 + head / 16 % 16 + head / 16 / 16 % 16 + head / 16 / 16 / 16 % 16
-}
-
-// How many bytes come before the first that can't be decoded.
-fn sound(s: &[u8]) -> usize
-    ensures { λ r. ⌜ r ≡ soundOf (map nib (now (s .entry))) ⌝ }
-{
-    let mut i = 0;
-    while i < s.len() {
-        if 15 < quick::decode(s[i]) {
-            return i;
-        }
-        i += 1;
-    }
-    i
-}
-
-// The form of the table that a block holds.
-fn write_form(body: &[u8], out: &mut [u8])
-    requires { ⌜ length (form (tableOf (compound (now body)))) ≤ length (now out) ⌝ }
-    ensures { λ _. ⌜ now (out .exit) ≡ sets (now (out .entry)) 0 (form (tableOf (compound (now (body .entry))))) ⌝ }
-{
-    write_opening(body, out);
-    write_descriptors(body, out);
-}
-
-// The six bytes before the descriptors.
-fn write_opening(body: &[u8], out: &mut [u8])
-    requires { ⌜ 6 ≤ length (now out) ⌝ }
-    ensures { λ _. ⌜ now (out .exit) ≡ sets (now (out .entry)) 0 (openingOf (tableOf (compound (now (body .entry))))) ⌝ }
-{
-    let kind = (fields::field_of(body, KIND, 6) % 256) as u8;
-    let copyright = (fields::field_of(body, COPYRIGHT, 1) % 256) as u8;
-    let block = fields::field_of(body, BLOCK, 16);
-    let network = (fields::field_of(body, NETWORK, 8) % 256) as u8;
-    let count = (fields::field_of(body, COUNT, 6) % 256) as u8;
-    let low = (block % 256) as u8;
-    let high = (block / 256 % 256) as u8;
-    out[0] = kind;
-    out[1] = copyright;
-    out[2] = low;
-    out[3] = high;
-    out[4] = network;
-    out[5] = count;
-}
-
-// The descriptors, behind the opening.
-fn write_descriptors(body: &[u8], out: &mut [u8])
-    requires { ⌜ length (form (tableOf (compound (now body)))) ≤ length (now out) ⌝ }
-    ensures { λ _.
-        ⌜ now (out .exit)
-        ≡ sets (now (out .entry)) 6
-        (listed (tableOf (compound (now (body .entry))) .kind) (tableOf (compound (now (body .entry))) .descriptors)) ⌝ }
-{
-    let kind = fields::field_of(body, KIND, 6);
-    let mut left = fields::field_of(body, COUNT, 6);
-    let mut at = LOOPS;
-    let mut q = OPENING;
-    while 0 < left {
-        let words = write_descriptor(body, kind, at, out, q);
-        at += HEADING + WORD * words;
-        q += 2 + 3 * words;
-        left -= 1;
-    }
-}
-
-// The descriptor at the place `at`; how many words it has.
-fn write_descriptor(body: &[u8], kind: usize, at: usize, out: &mut [u8], q: usize) -> usize
-    requires { ⌜ (q + (2 + 3 * (per kind * field (at + 6) 4 (compound (now body)))) ≤ length (now out)) × (at < 60000) ⌝ }
-    ensures { λ r.
-        ⌜ (r ≡ per kind * field (at + 6) 4 (compound (now (body .entry))))
-        × (r ≤ 30)
-        × (now (out .exit)
-        ≡ sets (now (out .entry)) q
-        (field at 6 (compound (now (body .entry)))
-        ∷ field (at + 6) 4 (compound (now (body .entry)))
-        ∷ spelled (parts 24 r (compound (now (body .entry)) / 2 ^ (at + 10))))) ⌝ }
-{
-    let id = fields::field_of(body, at, 6);
-    let entries = fields::field_of(body, at + 6, 4);
-    let words = words_of(kind, entries);
-    out[q] = (id % 256) as u8;
-    out[q + 1] = (entries % 256) as u8;
-    write_words(body, at + HEADING, words, out, q + 2);
-    words
-}
-
-// The k words of a block from the place `from` on.
-fn write_words(body: &[u8], from: usize, k: usize, out: &mut [u8], q: usize)
-    requires { ⌜ (q + 3 * k ≤ length (now out)) × (from + 24 * k < 65536) ⌝ }
-    ensures { λ _.
-        ⌜ now (out .exit) ≡ sets (now (out .entry)) q (spelled (parts 24 k (compound (now (body .entry)) / 2 ^ from))) ⌝ }
-{
-    let mut at = from;
-    let mut p = q;
-    let mut left = k;
-    while 0 < left {
-        let w = fields::field_of(body, at, WORD);
-        write_word(w, out, p);
-        at += WORD;
-        p += 3;
-        left -= 1;
-    }
-}
-
-// A word, high byte first.
-fn write_word(w: usize, out: &mut [u8], q: usize)
-    requires { ⌜ q + 3 ≤ length (now out) ⌝ }
-    ensures { λ _. ⌜ now (out .exit) ≡ sets (now (out .entry)) q (spelled (w ∷ [])) ⌝ }
-{
-    let high = (w / 256 / 256 % 256) as u8;
-    let middle = (w / 256 % 256) as u8;
-    let low = (w % 256) as u8;
-    out[q] = high;
-    out[q + 1] = middle;
-    out[q + 2] = low;
-}
-
-// 13, 15: whether a form is one that can be written; where it is, the bits that its table takes.
-pub fn judge_form(table: &[u8]) -> Answer
-    ensures { λ r. ⌜ r ≡ judged refused (formRules (now (table .entry))) (Done (bits (tableIn (now (table .entry))))) ⌝ }
-{
-    if table.len() < OPENING {
-        return refuse(13, 0);
-    }
-    if !known(byte_at(table, 0)) {
-        return refuse(15, 0);
-    }
-    if table.len() != form_size(table) {
-        return refuse(13, 0);
-    }
-    judge_values(table)
-}
-
-// The length of a form by its counts as they stand.
-fn form_size(table: &[u8]) -> usize
-    ensures { λ r. ⌜ (r ≡ length (form (tableIn (now (table .entry))))) × (r ≤ 390666) ⌝ }
-{
-    let kind = byte_at(table, 0);
-    let mut left = byte_at(table, 5);
-    let mut at = OPENING;
-    while 0 < left {
-        at += 2 + 3 * words_of(kind, byte_at(table, at + 1));
-        left -= 1;
-    }
-    at
-}
-
-// 15: each value fits its field. Blocks, networks and words always do.
-fn judge_values(table: &[u8]) -> Answer
-    requires { ⌜ (Tables·known (getD (now table) 0 0) ≡ true)
-        × (length (now table) ≡ length (form (tableIn (now table))))
-        × (length (now table) ≤ 390666) ⌝ }
-    ensures { λ r.
-        ⌜ r
-        ≡ judged refused (rule (fits (tableIn (now (table .entry)))) 15 0 ∷ []) (Done (bits (tableIn (now (table .entry))))) ⌝ }
-{
-    let count = byte_at(table, 5);
-    if 1 < byte_at(table, 1) {
-        return refuse(15, 0);
-    }
-    if 63 < count {
-        return refuse(15, 0);
-    }
-    if !loops_fit(table) {
-        return refuse(15, 0);
-    }
-    let bits = LOOPS + 8 * (table.len() - OPENING) - 6 * count;
-    if MOST < bits {
-        return refuse(15, 0);
-    }
-    Answer::Done(bits)
-}
-
-// Whether each descriptor's id and number of entries fit their fields.
-fn loops_fit(table: &[u8]) -> bool
-    ensures { λ r.
-        ⌜ r ≡ fitting (loops (tableIn (now (table .entry)) .kind) (tableIn (now (table .entry)) .descriptors)) ⌝ }
-{
-    let kind = byte_at(table, 0);
-    let mut left = byte_at(table, 5);
-    let mut at = OPENING;
-    while 0 < left {
-        let entries = byte_at(table, at + 1);
-        if 63 < byte_at(table, at) {
-            return false;
-        }
-        if 15 < entries {
-            return false;
-        }
-        at += 2 + 3 * words_of(kind, entries);
-        left -= 1;
-    }
-    true
-}
-
-// TI or LI.
-pub fn known(kind: usize) -> bool
-    ensures { λ r. ⌜ r ≡ Tables·known kind ⌝ }
-{
-    if kind == TI {
-        return true;
-    }
-    kind == LI
-}
-
-// The words that so many entries of a kind have. Only a byte's worth of entries counts.
-pub fn words_of(kind: usize, entries: usize) -> usize
-    ensures { λ r. ⌜ (r ≡ per kind * (entries % 256)) × (r ≤ 2 * (entries % 256)) ⌝ }
-{
-    let n = entries % 256;
-    if kind == TI {
-        return 2 * n;
-    }
-    n
-}
-
-// The word at a place of a form, high byte first. Past its end a form reads as zeros.
-pub fn word_at(table: &[u8], i: usize) -> usize
-    ensures { λ r. ⌜ (r ≡ wordAt (now (table .entry)) i) × (r < 2 ^ 24) ⌝ }
-{
-    if table.len() <= i {
-        return 0;
-    }
-    let high = byte_at(table, i);
-    let middle = byte_at(table, i + 1);
-    let low = byte_at(table, i + 2);
-    (high * 256 + middle) * 256 + low
-}
-
-// The byte i; 0 past the end.
-pub fn byte_at(s: &[u8], i: usize) -> usize
-    ensures { λ r. ⌜ (r ≡ getD (now (s .entry)) i 0) × (r < 256) ⌝ }
-{
-    if i < s.len() {
-        return s[i] as usize;
-    }
-    0
 }
 
 fn refuse(no: u8, at: usize) -> Answer

@@ -6,8 +6,8 @@ use Prim.Native.Nat.{ℕ, _+_, _-_, _*_, _≤_, _<_}
 use native.Mathlib.Omega.{arith}
 use lib.ListN.{getD, drop}
 use Rattle.fields.specs.Fields.{Field, row, width, laid, fitting}
-use Rattle.table.specs.Tables.{per, loops}
-use Rattle.table.specs.Form.{wordsIn, descriptorsIn}
+use Rattle.forms.specs.Tables.{per, loops}
+use Rattle.forms.specs.Form.{wordsIn, descriptorsIn}
 use Rattle.table_writer.specs.declared.Pen.{Pen}
 use Rattle.table_writer.specs.Ink.{ready, inked, moved, Fine}
 use Rattle.table_writer.proofs.Inking.{room-first, room-on, on-moved, on-inked, on-fine, pressed-moved, pressed-inked, pressed-ready}

@@ -11,9 +11,9 @@ use lib.ListN.{getD, drop}
 use lib.Seq.{drop-drop, getD-drop}
 use Rattle.laws.proofs.Tests.{both-true}
 use Rattle.fields.specs.Fields.{Field, row, width, laid, fitting}
-use Rattle.table.specs.Tables.{per, loops}
-use Rattle.table.specs.Form.{wordAt, wordsIn, descriptorsIn}
-use Rattle.table.proofs.Forms.{in-on, entries-in, fits-on}
+use Rattle.forms.specs.Tables.{per, loops}
+use Rattle.forms.specs.Form.{wordAt, wordsIn, descriptorsIn}
+use Rattle.forms.proofs.Forms.{in-on, entries-in, fits-on}
 
 pub row-on :
     (left i w : ℕ) (f : List ℕ) → 0 < left → w ≡ wordAt f i

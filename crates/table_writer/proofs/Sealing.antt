@@ -16,13 +16,14 @@ use Rattle.octet.specs.Image.{image}
 use Rattle.octet.specs.Decoding.{nib}
 use Rattle.fields.specs.Fields.{Field, laid, parts}
 use Rattle.fields.proofs.Laid.{length-parts}
-use Rattle.table.specs.Tables.{Table, fields, control, size, fits}
-use Rattle.table.specs.Block.{header, checksum, nibbles, checksumOf}
-use Rattle.table.specs.Writing.{recordWith, recordOf, formRules, writeRules}
-use Rattle.table.specs.Form.{tableIn}
-use Rattle.table.proofs.Measures.{bits-of}
-use Rattle.table.proofs.Exact.{behind-sum, checksum-lt}
-use Rattle.table.proofs.Back.{nibbles-again}
+use Rattle.forms.specs.Tables.{Table, fields, control, size, fits}
+use Rattle.sums.specs.Block.{header, nibbles, checksumOf, recordWith, recordOf}
+use Rattle.sums.specs.Sums.{checksum}
+use Rattle.forms.specs.Writing.{formRules, writeRules}
+use Rattle.forms.specs.Form.{tableIn}
+use Rattle.forms.proofs.Measures.{bits-of}
+use Rattle.sums.proofs.Nibbles.{behind-sum, nibbles-again}
+use Rattle.sums.proofs.Summing.{checksum-lt}
 use Rattle.table_writer.specs.Seal.{sumIn, sealed}
 
 length-nibbles : (sum reserved filling : ℕ) (t : Table) → length (map image (nibbles sum reserved filling t)) ≡ size t

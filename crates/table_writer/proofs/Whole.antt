@@ -11,11 +11,11 @@ use lib.Seq.{sets}
 use Rattle.octet.specs.Image.{image}
 use Rattle.fields.specs.Fields.{Field, width, laid, whole}
 use Rattle.fields.proofs.Laid.{laid-append, width-append}
-use Rattle.table.specs.Tables.{Table, per, loops, fields, bits, control, fill, size, fits}
-use Rattle.table.specs.Form.{tableIn}
-use Rattle.table.specs.Block.{nibbles}
-use Rattle.table.proofs.Inverse.{sendable}
-use Rattle.table.proofs.Forms.{length-in, two-bytes}
+use Rattle.forms.specs.Tables.{Table, per, loops, fields, bits, control, fill, size, fits}
+use Rattle.forms.specs.Form.{tableIn}
+use Rattle.sums.specs.Block.{nibbles}
+use Rattle.forms.proofs.Sendable.{sendable}
+use Rattle.forms.proofs.Forms.{length-in, two-bytes}
 use Rattle.table_writer.specs.declared.Pen.{Pen}
 use Rattle.table_writer.specs.Parts.{firstFields, secondFields}
 use Rattle.table_writer.specs.Ink.{inHand, ready, inked, moved, Fine}

@@ -3,7 +3,7 @@ use mathlib.Core.List.{List, [], _∷_}
 use Prim.Native.Nat.{ℕ}
 use lib.ListN.{length}
 use Rattle.fields.specs.Fields.{Field}
-use Rattle.table.specs.Tables.{Table}
+use Rattle.forms.specs.Tables.{Table}
 
 -- checksum, which is 0 until it is known, control_block_size, datatype_id, CA_mode, copyright, reserved
 abbrev pub firstFields : ℕ → Table → List Field

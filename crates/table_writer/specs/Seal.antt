@@ -4,7 +4,8 @@ use Prim.Native.Nat.{ℕ, _/_, _%_}
 use lib.ListN.{take, drop, set}
 use Rattle.octet.specs.Image.{image}
 use Rattle.octet.specs.Decoding.{nib}
-use Rattle.table.specs.Block.{headLength, checksum}
+use Rattle.sums.specs.Block.{headLength}
+use Rattle.sums.specs.Sums.{checksum}
 
 -- the checksum of the block that stands in a record
 abbrev pub sumIn : ℕ → ℕ → List ℕ → ℕ

@@ -5,9 +5,9 @@ ghost use mathlib.Core.List.{map, _∷_, []};
 ghost use Prim.Native.Nat.{_+_, _-_, _*_, _/_, _%_, _^_, _<_, _≤_};
 ghost use lib.ListN.{length, drop};
 ghost use Rattle.fields.specs.Fields.{row, laid, fitting};
-ghost use Rattle.table.specs.Tables.{loops, size, fits, bits as Tables·bits};
-ghost use Rattle.table.specs.Form.{wordsIn, tableIn};
-ghost use Rattle.table.specs.Block.{nibbles};
+ghost use Rattle.forms.specs.Tables.{loops, size, fits, bits as Tables·bits};
+ghost use Rattle.forms.specs.Form.{wordsIn, tableIn};
+ghost use Rattle.sums.specs.Block.{nibbles, recordOf};
 ghost use Rattle.octet.specs.Image.{image};
 ghost use lib.Seq.{sets};
 ghost use Rattle.table_writer.specs.Ink.{ready, inked, moved, Fine};
@@ -16,14 +16,14 @@ ghost use Rattle.answer.specs.Rules.{judged};
 ghost use Rattle.answer.specs.Values.{refused};
 ghost use Rattle.answer.specs.Writing.{answered, left};
 ghost use Rattle.answer.specs.declared.Answer.the-variants.{Done};
-ghost use Rattle.table.specs.Writing.{recordOf, writeRules};
+ghost use Rattle.forms.specs.Writing.{writeRules};
 ghost use Rattle.table_writer.specs.Parts.{firstFields, secondFields};
 use answer::Answer;
 use answer::Refusal;
 use blocks::HEAD;
-use table::HEADING;
-use table::OPENING;
-use table::WORD;
+use forms::HEADING;
+use forms::OPENING;
+use forms::WORD;
 
 // Where the next nibble goes, and the bits, fewer than four, that don't make one yet.
 pub struct Pen {
@@ -65,7 +65,7 @@ fn judge(application: u8, table: &[u8]) -> Answer
     if 32 <= application {
         return Answer::Refused(Refusal { no: 16, at: 0 });
     }
-    table::judge_form(table)
+    forms::judge_form(table)
 }
 
 // The record of a form whose values fit.
@@ -92,7 +92,7 @@ fn seal(head: usize, size: usize, out: &mut [u8])
     ensures { λ _. ⌜ now (out .exit) ≡ sealed head size (now (out .entry)) ⌝ }
 {
     let end = HEAD + size;
-    let sum = table::checksum(head, &out[HEAD..end]);
+    let sum = sums::checksum(head, &out[HEAD..end]);
     let low = octet::image((sum % 16) as u8);
     let high = octet::image((sum / 16 % 16) as u8);
     out[2] = low;
@@ -129,8 +129,8 @@ fn first_fields(table: &[u8], control: usize) -> usize
     requires { ⌜ (fits (tableIn (now table)) ≡ true) × (control < 1024) ⌝ }
     ensures { λ r. ⌜ (r ≡ laid (firstFields control (tableIn (now (table .entry)))) 0) × (r < 2 ^ 28) ⌝ }
 {
-    let kind = table::byte_at(table, 0);
-    let copyright = table::byte_at(table, 1);
+    let kind = forms::byte_at(table, 0);
+    let copyright = forms::byte_at(table, 1);
     ((copyright * 256 + kind) * 1024 + control) * 256
 }
 
@@ -139,9 +139,9 @@ fn second_fields(table: &[u8]) -> usize
     requires { ⌜ fits (tableIn (now table)) ≡ true ⌝ }
     ensures { λ r. ⌜ (r ≡ laid (secondFields (tableIn (now (table .entry)))) 0) × (r < 2 ^ 30) ⌝ }
 {
-    let block = table::byte_at(table, 2) + 256 * table::byte_at(table, 3);
-    let network = table::byte_at(table, 4);
-    let count = table::byte_at(table, 5);
+    let block = forms::byte_at(table, 2) + 256 * forms::byte_at(table, 3);
+    let network = forms::byte_at(table, 4);
+    let count = forms::byte_at(table, 5);
     (count * 256 + network) * 65536 + block
 }
 
@@ -155,14 +155,14 @@ fn put_descriptors(table: &[u8], pen: Pen, out: &mut [u8]) -> Pen
         × (now (out .exit)
         ≡ inked pen (loops (tableIn (now (table .entry)) .kind) (tableIn (now (table .entry)) .descriptors)) (now (out .entry))) ⌝ }
 {
-    let kind = table::byte_at(table, 0);
-    let mut left = table::byte_at(table, 5);
+    let kind = forms::byte_at(table, 0);
+    let mut left = forms::byte_at(table, 5);
     let mut p = pen;
     let mut i = OPENING;
     while 0 < left {
-        let id = table::byte_at(table, i);
-        let entries = table::byte_at(table, i + 1);
-        let words = table::words_of(kind, entries);
+        let id = forms::byte_at(table, i);
+        let entries = forms::byte_at(table, i + 1);
+        let words = forms::words_of(kind, entries);
         let q = put(p, HEADING, entries * 64 + id, out);
         p = put_words(table, i + 2, words, q, out);
         i += 2 + 3 * words;
@@ -184,7 +184,7 @@ fn put_words(table: &[u8], from: usize, k: usize, pen: Pen, out: &mut [u8]) -> P
     let mut i = from;
     let mut left = k;
     while 0 < left {
-        p = put(p, WORD, table::word_at(table, i), out);
+        p = put(p, WORD, forms::word_at(table, i), out);
         i += 3;
         left -= 1;
     }

@@ -8,7 +8,7 @@ use native.Mathlib.Omega.{arith}
 use lib.Dec.{ltb}
 use lib.ListN.{length}
 use denote.Ref.{now}
-use Rattle.table.specs.Form.{tableIn}
+use Rattle.forms.specs.Form.{tableIn}
 use Rattle.listing.specs.Lines.{linesFrom}
 use Rattle.listing.proofs.Room.{lines-room}
 use Rattle.listing.proofs.is_short.Statement.{statement}

@@ -8,9 +8,9 @@ use native.Mathlib.Nat.{zero-add}
 use denote.Ref.{now}
 use Rattle.answer.proofs.Lent.{lent-refused, lent-short, lent-done}
 use Rattle.answer.specs.declared.Answer.the-variants.{Done}
-use Rattle.table.specs.Tables.{bits}
-use Rattle.table.specs.Form.{tableIn}
-use Rattle.table.specs.Writing.{formRules}
+use Rattle.forms.specs.Tables.{bits}
+use Rattle.forms.specs.Form.{tableIn}
+use Rattle.forms.specs.Writing.{formRules}
 use Rattle.listing.specs.Lines.{linesFrom}
 use Rattle.listing.proofs.Room.{judged-long}
 use Rattle.listing.proofs.list.Statement.{statement}

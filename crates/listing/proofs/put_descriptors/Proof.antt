@@ -6,9 +6,9 @@ use Prim.Native.Nat.{ℕ, _+_, _*_, _≤_}
 use native.Mathlib.Omega.{arith}
 use lib.ListN.{length, drop}
 use denote.Ref.{now}
-use Rattle.table.proofs.Measures.{words-counted}
-use Rattle.table.specs.Form.{descriptorsIn, tableIn}
-use Rattle.table.specs.Tables.{per}
+use Rattle.forms.proofs.Measures.{words-counted}
+use Rattle.forms.specs.Form.{descriptorsIn, tableIn}
+use Rattle.forms.specs.Tables.{per}
 use Rattle.listing.specs.Lines.{descriptorLines, descriptorLinesOf}
 use Rattle.printing.proofs.Puts.{Left, left-start, left-on, left-end}
 use Rattle.listing.proofs.Walk.{descriptors-on, descriptors-end}

@@ -6,8 +6,8 @@ use Prim.Native.Nat.{ℕ, _+_, _*_, _≤_}
 use native.Mathlib.Omega.{arith}
 use lib.ListN.{length, drop}
 use denote.Ref.{now}
-use Rattle.table.specs.Form.{wordsIn}
-use Rattle.table.specs.Tables.{per}
+use Rattle.forms.specs.Form.{wordsIn}
+use Rattle.forms.specs.Tables.{per}
 use Rattle.listing.specs.Lines.{entryLines}
 use Rattle.printing.proofs.Puts.{Left, left-start, left-on, left-end}
 use Rattle.listing.proofs.Walk.{entries-on, entries-end}

@@ -3,7 +3,7 @@ use borrow.Author.Needs.{needs}
 use mathlib.Core.Path.{sym, ap}
 use mathlib.Core.Bool.{Bool}
 use denote.Ref.{now}
-use Rattle.table.specs.Form.{tableIn}
+use Rattle.forms.specs.Form.{tableIn}
 use Rattle.listing.specs.Lines.{linesOf, linesFrom}
 use Rattle.printing.proofs.Puts.{then, put-as}
 use Rattle.listing.proofs.put_lines.Statement.{statement}

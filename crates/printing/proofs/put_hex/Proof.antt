@@ -1,6 +1,6 @@
 -- `printing::put_hex` meets its contract: two digits for each of three bytes. Assumes nothing.
 use borrow.Author.Needs.{needs}
-use Rattle.table.specs.Form.{spelled}
+use Rattle.forms.specs.Form.{spelled}
 use Rattle.printing.specs.Lines.{hexed}
 use Rattle.printing.proofs.Puts.{then}
 use Rattle.printing.proofs.put_hex.Statement.{statement}

@@ -1,6 +1,6 @@
 -- `printing::put_word` meets its contract: three bytes, one after the other. Assumes nothing.
 use borrow.Author.Needs.{needs}
-use Rattle.table.specs.Form.{spelled}
+use Rattle.forms.specs.Form.{spelled}
 use Rattle.printing.proofs.Puts.{then}
 use Rattle.printing.proofs.put_word.Statement.{statement}
 use Rattle.printing.proofs.put_word.Tie as tie

@@ -14,9 +14,10 @@ use Rattle.answer.proofs.Steps.{ends, goes-on, done-value}
 use Rattle.laws.proofs.Lists.{part-rest}
 use Rattle.octet.specs.Decoding.{nib}
 use Rattle.fields.specs.Fields.{whole}
-use Rattle.table.specs.Form.{form}
-use Rattle.table.specs.Block.{headOf, nibblesOf}
-use Rattle.table.specs.Reading.{frameRules, bodyRules, tableOf}
+use Rattle.forms.specs.Form.{form}
+use Rattle.sums.specs.Block.{headOf, nibblesOf}
+use Rattle.spelling.specs.Control.{tableOf}
+use Rattle.table.specs.Reading.{frameRules, bodyRules}
 use Rattle.table.proofs.Judging.{framed}
 use Rattle.table.proofs.judge.Statement.{statement}
 use Rattle.table.proofs.judge.Tie as tie

@@ -10,9 +10,10 @@ use lib.Seq.{length-take-le}
 use denote.Ref.{now}
 use Rattle.laws.proofs.Maps.{map-take}
 use Rattle.octet.specs.Decoding.{nib}
-use Rattle.table.specs.Reading.{sound}
-use Rattle.table.proofs.Judging.{front-10, front-12, front-12′, front-13, front-done, sound-le}
-use Rattle.table.specs.Tables.{known}
+use Rattle.sums.specs.Sums.{sound}
+use Rattle.table.proofs.Judging.{front-10, front-12, front-12′, front-13, front-done}
+use Rattle.sums.proofs.Summing.{sound-le}
+use Rattle.forms.specs.Tables.{known}
 use borrow.Author.Tests.{not-true, not-false}
 use Rattle.table.proofs.judge_front.Statement.{statement}
 use Rattle.table.proofs.judge_front.Tie as tie

@@ -8,8 +8,9 @@ use native.Mathlib.Omega.{arith}
 use lib.ListN.{length-map}
 use denote.Ref.{now}
 use Rattle.octet.specs.Decoding.{nib}
-use Rattle.table.specs.Reading.{sound}
-use Rattle.table.proofs.Judging.{whole-10, whole-11, whole-done, sound-le}
+use Rattle.sums.specs.Sums.{sound}
+use Rattle.table.proofs.Judging.{whole-10, whole-11, whole-done}
+use Rattle.sums.proofs.Summing.{sound-le}
 use Rattle.table.proofs.judge_whole.Statement.{statement}
 use Rattle.table.proofs.judge_whole.Tie as tie
 
@@ -42,7 +43,7 @@ refuse-requires-2 c κs = search needs
 returns-2 : tie.Need-returns-2
 returns-2 c =
     let s : List ℕ = now (c .before .before .before .before .before .before .args .body) in
-    let w = c .before .before .before .before .sum-of .ensures .1 (omega (arith, c .before .before .before .if1 .left)) in
+    let w = c .before .before .before .before .sum-of .ensures .1 .0 (omega (arith, c .before .before .before .if1 .left)) in
     c .refuse2 .ensures
     ∙ sym
     (whole-11 _ (map nib s) _
@@ -52,7 +53,7 @@ returns-2 c =
 returns-3 : tie.Need-returns-3
 returns-3 c =
     let s : List ℕ = now (c .before .before .before .before .before .args .body) in
-    let w = c .before .before .before .sum-of .ensures .1 (omega (arith, c .before .before .if1 .left)) in
+    let w = c .before .before .before .sum-of .ensures .1 .0 (omega (arith, c .before .before .if1 .left)) in
     sym
     (whole-done _ (map nib s) _
     (w .0 ∙ sym (length-map s nib))

@@ -6,10 +6,11 @@ use Prim.Native.Nat.{_+_, _*_, _/_, _^_, _≤_}
 use native.Mathlib.Omega.{arith}
 use denote.Ref.{now}
 use Rattle.fields.specs.Fields.{width}
-use Rattle.table.specs.Tables.{bits, per, loops}
+use Rattle.forms.specs.Tables.{bits, per, loops}
 use Rattle.fields.specs.Compound.{compound}
-use Rattle.table.specs.Reading.{tableOf, descriptorsOf}
-use Rattle.table.proofs.Measures.{words-counted, bits-of, walk-on, walk-end}
+use Rattle.spelling.specs.Control.{tableOf, descriptorsOf}
+use Rattle.forms.proofs.Measures.{words-counted, bits-of}
+use Rattle.table.proofs.Loops.{walk-on, walk-end}
 use Rattle.table.proofs.measure.Statement.{statement}
 use Rattle.table.proofs.measure.Tie as tie
 

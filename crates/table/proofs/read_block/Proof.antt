@@ -11,9 +11,10 @@ use Rattle.laws.proofs.Lists.{part-rest}
 use Rattle.answer.proofs.Lent.{lent-refused, lent-short, lent-done, lent-value}
 use Rattle.octet.specs.Decoding.{nib}
 use Rattle.fields.specs.Fields.{whole}
-use Rattle.table.specs.Form.{form}
-use Rattle.table.specs.Block.{nibblesOf}
-use Rattle.table.specs.Reading.{readRules, tableOf, tableRead}
+use Rattle.forms.specs.Form.{form}
+use Rattle.sums.specs.Block.{nibblesOf}
+use Rattle.spelling.specs.Control.{tableOf}
+use Rattle.table.specs.Reading.{readRules, tableRead}
 use Rattle.table.proofs.Judging.{long-enough}
 use Rattle.answer.specs.declared.Answer.the-variants.{Done}
 use Rattle.table.proofs.read_block.Statement.{statement}
@@ -54,12 +55,7 @@ part-write-form-end : tie.Need-part-write-form-end
 part-write-form-end c = search needs
 
 write-form-requires : tie.Need-write-form-requires
-unfolding nibblesOf
-write-form-requires c κs =
-    let a = c .before .before .before .before .before .before .before .before .before .args in
-    let r = now (a .rec) in
-    let e = lent-value (readRules (a .application) r) (form (tableRead r)) (now (a .out)) _ (c .before .before .before .before .before .before .judge .ensures) (c .before .before .before .before .need .given .1) in
-    rw (part-rest 2 r) (omega (arith, e))
+write-form-requires c κs = search needs
 
 returns-2 : tie.Need-returns-2
 returns-2 c =

@@ -10,9 +10,9 @@ use native.Mathlib.Omega.{arith}
 use lib.ListN.{length, drop}
 use denote.Ref.{now}
 use Rattle.fields.specs.Fields.{Field, fitting}
-use Rattle.table.specs.Tables.{per, loops}
-use Rattle.table.specs.Form.{descriptorsIn, tableIn}
-use Rattle.table.proofs.Measures.{words-counted}
+use Rattle.forms.specs.Tables.{per, loops}
+use Rattle.forms.specs.Form.{descriptorsIn, tableIn}
+use Rattle.forms.proofs.Measures.{words-counted}
 use Rattle.table_writer.specs.Ink.{inked, moved, Fine}
 use Rattle.table_writer.proofs.Inking.{room-on, none-left, none-inked}
 use Rattle.table_writer.proofs.Rows.{loops-end}

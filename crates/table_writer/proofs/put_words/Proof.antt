@@ -7,7 +7,7 @@ use Prim.Native.Nat.{ℕ, _+_, _-_, _*_, _<_}
 use lib.ListN.{length, drop}
 use denote.Ref.{now}
 use Rattle.fields.specs.Fields.{Field, row}
-use Rattle.table.specs.Form.{wordsIn}
+use Rattle.forms.specs.Form.{wordsIn}
 use Rattle.table_writer.specs.Ink.{inked, moved, Fine}
 use Rattle.table_writer.proofs.Inking.{room-first, room-on, on-moved, on-inked, on-fine, none-left, none-inked}
 use Rattle.table_writer.proofs.Rows.{row-on, row-end}

@@ -9,10 +9,11 @@ use lib.ListN.{length}
 use denote.Ref.{now}
 use Rattle.answer.specs.declared.Answer.the-variants.{Done}
 use Rattle.answer.proofs.Lent.{lent-value, lent-refused, lent-short, lent-done}
-use Rattle.table.specs.Tables.{bits}
-use Rattle.table.specs.Form.{tableIn}
-use Rattle.table.specs.Writing.{recordOf, writeRules}
-use Rattle.table.proofs.Inverse.{sendable}
+use Rattle.forms.specs.Tables.{bits}
+use Rattle.forms.specs.Form.{tableIn}
+use Rattle.forms.specs.Writing.{writeRules}
+use Rattle.sums.specs.Block.{recordOf}
+use Rattle.forms.proofs.Sendable.{sendable}
 use Rattle.table_writer.proofs.Sealing.{writable, length-record}
 use Rattle.table_writer.proofs.write_block.Statement.{statement}
 use Rattle.table_writer.proofs.write_block.Tie as tie

@@ -5,10 +5,10 @@ use Prim.Native.Nat.{ℕ, _+_, _*_, _/_}
 use native.Mathlib.Omega.{arith}
 use lib.ListN.{length-set}
 use denote.Ref.{now}
-use Rattle.table.specs.Tables.{bits, size}
-use Rattle.table.specs.Form.{tableIn}
-use Rattle.table.proofs.Measures.{bits-of}
-use Rattle.table.proofs.Inverse.{sendable}
+use Rattle.forms.specs.Tables.{bits, size}
+use Rattle.forms.specs.Form.{tableIn}
+use Rattle.forms.proofs.Measures.{bits-of}
+use Rattle.forms.proofs.Sendable.{sendable}
 use Rattle.table_writer.proofs.Sealing.{record-stored, head-of}
 use Rattle.table_writer.specs.Seal.{sealed}
 use Rattle.table_writer.proofs.write_record.Statement.{statement}

@@ -1,0 +1,4 @@
+pub mod Measures
+pub mod Sendable
+pub mod Forms
+pub mod Judging

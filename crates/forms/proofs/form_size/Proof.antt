@@ -1,0 +1,96 @@
+-- `forms::form_size` meets its contract: the bytes passed and those of the descriptors left make the form's length. The measure
+-- is the descriptors left. Assumes nothing.
+use borrow.Author.Needs.{needs}
+use mathlib.Core.Path.{_≡_, refl, sym}
+use mathlib.Core.List.{List}
+use Prim.Native.Nat.{ℕ, _+_, _*_, _≤_}
+use native.Mathlib.Omega.{arith}
+use lib.ListN.{length, drop}
+use denote.Ref.{now}
+use Rattle.forms.specs.Tables.{per}
+use Rattle.forms.specs.Form.{listed, form, descriptorsIn, tableIn}
+use Rattle.forms.proofs.Measures.{words-counted, length-form}
+use Rattle.forms.proofs.Forms.{form-on, form-end}
+use Rattle.forms.proofs.form_size.Statement.{statement}
+use Rattle.forms.proofs.form_size.Tie as tie
+
+abbrev Inv-loop : tie.InvT-loop
+Inv-loop table kind left₀ at₀ left at =
+    (at + 1532 * left ≤ 390666)
+    × (at + length (listed kind (descriptorsIn (per kind) left (drop at table))) ≡ length (form (tableIn table)))
+
+abbrev μ-loop : tie.MeasureT-loop
+μ-loop table kind left₀ at₀ left at = left
+
+byte-at-requires : tie.Need-byte-at-requires Inv-loop μ-loop
+byte-at-requires c κs = search needs
+
+byte-at-requires-2 : tie.Need-byte-at-requires-2 Inv-loop μ-loop
+byte-at-requires-2 c κs = search needs
+
+loop-holds : tie.Need-loop-holds Inv-loop μ-loop
+unfolding tableIn
+loop-holds c =
+    let f : List ℕ = now (c .before .before .before .args .table) in
+    let e = c .before .byte-at .ensures .0 in
+    (omega (arith, c .byte-at2 .ensures .1), rw (e, c .byte-at2 .ensures .0) (sym (length-form (tableIn f))))
+
+add-byte-at : tie.Need-add-byte-at Inv-loop μ-loop
+add-byte-at c = search needs
+
+byte-at-requires-3 : tie.Need-byte-at-requires-3 Inv-loop μ-loop
+byte-at-requires-3 c κs = search needs
+
+words-of-requires : tie.Need-words-of-requires Inv-loop μ-loop
+words-of-requires c κs = search needs
+
+mul-at : tie.Need-mul-at Inv-loop μ-loop
+mul-at c = omega (arith, c .words-of .ensures .1, c .before .byte-at3 .ensures .1)
+
+add-at : tie.Need-add-at Inv-loop μ-loop
+add-at c = omega (arith, c .words-of .ensures .1, c .before .byte-at3 .ensures .1)
+
+add-at-2 : tie.Need-add-at-2 Inv-loop μ-loop
+add-at-2 c = omega (arith, c .words-of .ensures .1, c .before .byte-at3 .ensures .1)
+
+sub-left : tie.Need-sub-left Inv-loop μ-loop
+sub-left c = search needs
+
+loop-less : tie.Need-loop-less Inv-loop μ-loop
+loop-less c = search needs
+
+loop-again : tie.Need-loop-again Inv-loop μ-loop
+loop-again c =
+    let l = c .before .before .before .loop in
+    let f : List ℕ = now (c .before .before .before .before .before .before .before .args .table) in
+    let b = c .before .byte-at3 in (
+      omega (arith, c .words-of .ensures .1, b .ensures .1),
+      form-on (c .before .before .before .before .before .byte-at .result) (l .left) (l .at) (b .result) (c .words-of .result) _ f (search needs)
+          (b .ensures .0) (words-counted _ _ _ _ (c .words-of .ensures .0) (b .ensures .1) refl) (l .inv .1),
+    )
+
+returns : tie.Need-returns Inv-loop μ-loop
+returns c =
+    let l = c .before .loop in
+    let f : List ℕ = now (c .before .before .before .before .before .args .table) in
+    (form-end (c .before .before .before .byte-at .result) (l .left) (l .at) _ f (search needs) (l .inv .1), search needs)
+
+pub form-size-spec : {M : Type 1} → statement M
+form-size-spec =
+    tie.close
+    (tie.spec
+    Inv-loop
+    μ-loop
+    byte-at-requires
+    byte-at-requires-2
+    loop-holds
+    add-byte-at
+    byte-at-requires-3
+    words-of-requires
+    mul-at
+    add-at
+    add-at-2
+    sub-left
+    loop-less
+    loop-again
+    returns)

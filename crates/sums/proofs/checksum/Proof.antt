@@ -1,0 +1,86 @@
+-- `sums::checksum` meets its contract: the sum so far and the nibbles still to come make, modulo 256, the sum of all. The
+-- measure is what is left of the length. Assumes nothing.
+use borrow.Author.Needs.{needs}
+use mathlib.Core.Path.{_≡_, _∙_, ap}
+use mathlib.Core.List.{List, map}
+use Prim.Native.Nat.{ℕ, _+_, _-_, _%_, _<_}
+use lib.ListN.{length, drop}
+use denote.Ref.{now}
+use Rattle.laws.proofs.Maps.{map-drop}
+use Rattle.octet.specs.Decoding.{nib}
+use Rattle.fields.specs.Fields.{parts}
+use Rattle.sums.specs.Sums.{total}
+use Rattle.sums.proofs.Summing.{sum-step, sum-end}
+use Rattle.sums.proofs.checksum.Statement.{statement}
+use Rattle.sums.proofs.checksum.Tie as tie
+
+abbrev Inv-loop : tie.InvT-loop
+Inv-loop head body sum₀ i₀ sum i =
+    (sum < 256)
+    × ((sum + total (map nib (drop i body))) % 256 ≡ (total (parts 4 4 head) + total (drop 2 (map nib body))) % 256)
+
+abbrev μ-loop : tie.MeasureT-loop
+μ-loop head body sum₀ i₀ sum i = length body - i
+
+head-total-requires : tie.Need-head-total-requires Inv-loop μ-loop
+head-total-requires c κs = search needs
+
+loop-holds : tie.Need-loop-holds Inv-loop μ-loop
+loop-holds c =
+    let s : List ℕ = now (c .before .before .args .body) in
+    (search needs, ap (λ (x : ℕ). (x + total (map nib (drop 2 s))) % 256) (c .head-total .ensures .0) ∙ rw map-drop)
+
+shared-slice-read-decode : tie.Need-shared-slice-read-decode Inv-loop μ-loop
+shared-slice-read-decode c = search needs
+
+decode-requires : tie.Need-decode-requires Inv-loop μ-loop
+decode-requires c κs = search needs
+
+cast-total : tie.Need-cast-total Inv-loop μ-loop
+cast-total c = search needs
+
+add-total : tie.Need-add-total Inv-loop μ-loop
+add-total c = search needs
+
+add-i : tie.Need-add-i Inv-loop μ-loop
+add-i c = search needs
+
+loop-less : tie.Need-loop-less Inv-loop μ-loop
+loop-less c = search needs
+
+loop-again : tie.Need-loop-again Inv-loop μ-loop
+loop-again c =
+    let l = c .before .before .before .loop in
+    let a = c .before .before .before .before .before .before .args in (
+      search needs,
+      ap (λ (x : ℕ). ((l .total + x) % 256 + total (map nib (drop (l .i + 1) (now (a .body))))) % 256) (c .decode .ensures)
+          ∙ sum-step (now (a .body)) (l .i) (l .total) (search needs)
+          ∙ l .inv .1,
+    )
+
+sub-result : tie.Need-sub-result Inv-loop μ-loop
+sub-result c = search needs
+
+returns : tie.Need-returns Inv-loop μ-loop
+returns c =
+    let l = c .before .loop in
+    let a = c .before .before .before .before .args in
+    sum-end (a .head) (now (a .body)) (l .i) (l .total) (search needs) (l .inv .0) (l .inv .1)
+
+pub checksum-spec : {M : Type 1} → statement M
+checksum-spec =
+    tie.close
+    (tie.spec
+    Inv-loop
+    μ-loop
+    head-total-requires
+    loop-holds
+    shared-slice-read-decode
+    decode-requires
+    cast-total
+    add-total
+    add-i
+    loop-less
+    loop-again
+    sub-result
+    returns)

@@ -1,0 +1,77 @@
+// A block's protected bytes: which of them can be decoded, and the checksum over them.
+ghost use mathlib.Core.Path.{_≡_};
+ghost use mathlib.Core.List.{map};
+ghost use Prim.Native.Nat.{_<_, _≤_};
+ghost use lib.ListN.{length};
+ghost use Rattle.octet.specs.Decoding.{nib};
+ghost use Rattle.fields.specs.Fields.{parts};
+ghost use Rattle.sums.specs.Sums.{total, checksum as checksumOf, sound as soundOf};
+
+// What a block's first two bytes should hold, or 256 where a byte of it can't be decoded: `sound` and
+// `checksum` in one pass.
+pub fn sum_of(head: usize, body: &[u8]) -> usize
+    ensures broken { λ r. ⌜ (255 < r → soundOf (map nib (now (body .entry))) < length (now (body .entry))) ⌝ }
+    ensures whole { λ r.
+        ⌜ (r ≤ 255
+        → (soundOf (map nib (now (body .entry))) ≡ length (now (body .entry)))
+        × (r ≡ checksumOf head (map nib (now (body .entry))))) ⌝ }
+    ensures most { λ r. ⌜ r ≤ 256 ⌝ }
+{
+    if body.len() < 2 {
+        if sound(body) < body.len() {
+            return 256;
+        }
+        return checksum(head, body);
+    }
+    if 15 < quick::decode(body[0]) {
+        return 256;
+    }
+    if 15 < quick::decode(body[1]) {
+        return 256;
+    }
+    let mut sum = head_total(head);
+    let mut i = 2;
+    while i < body.len() {
+        let n = quick::decode(body[i]);
+        if 15 < n {
+            return 256;
+        }
+        sum = (sum + n as usize) % 256;
+        i += 1;
+    }
+    (256 - sum) % 256
+}
+
+// 11.1.2: the checksum of a block with this head, whose first two bytes are the checksum's own.
+pub fn checksum(head: usize, body: &[u8]) -> usize
+    ensures { λ r. ⌜ r ≡ checksumOf head (map nib (now (body .entry))) ⌝ }
+{
+    let mut total = head_total(head);
+    let mut i = 2;
+    while i < body.len() {
+        total = (total + quick::decode(body[i]) as usize) % 256;
+        i += 1;
+    }
+    (256 - total) % 256
+}
+
+// How many bytes come before the first that can't be decoded.
+pub fn sound(s: &[u8]) -> usize
+    ensures { λ r. ⌜ r ≡ soundOf (map nib (now (s .entry))) ⌝ }
+{
+    let mut i = 0;
+    while i < s.len() {
+        if 15 < quick::decode(s[i]) {
+            return i;
+        }
+        i += 1;
+    }
+    i
+}
+
+// The sum of the four nibbles of a head.
+fn head_total(head: usize) -> usize
+    ensures { λ r. ⌜ (r ≡ total (parts 4 4 head)) × (r < 256) ⌝ }
+{
+    head % 16 + head / 16 % 16 + head / 16 / 16 % 16 + head / 16 / 16 / 16 % 16
+}
