@@ -75,7 +75,7 @@ fn call(op: u8, no: u8, at: usize, out: &[u8], written: usize, text: &mut [u8]) 
     let n = put_number(text, n, b" at=", at as u64);
     let n = put(text, n, b" out=");
     let n = put_hex(text, n, out, written);
-    put_yes(text, n, b" kept=", vectors::kept(out, written))
+    put_yes(text, n, b" kept=", lent::kept(out, written))
 }
 
 // Ends the line with the first n bytes of text, and writes it.

@@ -7,7 +7,7 @@ use native.Mathlib.Numerals.{add-one}
 use lib.ListN.{length, take, drop, set, getD, replicate, replicate-append-replicate, drop-of-length-le}
 use lib.Seq.{take-suc-set, drop-cons}
 use borrow.Author.Tests.{eq-eqb, ne-eqb}
-use Rattle.vectors.specs.Lent.{filler, untouched}
+use Rattle.lent.specs.Lent.{filler, untouched}
 
 -- one more byte is filled
 pub fill-one :

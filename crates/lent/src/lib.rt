@@ -1,9 +1,8 @@
-// The output that a program lends to a call: filled before, so that what the call leaves can be told.
+// The output that a program try_NAME lends to a call: filled before, so that what the call leaves can be told.
 ghost use mathlib.Core.Path.{_≡_};
 ghost use Prim.Native.Nat.{min};
 ghost use lib.ListN.{length, replicate};
-ghost use Rattle.vectors.specs.Lent.{filler, keptFrom};
-use crate::least;
+ghost use Rattle.lent.specs.Lent.{filler, keptFrom};
 
 // What the lent output is filled with before a call.
 const FILLER: u8 = 0xA5;
@@ -37,4 +36,11 @@ pub fn kept(out: &[u8], written: usize) -> bool
         i += 1;
     }
     true
+}
+
+// The smaller of two numbers.
+pub fn least(a: usize, b: usize) -> usize
+    ensures { λ r. ⌜ r ≡ min a b ⌝ }
+{
+    if a < b { a } else { b }
 }

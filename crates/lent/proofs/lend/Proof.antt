@@ -1,14 +1,14 @@
--- `vectors::lent::lend` meets its contract: each turn fills one byte more. The measure is how many are left to fill.
+-- `lent::lend` meets its contract: each turn fills one byte more. The measure is how many are left to fill.
 -- Assumes nothing.
 use mathlib.Core.Path.{_≡_, _∙_, sym, ap}
 use Prim.Native.Nat.{ℕ, _-_, _≤_}
 use lib.ListN.{length, length-set, take, replicate}
 use lib.Seq.{length-take-le}
 use borrow.Author.Needs.{needs}
-use Rattle.vectors.specs.Lent.{filler}
-use Rattle.vectors.proofs.Filled.{fill-one}
-use Rattle.vectors.proofs.lent.lend.Statement.{statement}
-use Rattle.vectors.proofs.lent.lend.Tie as tie
+use Rattle.lent.specs.Lent.{filler}
+use Rattle.lent.proofs.Filled.{fill-one}
+use Rattle.lent.proofs.lend.Statement.{statement}
+use Rattle.lent.proofs.lend.Tie as tie
 
 abbrev Inv-loop : tie.InvT-loop
 Inv-loop out₀ room n i₀ out i =

@@ -1,14 +1,14 @@
--- `vectors::lent::kept` meets its contract: what is left from here decides as the whole does. The measure is what is left of
+-- `lent::kept` meets its contract: what is left from here decides as the whole does. The measure is what is left of
 -- the length. Assumes nothing.
 use mathlib.Core.Path.{_≡_, _∙_}
 use Prim.Native.Nat.{_-_, _≤_}
 use lib.ListN.{length, drop}
 use borrow.Author.Needs.{needs}
 use borrow.Author.Tests.{lt-leb, le-leb}
-use Rattle.vectors.specs.Lent.{untouched}
-use Rattle.vectors.proofs.Filled.{untouched-on, untouched-not, untouched-end}
-use Rattle.vectors.proofs.lent.kept.Statement.{statement}
-use Rattle.vectors.proofs.lent.kept.Tie as tie
+use Rattle.lent.specs.Lent.{untouched}
+use Rattle.lent.proofs.Filled.{untouched-on, untouched-not, untouched-end}
+use Rattle.lent.proofs.kept.Statement.{statement}
+use Rattle.lent.proofs.kept.Tie as tie
 
 abbrev Inv-loop : tie.InvT-loop
 Inv-loop out written i₀ i = (untouched (drop i out) ≡ untouched (drop written out)) × (i ≤ length out)
