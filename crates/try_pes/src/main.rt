@@ -67,6 +67,6 @@ fn write(op: u8, payload: &[u8], out: &mut [u8], text: &mut [u8]) {
         lines::unknown(op, text);
         return;
     }
-    let answer = pes::write(payload[0], &payload[1..], out);
+    let answer = pes_writer::write(payload[0], &payload[1..], out);
     lines::report_answer(op, answer, out, text);
 }

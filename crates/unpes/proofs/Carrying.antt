@@ -20,9 +20,9 @@ use Rattle.answer.proofs.Steps.{judged-append, first-holds, others-hold}
 use Rattle.answer.proofs.Lent.{lent-accepted, lent-all}
 use Rattle.units.specs.Units.{byteAt}
 use Rattle.pes.specs.Reading.{readRules, recordsOf}
-use Rattle.pes.specs.Writing.{unitCount, writeRules}
-use Rattle.pes.proofs.Making.{fits-packet}
-use Rattle.pes.proofs.Statements.{reads-writable}
+use Rattle.pes_writer.specs.Writing.{unitCount, writeRules}
+use Rattle.pes_writer.proofs.Making.{fits-packet}
+use Rattle.pes_writer.proofs.Statements.{reads-writable}
 use Rattle.unpes.specs.Carried.{packetsOf, unreadable, numberOf, carried}
 use Rattle.unpes.proofs.Stripping.{packets-length, packets-front}
 

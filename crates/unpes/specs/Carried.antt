@@ -4,8 +4,9 @@ use mathlib.Core.List.{List, [], _++_}
 use Prim.Native.Nat.{ℕ, zero, suc, _+_}
 use lib.ListN.{take, drop, replicate}
 use Rattle.answer.specs.Rules.{judged}
-use Rattle.pes.specs.Reading.{textBytes, recordSize, readRules, recordsOf}
-use Rattle.pes.specs.Writing.{unitCount}
+use Rattle.ebu.specs.Texts.{textBytes}
+use Rattle.pes.specs.Reading.{recordSize, readRules, recordsOf}
+use Rattle.pes_writer.specs.Writing.{unitCount}
 
 -- the packets of the u records from a place on
 unfoldable pub packetsOf : ℕ → List ℕ → ℕ → List ℕ
