@@ -24,6 +24,8 @@ use Rattle.units.proofs.is_text.Reads as units·is-text
 use Rattle.units.proofs.line_fits.Reads as units·line-fits
 use Rattle.pes.proofs.read.Reads as pes·read
 use Rattle.pes_writer.proofs.write.Reads as pes-writer·write
+use Rattle.stripped.proofs.carry.Reads as stripped·carry
+use Rattle.stripped.proofs.blank.Reads as stripped·blank
 use Rattle.ebu.proofs.is_ebu.Reads as ebu·is-ebu
 use Rattle.ebu.proofs.turn_run.Reads as ebu·turn-run
 use Rattle.blocks.proofs.record_at.Reads as blocks·record-at
@@ -100,6 +102,14 @@ ebu·turn-run-settled κs a x y s t p q = same p q
 pub pes-writer·write-settled :
     (κs : _) (a : _) (x y : _) (s t : _) → pes-writer·write.Post κs a x s → pes-writer·write.Post κs a y t → (x ≡ y) × (now (s .1 .1 .0) ≡ now (t .1 .1 .0))
 pes-writer·write-settled κs a x y s t p q = (same (p .0) (q .0), same (p .1) (q .1))
+
+pub stripped·carry-settled :
+    (κs : _) (a : _) (x y : _) (s t : _) → stripped·carry.Post κs a x s → stripped·carry.Post κs a y t
+    → (x ≡ y) × (now (s .1 .0) ≡ now (t .1 .0)) × (now (s .1 .1 .0) ≡ now (t .1 .1 .0))
+stripped·carry-settled κs a x y s t p q = (same (p .0) (q .0), same (p .1 .0) (q .1 .0), same (p .1 .1 .0) (q .1 .1 .0))
+
+pub stripped·blank-settled : (κs : _) (a : _) (x y : _) (s t : _) → stripped·blank.Post κs a x s → stripped·blank.Post κs a y t → now (s .0) ≡ now (t .0)
+stripped·blank-settled κs a x y s t p q = same p q
 
 pub blocks·record-at-settled : (κs : _) (a : _) (x y : _) (s t : _) → blocks·record-at.Post κs a x s → blocks·record-at.Post κs a y t → x ≡ y
 blocks·record-at-settled κs a x y s t p q = same p q

@@ -1,4 +1,4 @@
--- `unpes::strip` meets its contract. The loop's invariant: the packets of the records from here on, stored now, give the whole. The
+-- `stripped::strip` meets its contract. The loop's invariant: the packets of the records from here on, stored now, give the whole. The
 -- measure is the number of records that are left. Assumes nothing.
 use borrow.Author.Needs.{needs}
 use mathlib.Core.Path.{_≡_, _∙_, sym, ap}
@@ -8,10 +8,10 @@ use denote.Ref.{now}
 use lib.ListN.{length, take, drop}
 use lib.Seq.{sets}
 use Rattle.laws.proofs.Stores.{sets-next}
-use Rattle.unpes.specs.Carried.{packetsOf}
-use Rattle.unpes.proofs.Stripping.{packets-more, packets-none, packet-length}
-use Rattle.unpes.proofs.strip.Statement.{statement}
-use Rattle.unpes.proofs.strip.Tie as tie
+use Rattle.stripped.specs.Carried.{packetsOf}
+use Rattle.stripped.proofs.Stripping.{packets-more, packets-none, packet-length}
+use Rattle.stripped.proofs.strip.Statement.{statement}
+use Rattle.stripped.proofs.strip.Tie as tie
 
 abbrev Inv-loop : tie.InvT-loop
 Inv-loop records count packets₀ at₀ to₀ more₀ packets at to more =

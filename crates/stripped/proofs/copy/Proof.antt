@@ -1,12 +1,12 @@
--- `unpes::copy` meets its contract. The loop's invariant: what is still to be stored, stored now, gives the whole. Assumes nothing.
+-- `stripped::copy` meets its contract. The loop's invariant: what is still to be stored, stored now, gives the whole. Assumes nothing.
 use borrow.Author.Needs.{needs}
 use mathlib.Core.Path.{_≡_, _∙_}
 use Prim.Native.Nat.{_-_, _≤_}
 use denote.Ref.{now}
 use lib.ListN.{length, length-set}
-use Rattle.unpes.proofs.Stripping.{copyLeft, copy-step, copy-whole}
-use Rattle.unpes.proofs.copy.Statement.{statement}
-use Rattle.unpes.proofs.copy.Tie as tie
+use Rattle.stripped.proofs.Stripping.{copyLeft, copy-step, copy-whole}
+use Rattle.stripped.proofs.copy.Statement.{statement}
+use Rattle.stripped.proofs.copy.Tie as tie
 
 abbrev Inv-loop : tie.InvT-loop
 Inv-loop src from out₀ to i₀ out i =

@@ -1,13 +1,14 @@
--- `unpes::blank` meets its contract. The loop's invariant: what is still to be stored, stored now, gives the whole. Assumes nothing.
+-- `stripped::blank` meets its contract. The loop's invariant: what is still to be stored, stored now, gives the whole. Assumes nothing.
 use borrow.Author.Needs.{needs}
 use mathlib.Core.Path.{_≡_, _∙_, sym}
 use Prim.Native.Nat.{_-_, _≤_}
 use lib.ListN.{length, length-set, replicate}
 use lib.Seq.{sets}
-use Rattle.unpes.specs.Carried.{unreadable}
-use Rattle.unpes.proofs.Stripping.{blank-step, blank-end}
-use Rattle.unpes.proofs.blank.Statement.{statement}
-use Rattle.unpes.proofs.blank.Tie as tie
+use Rattle.stripped.specs.Carried.{unreadable}
+use Rattle.stripped.proofs.Stripping.{blank-step, blank-end}
+use Rattle.stripped.proofs.Carrying.{blank-fits, blank-no-room}
+use Rattle.stripped.proofs.blank.Statement.{statement}
+use Rattle.stripped.proofs.blank.Tie as tie
 
 abbrev Inv-loop : tie.InvT-loop
 Inv-loop packets₀ i₀ packets i =
@@ -15,6 +16,9 @@ Inv-loop packets₀ i₀ packets i =
 
 abbrev μ-loop : tie.MeasureT-loop
 μ-loop packets₀ i₀ packets i = 42 - i
+
+returns : tie.Need-returns Inv-loop μ-loop
+returns c = sym (blank-no-room _ (search needs))
 
 loop-holds : tie.Need-loop-holds Inv-loop μ-loop
 loop-holds c = search needs
@@ -36,8 +40,10 @@ loop-again c =
 same-length : tie.Need-same-length Inv-loop μ-loop
 same-length c = search needs
 
-returns : tie.Need-returns Inv-loop μ-loop
-returns c = let l = c .before .loop in sym (blank-end 42 (l .i) 0x16 (l .packets) (search needs)) ∙ l .inv .2
+returns-2 : tie.Need-returns-2 Inv-loop μ-loop
+returns-2 c =
+    let l = c .before .loop in
+    sym (blank-end 42 (l .i) 0x16 (l .packets) (search needs)) ∙ l .inv .2 ∙ sym (blank-fits _ (search needs))
 
 pub blank-spec : {M : Type 1} → statement M
 blank-spec =
@@ -45,10 +51,11 @@ blank-spec =
     (tie.spec
     Inv-loop
     μ-loop
+    returns
     loop-holds
     slice-write-packets
     add-i
     loop-less
     loop-again
     same-length
-    returns)
+    returns-2)

@@ -7,7 +7,7 @@ use native.Mathlib.Numerals.{add-one}
 use native.Mathlib.Omega.{arith}
 use lib.ListN.{length, getD, take, drop, set, replicate, length-append, length-take, length-drop}
 use lib.Seq.{sets, drop-cons, take-append-le, drop-append-le}
-use Rattle.unpes.specs.Carried.{packetsOf}
+use Rattle.stripped.specs.Carried.{packetsOf}
 
 -- ---- one value from the front on
 
