@@ -12,7 +12,8 @@ use lib.Dec.{leb}
 use borrow.Author.Tests.{leb-true}
 use Rattle.laws.proofs.Tests.{both-true}
 use Rattle.octet.specs.Decoding.{nib}
-use Rattle.octet.proofs.Laws.{near, nib-image}
+use Rattle.octet.proofs.Laws.{nib-image}
+use Rattle.noise.proofs.Laws.{near}
 use Rattle.blocks.specs.Block.{Block, blocks}
 use Rattle.packet.specs.declared.Setting.{Setting}
 use Rattle.packet.specs.Setting.{inRange}

@@ -7,7 +7,7 @@ use Rattle.octet.specs.Bits.{number}
 use Rattle.octet.specs.Image.{image, withParity}
 use Rattle.octet.proofs.Cases.{CasesAtoE, cases-a-to-e, TheImages, the-images}
 use Rattle.guide.proofs.Cases.{CaseF, case-f, CaseG, recordG, case-g}
-use Rattle.pes.proofs.Cases.{CaseJ, case-j, CaseK, case-k}
+use Rattle.pes_writer.proofs.Cases.{CaseJ, case-j, CaseK, case-k}
 use Rattle.fields.specs.Fields.{row, width, laid, parts}
 use Rattle.forms.specs.Tables.{per, loops, fields, bits, fill, size}
 use Rattle.sums.specs.Sums.{total, checksum}

@@ -24,7 +24,11 @@ use Rattle.units.proofs.pack.Reads as units·pack
 use Rattle.units.proofs.is_text.Reads as units·is-text
 use Rattle.units.proofs.line_fits.Reads as units·line-fits
 use Rattle.pes.proofs.read.Reads as pes·read
-use Rattle.pes.proofs.write.Reads as pes·write
+use Rattle.pes_writer.proofs.write.Reads as pes-writer·write
+use Rattle.stripped.proofs.carry.Reads as stripped·carry
+use Rattle.stripped.proofs.blank.Reads as stripped·blank
+use Rattle.ebu.proofs.is_ebu.Reads as ebu·is-ebu
+use Rattle.ebu.proofs.turn_run.Reads as ebu·turn-run
 use Rattle.blocks.proofs.record_at.Reads as blocks·record-at
 use Rattle.packet.proofs.is_in_range.Reads as packet·is-in-range
 use Rattle.zero.proofs.write_zero.Reads as zero·write-zero
@@ -101,9 +105,24 @@ pub pes·read-settled :
     (κs : _) (a : _) (x y : _) (s t : _) → pes·read.Post κs a x s → pes·read.Post κs a y t → (x ≡ y) × (now (s .1 .0) ≡ now (t .1 .0))
 pes·read-settled κs a x y s t p q = (same (p .0) (q .0), same (p .1) (q .1))
 
-pub pes·write-settled :
-    (κs : _) (a : _) (x y : _) (s t : _) → pes·write.Post κs a x s → pes·write.Post κs a y t → (x ≡ y) × (now (s .1 .1 .0) ≡ now (t .1 .1 .0))
-pes·write-settled κs a x y s t p q = (same (p .0) (q .0), same (p .1) (q .1))
+pub ebu·is-ebu-settled : (κs : _) (a : _) (x y : _) (s t : _) → ebu·is-ebu.Post κs a x s → ebu·is-ebu.Post κs a y t → x ≡ y
+ebu·is-ebu-settled κs a x y s t p q = same p q
+
+pub ebu·turn-run-settled :
+    (κs : _) (a : _) (x y : _) (s t : _) → ebu·turn-run.Post κs a x s → ebu·turn-run.Post κs a y t → now (s .1 .1 .0) ≡ now (t .1 .1 .0)
+ebu·turn-run-settled κs a x y s t p q = same p q
+
+pub pes-writer·write-settled :
+    (κs : _) (a : _) (x y : _) (s t : _) → pes-writer·write.Post κs a x s → pes-writer·write.Post κs a y t → (x ≡ y) × (now (s .1 .1 .0) ≡ now (t .1 .1 .0))
+pes-writer·write-settled κs a x y s t p q = (same (p .0) (q .0), same (p .1) (q .1))
+
+pub stripped·carry-settled :
+    (κs : _) (a : _) (x y : _) (s t : _) → stripped·carry.Post κs a x s → stripped·carry.Post κs a y t
+    → (x ≡ y) × (now (s .1 .0) ≡ now (t .1 .0)) × (now (s .1 .1 .0) ≡ now (t .1 .1 .0))
+stripped·carry-settled κs a x y s t p q = (same (p .0) (q .0), same (p .1 .0) (q .1 .0), same (p .1 .1 .0) (q .1 .1 .0))
+
+pub stripped·blank-settled : (κs : _) (a : _) (x y : _) (s t : _) → stripped·blank.Post κs a x s → stripped·blank.Post κs a y t → now (s .0) ≡ now (t .0)
+stripped·blank-settled κs a x y s t p q = same p q
 
 pub blocks·record-at-settled : (κs : _) (a : _) (x y : _) (s t : _) → blocks·record-at.Post κs a x s → blocks·record-at.Post κs a y t → x ≡ y
 blocks·record-at-settled κs a x y s t p q = same p q

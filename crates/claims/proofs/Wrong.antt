@@ -10,7 +10,7 @@ use lib.Dec.{lit<, lit≤}
 use lib.ListN.{length, replicate, drop}
 use Rattle.octet.specs.Bits.{number, flips}
 use Rattle.octet.specs.Image.{image, withParity}
-use Rattle.octet.proofs.Laws.{flips-self}
+use Rattle.noise.proofs.Laws.{flips-self}
 use Rattle.blocks.specs.Block.{blocksWithin}
 use Rattle.fields.specs.Fields.{row, width, laid, parts, fitting}
 use Rattle.packet.specs.declared.Setting.{Setting}

@@ -13,8 +13,8 @@ use libc::STDOUT_FILENO;
 pub fn report(op: u8, no: u8, at: usize, out: &[u8], written: usize, text: &mut [u8]) -> usize
     ensures { λ r. ⌜ Counts r (now (text .exit)) ⌝ }
 {
-    let n = call(op, no, at, out, written, text);
-    shown(text, n)
+    let said = call(op, no, at, out, written, text);
+    shown(text, said)
 }
 
 // The same from the answer of a call that only writes bytes.
@@ -41,18 +41,18 @@ pub fn report_fed(
     ensures { λ r. ⌜ Counts r (now (text .exit)) ⌝ }
 {
     let n = call(op, no, at, out, written, text);
-    let n = put_number(text, n, b" blocks=", blocks as u64);
-    let n = put_yes(text, n, b" dropped=", dropped);
-    shown(text, n)
+    let n = words::put_number(text, n, b" blocks=", blocks as u64);
+    let fed = words::put_yes(text, n, b" dropped=", dropped);
+    shown(text, fed)
 }
 
 // Writes the line of an op that the program doesn't know, or whose payload is too short.
 pub fn unknown(op: u8, text: &mut [u8]) -> usize
     ensures { λ r. ⌜ Counts r (now (text .exit)) ⌝ }
 {
-    let n = put_number(text, 0, b"op=", op as u64);
-    let n = put(text, n, b" unknown");
-    shown(text, n)
+    let n = words::put_number(text, 0, b"op=", op as u64);
+    let named = words::put(text, n, b" unknown");
+    shown(text, named)
 }
 
 // Writes the last line, where bytes are left over that are no whole case.
@@ -62,7 +62,7 @@ pub fn ended(left: usize, text: &mut [u8]) -> usize
     if left == 0 {
         return 0;
     }
-    let n = put_number(text, 0, b"short=", left as u64);
+    let n = words::put_number(text, 0, b"short=", left as u64);
     shown(text, n)
 }
 
@@ -70,89 +70,19 @@ pub fn ended(left: usize, text: &mut [u8]) -> usize
 fn call(op: u8, no: u8, at: usize, out: &[u8], written: usize, text: &mut [u8]) -> usize
     ensures { λ r. ⌜ Counts r (now (text .exit)) ⌝ }
 {
-    let n = put_number(text, 0, b"op=", op as u64);
-    let n = put_number(text, n, b" no=", no as u64);
-    let n = put_number(text, n, b" at=", at as u64);
-    let n = put(text, n, b" out=");
-    let n = put_hex(text, n, out, written);
-    put_yes(text, n, b" kept=", vectors::kept(out, written))
+    let n = words::put_number(text, 0, b"op=", op as u64);
+    let n = words::put_number(text, n, b" no=", no as u64);
+    let n = words::put_number(text, n, b" at=", at as u64);
+    let n = words::put(text, n, b" out=");
+    let n = words::put_hex(text, n, out, written);
+    words::put_yes(text, n, b" kept=", lent::kept(out, written))
 }
 
 // Ends the line with the first n bytes of text, and writes it.
 fn shown(text: &mut [u8], n: usize) -> usize
     ensures { λ r. ⌜ Counts r (now (text .exit)) ⌝ }
 {
-    let n = put(text, n, b"\n");
+    let n = words::put(text, n, b"\n");
     io::write_all(STDOUT_FILENO, &text[..n]);
     n
-}
-
-fn put_yes(text: &mut [u8], at: usize, name: &[u8], yes: bool) -> usize
-    ensures { λ r. ⌜ Counts r (now (text .exit)) ⌝ }
-{
-    let n = put(text, at, name);
-    if yes {
-        put(text, n, b"yes")
-    } else {
-        put(text, n, b"no")
-    }
-}
-
-fn put_number(text: &mut [u8], at: usize, name: &[u8], number: u64) -> usize
-    ensures { λ r. ⌜ Counts r (now (text .exit)) ⌝ }
-{
-    let n = put(text, at, name);
-    let mut digits = [0u8; 20];
-    let k = io::decimal(number, &mut digits);
-    put(text, n, &digits[..k])
-}
-
-// Puts a word into text at a place, and answers the place after it; what doesn't fit is left out.
-fn put(text: &mut [u8], at: usize, word: &[u8]) -> usize
-    ensures { λ r. ⌜ Counts r (now (text .exit)) ⌝ }
-{
-    if text.len() < at {
-        return text.len();
-    }
-    let mut to = at;
-    let mut i = 0;
-    while i < word.len() {
-        if text.len() <= to {
-            return to;
-        }
-        text[to] = word[i];
-        to += 1;
-        i += 1;
-    }
-    to
-}
-
-// Puts the first n bytes in hex, lower case, two digits a byte; what doesn't fit is left out.
-fn put_hex(text: &mut [u8], at: usize, bytes: &[u8], n: usize) -> usize
-    ensures { λ r. ⌜ Counts r (now (text .exit)) ⌝ }
-{
-    if text.len() < at {
-        return text.len();
-    }
-    let mut to = at;
-    let mut i = 0;
-    while i < bytes.len() {
-        if n <= i {
-            return to;
-        }
-        if text.len() - to < 2 {
-            return to;
-        }
-        let b = bytes[i];
-        text[to] = digit(b / 16);
-        text[to + 1] = digit(b % 16);
-        to += 2;
-        i += 1;
-    }
-    to
-}
-
-fn digit(d: u8) -> u8 {
-    let n = d % 16;
-    if n < 10 { 48 + n } else { 87 + n }
 }

@@ -2,7 +2,8 @@
 // any byte and answers; nothing is kept between calls.
 //
 // Document 01, "One protected byte": bits, least first, are P1 D1 P2 D2 P3 D3 P4 D4. The definitions
-// are in specs/, and the laws that other crates cite in proofs/Noise.antt and proofs/Laws.antt.
+// are in specs/, the laws that other crates cite in proofs/Laws.antt, and those of flipped bits in crate
+// `noise`.
 ghost use mathlib.Core.Path.{_≡_};
 ghost use mathlib.Core.List.{[]};
 ghost use Prim.Native.Nat.{_<_, _≤_};
@@ -612,7 +613,7 @@ fn fails(k: usize, b: u8) -> u8
     let mut rest = b;
     let mut i = 0;
     while i < 8 {
-        sum = (sum + CHECKS[k][i] * (rest % 2)) % 2;
+        sum = (sum + check(k, i) * (rest % 2)) % 2;
         rest /= 2;
         i += 1;
     }
@@ -625,5 +626,14 @@ fn column(i: u8) -> u8
     ensures { λ r. ⌜ r ≡ Parity·column i ⌝ }
 {
     let at = i as usize;
-    CHECKS[0][at] + 2 * CHECKS[1][at] + 4 * CHECKS[2][at] + 8 * CHECKS[3][at]
+    check(0, at) + 2 * check(1, at) + 4 * check(2, at) + 8 * check(3, at)
+}
+
+// The bit at place i of check k's row.
+fn check(k: usize, i: usize) -> u8
+    requires { ⌜ (k < 4) × (i < 8) ⌝ }
+    ensures { λ r. ⌜ r ≡ getD (getD checks k []) i 0 ⌝ }
+    ensures { λ r. ⌜ r ≤ 1 ⌝ }
+{
+    CHECKS[k][i]
 }

@@ -1,9 +1,3 @@
-pub mod Back
-pub mod Cases
 pub mod Filling
-pub mod Given
 pub mod Heading
-pub mod Making
-pub mod Runs
-pub mod Statements
 pub mod Walk

@@ -6,6 +6,7 @@ use lib.Dec.{eqb, leb}
 use lib.ListN.{length}
 use Rattle.laws.specs.Pick.{both}
 use Rattle.answer.specs.Rules.{Rule, rule}
+use Rattle.ebu.specs.Texts.{ebuData}
 use Rattle.units.specs.Units.{byteAt}
 
 -- "00 00 01 BD at the front": packet_start_code_prefix, and the stream_id "private stream 1"
@@ -31,10 +32,6 @@ lengthFits l =
 -- byte 6: "its leading bits 10" and data_alignment_indicator
 abbrev pub flagsFit : ℕ → Bool
 flagsFit b = both (eqb (b / 64) 2) (eqb (b / 4 % 2) 1)
-
--- table 3: 0x10 to 0x1F is EBU data
-abbrev pub ebuData : ℕ → Bool
-ebuData d = both (leb 0x10 d) (leb d 0x1F)
 
 -- refusals 2 to 5, in order
 unfoldable pub headerRules : List ℕ → List Rule

@@ -7,12 +7,9 @@ use lib.ListN.{length, take, drop}
 use Rattle.laws.specs.Pick.{pick}
 use Rattle.answer.specs.Rules.{Rule}
 use Rattle.octet.specs.Turning.{turned}
+use Rattle.ebu.specs.Texts.{textBytes}
 use Rattle.units.specs.Units.{byteAt, stuffingId, nextUnit, rulesAt}
 use Rattle.pes.specs.Header.{headerRules}
-
--- the bytes of a text unit after its framing byte
-abbrev pub textBytes : ℕ
-textBytes = 42
 
 abbrev pub recordSize : ℕ
 recordSize = 44

@@ -84,7 +84,7 @@ fn step(
 
 // A case: the call is lent as much output as it has room.
 fn run(op: u8, room: usize, payload: &[u8], kept: Kept, out: &mut [u8], text: &mut [u8]) -> Kept {
-    call(op, payload, kept, vectors::lend(out, room), text)
+    call(op, payload, kept, lent::lend(out, room), text)
 }
 
 // The call that op names.

@@ -45,7 +45,7 @@ fn step(
 
 // A case: the call is lent as much output as it has room.
 fn run(op: u8, room: usize, payload: &[u8], out: &mut [u8], text: &mut [u8]) {
-    call(op, payload, vectors::lend(out, room), text);
+    call(op, payload, lent::lend(out, room), text);
 }
 
 // The call that op names.
@@ -67,6 +67,6 @@ fn write(op: u8, payload: &[u8], out: &mut [u8], text: &mut [u8]) {
         lines::unknown(op, text);
         return;
     }
-    let answer = pes::write(payload[0], &payload[1..], out);
+    let answer = pes_writer::write(payload[0], &payload[1..], out);
     lines::report_answer(op, answer, out, text);
 }

@@ -1,3 +1,2 @@
--- What a PES packet becomes on its way to a reader.
-pub mod Carried
+-- What the lent space holds.
 pub mod Next

@@ -6,21 +6,15 @@
 // and a reader drops what it holds. Input that isn't at a packet's front, or is cut short, ends the run
 // after one such packet. The last line on standard error counts the packets read, those refused with
 // their numbers, and the bytes left over.
-use answer::Answer;
 use libc::STDERR_FILENO;
 use libc::STDIN_FILENO;
 use libc::STDOUT_FILENO;
 ghost use mathlib.Core.Path.{_≡_};
-ghost use Prim.Native.Nat.{_+_, _*_, _≤_};
-ghost use lib.ListN.{length, take, drop};
-ghost use lib.Seq.{sets};
+ghost use Prim.Native.Nat.{_≤_};
+ghost use lib.ListN.{length};
 ghost use Rattle.unpes.specs.Next.{sizeIn};
-ghost use Rattle.unpes.specs.Carried.{packetsOf, unreadable, carried};
-ghost use Rattle.unpes.specs.Carried.{numberOf as Carried·numberOf};
 
-// A record's bytes, and those of the packet in it.
-const RECORD: usize = 44;
-
+// The bytes of a packet that goes out.
 const PACKET: usize = 42;
 
 // Up to PES_packet_length, which counts the bytes after it.
@@ -44,12 +38,6 @@ enum Next {
 enum Went {
     On(Tally),
     Ended(u64),
-}
-
-// What a PES packet carries: its number of the refusal list, and how many bytes go out for it.
-struct Carried {
-    no: u8,
-    bytes: usize,
 }
 
 fn main() {
@@ -89,14 +77,14 @@ fn step(
 {
     match fetch(space) {
         Next::Packet(size) => {
-            let c = carry(&space[..size], records, packets);
+            let c = stripped::carry(&space[..size], records, packets);
             let n = c.bytes;
             io::write_all(STDOUT_FILENO, &packets[..n]);
             Went::On(counted(tally, c.no, seen))
         }
         Next::Rest(left) => {
             if 0 < left {
-                blank(packets);
+                stripped::blank(packets);
                 io::write_all(STDOUT_FILENO, &packets[..PACKET]);
             }
             Went::Ended(left)
@@ -153,71 +141,6 @@ fn rest(space: &mut [u8]) -> u64 {
         left = plus(left, got as u64);
     }
     left
-}
-
-// What goes out for a PES packet, into the front of `packets`: what it carries, or where it is refused
-// one packet that can't be decoded.
-fn carry(pes: &[u8], records: &mut [u8], packets: &mut [u8]) -> Carried
-    requires { ⌜ (65536 ≤ length (now records)) × (65536 ≤ length (now packets)) ⌝ }
-    ensures { λ r. ⌜ (r .no ≡ Carried·numberOf (now (pes .entry))) × (take (r .bytes) (now (packets .exit)) ≡ carried (now (pes .entry))) × (r .bytes ≤ length (now (packets .exit))) ⌝ }
-{
-    match pes::read(pes, records) {
-        Answer::Refused(r) => {
-            blank(packets);
-            Carried {
-                no: r.no,
-                bytes: PACKET,
-            }
-        }
-        Answer::Done(n) => {
-            let count = n / RECORD;
-            strip(records, count, packets);
-            Carried {
-                no: 0,
-                bytes: PACKET * count,
-            }
-        }
-    }
-}
-
-// Writes one packet that can't be decoded.
-fn blank(packets: &mut [u8])
-    requires { ⌜ 42 ≤ length (now packets) ⌝ }
-    ensures { λ r. ⌜ now (packets .exit) ≡ sets (now (packets .entry)) 0 unreadable ⌝ }
-{
-    let mut i = 0;
-    while i < PACKET {
-        packets[i] = 0x16;
-        i += 1;
-    }
-}
-
-// Writes the packets of so many records.
-fn strip(records: &[u8], count: usize, packets: &mut [u8])
-    requires { ⌜ (44 * count ≤ length (now records)) × (42 * count ≤ length (now packets)) ⌝ }
-    ensures { λ r. ⌜ now (packets .exit) ≡ sets (now (packets .entry)) 0 (packetsOf count (now (records .entry)) 0) ⌝ }
-{
-    let mut at = 0;
-    let mut to = 0;
-    let mut more = count;
-    while 0 < more {
-        copy(records, at + 2, packets, to);
-        at += RECORD;
-        to += PACKET;
-        more -= 1;
-    }
-}
-
-// Copies one packet.
-fn copy(src: &[u8], from: usize, out: &mut [u8], to: usize)
-    requires { ⌜ (from + 42 ≤ length (now src)) × (to + 42 ≤ length (now out)) ⌝ }
-    ensures { λ r. ⌜ now (out .exit) ≡ sets (now (out .entry)) to (take 42 (drop from (now (src .entry)))) ⌝ }
-{
-    let mut i = 0;
-    while i < PACKET {
-        out[to + i] = src[from + i];
-        i += 1;
-    }
 }
 
 // Counts a PES packet by its number, and marks the number.

@@ -1,3 +1,2 @@
--- The form of the cases that the programs try_NAME run, and of the output that they lend.
+-- The form of the cases that the programs try_NAME run.
 pub mod Cases
-pub mod Lent

@@ -4,7 +4,6 @@ ghost use Prim.Native.Nat.{_+_, _*_, _≤_};
 ghost use lib.ListN.{length};
 ghost use Rattle.vectors.specs.Cases.{Within, nextIn, part};
 ghost use Rattle.vectors.specs.Cases.{capped as Cases·capped};
-use crate::least;
 use libc::STDIN_FILENO;
 
 // The most bytes of a payload, and of a lent output.
@@ -133,7 +132,7 @@ fn capped(s: &[u8], at: usize) -> usize
     requires { ⌜ at + 4 ≤ length (now s) ⌝ }
     ensures { λ r. ⌜ r ≡ Cases·capped (now (s .entry)) at ⌝ }
 {
-    least(word(s[at], s[at + 1], s[at + 2], s[at + 3]), MOST)
+    lent::least(word(s[at], s[at + 1], s[at + 2], s[at + 3]), MOST)
 }
 
 fn word(a: u8, b: u8, c: u8, d: u8) -> usize

@@ -1,12 +1,12 @@
 -- `octet::fails` meets its contract: at each place of the row the parity so far, with what is left of the product, is that of
 -- the whole product. Assumes nothing.
 use borrow.Author.Needs.{needs}
-use mathlib.Core.Path.{_≡_, _∙_, refl, sym}
-use Prim.Native.Nat.{_+_, _-_, _%_, _≤_, _<_}
+use mathlib.Core.Path.{_≡_, _∙_, refl, sym, ap}
+use Prim.Native.Nat.{ℕ, _+_, _-_, _*_, _/_, _%_, _≤_, _<_}
 use native.Mathlib.Omega.{arith}
-use lib.ListN.{getD, drop, length}
-use Rattle.octet.specs.Parity.{checks, product, fails}
-use Rattle.octet.proofs.Rows.{row, row-length, row-bit, bit-product, product-step, product-end}
+use lib.ListN.{drop, length}
+use Rattle.octet.specs.Parity.{product, fails}
+use Rattle.octet.proofs.Rows.{row, row-length, bit-product, product-step, product-end}
 use Rattle.octet.proofs.fails.Statement.{statement}
 use Rattle.octet.proofs.fails.Tie as tie
 
@@ -20,26 +20,14 @@ loop-holds : tie.Need-loop-holds Inv-loop μ-loop
 unfolding fails
 loop-holds c = (search needs, search needs, refl)
 
+check-requires : tie.Need-check-requires Inv-loop μ-loop
+check-requires c κs = search needs
+
 mul-sum : tie.Need-mul-sum Inv-loop μ-loop
-mul-sum c = omega arith
-
-index-1-sum : tie.Need-index-1-sum Inv-loop μ-loop
-index-1-sum c = search needs
-
-index-2-sum : tie.Need-index-2-sum Inv-loop μ-loop
-index-2-sum c = search needs
-
--- the bit that this turn takes in
-taken : (c : tie.After-sum Inv-loop μ-loop) → getD (row (c .before .before .before .args .k)) (c .before .before .loop .i) 0 ≤ 1
-taken c = row-bit _ _ (c .before .before .before .pre) (search needs)
-
-mul-sum-2 : tie.Need-mul-sum-2 Inv-loop μ-loop
-unfolding checks
-mul-sum-2 c = omega (arith, bit-product _ (c .before .before .loop .rest) (taken c))
+mul-sum c = omega (arith, bit-product _ (c .before .before .loop .rest) (c .check .ensures .1))
 
 add-sum : tie.Need-add-sum Inv-loop μ-loop
-unfolding checks
-add-sum c = omega (arith, bit-product _ (c .before .before .loop .rest) (taken c))
+add-sum c = omega (arith, bit-product _ (c .before .before .loop .rest) (c .check .ensures .1))
 
 add-i : tie.Need-add-i Inv-loop μ-loop
 add-i c = search needs
@@ -48,13 +36,12 @@ loop-less : tie.Need-loop-less Inv-loop μ-loop
 loop-less c = search needs
 
 loop-again : tie.Need-loop-again Inv-loop μ-loop
-unfolding checks
 loop-again c =
     let l = c .before .before .loop in
     let k = c .before .before .before .args .k in
     let w : length (row k) ≡ 8 = row-length k (c .before .before .before .pre) in
     let i : l .i < length (row k) = omega arith in
-    (search needs, omega arith, product-step (row k) (l .i) (l .sum) (l .rest) i ∙ l .inv .2)
+    (search needs, omega arith, ap (λ (x : ℕ). ((l .sum + x * (l .rest % 2)) % 2 + product (drop (l .i + 1) (row k)) (l .rest / 2)) % 2) (c .check .ensures .0) ∙ product-step (row k) (l .i) (l .sum) (l .rest) i ∙ l .inv .2)
 
 returns : tie.Need-returns Inv-loop μ-loop
 returns c =
@@ -71,10 +58,8 @@ fails-spec =
     Inv-loop
     μ-loop
     loop-holds
+    check-requires
     mul-sum
-    index-1-sum
-    index-2-sum
-    mul-sum-2
     add-sum
     add-i
     loop-less

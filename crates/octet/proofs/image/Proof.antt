@@ -6,7 +6,7 @@ use Prim.Native.Nat.{_%_}
 use Rattle.laws.proofs.Whole.{tabulate-at}
 use Rattle.octet.specs.Bits.{number}
 use Rattle.octet.specs.Image.{image, withParity}
-use Rattle.octet.proofs.Laws.{image-mod}
+use Rattle.octet.proofs.Lowest.{image-mod}
 use Rattle.octet.proofs.image.Statement.{statement}
 use Rattle.octet.proofs.image.Tie as tie
 

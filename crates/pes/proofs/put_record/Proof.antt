@@ -4,6 +4,7 @@ use mathlib.Core.Path.{_∙_}
 use native.Mathlib.Numerals.{add-one, add-two}
 use native.Mathlib.Omega.{arith}
 use lib.ListN.{length-set}
+use Rattle.ebu.proofs.Runs.{text-fits}
 use Rattle.pes.specs.Reading.{recordAt}
 use Rattle.pes.proofs.put_record.Statement.{statement}
 use Rattle.pes.proofs.put_record.Tie as tie
@@ -33,7 +34,7 @@ add-turn-run-2 : tie.Need-add-turn-run-2
 add-turn-run-2 c = search needs
 
 turn-run-requires : tie.Need-turn-run-requires
-turn-run-requires c κs = simp length-set (omega arith)
+turn-run-requires c κs = search needs
 
 same-length : tie.Need-same-length
 same-length c = c .before .before .turn-run .kept .1 .1 .0 ∙ simp length-set
@@ -42,7 +43,9 @@ returns : tie.Need-returns
 unfolding recordAt
 returns c =
     let a = c .before .before .before .before .before .before .before .before .args in
-    c .before .before .turn-run .ensures ∙ rw (add-one (a .to), add-two (a .to))
+    c .before .before .turn-run .ensures
+    ∙ text-fits _ _ _ _ (omega arith) (simp length-set (omega arith))
+    ∙ rw (add-one (a .to), add-two (a .to))
 
 pub put-record-spec : {M : Type 1} → statement M
 put-record-spec =

@@ -37,7 +37,7 @@ slice-reshare-prefix-write-all c = search needs
 
 slice-aggregate-write-all : tie.Need-slice-aggregate-write-all
 slice-aggregate-write-all c =
-    let h = c .before .before .before .before .before .carry .ensures .2 in
+    let h = c .before .before .before .before .before .carry .ensures .1 .1 .1 in
     simp length-take (omega arith)
 
 write-all-requires : tie.Need-write-all-requires

@@ -1,0 +1,2 @@
+-- The output that the programs try_NAME lend.
+pub mod Lent

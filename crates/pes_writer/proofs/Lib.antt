@@ -1,0 +1,6 @@
+pub mod Back
+pub mod Cases
+pub mod Fills
+pub mod Given
+pub mod Making
+pub mod Statements

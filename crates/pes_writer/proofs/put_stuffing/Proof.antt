@@ -1,0 +1,69 @@
+-- `pes_writer::put_stuffing` meets its contract. The loop's invariant: the units that are left, stored now, give the whole. The measure is
+-- their number. Assumes nothing.
+use borrow.Author.Needs.{needs}
+use mathlib.Core.Path.{_≡_, _∙_, sym, ap}
+use Prim.Native.Nat.{_+_, _-_, _*_, _≤_}
+use native.Mathlib.Omega.{arith}
+use lib.ListN.{length}
+use lib.Seq.{sets}
+use Rattle.laws.proofs.Stores.{sets-next}
+use Rattle.pes_writer.specs.Writing.{stuffingUnit, stuffingUnits}
+use Rattle.pes_writer.proofs.Making.{stuffing-more, stuffing-none, stuffing-unit-length}
+use Rattle.pes_writer.proofs.put_stuffing.Statement.{statement}
+use Rattle.pes_writer.proofs.put_stuffing.Tie as tie
+
+abbrev Inv-loop : tie.InvT-loop
+Inv-loop from units out₀ to₀ more₀ out to more =
+    (length out ≡ length out₀) × (to + 46 * more ≤ length out) × (sets out to (stuffingUnits more) ≡ sets out₀ from (stuffingUnits units))
+
+abbrev μ-loop : tie.MeasureT-loop
+μ-loop from units out₀ to₀ more₀ out to more = more
+
+loop-holds : tie.Need-loop-holds Inv-loop μ-loop
+loop-holds c = search needs
+
+put-stuffing-unit-requires : tie.Need-put-stuffing-unit-requires Inv-loop μ-loop
+put-stuffing-unit-requires c κs = search needs
+
+add-to : tie.Need-add-to Inv-loop μ-loop
+add-to c = search needs
+
+sub-more : tie.Need-sub-more Inv-loop μ-loop
+sub-more c = search needs
+
+loop-less : tie.Need-loop-less Inv-loop μ-loop
+loop-less c = search needs
+
+loop-again : tie.Need-loop-again Inv-loop μ-loop
+loop-again c =
+    let l = c .before .before .before .before .before .loop in
+    let p = c .before .before .put-stuffing-unit in
+    let k = p .kept .1 .0 in (
+      k ∙ l .inv .0,
+      rw k (omega arith),
+      sets-next (l .out) (p .last .1 .0) (l .to) 46 stuffingUnit (stuffingUnits (l .more - 1)) _ (stuffing-more (l .more) (search needs))
+          stuffing-unit-length (p .ensures) ∙ l .inv .2,
+    )
+
+same-length : tie.Need-same-length Inv-loop μ-loop
+same-length c = search needs
+
+returns : tie.Need-returns Inv-loop μ-loop
+returns c =
+    let l = c .before .loop in
+    sym (ap (sets (l .out) (l .to)) (stuffing-none (l .more) (search needs))) ∙ l .inv .2
+
+pub put-stuffing-spec : {M : Type 1} → statement M
+put-stuffing-spec =
+    tie.close
+    (tie.spec
+    Inv-loop
+    μ-loop
+    loop-holds
+    put-stuffing-unit-requires
+    add-to
+    sub-more
+    loop-less
+    loop-again
+    same-length
+    returns)

@@ -1,0 +1,2 @@
+-- What a PES packet becomes on its way to a reader.
+pub mod Carried
