@@ -15,6 +15,7 @@ use Rattle.quick.proofs.decode.Reads as quick·decode
 use Rattle.quick.proofs.turn.Reads as quick·turn
 use Rattle.fields.proofs.field_of.Reads as fields·field-of
 use Rattle.forms.proofs.words_of.Reads as forms·words-of
+use Rattle.values.proofs.set.Reads as values·set
 use Rattle.wanted.proofs.start.Reads as wanted·start
 use Rattle.wanted.proofs.next.Reads as wanted·next
 use Rattle.wanted.proofs.is_name.Reads as wanted·is-name
@@ -296,6 +297,9 @@ fields·field-of-settled κs a x y s t p q = same (p .0) (q .0)
 
 pub forms·words-of-settled : (κs : _) (a : _) (x y : _) (s t : _) → forms·words-of.Post κs a x s → forms·words-of.Post κs a y t → x ≡ y
 forms·words-of-settled κs a x y s t p q = same (p .0) (q .0)
+
+pub values·set-settled : (κs : _) (a : _) (x y : _) (s t : _) → values·set.Post κs a x s → values·set.Post κs a y t → x ≡ y
+values·set-settled κs a x y s t p q = same p q
 
 pub wanted·start-settled : (κs : _) (a : _) (x y : _) (s t : _) → wanted·start.Post κs a x s → wanted·start.Post κs a y t → x ≡ y
 wanted·start-settled κs a x y s t p q = same p q

@@ -1,37 +1,47 @@
 -- How a word is heard, stage by stage. Assumes nothing.
-use mathlib.Core.Path.{_≡_}
-use mathlib.Core.Bool.{true, false}
-use mathlib.Core.List.{List}
-use Prim.Native.Nat.{ℕ, _≤_, _<_}
+use mathlib.Core.Path.{_≡_, refl, _∙_, sym, ap}
+use mathlib.Core.Bool.{Bool, true, false}
+use mathlib.Core.List.{List, [], _∷_}
+use Prim.Native.Nat.{ℕ}
 use native.Mathlib.Omega.{arith}
-use borrow.Author.Tests.{leb-true}
-use lib.Dec.{leb}
-use Rattle.laws.proofs.Tests.{both-second}
+use lib.ListN.{length}
+use Rattle.laws.specs.Pick.{pick}
 use Rattle.packet.specs.declared.Setting.{Setting}
-use Rattle.wanted.specs.declared.Field.{Field}
-use Rattle.wanted.specs.declared.Field.the-variants.{Magazine, Page, Stream, Application}
+use Rattle.values.specs.declared.Field.{Field}
+use Rattle.values.specs.declared.Outcome.{Outcome}
+use Rattle.values.specs.Values.{isIn, withField, numberOf, outcomeOf}
 use Rattle.wanted.specs.declared.Stage.{Stage}
 use Rattle.wanted.specs.declared.Stage.the-variants.{Options, Value, Names, AllNames, Bad}
+use Rattle.wanted.specs.declared.Word.the-variants.{Name}
 use Rattle.wanted.specs.declared.Words.{Words}
-use Rattle.wanted.specs.Values.{leastOf, mostOf, isIn, withField, numberOf}
 use Rattle.wanted.specs.Words.{words, wordOf, afterOptions, afterNames, setBy, heard}
 
-most-byte : (f : Field) → mostOf f ≤ 255
-most-byte Magazine = omega arith
-most-byte Page = omega arith
-most-byte Stream = omega arith
-most-byte Application = omega arith
+pub empty-name : (w : List ℕ) → length w ≡ 0 → Name ≡ wordOf w
+unfolding wordOf
+empty-name [] none = refl
+empty-name (b ∷ w) none = absurd (omega arith)
 
--- a number that a field takes is a byte
-pub in-byte : (f : Field) (n : ℕ) → isIn f n ≡ true → n < 256
-in-byte f n h = omega (arith, leb-true n (mostOf f) (both-second (leb (leastOf f) n) (leb n (mostOf f)) h), most-byte f)
+-- after a good value options may stand again
+abbrev stageOf : Bool → Stage
+stageOf good = pick good Options Bad
 
-pub taken-value :
-    (s : Setting) (f : Field) {n m : ℕ} {t : Setting} → n ≡ m → isIn f n ≡ true → t ≡ withField s f n → words t Options ≡ setBy s f m
-taken-value s f same takes set = rw (← same, takes, set)
+abbrev outcome : Setting → Bool → Outcome
+outcome s g = record { setting = s; good = g }
 
-pub bad-value : (s : Setting) (f : Field) {n m : ℕ} → n ≡ m → isIn f n ≡ false → words s Bad ≡ setBy s f m
-bad-value s f same not = rw (← same, not)
+abbrev after : Outcome → Words
+after o = words (o .setting) (stageOf (o .good))
+
+after-value : (s : Setting) (f : Field) (n : ℕ) → after (outcomeOf s f n) ≡ setBy s f n
+after-value s f n = go (isIn f n)
+  where
+    go :
+        (t : Bool) → after (pick t (outcome (withField s f n) true) (outcome s false)) ≡ pick t (words (withField s f n) Options) (words s Bad)
+    go true = refl
+    go false = refl
+
+pub value-set :
+    (s : Setting) (f : Field) (n : ℕ) {o : Outcome} {g : Bool} → o ≡ outcomeOf s f n → o .good ≡ g → words (o .setting) (stageOf g) ≡ setBy s f n
+value-set s f n {o} same good = ap (λ (b : Bool). words (o .setting) (stageOf b)) (sym good) ∙ ap (λ (v : Outcome). after v) same ∙ after-value s f n
 
 module _ (s : Setting) (t : Stage) (w : List ℕ) where
   pub at-options : t ≡ Options → {n : Stage} → n ≡ afterOptions (wordOf w) → words s n ≡ heard s t w

@@ -1,4 +1,3 @@
 -- Laws that several proofs cite.
-pub mod Reading
 pub mod Hearing
 pub mod Ranging

@@ -10,11 +10,11 @@ use Rattle.laws.specs.Pick.{pick}
 use Rattle.laws.proofs.Tests.{both-true}
 use Rattle.packet.specs.declared.Setting.{Setting}
 use Rattle.packet.specs.Setting.{inRange}
-use Rattle.wanted.specs.declared.Field.{Field}
-use Rattle.wanted.specs.declared.Field.the-variants.{Magazine, Page, Stream, Application}
+use Rattle.values.specs.declared.Field.{Field}
+use Rattle.values.specs.declared.Field.the-variants.{Magazine, Page, Stream, Application}
 use Rattle.wanted.specs.declared.Stage.{Stage}
 use Rattle.wanted.specs.declared.Stage.the-variants.{Options, Value, Names, AllNames, Bad}
-use Rattle.wanted.specs.Values.{leastOf, mostOf, isIn, numberOf, withField}
+use Rattle.values.specs.Values.{leastOf, mostOf, isIn, numberOf, withField}
 use Rattle.wanted.specs.Words.{words, startWords, setBy, heard}
 
 -- in range, field by field

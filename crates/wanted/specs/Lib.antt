@@ -1,3 +1,2 @@
 -- The words of a command line.
-pub mod Values
 pub mod Words

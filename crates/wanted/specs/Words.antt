@@ -6,14 +6,14 @@ use lib.Dec.{eqb}
 use lib.ListN.{length, getD}
 use Rattle.laws.specs.Pick.{pick}
 use Rattle.packet.specs.declared.Setting.{Setting}
-use Rattle.wanted.specs.declared.Field.{Field}
-use Rattle.wanted.specs.declared.Field.the-variants.{Magazine, Page, Stream, Application}
+use Rattle.values.specs.declared.Field.{Field}
+use Rattle.values.specs.declared.Field.the-variants.{Magazine, Page, Stream, Application}
 use Rattle.wanted.specs.declared.Stage.{Stage}
 use Rattle.wanted.specs.declared.Stage.the-variants.{Options, Value, Names, AllNames, Bad}
 use Rattle.wanted.specs.declared.Word.{Word}
 use Rattle.wanted.specs.declared.Word.the-variants.{Option, Last, Name, Unknown}
 use Rattle.wanted.specs.declared.Words.{Words}
-use Rattle.wanted.specs.Values.{numberOf, isIn, withField}
+use Rattle.values.specs.Values.{numberOf, isIn, withField}
 
 abbrev pub words : Setting → Stage → Words
 words s t = record { setting = s; stage = t }

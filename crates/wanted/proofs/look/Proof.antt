@@ -4,7 +4,7 @@ use native.Mathlib.Omega.{arith}
 use lib.ListN.{length, getD}
 use borrow.Author.Tests.{eq-eqb, ne-eqb}
 use Rattle.wanted.specs.Words.{wordOf}
-use Rattle.wanted.proofs.Reading.{empty-name}
+use Rattle.wanted.proofs.Hearing.{empty-name}
 use Rattle.wanted.proofs.look.Statement.{statement}
 use Rattle.wanted.proofs.look.Tie as tie
 

@@ -1,8 +1,8 @@
--- `wanted::is_in` meets its contract. Assumes nothing.
+-- `values::is_in` meets its contract. Assumes nothing.
 use borrow.Author.Needs.{needs}
-use Rattle.wanted.proofs.Reading.{below-least, from-least}
-use Rattle.wanted.proofs.is_in.Statement.{statement}
-use Rattle.wanted.proofs.is_in.Tie as tie
+use Rattle.values.proofs.Setting.{below-least, from-least}
+use Rattle.values.proofs.is_in.Statement.{statement}
+use Rattle.values.proofs.is_in.Tie as tie
 
 least-requires : tie.Need-least-requires
 least-requires c κs = search needs

@@ -1,10 +1,10 @@
--- `wanted::digit` meets its contract: each `return` stands between two ends of the three ranges. Assumes nothing.
+-- `values::digit` meets its contract: each `return` stands between two ends of the three ranges. Assumes nothing.
 use borrow.Author.Needs.{needs}
 use borrow.Author.Tests.{le-leb, lt-leb}
 use native.Mathlib.Omega.{arith}
-use Rattle.wanted.specs.Values.{digitOf}
-use Rattle.wanted.proofs.digit.Statement.{statement}
-use Rattle.wanted.proofs.digit.Tie as tie
+use Rattle.values.specs.Values.{digitOf}
+use Rattle.values.proofs.digit.Statement.{statement}
+use Rattle.values.proofs.digit.Tie as tie
 
 returns : tie.Need-returns
 unfolding digitOf

@@ -1,18 +1,12 @@
 -- How a word's characters are read, one after the other. Assumes nothing.
-use mathlib.Core.Path.{_≡_, refl}
-use mathlib.Core.Bool.{false}
-use mathlib.Core.List.{List, [], _∷_}
+use mathlib.Core.Path.{_≡_}
+use mathlib.Core.List.{List}
 use Prim.Native.Nat.{ℕ, _+_, _*_, _≤_, _<_}
 use native.Mathlib.Numerals.{add-one}
-use native.Mathlib.Omega.{arith}
-use borrow.Author.Tests.{lt-ltb, le-ltb, le-leb, lt-leb, eq-eqb}
-use lib.Dec.{leb}
+use borrow.Author.Tests.{lt-ltb, le-ltb, eq-eqb}
 use lib.ListN.{length, drop, getD, drop-of-length-le}
 use lib.Seq.{drop-cons}
-use Rattle.wanted.specs.declared.Field.{Field}
-use Rattle.wanted.specs.declared.Word.the-variants.{Name}
-use Rattle.wanted.specs.Words.{wordOf}
-use Rattle.wanted.specs.Values.{digitOf, decimalFrom, hexPairOf, noNumber, leastOf, mostOf, isIn}
+use Rattle.values.specs.Values.{digitOf, decimalFrom, hexPairOf, noNumber}
 
 module _ (w : List ℕ) (i n : ℕ) (within : i < length w) where
   -- one digit more
@@ -32,17 +26,6 @@ module _ (w : List ℕ) (i n : ℕ) (within : i < length w) where
 pub digits-end : (w : List ℕ) (i n : ℕ) → length w ≤ i → decimalFrom (drop i w) n ≡ n
 unfolding decimalFrom
 digits-end w i n past = rw (drop-of-length-le w past)
-
-pub empty-name : (w : List ℕ) → length w ≡ 0 → Name ≡ wordOf w
-unfolding wordOf
-empty-name [] none = refl
-empty-name (b ∷ w) none = absurd (omega arith)
-
-pub below-least : (f : Field) (n : ℕ) {l : ℕ} → l ≡ leastOf f → n < l → false ≡ isIn f n
-below-least f n {l} least low = rw (lt-leb (leastOf f) n (omega arith))
-
-pub from-least : (f : Field) (n : ℕ) {l m : ℕ} → l ≡ leastOf f → m ≡ mostOf f → l ≤ n → leb n m ≡ isIn f n
-from-least f n {l} {m} least most high = rw (le-leb (leastOf f) n (omega arith), most)
 
 module _ (w : List ℕ) {high low : ℕ} (two : length w ≡ 2) (first : high ≡ digitOf (getD w 0 0)) (second : low ≡ digitOf (getD w 1 0)) where
   pub first-bad : 16 ≤ high → noNumber ≡ hexPairOf w

@@ -1,4 +1,4 @@
--- `wanted::decimal` meets its contract. The loop's invariant: the digits from here on, after the number so far, say what the whole
+-- `values::decimal` meets its contract. The loop's invariant: the digits from here on, after the number so far, say what the whole
 -- word says. Assumes nothing.
 use borrow.Author.Needs.{needs}
 use borrow.Author.Tests.{eq-eqb, ne-eqb}
@@ -6,10 +6,10 @@ use mathlib.Core.Path.{_≡_, _∙_, ap, sym}
 use Prim.Native.Nat.{ℕ, _+_, _-_, _*_, _≤_}
 use native.Mathlib.Omega.{arith}
 use lib.ListN.{length, drop}
-use Rattle.wanted.specs.Values.{decimalFrom, decimalOf}
-use Rattle.wanted.proofs.Reading.{digit-taken, digit-bad, too-large, digits-end}
-use Rattle.wanted.proofs.decimal.Statement.{statement}
-use Rattle.wanted.proofs.decimal.Tie as tie
+use Rattle.values.specs.Values.{decimalFrom, decimalOf}
+use Rattle.values.proofs.Reading.{digit-taken, digit-bad, too-large, digits-end}
+use Rattle.values.proofs.decimal.Statement.{statement}
+use Rattle.values.proofs.decimal.Tie as tie
 
 abbrev Inv-loop : tie.InvT-loop
 Inv-loop word number₀ i₀ number i = (i ≤ length word) × (decimalFrom (drop i word) number ≡ decimalOf word)

@@ -1,10 +1,10 @@
--- `wanted::with` meets its contract, field by field. Assumes nothing.
+-- `values::with` meets its contract, field by field. Assumes nothing.
 use borrow.Author.Needs.{needs}
 use mathlib.Core.Path.{ap, sym}
-use Rattle.wanted.specs.declared.Field.{Field}
-use Rattle.wanted.specs.Values.{withField}
-use Rattle.wanted.proofs.with.Statement.{statement}
-use Rattle.wanted.proofs.with.Tie as tie
+use Rattle.values.specs.declared.Field.{Field}
+use Rattle.values.specs.Values.{withField}
+use Rattle.values.proofs.with.Statement.{statement}
+use Rattle.values.proofs.with.Tie as tie
 
 enum-told : tie.Need-enum-told
 enum-told c = search needs

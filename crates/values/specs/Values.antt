@@ -1,13 +1,14 @@
 -- The value of an option: `-m N` magazine 1..8, `-p HH` page as two hex digits, `-s N` stream 0..15, `-a N` application 0..31.
-use mathlib.Core.Bool.{Bool}
+use mathlib.Core.Bool.{Bool, true, false}
 use mathlib.Core.List.{List, [], _∷_}
 use Prim.Native.Nat.{ℕ, _+_, _-_, _*_}
 use lib.Dec.{eqb, leb, ltb}
 use lib.ListN.{length, getD}
 use Rattle.laws.specs.Pick.{pick, both}
 use Rattle.packet.specs.declared.Setting.{Setting}
-use Rattle.wanted.specs.declared.Field.{Field}
-use Rattle.wanted.specs.declared.Field.the-variants.{Magazine, Page, Stream, Application}
+use Rattle.values.specs.declared.Field.{Field}
+use Rattle.values.specs.declared.Field.the-variants.{Magazine, Page, Stream, Application}
+use Rattle.values.specs.declared.Outcome.{Outcome}
 
 -- what stands for a number that can't be had: more than any field takes
 abbrev pub noNumber : ℕ
@@ -66,3 +67,7 @@ withField s Magazine n = record { magazine = n; page = s .page; stream = s .stre
 withField s Page n = record { magazine = s .magazine; page = n; stream = s .stream; application = s .application }
 withField s Stream n = record { magazine = s .magazine; page = s .page; stream = n; application = s .application }
 withField s Application n = record { magazine = s .magazine; page = s .page; stream = s .stream; application = n }
+
+-- a number that the field takes sets it; any other is bad and leaves the setting as it was
+abbrev pub outcomeOf : Setting → Field → ℕ → Outcome
+outcomeOf s f n = pick (isIn f n) (record { setting = withField s f n; good = true }) (record { setting = s; good = false })

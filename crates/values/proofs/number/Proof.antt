@@ -1,7 +1,7 @@
--- `wanted::number` meets its contract, field by field. Assumes nothing.
+-- `values::number` meets its contract, field by field. Assumes nothing.
 use borrow.Author.Needs.{needs}
-use Rattle.wanted.proofs.number.Statement.{statement}
-use Rattle.wanted.proofs.number.Tie as tie
+use Rattle.values.proofs.number.Statement.{statement}
+use Rattle.values.proofs.number.Tie as tie
 
 enum-told : tie.Need-enum-told
 enum-told c = search needs

@@ -1,11 +1,11 @@
--- `wanted::hex_pair` meets its contract. Assumes nothing.
+-- `values::hex_pair` meets its contract. Assumes nothing.
 use borrow.Author.Needs.{needs}
 use native.Mathlib.Omega.{arith}
 use borrow.Author.Tests.{ne-eqb}
-use Rattle.wanted.specs.Values.{hexPairOf}
-use Rattle.wanted.proofs.Reading.{first-bad, second-bad, both-good}
-use Rattle.wanted.proofs.hex_pair.Statement.{statement}
-use Rattle.wanted.proofs.hex_pair.Tie as tie
+use Rattle.values.specs.Values.{hexPairOf}
+use Rattle.values.proofs.Reading.{first-bad, second-bad, both-good}
+use Rattle.values.proofs.hex_pair.Statement.{statement}
+use Rattle.values.proofs.hex_pair.Tie as tie
 
 returns : tie.Need-returns
 unfolding hexPairOf

@@ -1,0 +1,2 @@
+-- The value of an option.
+pub mod Values
