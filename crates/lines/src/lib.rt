@@ -13,8 +13,8 @@ use libc::STDOUT_FILENO;
 pub fn report(op: u8, no: u8, at: usize, out: &[u8], written: usize, text: &mut [u8]) -> usize
     ensures { λ r. ⌜ Counts r (now (text .exit)) ⌝ }
 {
-    let said = call(op, no, at, out, written, text);
-    shown(text, said)
+    let n = call(op, no, at, out, written, text);
+    shown(text, n)
 }
 
 // The same from the answer of a call that only writes bytes.
@@ -42,8 +42,8 @@ pub fn report_fed(
 {
     let n = call(op, no, at, out, written, text);
     let n = words::put_number(text, n, b" blocks=", blocks as u64);
-    let fed = words::put_yes(text, n, b" dropped=", dropped);
-    shown(text, fed)
+    let n = words::put_yes(text, n, b" dropped=", dropped);
+    shown(text, n)
 }
 
 // Writes the line of an op that the program doesn't know, or whose payload is too short.
@@ -51,8 +51,8 @@ pub fn unknown(op: u8, text: &mut [u8]) -> usize
     ensures { λ r. ⌜ Counts r (now (text .exit)) ⌝ }
 {
     let n = words::put_number(text, 0, b"op=", op as u64);
-    let named = words::put(text, n, b" unknown");
-    shown(text, named)
+    let n = words::put(text, n, b" unknown");
+    shown(text, n)
 }
 
 // Writes the last line, where bytes are left over that are no whole case.

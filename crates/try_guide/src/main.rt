@@ -1,10 +1,10 @@
 // Runs cases of the guide page's packets: op 20 takes a setting and a fresh reader, op 21 feeds it one
 // packet, op 22 cuts records into packets.
+use cases::Found;
+use cases::Input;
 use packet::Setting;
 use reader::Heard;
 use reader::Reader;
-use vectors::Found;
-use vectors::Input;
 
 // What op 20 leaves for the ops 21 that follow.
 struct Kept {
@@ -62,10 +62,10 @@ fn step(
     text: &mut [u8; 131200],
 ) -> Turn {
     let read = vectors::fill(input, space);
-    let found = vectors::next(read, space);
+    let found = cases::next(read, space);
     match found {
         Found::Whole(case) => {
-            let payload = vectors::payload(case, space);
+            let payload = cases::payload(case, space);
             let next = run(case.op, case.room, payload, kept, out, text);
             Turn {
                 found: found,

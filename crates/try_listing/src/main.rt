@@ -1,6 +1,6 @@
 // Runs cases of table forms: op 40 prints one as the desk's lines.
-use vectors::Found;
-use vectors::Input;
+use cases::Found;
+use cases::Input;
 
 fn main() {
     let mut space = [0u8; 131200];
@@ -30,10 +30,10 @@ fn step(
     text: &mut [u8; 131200],
 ) -> Found {
     let read = vectors::fill(input, space);
-    let found = vectors::next(read, space);
+    let found = cases::next(read, space);
     match found {
         Found::Whole(case) => {
-            let payload = vectors::payload(case, space);
+            let payload = cases::payload(case, space);
             run(case.op, case.room, payload, out, text);
         }
         Found::Ended(left) => {

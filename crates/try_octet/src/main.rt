@@ -1,6 +1,6 @@
 // Runs cases of one byte: op 1 decodes it, 2 gives its image, 3 turns it, 4 finds its fault place.
-use vectors::Found;
-use vectors::Input;
+use cases::Found;
+use cases::Input;
 
 fn main() {
     let mut space = [0u8; 131200];
@@ -24,9 +24,9 @@ fn main() {
 // One turn: the next case is read and run, or the end is told.
 fn step(input: Input, space: &mut [u8; 131200], text: &mut [u8; 131200]) -> Found {
     let read = vectors::fill(input, space);
-    let found = vectors::next(read, space);
+    let found = cases::next(read, space);
     match found {
-        Found::Whole(case) => call(case.op, vectors::payload(case, space), text),
+        Found::Whole(case) => call(case.op, cases::payload(case, space), text),
         Found::Ended(left) => {
             lines::ended(left, text);
         }

@@ -1,16 +1,17 @@
-// Cases from standard input, in large pieces.
+// A case that a program try_NAME runs, as the bytes that it has read hold it: op (1 byte), room (4 bytes, low byte
+// first: how long the lent output is), length (4 bytes, low byte first) and so many bytes, the payload. A room or
+// a length over 65,536 is taken as 65,536. Crate `vectors` reads the bytes.
 ghost use mathlib.Core.Path.{_≡_};
 ghost use Prim.Native.Nat.{_+_, _*_, _≤_};
 ghost use lib.ListN.{length};
-ghost use Rattle.vectors.specs.Cases.{Within, nextIn, part};
-ghost use Rattle.vectors.specs.Cases.{capped as Cases·capped};
-use libc::STDIN_FILENO;
+ghost use Rattle.cases.specs.Cases.{nextIn, part};
+ghost use Rattle.cases.specs.Cases.{capped as Cases·capped};
 
 // The most bytes of a payload, and of a lent output.
-const MOST: usize = 65536;
+pub const MOST: usize = 65536;
 
 // op, room and length.
-const HEAD: usize = 9;
+pub const HEAD: usize = 9;
 
 // The bytes of the lent space that are read and not yet handed out stand from `from` up to, not
 // including, `to`; `ended` is whether no more are to come.
@@ -34,46 +35,6 @@ pub enum Found {
     Whole(Case),
     // No whole case is left, but so many bytes.
     Ended(usize),
-}
-
-// Nothing is read yet.
-pub fn start() -> Input
-    ensures { λ r. ⌜ (r .from ≡ 0) × (r .to ≡ 0) ⌝ }
-{
-    Input {
-        from: 0,
-        to: 0,
-        ended: false,
-    }
-}
-
-// Reads on where a case might not stand whole in the space: the unread bytes go to its front, and
-// standard input fills it up. What is unread then lies within the space.
-pub fn fill(input: Input, space: &mut [u8]) -> Input
-    ensures { λ r. ⌜ Within r (now (space .exit)) ⌝ }
-{
-    let from = input.from;
-    let to = input.to;
-    if to < from {
-        return start();
-    }
-    if space.len() < to {
-        return start();
-    }
-    let held = to - from;
-    if input.ended {
-        return input;
-    }
-    if HEAD + MOST <= held {
-        return input;
-    }
-    move_down(space, from, held);
-    let got = io::read_full(STDIN_FILENO, &mut space[held..]);
-    Input {
-        from: 0,
-        to: held + got,
-        ended: held + got < space.len(),
-    }
 }
 
 // The case that the unread bytes begin with.
@@ -139,15 +100,4 @@ fn word(a: u8, b: u8, c: u8, d: u8) -> usize
     ensures { λ r. ⌜ r ≡ a + 256 * (b + 256 * (c + 256 * d)) ⌝ }
 {
     (a as usize) + 256 * ((b as usize) + 256 * ((c as usize) + 256 * (d as usize)))
-}
-
-// Moves n bytes from `from` on to the front.
-fn move_down(s: &mut [u8], from: usize, n: usize)
-    requires { ⌜ from + n ≤ length (now s) ⌝ }
-{
-    let mut i = 0;
-    while i < n {
-        s[i] = s[from + i];
-        i += 1;
-    }
 }

@@ -1,4 +1,4 @@
--- `vectors::cases::next` meets its contract: each return stands where its tests put it in `whole`. Assumes nothing.
+-- `cases::next` meets its contract: each return stands where its tests put it in `whole`. Assumes nothing.
 use mathlib.Core.Path.{ap}
 use Prim.Native.Nat.{_+_}
 use native.Mathlib.Omega.{arith}
@@ -6,10 +6,10 @@ use lib.ListN.{length}
 use denote.Ref.{now}
 use borrow.Author.Needs.{needs}
 use borrow.Author.Tests.{lt-leb, le-leb}
-use Rattle.vectors.specs.Cases.{head, endOf, nextIn}
-use Rattle.vectors.specs.declared.cases.Found.the-variants.{Ended}
-use Rattle.vectors.proofs.cases.next.Statement.{statement}
-use Rattle.vectors.proofs.cases.next.Tie as tie
+use Rattle.cases.specs.Cases.{head, endOf, nextIn}
+use Rattle.cases.specs.declared.Found.the-variants.{Ended}
+use Rattle.cases.proofs.next.Statement.{statement}
+use Rattle.cases.proofs.next.Tie as tie
 
 returns : tie.Need-returns
 unfolding nextIn

@@ -1,10 +1,10 @@
--- `vectors::cases::move_down` is safe and ends. The measure is how many bytes are left to move. Assumes nothing.
+-- `vectors::move_down` is safe and ends. The measure is how many bytes are left to move. Assumes nothing.
 use Prim.Native.Nat.{_-_}
 use mathlib.Core.Path.{_≡_}
 use lib.ListN.{length}
 use borrow.Author.Needs.{needs}
-use Rattle.vectors.proofs.cases.move_down.Statement.{statement}
-use Rattle.vectors.proofs.cases.move_down.Tie as tie
+use Rattle.vectors.proofs.move_down.Statement.{statement}
+use Rattle.vectors.proofs.move_down.Tie as tie
 
 abbrev Inv-loop : tie.InvT-loop
 Inv-loop s₀ from n i₀ s i = (length s ≡ length s₀)

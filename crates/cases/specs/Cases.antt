@@ -6,10 +6,10 @@ use Prim.Native.Nat.{ℕ, _+_, _*_, _-_, _≤_, min}
 use lib.Dec.{leb}
 use lib.ListN.{length, getD, take, drop}
 use Rattle.laws.specs.Pick.{pick, both}
-use Rattle.vectors.specs.declared.cases.Input.{Input}
-use Rattle.vectors.specs.declared.cases.Case.{Case}
-use Rattle.vectors.specs.declared.cases.Found.{Found}
-use Rattle.vectors.specs.declared.cases.Found.the-variants.{Whole, Ended}
+use Rattle.cases.specs.declared.Input.{Input}
+use Rattle.cases.specs.declared.Case.{Case}
+use Rattle.cases.specs.declared.Found.{Found}
+use Rattle.cases.specs.declared.Found.the-variants.{Whole, Ended}
 
 -- the most bytes of a payload, and of a lent output
 abbrev pub most : ℕ

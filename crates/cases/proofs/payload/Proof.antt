@@ -1,9 +1,9 @@
--- `vectors::cases::payload` meets its contract, by its two tests. Assumes nothing.
+-- `cases::payload` meets its contract, by its two tests. Assumes nothing.
 use borrow.Author.Needs.{needs}
 use borrow.Author.Tests.{lt-leb, le-leb}
-use Rattle.vectors.specs.Cases.{part}
-use Rattle.vectors.proofs.cases.payload.Statement.{statement}
-use Rattle.vectors.proofs.cases.payload.Tie as tie
+use Rattle.cases.specs.Cases.{part}
+use Rattle.cases.proofs.payload.Statement.{statement}
+use Rattle.cases.proofs.payload.Tie as tie
 
 sub-result : tie.Need-sub-result
 sub-result c = search needs
