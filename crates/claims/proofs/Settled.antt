@@ -44,12 +44,13 @@ use Rattle.walk.specs.declared.Ahead.{Ahead}
 use Rattle.walk.specs.declared.Ahead.the-variants.{Nothing, Broken, Cut, Whole}
 use Rattle.walk.specs.Places.{Found, nothing, broken, cut, whole}
 use Rattle.walk.specs.Holding.{aheadIn, nextOf}
+use Rattle.walk.proofs.pointed.Reads as walk·pointed
 use Rattle.walk.proofs.find.Reads as walk·find
 use Rattle.walk.proofs.head_on.Reads as walk·head-on
 use Rattle.walk.proofs.falls.Reads as walk·falls
 use Rattle.pages.proofs.judge.Reads as pages·judge
-use Rattle.pages.proofs.address.Reads as pages·address
-use Rattle.pages.proofs.passes_by.Reads as pages·passes-by
+use Rattle.packet.proofs.address.Reads as packet·address
+use Rattle.packet.proofs.passes_by.Reads as packet·passes-by
 use Rattle.state.proofs.fresh.Reads as reader·fresh
 use Rattle.reader.proofs.feed.Reads as reader·feed
 use Rattle.reader.proofs.feed_all.Reads as reader·feed-all
@@ -193,17 +194,20 @@ pub walk·head-on-settled :
 walk·head-on-settled κs a x y s t p q =
     sym (back-at (now (a .0)) _ x (p .1 .0)) ∙ ap (backAt _) (sym (p .0) ∙ q .0) ∙ back-at (now (a .0)) _ y (q .1 .0)
 
+pub walk·pointed-settled : (κs : _) (a : _) (x y : _) (s t : _) → walk·pointed.Post κs a x s → walk·pointed.Post κs a y t → x ≡ y
+walk·pointed-settled κs a x y s t p q = same p q
+
 pub walk·falls-settled : (κs : _) (a : _) (x y : _) (s t : _) → walk·falls.Post κs a x s → walk·falls.Post κs a y t → x ≡ y
 walk·falls-settled κs a x y s t p q = same p q
 
 pub pages·judge-settled : (κs : _) (a : _) (x y : _) (s t : _) → pages·judge.Post κs a x s → pages·judge.Post κs a y t → x ≡ y
 pages·judge-settled κs a x y s t p q = same p q
 
-pub pages·address-settled : (κs : _) (a : _) (x y : _) (s t : _) → pages·address.Post κs a x s → pages·address.Post κs a y t → x ≡ y
-pages·address-settled κs a x y s t p q = same p q
+pub packet·address-settled : (κs : _) (a : _) (x y : _) (s t : _) → packet·address.Post κs a x s → packet·address.Post κs a y t → x ≡ y
+packet·address-settled κs a x y s t p q = same p q
 
-pub pages·passes-by-settled : (κs : _) (a : _) (x y : _) (s t : _) → pages·passes-by.Post κs a x s → pages·passes-by.Post κs a y t → x ≡ y
-pages·passes-by-settled κs a x y s t p q = same p q
+pub packet·passes-by-settled : (κs : _) (a : _) (x y : _) (s t : _) → packet·passes-by.Post κs a x s → packet·passes-by.Post κs a y t → x ≡ y
+packet·passes-by-settled κs a x y s t p q = same p q
 
 -- ---- the reader
 

@@ -6,7 +6,7 @@ use Prim.Native.Nat.{ℕ, _+_, _*_, _/_, _%_}
 use lib.ListN.{getD, drop}
 use Rattle.octet.specs.Decoding.{nib}
 use Rattle.packet.specs.declared.Setting.{Setting}
-use Rattle.pages.specs.Seen.{decodes}
+use Rattle.packet.specs.Address.{decodes}
 
 -- its address can't be decoded, or it is packet 0 of our magazine and one of its six bytes can't
 pub data Unreadable (s : Setting) (q : List ℕ) : Type 0 where

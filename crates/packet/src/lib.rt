@@ -1,6 +1,7 @@
 // A packet of the guide page, and the setting that says which page, stream and application are ours.
 ghost use mathlib.Core.Path.{_≡_};
 ghost use Rattle.packet.specs.Setting.{inRange};
+ghost use Rattle.packet.specs.Address.{addressOf, elsewhere};
 
 // Which page and stream carry the guide, and which application its blocks are of. In range:
 // magazine 1..8, page 0..255 (any byte), stream 0..15, application 0..31.
@@ -28,4 +29,32 @@ pub fn is_in_range(s: Setting) -> bool
         return false;
     }
     true
+}
+
+// A packet's address: the magazine modulo 8, and Y times 8; 256 where there is none that can be decoded.
+pub fn address(packet: &[u8]) -> usize
+    ensures { λ r. ⌜ r ≡ addressOf (now (packet .entry)) ⌝ }
+{
+    if packet.len() < 2 {
+        return 256;
+    }
+    let one = quick::decode(packet[0]);
+    if one == 16 {
+        return 256;
+    }
+    let two = quick::decode(packet[1]);
+    if two == 16 {
+        return 256;
+    }
+    one as usize + 16 * two as usize
+}
+
+// Whether an address is another magazine's: such a packet leaves a reader as it was, so that no state has to be handed on.
+pub fn passes_by(setting: Setting, address: usize) -> bool
+    ensures { λ r. ⌜ r ≡ elsewhere setting address ⌝ }
+{
+    if address > 255 {
+        return false;
+    }
+    address % 8 != (setting.magazine % 8) as usize
 }

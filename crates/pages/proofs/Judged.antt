@@ -13,11 +13,13 @@ use Rattle.laws.proofs.Tests.{both-first, both-second}
 use Rattle.octet.specs.Decoding.{nib}
 use Rattle.packet.specs.declared.Setting.{Setting}
 use Rattle.packet.specs.Packet.{packetLength}
+use Rattle.packet.specs.Address.{decodes, addressOf, elsewhere}
+use Rattle.packet.proofs.Addressed.{address-long}
 use Rattle.pages.specs.declared.Page.{Page}
 use Rattle.pages.specs.declared.Page.the-variants.{Shut, Open}
 use Rattle.pages.specs.declared.Verdict.{Verdict}
 use Rattle.pages.specs.Judging.{incomplete, breaks, rowVerdict, verdictOf}
-use Rattle.pages.specs.Seen.{Seen, junk, other, foreign, ours, row, decodes, seeZero, seeY, see, seenAs, addressOf, elsewhere}
+use Rattle.pages.specs.Seen.{Seen, junk, other, foreign, ours, row, seeZero, seeY, see, seenAs}
 use Rattle.pages.proofs.Seeing.{decodes-at}
 
 -- ---- packet 0 of our magazine
@@ -43,29 +45,6 @@ module _ (s : Setting) (p : List ℕ) where
           (← e, getD-drop 2 p 0 0, getD-drop 2 p 1 0, getD-drop 2 p 2 0, getD-drop 2 p 3 0, getD-drop 2 p 4 0, getD-drop 2 p 5 0, ← eu, ← et, ← ex, ← eo, r, ← ei, ← ea, ← eb)
 
 -- ---- any packet
-
-pub address-short : (p : List ℕ) → length p < 2 → 256 ≡ addressOf p
-unfolding addressOf
-address-short p h = rw (lt-leb _ _ h)
-
-module _ (p : List ℕ) (long : 2 ≤ length p) where
-  address-long : addressOf p ≡ pick (decodes 2 p) (nib (getD p 0 0) + 16 * nib (getD p 1 0)) 256
-  unfolding addressOf
-  address-long = rw (le-leb _ _ long)
-
-  module _ {one : ℕ} (eo : one ≡ nib (getD p 0 0)) where
-    pub address-first : one ≡ 16 → 256 ≡ addressOf p
-    unfolding decodes
-    address-first h = rw (address-long, ← eo, h)
-
-    module _ {two : ℕ} (et : two ≡ nib (getD p 1 0)) (h : one < 16) where
-      pub address-second : two ≡ 16 → 256 ≡ addressOf p
-      unfolding decodes
-      address-second k = rw (address-long, getD-drop 1 p 0 0, ← eo, ← et, lt-ltb _ _ h, k)
-
-      pub address-both : two < 16 → one + 16 * two ≡ addressOf p
-      unfolding decodes
-      address-both k = rw (address-long, getD-drop 1 p 0 0, ← eo, ← et, lt-ltb _ _ h, lt-ltb _ _ k)
 
 -- a packet is what its address says
 module _ (s : Setting) (p : List ℕ) where

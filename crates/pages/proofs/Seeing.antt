@@ -1,4 +1,4 @@
--- Bytes that decode, and the tests of a packet's number, index and address. Assumes nothing.
+-- Bytes that decode, and the tests of a packet's number and index. Assumes nothing.
 use mathlib.Core.Path.{_≡_, _∙_, sym}
 use mathlib.Core.Bool.{true, false, not}
 use mathlib.Core.List.{List}
@@ -8,12 +8,11 @@ use native.Mathlib.Omega.{arith}
 use native.Mathlib.Decide.{decLt}
 use lib.ListN.{length, getD, drop}
 use lib.Seq.{drop-cons, getD-drop}
-use lib.Dec.{ltb, leb, eqb}
+use lib.Dec.{ltb, leb}
 use borrow.Author.Tests.{ltb-true, lt-ltb, le-ltb, lt-leb, le-leb}
-use Rattle.packet.specs.declared.Setting.{Setting}
 use Rattle.octet.specs.Decoding.{nib, undecodable}
 use Rattle.octet.proofs.Laws.{nib-le}
-use Rattle.pages.specs.Seen.{decodes, elsewhere}
+use Rattle.packet.specs.Address.{decodes}
 use Rattle.laws.proofs.Tests.{both-first, both-second}
 
 -- ---- bytes that decode
@@ -71,14 +70,3 @@ over a b =
 
 pub index-on : (i : ℕ) → (i % 16 + 1) % 16 ≡ (i + 1) % 16
 index-on i = omega arith
-
--- ---- an address
-
-module _ (s : Setting) (x : ℕ) where
-  pub no-address : 255 < x → false ≡ elsewhere s x
-  unfolding elsewhere
-  no-address h = rw (lt-leb _ _ h)
-
-  pub an-address : x ≤ 255 → not (eqb (x % 8) (s .magazine % 8)) ≡ elsewhere s x
-  unfolding elsewhere
-  an-address h = rw (le-leb _ _ h)

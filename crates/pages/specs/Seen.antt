@@ -1,13 +1,13 @@
 -- What a packet is to a reader of a setting.
-use mathlib.Core.Bool.{Bool, true, not}
 use mathlib.Core.List.{List}
-use Prim.Native.Nat.{ℕ, zero, suc, _+_, _*_, _/_, _%_}
-use lib.Dec.{eqb, leb, ltb}
+use Prim.Native.Nat.{ℕ, _+_, _*_, _/_, _%_}
+use lib.Dec.{eqb, leb}
 use lib.ListN.{length, getD, drop}
 use Rattle.laws.specs.Pick.{pick, both}
-use Rattle.octet.specs.Decoding.{nib, undecodable}
+use Rattle.octet.specs.Decoding.{nib}
 use Rattle.packet.specs.declared.Setting.{Setting}
 use Rattle.packet.specs.Packet.{packetLength}
+use Rattle.packet.specs.Address.{decodes}
 
 pub data Seen : Type 0 where
   -- an address, or one of the six bytes of our magazine's packet 0, that can't be decoded
@@ -20,11 +20,6 @@ pub data Seen : Type 0 where
   ours : ℕ → ℕ → Seen
   -- packet Y of our magazine, 1..25: Y, its pointer (16: can't be decoded) and the 39 bytes after it
   row : ℕ → ℕ → List ℕ → Seen
-
--- the first k bytes of l can be decoded
-unfoldable pub decodes : ℕ → List ℕ → Bool
-decodes zero l = true
-decodes (suc k) l = both (ltb (nib (getD l 0 0)) undecodable) (decodes k (drop 1 l))
 
 -- packet 0, from the byte after its address on: page units, page tens, S1, S2, S3, S4
 unfoldable pub seeZero : Setting → List ℕ → Seen
@@ -44,14 +39,6 @@ see s p =
     let one = nib (getD p 0 0) in
     let two = nib (getD p 1 0) in
     pick (decodes 2 p) (pick (eqb (one % 8) (s .magazine % 8)) (seeY s (one / 8 + 2 * two) p) other) junk
-
--- a packet's address as one number, the magazine modulo 8 lowest and Y above it; over 255 where there is none that can be decoded
-unfoldable pub addressOf : List ℕ → ℕ
-addressOf p = pick (both (leb 2 (length p)) (decodes 2 p)) (nib (getD p 0 0) + 16 * nib (getD p 1 0)) 256
-
--- an address that can be decoded and is another magazine's
-unfoldable pub elsewhere : Setting → ℕ → Bool
-elsewhere s address = both (leb address 255) (not (eqb (address % 8) (s .magazine % 8)))
 
 -- a packet of 42 bytes with this address; one of another length counts as one that can't be read
 unfoldable pub seenAs : Setting → ℕ → List ℕ → Seen

@@ -8,8 +8,9 @@ ghost use lib.Dec.{leb, eqb};
 ghost use lib.ListN.{length, drop};
 ghost use Rattle.laws.specs.Pick.{pick, both};
 ghost use Rattle.packet.specs.Packet.{packetLength};
+ghost use Rattle.packet.specs.Address.{decodes};
 ghost use Rattle.pages.specs.declared.Page.the-variants.{Shut, Open};
-ghost use Rattle.pages.specs.Seen.{decodes, seeZero, seenAs, addressOf, elsewhere};
+ghost use Rattle.pages.specs.Seen.{seeZero, seenAs};
 ghost use Rattle.pages.specs.Judging.{incomplete, breaks, wrongY, rowVerdict, verdictOf};
 
 // The page of ours that is open, if one is: how many packets follow its packet 0, and the number of
@@ -65,34 +66,6 @@ pub fn judge(setting: Setting, page: Page, index: u8, address: usize, packet: &[
         };
     }
     row(page, index, y)
-}
-
-// A packet's address: the magazine modulo 8, and Y times 8; 256 where there is none that can be decoded.
-pub fn address(packet: &[u8]) -> usize
-    ensures { λ r. ⌜ r ≡ addressOf (now (packet .entry)) ⌝ }
-{
-    if packet.len() < 2 {
-        return 256;
-    }
-    let one = quick::decode(packet[0]);
-    if one == 16 {
-        return 256;
-    }
-    let two = quick::decode(packet[1]);
-    if two == 16 {
-        return 256;
-    }
-    one as usize + 16 * two as usize
-}
-
-// Whether an address is another magazine's: such a packet leaves a reader as it was, so that no state has to be handed on.
-pub fn passes_by(setting: Setting, address: usize) -> bool
-    ensures { λ r. ⌜ r ≡ elsewhere setting address ⌝ }
-{
-    if address > 255 {
-        return false;
-    }
-    address % 8 != (setting.magazine % 8) as usize
 }
 
 // A packet 0 of our magazine.

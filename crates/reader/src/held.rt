@@ -27,13 +27,13 @@ pub(crate) fn read(got: Got, store: &mut [u8; 2047], packet: &[u8], out: &mut [u
     requires { ⌜ RowRoom got (now out) ⌝ }
     ensures { λ r. ⌜ ReadRow (modeOf (got .run) (now (store .entry))) (nib (getD (now (packet .entry)) 2 0)) (drop 3 (now (packet .entry))) got r (now (store .exit)) (now (out .entry)) (now (out .exit)) ⌝ }
 {
-    let p = quick::decode(packet[2]) as usize;
-    if p <= 12 {
-        let at = 3 + 3 * p;
+    let before = walk::pointed(packet[2]);
+    if before <= 36 {
+        let at = 3 + before;
         let carried = carry_to(got, store, &packet[3..at], out);
         return flow(carried, store, &packet[at..], out);
     }
-    if p == 13 {
+    if before == 39 {
         return carry_on(got, store, &packet[3..], out);
     }
     lose(true, got, store)

@@ -187,8 +187,8 @@ fn take_all(
         let from = at;
         at += 42;
         count += 1;
-        let address = pages::address(&packets[from..at]);
-        if pages::passes_by(setting, address) {
+        let address = packet::address(&packets[from..at]);
+        if packet::passes_by(setting, address) {
             continue;
         }
         let page = a.page;

@@ -19,7 +19,7 @@ use Rattle.walk.specs.Mode.{Mode, off, scan, heading, body, full, isFull
 use Rattle.walk.specs.Store.{storeLength, modeOf}
 use Rattle.walk.specs.Places.{Found, nothing, broken, cut, whole, fillers, found, zeroed}
 use Rattle.walk.specs.Holding.{Bits, Good, Holds, Kept, Went, Finished, blockWith, runs, awaits, stands, TookIn, CarriedTo, CarriedOn, Flowed, ReadRow, Lost}
-use Rattle.walk.specs.Reading.{dropIf}
+use Rattle.walk.specs.Reading.{dropIf, pointedBy}
 use Rattle.walk.proofs.Walking.{waits, breaks-off, left-by, given-by, spoilt-by, found-left, found-given, found-spoilt, headed-long, headed-short}
 use Rattle.walk.proofs.Keeping.{kept-body, body-length, holds-idle, holds-mode, zeroed-more}
 
@@ -291,24 +291,59 @@ pub from-place :
 from-place a w =
     record { holds = w .holds; blocks = w .blocks; written = w .written; dropped = w .dropped; out = w .out }
 
--- ---- the 39 bytes of a packet, by its pointer p; the code lends the parts of the packet, and has p as q
+-- ---- the 39 bytes of a packet, by its pointer p; the code lends the parts of the packet, and has n by p
 
-module _ (m : Mode) (p : ℕ) (packet : List ℕ) (a : Got) {q : ℕ} {old : List ℕ} (e : q ≡ p) where
+module _ (p : ℕ) {n : ℕ} (e : n ≡ pointedBy p) where
+  small : p ≤ 12 → n ≡ 3 * p
+  small l = e ∙ rw (le-leb _ _ l)
+
+  thirteen : p ≡ 13 → n ≡ 39
+  thirteen f = let k : 12 < p = omega (arith, f) in e ∙ rw (lt-leb _ _ k, eq-eqb _ _ f)
+
+  over : 13 < p → n ≡ 40
+  over h =
+      let k : 12 < p = omega arith in
+      let j : p ≡ 13 → ⊥ = λ i. omega arith in
+      e ∙ rw (lt-leb _ _ k, ne-eqb _ _ j)
+
+  three : {A : Type 0} → (p ≤ 12 → A) → (p ≡ 13 → A) → (13 < p → A) → A
+  three f g h =
+      elim (decLt 12 p) [
+        | yes k ↦ elim (decLt 13 p) [ yes j ↦ h j | no j ↦ g (omega arith) ]
+        | no k ↦ f (omega arith)
+      ]
+
+  by-pointed : n ≤ 36 → (p ≤ 12) × (n ≡ 3 * p)
+  by-pointed h = three (λ l. (l, small l)) (λ f. absurd (omega (arith, thirteen f, h))) (λ k. absurd (omega (arith, over k, h)))
+
+  by-none : n ≡ 39 → p ≡ 13
+  by-none h = three (λ l. absurd (omega (arith, small l, l, h))) (λ f. f) (λ k. absurd (omega (arith, over k, h)))
+
+  by-skipped : 36 < n → (n ≡ 39 → ⊥) → 13 < p
+  by-skipped h k = three (λ l. absurd (omega (arith, small l, l, h))) (λ f. absurd (k (thirteen f))) (λ i. i)
+
+module _ (m : Mode) (p : ℕ) (packet : List ℕ) (a : Got) {n : ℕ} {old : List ℕ} (e : n ≡ pointedBy p) where
   pub read-pointed :
-      {b r : Got} {between store mid new : List ℕ} → q ≤ 12 → CarriedTo m (take (3 + 3 * q - 3) (drop 3 packet)) a b between old mid
-      → Flowed (take (length packet - (3 + 3 * q)) (drop (3 + 3 * q) packet)) b r store mid new
+      {b r : Got} {between store mid new : List ℕ} → n ≤ 36 → CarriedTo m (take (3 + n - 3) (drop 3 packet)) a b between old mid
+      → Flowed (take (length packet - (3 + n)) (drop (3 + n) packet)) b r store mid new
       → ReadRow m p (drop 3 packet) a r store old new
   read-pointed h x y =
-      rw (← e, le-leb _ _ h, drop-drop)
-      (went-on (rw (part-of 3 (3 * q) packet) at x) (rw (part-rest (3 + 3 * q) packet) at y))
+      let k = by-pointed p e h in
+      rw (le-leb _ _ (k .0), drop-drop)
+      (went-on (rw (k .1, part-of 3 (3 * p) packet) at x) (rw (k .1, part-rest (3 + 3 * p) packet) at y))
 
   pub read-unpointed :
-      {r : Got} {store new : List ℕ} → q ≡ 13 → CarriedOn m (take (length packet - 3) (drop 3 packet)) a r store old new
+      {r : Got} {store new : List ℕ} → n ≡ 39 → CarriedOn m (take (length packet - 3) (drop 3 packet)) a r store old new
       → ReadRow m p (drop 3 packet) a r store old new
   read-unpointed h x =
-      let k : 12 < q = omega arith in
-      rw (← e, lt-leb _ _ k, eq-eqb _ _ h) (rw (part-rest 3 packet) at x)
+      let f = by-none p e h in
+      let k : 12 < p = omega (arith, f) in
+      rw (lt-leb _ _ k, eq-eqb _ _ f) (rw (part-rest 3 packet) at x)
 
   pub read-skipped :
-      {r : Got} {store : List ℕ} → 12 < q → (q ≡ 13 → ⊥) → Lost true m a r store old → ReadRow m p (drop 3 packet) a r store old old
-  read-skipped k n w = rw (← e, lt-leb _ _ k, ne-eqb _ _ n, both-true) w
+      {r : Got} {store : List ℕ} → 36 < n → (n ≡ 39 → ⊥) → Lost true m a r store old → ReadRow m p (drop 3 packet) a r store old old
+  read-skipped h k w =
+      let f = by-skipped p e h k in
+      let i : 12 < p = omega (arith, f) in
+      let j : p ≡ 13 → ⊥ = λ z. omega (arith, f, z) in
+      rw (lt-leb _ _ i, ne-eqb _ _ j, both-true) w

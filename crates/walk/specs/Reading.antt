@@ -20,6 +20,10 @@ dropIf t m = pick t off m
 abbrev pub pointed : ℕ → ℕ
 pointed p = 3 * p
 
+-- the same of any pointer: 39 where none of the bytes is a start's, 40 where the packet is skipped
+abbrev pub pointedBy : ℕ → ℕ
+pointedBy p = pick (leb p 12) (pointed p) (pick (eqb p 13) 39 40)
+
 -- the mode after the 39 bytes of a packet with pointer p: 0..12 a start is pointed at, 13 none is; else the packet is skipped
 abbrev pub readMode : Mode → ℕ → List ℕ → Mode
 readMode m p l =

@@ -4,6 +4,8 @@ ghost use mathlib.Core.Path.{_≡_};
 ghost use mathlib.Core.Bool.{not};
 ghost use Prim.Native.Nat.{_+_, _-_, _≤_};
 ghost use lib.ListN.{length, drop};
+ghost use Rattle.octet.specs.Decoding.{nib};
+ghost use Rattle.walk.specs.Reading.{pointedBy};
 ghost use Rattle.walk.specs.Places.{fillers, heads, found};
 ghost use Rattle.walk.specs.Holding.{aheadIn, nextOf, stands};
 
@@ -37,6 +39,21 @@ pub enum Ahead {
     Broken,
     Cut { got: u8, bits: u16 },
     Whole { head: u16, next: usize },
+}
+
+// How many of a packet's 39 bytes stand before the start that its pointer byte points at; 39 where it says that no block starts there, 40
+// where it can't be decoded or is no pointer, so that the packet is skipped.
+pub fn pointed(b: u8) -> usize
+    ensures { λ r. ⌜ r ≡ pointedBy (nib b) ⌝ }
+{
+    let p = quick::decode(b) as usize;
+    if p <= 12 {
+        return 3 * p;
+    }
+    if p == 13 {
+        return 39;
+    }
+    40
 }
 
 // What stands ahead from `from` on where nothing runs.

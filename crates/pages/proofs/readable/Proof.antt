@@ -5,7 +5,7 @@ use native.Mathlib.Omega.{arith}
 use lib.ListN.{drop}
 use denote.Ref.{now}
 use borrow.Author.Needs.{needs}
-use Rattle.pages.specs.Seen.{decodes}
+use Rattle.packet.specs.Address.{decodes}
 use Rattle.pages.proofs.Seeing.{readable-on, unreadable, readable-all}
 use Rattle.pages.proofs.readable.Statement.{statement}
 use Rattle.pages.proofs.readable.Tie as tie

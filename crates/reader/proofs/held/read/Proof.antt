@@ -1,7 +1,7 @@
 -- `reader::held::read` meets its contract: the pointer decides. Assumes nothing.
 use mathlib.Core.Path.{_≡_, _∙_, ap}
 use mathlib.Core.Bool.{true}
-use Prim.Native.Nat.{_+_, _-_, _*_}
+use Prim.Native.Nat.{_+_, _-_}
 use native.Mathlib.Omega.{arith}
 use lib.ListN.{length, getD, take, drop, length-drop}
 use denote.Ref.{now}
@@ -15,17 +15,11 @@ use Rattle.walk.proofs.Adding.{read-pointed, read-unpointed, read-skipped}
 use Rattle.reader.proofs.held.read.Statement.{statement}
 use Rattle.reader.proofs.held.read.Tie as tie
 
-shared-slice-read-decode : tie.Need-shared-slice-read-decode
-shared-slice-read-decode c = search needs
+shared-slice-read-pointed : tie.Need-shared-slice-read-pointed
+shared-slice-read-pointed c = search needs
 
-decode-requires : tie.Need-decode-requires
-decode-requires c κs = search needs
-
-cast-p : tie.Need-cast-p
-cast-p c = search needs
-
-mul-at : tie.Need-mul-at
-mul-at c = search needs
+pointed-requires : tie.Need-pointed-requires
+pointed-requires c κs = search needs
 
 add-at : tie.Need-add-at
 add-at c = search needs
@@ -57,7 +51,7 @@ flow-requires c κs =
     let a = c .before .before .before .before .before .before .before .before .before .before .before .before .before .before .args in
     let q = c .before .before .before .before .before .before .before .before .before .before .before .before .before .before .pre in
     let p = now (a .packet) in
-    let n = 3 + 3 * c .before .before .before .before .before .before .before .before .before .before .decode .result in
+    let n = 3 + c .before .before .before .before .before .before .before .before .before .before .pointed .result in
     let m = modeOf (a .got .run) (now (a .store)) in
     let g = carried-room true m (take (n - 3) (drop 3 p)) (q .0 .good) in
     let t = two-each (finished (carries true m (take (n - 3) (drop 3 p)))) in
@@ -71,7 +65,7 @@ same-length c = search needs
 returns : tie.Need-returns
 returns c =
     let a = c .before .before .before .before .before .before .before .before .before .before .before .before .before .before .before .before .before .args in
-    read-pointed (modeOf (a .got .run) (now (a .store))) (nib (getD (now (a .packet)) 2 0)) (now (a .packet)) (a .got) (c .before .before .before .before .before .before .before .before .before .before .before .before .before .decode .ensures) (c .before .before .before .before .before .before .before .before .before .before .before .before .if1 .taken)
+    read-pointed (modeOf (a .got .run) (now (a .store))) (nib (getD (now (a .packet)) 2 0)) (now (a .packet)) (a .got) (c .before .before .before .before .before .before .before .before .before .before .before .before .before .pointed .ensures) (c .before .before .before .before .before .before .before .before .before .before .before .before .if1 .taken)
     (c .before .before .before .before .before .before .before .before .carry-to .ensures) (c .before .before .flow .ensures)
 
 sub-carry-on : tie.Need-sub-carry-on
@@ -92,7 +86,7 @@ same-length-2 c = search needs
 returns-2 : tie.Need-returns-2
 returns-2 c =
     let a = c .before .before .before .before .before .before .before .before .before .before .before .before .args in
-    read-unpointed (modeOf (a .got .run) (now (a .store))) (nib (getD (now (a .packet)) 2 0)) (now (a .packet)) (a .got) (c .before .before .before .before .before .before .before .before .decode .ensures) (c .before .before .before .before .before .before .if2 .taken)
+    read-unpointed (modeOf (a .got .run) (now (a .store))) (nib (getD (now (a .packet)) 2 0)) (now (a .packet)) (a .got) (c .before .before .before .before .before .before .before .before .pointed .ensures) (c .before .before .before .before .before .before .if2 .taken)
     (c .before .before .carry-on .ensures)
 
 lose-requires : tie.Need-lose-requires
@@ -102,17 +96,15 @@ returns-3 : tie.Need-returns-3
 returns-3 c =
     let a = c .before .before .before .before .before .before .before .before .args in
     read-skipped (modeOf (a .got .run) (now (a .store))) (nib (getD (now (a .packet)) 2 0)) (now (a .packet)) (a .got)
-    (c .before .before .before .before .decode .ensures) (c .before .before .before .if1 .left) (c .before .before .if2 .left)
+    (c .before .before .before .before .pointed .ensures) (c .before .before .before .if1 .left) (c .before .before .if2 .left)
     (c .lose .ensures (now (a .out)))
 
 pub read-spec : {M : Type 1} → statement M
 read-spec =
     tie.close
     (tie.spec
-    shared-slice-read-decode
-    decode-requires
-    cast-p
-    mul-at
+    shared-slice-read-pointed
+    pointed-requires
     add-at
     sub-carry-to
     part-carry-to-start

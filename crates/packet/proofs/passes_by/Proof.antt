@@ -1,8 +1,8 @@
--- `pages::passes_by` meets its contract: whether there is an address, then its magazine. Assumes nothing.
+-- `packet::passes_by` meets its contract: whether there is an address, then its magazine. Assumes nothing.
 use borrow.Author.Needs.{needs}
-use Rattle.pages.proofs.Seeing.{no-address, an-address}
-use Rattle.pages.proofs.passes_by.Statement.{statement}
-use Rattle.pages.proofs.passes_by.Tie as tie
+use Rattle.packet.proofs.Addressed.{no-address, an-address}
+use Rattle.packet.proofs.passes_by.Statement.{statement}
+use Rattle.packet.proofs.passes_by.Tie as tie
 
 returns : tie.Need-returns
 returns c = let a = c .before .args in no-address (a .setting) (a .address) (c .if1 .taken)

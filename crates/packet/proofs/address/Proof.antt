@@ -1,4 +1,4 @@
--- `pages::address` meets its contract: no two bytes, one that can't be decoded, or both nibbles. Assumes nothing.
+-- `packet::address` meets its contract: no two bytes, one that can't be decoded, or both nibbles. Assumes nothing.
 use mathlib.Core.List.{List}
 use Prim.Native.Nat.{ℕ}
 use native.Mathlib.Omega.{arith}
@@ -6,9 +6,9 @@ use lib.ListN.{getD}
 use denote.Ref.{now}
 use borrow.Author.Needs.{needs}
 use Rattle.octet.proofs.Laws.{nib-le}
-use Rattle.pages.proofs.Judged.{address-short, address-first, address-second, address-both}
-use Rattle.pages.proofs.address.Statement.{statement}
-use Rattle.pages.proofs.address.Tie as tie
+use Rattle.packet.proofs.Addressed.{address-short, address-first, address-second, address-both}
+use Rattle.packet.proofs.address.Statement.{statement}
+use Rattle.packet.proofs.address.Tie as tie
 
 returns : tie.Need-returns
 returns c = address-short (now (c .before .before .args .packet)) (c .if1 .taken)
