@@ -93,7 +93,8 @@ fn capped(s: &[u8], at: usize) -> usize
     requires { ⌜ at + 4 ≤ length (now s) ⌝ }
     ensures { λ r. ⌜ r ≡ Cases·capped (now (s .entry)) at ⌝ }
 {
-    lent::least(word(s[at], s[at + 1], s[at + 2], s[at + 3]), MOST)
+    let n = word(s[at], s[at + 1], s[at + 2], s[at + 3]);
+    if n < MOST { n } else { MOST }
 }
 
 fn word(a: u8, b: u8, c: u8, d: u8) -> usize

@@ -39,7 +39,7 @@ pub fn kept(out: &[u8], written: usize) -> bool
 }
 
 // The smaller of two numbers.
-pub fn least(a: usize, b: usize) -> usize
+fn least(a: usize, b: usize) -> usize
     ensures { λ r. ⌜ r ≡ min a b ⌝ }
 {
     if a < b { a } else { b }

@@ -3,71 +3,81 @@
 //
 // A line is put together in lent space and written to standard output by one call. 131,200 bytes hold the
 // longest: 131,072 digits of 65,536 bytes, and what stands before and after them. What doesn't fit is left
-// out. No contract can say what is written; each function answers how many bytes of the space its line took.
+// out, but for the line's end. No contract can say what is written to standard output.
+mod words;
+
 ghost use Rattle.io.specs.Counts.{Counts};
+ghost use Rattle.lines.specs.Ending.{EndsLine};
 use answer::Answer;
 use libc::STDOUT_FILENO;
 
-// Writes the line of a call: its number and offset, the bytes that it reports as written at the front
-// of the lent output, and whether the rest is as before. Answers how long the line is.
-pub fn report(op: u8, no: u8, at: usize, out: &[u8], written: usize, text: &mut [u8]) -> usize
-    ensures { λ r. ⌜ Counts r (now (text .exit)) ⌝ }
-{
-    let n = call(op, no, at, out, written, text);
-    shown(text, n)
+// What a line tells.
+pub enum Line {
+    // A call's answer.
+    Answered {
+        op: u8,
+        answer: Answer,
+    },
+    // A fed packet's answer, how many blocks it finished, and whether one was dropped.
+    Fed {
+        op: u8,
+        answer: Answer,
+        blocks: usize,
+        dropped: bool,
+    },
+    // An op that the program doesn't know, or whose payload is too short.
+    Unknown(u8),
+    // So many bytes are left over that are no whole case.
+    Short(usize),
 }
 
-// The same from the answer of a call that only writes bytes.
-pub fn report_answer(op: u8, answer: Answer, out: &[u8], text: &mut [u8]) -> usize
+// Writes a line. A call's has its number and offset, the bytes that it reports as written at the front of
+// the lent output, and whether the rest is as before. Answers how long the line is.
+pub fn tell(line: Line, out: &[u8], text: &mut [u8]) -> usize
+    ensures { λ r. ⌜ Counts r (now (text .exit)) ⌝ }
+    ensures { λ r. ⌜ EndsLine r (now (text .exit)) ⌝ }
+{
+    let n = put_line(line, out, text);
+    let n = end(text, n);
+    io::write_all(STDOUT_FILENO, &text[..n]);
+    n
+}
+
+// Puts a line without its end.
+fn put_line(line: Line, out: &[u8], text: &mut [u8]) -> usize
+    ensures { λ r. ⌜ Counts r (now (text .exit)) ⌝ }
+{
+    match line {
+        Line::Answered { op, answer } => put_answer(op, answer, out, text),
+        Line::Fed {
+            op,
+            answer,
+            blocks,
+            dropped,
+        } => {
+            let n = put_answer(op, answer, out, text);
+            let n = words::put_number(text, n, b" blocks=", blocks as u64);
+            words::put_yes(text, n, b" dropped=", dropped)
+        }
+        Line::Unknown(op) => {
+            let n = words::put_number(text, 0, b"op=", op as u64);
+            words::put(text, n, b" unknown")
+        }
+        Line::Short(left) => words::put_number(text, 0, b"short=", left as u64),
+    }
+}
+
+// Puts a call's answer, up to `kept=yes`.
+fn put_answer(op: u8, answer: Answer, out: &[u8], text: &mut [u8]) -> usize
     ensures { λ r. ⌜ Counts r (now (text .exit)) ⌝ }
 {
     match answer {
-        Answer::Done(n) => report(op, 0, 0, out, n, text),
-        Answer::Refused(r) => report(op, r.no, r.at, out, 0, text),
+        Answer::Done(written) => put_call(op, 0, 0, out, written, text),
+        Answer::Refused(r) => put_call(op, r.no, r.at, out, 0, text),
     }
 }
 
-// The same with how many blocks were handed out, and whether one was dropped.
-pub fn report_fed(
-    op: u8,
-    no: u8,
-    at: usize,
-    out: &[u8],
-    written: usize,
-    blocks: usize,
-    dropped: bool,
-    text: &mut [u8],
-) -> usize
-    ensures { λ r. ⌜ Counts r (now (text .exit)) ⌝ }
-{
-    let n = call(op, no, at, out, written, text);
-    let n = words::put_number(text, n, b" blocks=", blocks as u64);
-    let n = words::put_yes(text, n, b" dropped=", dropped);
-    shown(text, n)
-}
-
-// Writes the line of an op that the program doesn't know, or whose payload is too short.
-pub fn unknown(op: u8, text: &mut [u8]) -> usize
-    ensures { λ r. ⌜ Counts r (now (text .exit)) ⌝ }
-{
-    let n = words::put_number(text, 0, b"op=", op as u64);
-    let n = words::put(text, n, b" unknown");
-    shown(text, n)
-}
-
-// Writes the last line, where bytes are left over that are no whole case.
-pub fn ended(left: usize, text: &mut [u8]) -> usize
-    ensures { λ r. ⌜ Counts r (now (text .exit)) ⌝ }
-{
-    if left == 0 {
-        return 0;
-    }
-    let n = words::put_number(text, 0, b"short=", left as u64);
-    shown(text, n)
-}
-
-// The line of a call, up to `kept=yes`.
-fn call(op: u8, no: u8, at: usize, out: &[u8], written: usize, text: &mut [u8]) -> usize
+fn put_call(op: u8, no: u8, at: usize, out: &[u8], written: usize, text: &mut [u8]) -> usize
     ensures { λ r. ⌜ Counts r (now (text .exit)) ⌝ }
 {
     let n = words::put_number(text, 0, b"op=", op as u64);
@@ -78,11 +88,19 @@ fn call(op: u8, no: u8, at: usize, out: &[u8], written: usize, text: &mut [u8]) 
     words::put_yes(text, n, b" kept=", lent::kept(out, written))
 }
 
-// Ends the line with the first n bytes of text, and writes it.
-fn shown(text: &mut [u8], n: usize) -> usize
+// Ends the line that is put up to a place, over its last byte where the text is full.
+fn end(text: &mut [u8], at: usize) -> usize
     ensures { λ r. ⌜ Counts r (now (text .exit)) ⌝ }
+    ensures { λ r. ⌜ EndsLine r (now (text .exit)) ⌝ }
 {
-    let n = words::put(text, n, b"\n");
-    io::write_all(STDOUT_FILENO, &text[..n]);
-    n
+    let long = text.len();
+    if long == 0 {
+        return 0;
+    }
+    if at < long {
+        text[at] = 10;
+        return at + 1;
+    }
+    text[long - 1] = 10;
+    long
 }

@@ -1,7 +1,9 @@
 // Runs cases of the guide page's packets: op 20 takes a setting and a fresh reader, op 21 feeds it one
 // packet, op 22 cuts records into packets.
+use answer::Answer;
 use cases::Found;
 use cases::Input;
+use lines::Line;
 use packet::Setting;
 use reader::Heard;
 use reader::Reader;
@@ -22,7 +24,11 @@ fn main() {
     let mut space = [0u8; 131200];
     let mut out = [0u8; 65536];
     let mut text = [0u8; 131200];
-    let mut input = vectors::start();
+    let mut input = Input {
+        from: 0,
+        to: 0,
+        ended: false,
+    };
     let mut kept = fresh(0, 0, 0, 0);
     let mut turns = u64::MAX;
     while turns > 0 {
@@ -73,7 +79,9 @@ fn step(
             }
         }
         Found::Ended(left) => {
-            lines::ended(left, text);
+            if left > 0 {
+                lines::tell(Line::Short(left), &[], text);
+            }
             Turn {
                 found: found,
                 kept: kept,
@@ -84,32 +92,33 @@ fn step(
 
 // A case: the call is lent as much output as it has room.
 fn run(op: u8, room: usize, payload: &[u8], kept: Kept, out: &mut [u8], text: &mut [u8]) -> Kept {
-    call(op, payload, kept, lent::lend(out, room), text)
-}
-
-// The call that op names.
-fn call(op: u8, payload: &[u8], kept: Kept, out: &mut [u8], text: &mut [u8]) -> Kept {
+    let lent = lent::lend(out, room);
     match op {
-        20 => begin(op, payload, kept, out, text),
-        21 => feed(op, payload, kept, out, text),
+        20 => begin(op, payload, kept, lent, text),
+        21 => feed(op, payload, kept, lent, text),
         22 => {
-            cut(op, payload, out, text);
+            let line = cut(op, payload, lent);
+            lines::tell(line, lent, text);
             kept
         }
         _ => {
-            lines::unknown(op, text);
+            lines::tell(Line::Unknown(op), lent, text);
             kept
         }
     }
 }
 
 // Op 20: magazine, page, stream, application.
-fn begin(op: u8, payload: &[u8], kept: Kept, out: &mut [u8], text: &mut [u8]) -> Kept {
+fn begin(op: u8, payload: &[u8], kept: Kept, out: &[u8], text: &mut [u8]) -> Kept {
     if payload.len() < 4 {
-        lines::unknown(op, text);
+        lines::tell(Line::Unknown(op), out, text);
         return kept;
     }
-    lines::report(op, 0, 0, out, 0, text);
+    let line = Line::Answered {
+        op: op,
+        answer: Answer::Done(0),
+    };
+    lines::tell(line, out, text);
     fresh(payload[0], payload[1], payload[2], payload[3])
 }
 
@@ -118,7 +127,7 @@ fn feed(op: u8, payload: &[u8], kept: Kept, out: &mut [u8], text: &mut [u8]) -> 
     let setting = kept.setting;
     let fed = reader::feed(setting, kept.reader, payload, out);
     let heard = fed.heard;
-    tell(op, heard, out, text);
+    lines::tell(told(op, heard), out, text);
     let reader = fed.reader;
     Kept {
         setting: setting,
@@ -126,27 +135,32 @@ fn feed(op: u8, payload: &[u8], kept: Kept, out: &mut [u8], text: &mut [u8]) -> 
     }
 }
 
-// The line of a packet that was fed.
-fn tell(op: u8, heard: Heard, out: &[u8], text: &mut [u8]) {
+// What is told of a packet that was fed.
+fn told(op: u8, heard: Heard) -> Line {
     match heard {
         Heard::Took {
             blocks,
             written,
             dropped,
-        } => {
-            lines::report_fed(op, 0, 0, out, written, blocks, dropped, text);
-        }
-        Heard::Refused(r) => {
-            lines::report_fed(op, r.no, r.at, out, 0, 0, false, text);
-        }
+        } => Line::Fed {
+            op: op,
+            answer: Answer::Done(written),
+            blocks: blocks,
+            dropped: dropped,
+        },
+        Heard::Refused(r) => Line::Fed {
+            op: op,
+            answer: Answer::Refused(r),
+            blocks: 0,
+            dropped: false,
+        },
     }
 }
 
 // Op 22: magazine, page, stream, first index, packets a page (0: none named), then records.
-fn cut(op: u8, payload: &[u8], out: &mut [u8], text: &mut [u8]) {
+fn cut(op: u8, payload: &[u8], out: &mut [u8]) -> Line {
     if payload.len() < 5 {
-        lines::unknown(op, text);
-        return;
+        return Line::Unknown(op);
     }
     let s = Setting {
         magazine: payload[0],
@@ -157,10 +171,13 @@ fn cut(op: u8, payload: &[u8], out: &mut [u8], text: &mut [u8]) {
     let index = payload[3];
     let k = payload[4];
     if k == 0 {
-        let answer = guide::cut(s, index, &payload[5..], out);
-        lines::report_answer(op, answer, out, text);
-        return;
+        return Line::Answered {
+            op: op,
+            answer: guide::cut(s, index, &payload[5..], out),
+        };
     }
-    let answer = guide::cut_pages(s, index, k, &payload[5..], out);
-    lines::report_answer(op, answer, out, text);
+    Line::Answered {
+        op: op,
+        answer: guide::cut_pages(s, index, k, &payload[5..], out),
+    }
 }

@@ -1,11 +1,17 @@
 // Runs cases of one byte: op 1 decodes it, 2 gives its image, 3 turns it, 4 finds its fault place.
+use answer::Answer;
 use cases::Found;
 use cases::Input;
+use lines::Line;
 
 fn main() {
     let mut space = [0u8; 131200];
     let mut text = [0u8; 131200];
-    let mut input = vectors::start();
+    let mut input = Input {
+        from: 0,
+        to: 0,
+        ended: false,
+    };
     let mut turns = u64::MAX;
     while turns > 0 {
         turns -= 1;
@@ -28,7 +34,9 @@ fn step(input: Input, space: &mut [u8; 131200], text: &mut [u8; 131200]) -> Foun
     match found {
         Found::Whole(case) => call(case.op, cases::payload(case, space), text),
         Found::Ended(left) => {
-            lines::ended(left, text);
+            if left > 0 {
+                lines::tell(Line::Short(left), &[], text);
+            }
         }
     }
     found
@@ -37,7 +45,7 @@ fn step(input: Input, space: &mut [u8; 131200], text: &mut [u8; 131200]) -> Foun
 // The call that op names. These calls give a byte, and are lent no output.
 fn call(op: u8, payload: &[u8], text: &mut [u8]) {
     if payload.len() < 1 {
-        lines::unknown(op, text);
+        lines::tell(Line::Unknown(op), &[], text);
         return;
     }
     let b = payload[0];
@@ -47,12 +55,16 @@ fn call(op: u8, payload: &[u8], text: &mut [u8]) {
         3 => show(op, octet::turn(b), text),
         4 => show(op, octet::fault_place(b), text),
         _ => {
-            lines::unknown(op, text);
+            lines::tell(Line::Unknown(op), &[], text);
         }
     }
 }
 
 fn show(op: u8, b: u8, text: &mut [u8]) {
     let out = [b];
-    lines::report(op, 0, 0, &out, 1, text);
+    let line = Line::Answered {
+        op: op,
+        answer: Answer::Done(1),
+    };
+    lines::tell(line, &out, text);
 }

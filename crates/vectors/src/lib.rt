@@ -13,8 +13,8 @@ use cases::Input;
 use cases::MOST;
 use libc::STDIN_FILENO;
 
-// Nothing is read yet.
-pub fn start() -> Input
+// Nothing is unread.
+fn start() -> Input
     ensures { λ r. ⌜ (r .from ≡ 0) × (r .to ≡ 0) ⌝ }
 {
     Input {

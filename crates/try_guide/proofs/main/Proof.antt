@@ -11,9 +11,6 @@ Inv-loop space₀ out₀ text₀ input₀ kept₀ turns₀ space out text input 
 abbrev μ-loop : tie.MeasureT-loop
 μ-loop space₀ out₀ text₀ input₀ kept₀ turns₀ space out text input kept turns = turns
 
-start-requires : tie.Need-start-requires Inv-loop μ-loop
-start-requires c κs = tt
-
 fresh-requires : tie.Need-fresh-requires Inv-loop μ-loop
 fresh-requires c κs = tt
 
@@ -50,7 +47,6 @@ main-spec =
     (tie.spec
     Inv-loop
     μ-loop
-    start-requires
     fresh-requires
     loop-holds
     sub-turns

@@ -11,9 +11,6 @@ Inv-loop space₀ text₀ input₀ turns₀ space text input turns = Unit {0}
 abbrev μ-loop : tie.MeasureT-loop
 μ-loop space₀ text₀ input₀ turns₀ space text input turns = turns
 
-start-requires : tie.Need-start-requires Inv-loop μ-loop
-start-requires c κs = tt
-
 loop-holds : tie.Need-loop-holds Inv-loop μ-loop
 loop-holds c = tt
 
@@ -47,7 +44,6 @@ main-spec =
     (tie.spec
     Inv-loop
     μ-loop
-    start-requires
     loop-holds
     sub-turns
     step-requires

@@ -1,9 +1,9 @@
 // Words, numbers and bytes put into a line of text that is lent: each call takes a place in the text and answers the
-// place after what it put; what doesn't fit is left out. The lines themselves are crate `lines`.
+// place after what it put; what doesn't fit is left out.
 ghost use Rattle.io.specs.Counts.{Counts};
 
 // Puts a name, and yes or no after it.
-pub fn put_yes(text: &mut [u8], at: usize, name: &[u8], yes: bool) -> usize
+pub(crate) fn put_yes(text: &mut [u8], at: usize, name: &[u8], yes: bool) -> usize
     ensures { λ r. ⌜ Counts r (now (text .exit)) ⌝ }
 {
     let n = put(text, at, name);
@@ -15,7 +15,7 @@ pub fn put_yes(text: &mut [u8], at: usize, name: &[u8], yes: bool) -> usize
 }
 
 // Puts a name, and a number in decimal after it.
-pub fn put_number(text: &mut [u8], at: usize, name: &[u8], number: u64) -> usize
+pub(crate) fn put_number(text: &mut [u8], at: usize, name: &[u8], number: u64) -> usize
     ensures { λ r. ⌜ Counts r (now (text .exit)) ⌝ }
 {
     let n = put(text, at, name);
@@ -25,7 +25,7 @@ pub fn put_number(text: &mut [u8], at: usize, name: &[u8], number: u64) -> usize
 }
 
 // Puts a word into text at a place, and answers the place after it.
-pub fn put(text: &mut [u8], at: usize, word: &[u8]) -> usize
+pub(crate) fn put(text: &mut [u8], at: usize, word: &[u8]) -> usize
     ensures { λ r. ⌜ Counts r (now (text .exit)) ⌝ }
 {
     if text.len() < at {
@@ -45,7 +45,7 @@ pub fn put(text: &mut [u8], at: usize, word: &[u8]) -> usize
 }
 
 // Puts the first n bytes in hex, lower case, two digits a byte.
-pub fn put_hex(text: &mut [u8], at: usize, bytes: &[u8], n: usize) -> usize
+pub(crate) fn put_hex(text: &mut [u8], at: usize, bytes: &[u8], n: usize) -> usize
     ensures { λ r. ⌜ Counts r (now (text .exit)) ⌝ }
 {
     if text.len() < at {

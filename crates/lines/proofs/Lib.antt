@@ -1,0 +1,2 @@
+-- The laws behind the functions proofs.
+mod Ending

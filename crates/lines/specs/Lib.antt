@@ -1,0 +1,2 @@
+-- What a line is.
+pub mod Ending
