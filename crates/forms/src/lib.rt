@@ -13,7 +13,6 @@ ghost use Rattle.forms.specs.Tables.{per, bits, loops, fits, known as Ta
 ghost use Rattle.forms.specs.Form.{form, wordAt, tableIn};
 ghost use Rattle.forms.specs.Writing.{formRules};
 use answer::Answer;
-use answer::Refusal;
 
 // 11.12.3: the datatype_id of a Subtitle and of a Language table.
 pub const TI: usize = 8;
@@ -40,13 +39,13 @@ pub fn judge_form(table: &[u8]) -> Answer
     ensures { λ r. ⌜ r ≡ judged refused (formRules (now (table .entry))) (Done (bits (tableIn (now (table .entry))))) ⌝ }
 {
     if table.len() < OPENING {
-        return refuse(13, 0);
+        return answer::refuse(13, 0);
     }
     if !known(byte_at(table, 0)) {
-        return refuse(15, 0);
+        return answer::refuse(15, 0);
     }
     if table.len() != form_size(table) {
-        return refuse(13, 0);
+        return answer::refuse(13, 0);
     }
     judge_values(table)
 }
@@ -76,17 +75,17 @@ fn judge_values(table: &[u8]) -> Answer
 {
     let count = byte_at(table, 5);
     if 1 < byte_at(table, 1) {
-        return refuse(15, 0);
+        return answer::refuse(15, 0);
     }
     if 63 < count {
-        return refuse(15, 0);
+        return answer::refuse(15, 0);
     }
     if !loops_fit(table) {
-        return refuse(15, 0);
+        return answer::refuse(15, 0);
     }
     let bits = LOOPS + 8 * (table.len() - OPENING) - 6 * count;
     if MOST < bits {
-        return refuse(15, 0);
+        return answer::refuse(15, 0);
     }
     Answer::Done(bits)
 }
@@ -155,10 +154,4 @@ pub fn byte_at(s: &[u8], i: usize) -> usize
         return s[i] as usize;
     }
     0
-}
-
-fn refuse(no: u8, at: usize) -> Answer
-    ensures { λ r. ⌜ r ≡ refused no at ⌝ }
-{
-    Answer::Refused(Refusal { no, at })
 }

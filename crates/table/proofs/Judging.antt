@@ -16,7 +16,7 @@ use Rattle.forms.specs.Tables.{known, control, size}
 use Rattle.sums.specs.Block.{headOf}
 use Rattle.sums.specs.Sums.{checksum, sound}
 use Rattle.spelling.specs.Control.{tableOf}
-use Rattle.table.specs.Reading.{frameRules, frontRules, wholeRules, lengthRules, readRules}
+use Rattle.table.specs.Reading.{frameRules, frontRules, wholeRules, readRules}
 
 -- ---- the frame
 
@@ -111,20 +111,3 @@ module _ (head : ℕ) (ns : List ℕ) (a : Answer) where
     pub whole-done : field 0 8 (whole 4 ns) ≡ checksum head ns → judged refused (wholeRules head ns) a ≡ a
     unfolding wholeRules
     whole-done h = rw (eq-eqb (sound ns) (length ns) h₁, eq-eqb (field 0 8 (whole 4 ns)) (checksum head ns) h)
-
--- ---- the lengths
-
-module _ (blockSize n : ℕ) (a : Answer) where
-  pub lengths-14 :
-      (field 8 10 n ≡ control (tableOf n) → ⊥) → judged refused (lengthRules blockSize n) a ≡ refused 14 0
-  unfolding lengthRules
-  lengths-14 h = rw (ne-eqb (field 8 10 n) (control (tableOf n)) h)
-
-  module _ (h₁ : field 8 10 n ≡ control (tableOf n)) where
-    pub lengths-14′ : (blockSize ≡ size (tableOf n) → ⊥) → judged refused (lengthRules blockSize n) a ≡ refused 14 0
-    unfolding lengthRules
-    lengths-14′ h = rw (eq-eqb (field 8 10 n) (control (tableOf n)) h₁, ne-eqb blockSize (size (tableOf n)) h)
-
-    pub lengths-done : blockSize ≡ size (tableOf n) → judged refused (lengthRules blockSize n) a ≡ a
-    unfolding lengthRules
-    lengths-done h = rw (eq-eqb (field 8 10 n) (control (tableOf n)) h₁, eq-eqb blockSize (size (tableOf n)) h)

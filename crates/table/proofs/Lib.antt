@@ -1,4 +1,3 @@
-pub mod Loops
 pub mod Judging
 pub mod Inverse
 pub mod Exact

@@ -6,8 +6,9 @@ use lib.ListN.{length, take}
 use Rattle.laws.specs.Pick.{both}
 use Rattle.answer.specs.Rules.{Rule, rule, judged}
 use Rattle.fields.specs.Fields.{field, whole}
-use Rattle.forms.specs.Tables.{Table, known, control, size}
+use Rattle.forms.specs.Tables.{Table, known}
 use Rattle.spelling.specs.Control.{tableOf}
+use Rattle.lengths.specs.Lengths.{lengthRules}
 use Rattle.sums.specs.Sums.{checksum, sound}
 use Rattle.sums.specs.Block.{headLength, headOf, nibblesOf}
 
@@ -35,11 +36,6 @@ wholeRules head ns =
     rule (eqb (sound ns) (length ns)) 10 (headLength + sound ns)
     ∷ rule (eqb (field 0 8 (whole 4 ns)) (checksum head ns)) 11 0
     ∷ []
-
--- 14: loops, control size and fill fit where both sizes are those of the table read
-unfoldable pub lengthRules : ℕ → ℕ → List Rule
-lengthRules blockSize n =
-    rule (both (eqb (field 8 10 n) (control (tableOf n))) (eqb blockSize (size (tableOf n)))) 14 0 ∷ []
 
 -- what follows the frame
 abbrev pub bodyRules : ℕ → List ℕ → List Rule

@@ -8,27 +8,18 @@ ghost use Rattle.answer.specs.Values.{refused};
 ghost use Rattle.answer.specs.Writing.{answered, left};
 ghost use Rattle.answer.specs.declared.Answer.the-variants.{Done};
 ghost use Rattle.octet.specs.Decoding.{nib};
-ghost use Rattle.forms.specs.Tables.{bits};
 ghost use Rattle.forms.specs.Form.{form};
 ghost use Rattle.fields.specs.Compound.{compound};
 ghost use Rattle.sums.specs.Block.{headOf};
-ghost use Rattle.table.specs.Reading.{frameRules, frontRules, wholeRules, lengthRules, bodyRules, readRules, tableRead};
+ghost use Rattle.table.specs.Reading.{frameRules, frontRules, wholeRules, bodyRules, readRules, tableRead};
 ghost use Rattle.spelling.specs.Control.{tableOf};
 use answer::Answer;
-use answer::Refusal;
 use blocks::HEAD;
-use forms::HEADING;
-use forms::LOOPS;
-use forms::OPENING;
-use forms::WORD;
-use spelling::COUNT;
 use spelling::KIND;
 
-// Where those fields of tables 15 and 17 begin that aren't the table's own, in bits: checksum,
-// control_block_size, CA_mode.
+// Where those fields of tables 15 and 17 begin that aren't the table's own, in bits: checksum, CA_mode. The third,
+// control_block_size, is crate `lengths`'.
 const SUM: usize = 0;
-
-const CONTROL: usize = 8;
 
 const ACCESS: usize = 24;
 
@@ -46,7 +37,7 @@ pub fn read_block(application: u8, rec: &[u8], out: &mut [u8]) -> Answer
         Answer::Refused(why) => Answer::Refused(why),
         Answer::Done(need) => {
             if out.len() < need {
-                return refuse(1, 0);
+                return answer::refuse(1, 0);
             }
             spelling::write_form(&rec[HEAD..], out);
             Answer::Done(need)
@@ -73,17 +64,17 @@ fn judge_frame(application: u8, rec: &[u8]) -> Answer
         (Done (headOf (now (rec .entry)))) ⌝ }
 {
     if 32 <= application {
-        return refuse(16, 0);
+        return answer::refuse(16, 0);
     }
     let head = head_of(rec);
     if rec.len() != HEAD + head / 32 {
-        return refuse(13, 0);
+        return answer::refuse(13, 0);
     }
     if head % 32 != application as usize {
-        return refuse(12, 0);
+        return answer::refuse(12, 0);
     }
     if head / 32 < 8 {
-        return refuse(13, 0);
+        return answer::refuse(13, 0);
     }
     Answer::Done(head)
 }
@@ -107,7 +98,7 @@ fn judge_body(head: usize, body: &[u8]) -> Answer
         Answer::Refused(why) => Answer::Refused(why),
         Answer::Done(_) => match judge_whole(head, body) {
             Answer::Refused(why) => Answer::Refused(why),
-            Answer::Done(_) => judge_lengths(head / 32, body),
+            Answer::Done(_) => lengths::judge_lengths(head / 32, body),
         },
     }
 }
@@ -119,17 +110,17 @@ fn judge_front(size: usize, body: &[u8]) -> Answer
 {
     let good = sums::sound(&body[..8]);
     if good != 8 {
-        return refuse(10, HEAD + good);
+        return answer::refuse(10, HEAD + good);
     }
     let kind = fields::field_of(body, KIND, 6);
     if !forms::known(kind) {
-        return refuse(12, 0);
+        return answer::refuse(12, 0);
     }
     if fields::field_of(body, ACCESS, 2) != 0 {
-        return refuse(12, 0);
+        return answer::refuse(12, 0);
     }
     if size % 2 != 0 {
-        return refuse(13, 0);
+        return answer::refuse(13, 0);
     }
     Answer::Done(0)
 }
@@ -141,49 +132,10 @@ fn judge_whole(head: usize, body: &[u8]) -> Answer
 {
     let sum = sums::sum_of(head, body);
     if 255 < sum {
-        return refuse(10, HEAD + sums::sound(body));
+        return answer::refuse(10, HEAD + sums::sound(body));
     }
     if fields::field_of(body, SUM, 8) != sum {
-        return refuse(11, 0);
+        return answer::refuse(11, 0);
     }
     Answer::Done(0)
-}
-
-// 14: where loops, control size and fill fit, the bytes of the table's form.
-fn judge_lengths(size: usize, body: &[u8]) -> Answer
-    ensures { λ r.
-        ⌜ r
-        ≡ judged refused (lengthRules size (compound (now (body .entry))))
-        (Done (length (form (tableOf (compound (now (body .entry))))))) ⌝ }
-{
-    let bits = measure(body);
-    let control = (bits + 7) / 8;
-    if fields::field_of(body, CONTROL, 10) != control {
-        return refuse(14, 0);
-    }
-    if size != 2 * control {
-        return refuse(14, 0);
-    }
-    Answer::Done(OPENING + (bits - LOOPS + 6 * fields::field_of(body, COUNT, 6)) / 8)
-}
-
-// The bits of the table that a block holds, by its counts as they stand.
-fn measure(body: &[u8]) -> usize
-    ensures { λ r. ⌜ (r ≡ bits (tableOf (compound (now (body .entry))))) × (r ≤ 46048) ⌝ }
-{
-    let kind = fields::field_of(body, KIND, 6);
-    let mut left = fields::field_of(body, COUNT, 6);
-    let mut at = LOOPS;
-    while 0 < left {
-        let words = forms::words_of(kind, fields::field_of(body, at + 6, 4));
-        at += HEADING + WORD * words;
-        left -= 1;
-    }
-    at
-}
-
-fn refuse(no: u8, at: usize) -> Answer
-    ensures { λ r. ⌜ r ≡ refused no at ⌝ }
-{
-    Answer::Refused(Refusal { no, at })
 }

@@ -1,4 +1,4 @@
--- `table::judge_lengths` meets its contract: each `return` is the first test that fails, and the last is both passed, with the
+-- `lengths::judge_lengths` meets its contract: each `return` is the first test that fails, and the last is both passed, with the
 -- form's bytes by the table's bits. Assumes nothing.
 use borrow.Author.Needs.{needs}
 use mathlib.Core.Path.{_∙_, sym, ap}
@@ -7,11 +7,11 @@ use denote.Ref.{now}
 use Rattle.answer.specs.declared.Answer.the-variants.{Done}
 use Rattle.fields.specs.Compound.{compound}
 use Rattle.spelling.specs.Control.{tableOf}
-use Rattle.table.proofs.Judging.{lengths-14, lengths-14′, lengths-done}
+use Rattle.lengths.proofs.Judging.{lengths-14, lengths-14′, lengths-done}
 use Rattle.forms.proofs.Measures.{bits-of}
-use Rattle.table.proofs.Loops.{form-need}
-use Rattle.table.proofs.judge_lengths.Statement.{statement}
-use Rattle.table.proofs.judge_lengths.Tie as tie
+use Rattle.lengths.proofs.Loops.{form-need}
+use Rattle.lengths.proofs.judge_lengths.Statement.{statement}
+use Rattle.lengths.proofs.judge_lengths.Tie as tie
 
 measure-requires : tie.Need-measure-requires
 measure-requires c κs = search needs

@@ -1,4 +1,4 @@
--- `table::measure` meets its contract: the bits passed and those of the descriptors left make the table's bits. The measure is
+-- `lengths::measure` meets its contract: the bits passed and those of the descriptors left make the table's bits. The measure is
 -- the descriptors left. Assumes nothing.
 use borrow.Author.Needs.{needs}
 use mathlib.Core.Path.{refl, _≡_, sym}
@@ -10,9 +10,9 @@ use Rattle.forms.specs.Tables.{bits, per, loops}
 use Rattle.fields.specs.Compound.{compound}
 use Rattle.spelling.specs.Control.{tableOf, descriptorsOf}
 use Rattle.forms.proofs.Measures.{words-counted, bits-of}
-use Rattle.table.proofs.Loops.{walk-on, walk-end}
-use Rattle.table.proofs.measure.Statement.{statement}
-use Rattle.table.proofs.measure.Tie as tie
+use Rattle.lengths.proofs.Loops.{walk-on, walk-end}
+use Rattle.lengths.proofs.measure.Statement.{statement}
+use Rattle.lengths.proofs.measure.Tie as tie
 
 abbrev Inv-loop : tie.InvT-loop
 Inv-loop body kind left₀ at₀ left at =

@@ -1,0 +1,2 @@
+-- How long a block is, and the table in it.
+pub mod Lengths
