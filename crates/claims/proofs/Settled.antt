@@ -7,6 +7,7 @@ use Prim.Native.Nat.{ℕ, _-_, _≤_}
 use native.Mathlib.Omega.{arith}
 use lib.ListN.{length, drop, length-drop}
 use denote.Ref.{now}
+use Rattle.answer.proofs.refuse.Reads as answer·refuse
 use Rattle.octet.proofs.image.Reads as octet·image
 use Rattle.octet.proofs.decode.Reads as octet·decode
 use Rattle.octet.proofs.fault_place.Reads as octet·fault-place
@@ -35,8 +36,8 @@ use Rattle.packet.proofs.is_in_range.Reads as packet·is-in-range
 use Rattle.zero.proofs.write_zero.Reads as zero·write-zero
 use Rattle.zero.proofs.write_address.Reads as zero·write-address
 use Rattle.pens.proofs.step.Reads as pens·step
-use Rattle.pens.proofs.first.Reads as pens·first
-use Rattle.pens.proofs.cells_of.Reads as pens·cells-of
+use Rattle.cells.proofs.first.Reads as cells·first
+use Rattle.cells.proofs.cells_of.Reads as cells·cells-of
 use Rattle.guide.proofs.cut.Reads as guide·cut
 use Rattle.guide.proofs.cut_pages.Reads as guide·cut-pages
 use Rattle.blocks.specs.Block.{Block}
@@ -54,6 +55,7 @@ use Rattle.packet.proofs.passes_by.Reads as packet·passes-by
 use Rattle.state.proofs.fresh.Reads as reader·fresh
 use Rattle.reader.proofs.feed.Reads as reader·feed
 use Rattle.reader.proofs.feed_all.Reads as reader·feed-all
+use Rattle.lengths.proofs.judge_lengths.Reads as lengths·judge-lengths
 use Rattle.table.proofs.read_block.Reads as table·read-block
 use Rattle.forms.proofs.judge_form.Reads as forms·judge-form
 use Rattle.spelling.proofs.write_form.Reads as spelling·write-form
@@ -78,6 +80,9 @@ use Rattle.firmware.proofs.guide_unit_at.Reads as firmware·guide-unit-at
 -- two things that are both equal to a third
 same {ℓ} : {A : Type ℓ} {x y z : A} → x ≡ z → y ≡ z → x ≡ y
 same p q = p ∙ sym q
+
+pub answer·refuse-settled : (κs : _) (a : _) (x y : _) (s t : _) → answer·refuse.Post κs a x s → answer·refuse.Post κs a y t → x ≡ y
+answer·refuse-settled κs a x y s t p q = same p q
 
 pub octet·image-settled : (κs : _) (a : _) (x y : _) (s t : _) → octet·image.Post κs a x s → octet·image.Post κs a y t → x ≡ y
 octet·image-settled κs a x y s t p q = same p q
@@ -143,11 +148,11 @@ zero·write-address-settled κs a x y s t p q = same p q
 pub pens·step-settled : (κs : _) (a : _) (x y : _) (s t : _) → pens·step.Post κs a x s → pens·step.Post κs a y t → x ≡ y
 pens·step-settled κs a x y s t p q = same p q
 
-pub pens·first-settled : (κs : _) (a : _) (x y : _) (s t : _) → pens·first.Post κs a x s → pens·first.Post κs a y t → x ≡ y
-pens·first-settled κs a x y s t p q = same p q
+pub cells·first-settled : (κs : _) (a : _) (x y : _) (s t : _) → cells·first.Post κs a x s → cells·first.Post κs a y t → x ≡ y
+cells·first-settled κs a x y s t p q = same p q
 
-pub pens·cells-of-settled : (κs : _) (a : _) (x y : _) (s t : _) → pens·cells-of.Post κs a x s → pens·cells-of.Post κs a y t → x ≡ y
-pens·cells-of-settled κs a x y s t p q = same p q
+pub cells·cells-of-settled : (κs : _) (a : _) (x y : _) (s t : _) → cells·cells-of.Post κs a x s → cells·cells-of.Post κs a y t → x ≡ y
+cells·cells-of-settled κs a x y s t p q = same p q
 
 pub guide·cut-settled :
     (κs : _) (a : _) (x y : _) (s t : _) → guide·cut.Post κs a x s → guide·cut.Post κs a y t → (x ≡ y) × (now (s .1 .1 .1 .0) ≡ now (t .1 .1 .1 .0))
@@ -223,6 +228,9 @@ pub reader·feed-all-settled :
     (κs : _) (a : _) (x y : _) (s t : _) → reader·feed-all.Post κs a x s → reader·feed-all.Post κs a y t
     → (x .heard ≡ y .heard) × (x .reader ≡ y .reader) × (now (s .1 .1 .1 .0) ≡ now (t .1 .1 .1 .0))
 reader·feed-all-settled κs a x y s t p q = (same (p .0) (q .0), same (p .1 .0) (q .1 .0), same (p .1 .1) (q .1 .1))
+
+pub lengths·judge-lengths-settled : (κs : _) (a : _) (x y : _) (s t : _) → lengths·judge-lengths.Post κs a x s → lengths·judge-lengths.Post κs a y t → x ≡ y
+lengths·judge-lengths-settled κs a x y s t p q = same p q
 
 pub table·read-block-settled :
     (κs : _) (a : _) (x y : _) (s t : _) → table·read-block.Post κs a x s → table·read-block.Post κs a y t → (x ≡ y) × (now (s .1 .1 .0) ≡ now (t .1 .1 .0))

@@ -11,7 +11,8 @@ use lib.Seq.{sets, drop-drop}
 use Rattle.pens.specs.declared.Pen.{Pen}
 use Rattle.pens.specs.declared.Sent.{Sent}
 use Rattle.pens.specs.Stream.{Symbol, start, fill, bits, raw, byteOf, grab, beforeStart}
-use Rattle.pens.specs.Pen.{isStart, restOf, Within, Goes, Sends, firstOf}
+use Rattle.cells.specs.Cells.{firstOf}
+use Rattle.pens.specs.Pen.{isStart, restOf, Within, Goes, Sends}
 
 pub length-grab : (n : ℕ) (ss : List Symbol) → length (grab n ss) ≡ n
 unfolding grab

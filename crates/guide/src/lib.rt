@@ -6,8 +6,8 @@
 use answer::Answer;
 use answer::Refusal;
 use blocks::Found;
+use cells::CELL;
 use packet::Setting;
-use pens::CELL;
 use pens::Pen;
 use zero::PACKET;
 ghost use mathlib.Core.Path.{_≡_};
@@ -98,7 +98,7 @@ fn measure(records: &[u8]) -> Measured
             Found::End => return Measured::Cells(cells),
             Found::Broken => return Measured::Broken,
             Found::Record { head: _, raw, next } => {
-                cells += pens::cells_of(next - raw);
+                cells += cells::cells_of(next - raw);
                 at = next;
             }
         }
@@ -199,7 +199,7 @@ fn write_symbols(records: &[u8], pen: Pen, out: &mut [u8], q: usize) -> Row
     while i < PER_PACKET {
         let sent = pens::step(records, at);
         out[q + i] = sent.byte;
-        before = pens::first(before, sent.starts, i);
+        before = cells::first(before, sent.starts, i);
         at = sent.pen;
         i += 1;
     }

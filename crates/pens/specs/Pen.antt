@@ -2,7 +2,7 @@
 use mathlib.Core.Path.{_≡_}
 use mathlib.Core.Bool.{Bool, true, false}
 use mathlib.Core.List.{List}
-use Prim.Native.Nat.{ℕ, zero, suc, _+_, _-_, _*_, _/_, _%_, _<_, min}
+use Prim.Native.Nat.{ℕ, zero, suc, _+_, _-_, _*_, _/_, _%_, _<_}
 use lib.Dec.{eqb, ltb}
 use lib.ListN.{length, getD, take, drop}
 use Rattle.laws.specs.Pick.{pick}
@@ -64,7 +64,3 @@ pub record Sends (l : List ℕ) (pen : Pen) (r : Sent) : Type 0 where
   pub its-byte : r .byte ≡ byteOf (getD (restOf l pen) 0 fill)
   pub its-start : r .starts ≡ isStart (getD (restOf l pen) 0 fill)
   pub goes : Goes l pen 1 (r .pen)
-
--- the place of the first start so far, taking in whether one stands at i
-abbrev pub firstOf : ℕ → Bool → ℕ → ℕ
-firstOf before starts i = pick starts (min i before) before

@@ -4,17 +4,13 @@
 // A block goes in whole cells of three symbols: its start, its 16 bits in four nibbles, its raw bytes,
 // then filler.
 use blocks::Found;
+use cells::CELL;
+use cells::LEAD;
 ghost use mathlib.Core.Path.{_≡_};
 ghost use Prim.Native.Nat.{_+_, _/_, _^_, _≤_, _<_};
 ghost use lib.ListN.{length, getD};
 ghost use Rattle.pens.specs.Stream.{fill, byteOf, cellsOf};
-ghost use Rattle.pens.specs.Pen.{nibbleOf, blockAt, movedOf, fillerAt, sentOf, firstOf};
-
-// A block's symbols go in cells of so many.
-pub const CELL: usize = 3;
-
-// A block's start and the four nibbles of its 16 bits.
-const LEAD: usize = 5;
+ghost use Rattle.pens.specs.Pen.{nibbleOf, blockAt, movedOf, fillerAt, sentOf};
 
 const START: u8 = 12;
 
@@ -48,27 +44,6 @@ pub fn step(records: &[u8], pen: Pen) -> Sent
         Found::End => filler(pen),
         Found::Broken => filler(pen),
     }
-}
-
-// The place of the first start up to place i.
-pub fn first(before: usize, starts: bool, i: usize) -> usize
-    ensures { λ r. ⌜ r ≡ firstOf before starts i ⌝ }
-{
-    if !starts {
-        return before;
-    }
-    if i < before {
-        return i;
-    }
-    before
-}
-
-// How many cells a block of so many raw bytes takes. The size is divided first, so that no sum can
-// be more than a usize holds.
-pub fn cells_of(size: usize) -> usize
-    ensures { λ r. ⌜ r ≡ (size + 7) / 3 ⌝ }
-{
-    size / CELL + (size % CELL + LEAD + CELL - 1) / CELL
 }
 
 // Filler, with the pen where it is.
@@ -122,7 +97,7 @@ fn moved(pen: Pen, size: usize, next: usize) -> Pen
     requires { ⌜ size < 2 ^ 63 ⌝ }
     ensures { λ r. ⌜ r ≡ movedOf pen size next ⌝ }
 {
-    if pen.sent < cells_of(size) * CELL - 1 {
+    if pen.sent < cells::cells_of(size) * CELL - 1 {
         return Pen {
             at: pen.at,
             sent: pen.sent + 1,

@@ -1,8 +1,8 @@
--- `pens::first` meets its contract: each `return` is by the tests that led there. Assumes nothing.
+-- `cells::first` meets its contract: each `return` is by the tests that led there. Assumes nothing.
 use native.Mathlib.Omega.{arith}
 use borrow.Author.Tests.{not-true, not-false}
-use Rattle.pens.proofs.first.Statement.{statement}
-use Rattle.pens.proofs.first.Tie as tie
+use Rattle.cells.proofs.first.Statement.{statement}
+use Rattle.cells.proofs.first.Tie as tie
 
 returns : tie.Need-returns
 returns c = rw (not-true (c .before .args .starts) (c .if1 .taken))

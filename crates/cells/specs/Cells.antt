@@ -1,0 +1,8 @@
+-- Which start of a packet is its first.
+use mathlib.Core.Bool.{Bool}
+use Prim.Native.Nat.{ℕ, min}
+use Rattle.laws.specs.Pick.{pick}
+
+-- the place of the first start so far, taking in whether one stands at i
+abbrev pub firstOf : ℕ → Bool → ℕ → ℕ
+firstOf before starts i = pick starts (min i before) before
