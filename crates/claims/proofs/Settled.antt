@@ -16,10 +16,10 @@ use Rattle.quick.proofs.turn.Reads as quick·turn
 use Rattle.fields.proofs.field_of.Reads as fields·field-of
 use Rattle.forms.proofs.words_of.Reads as forms·words-of
 use Rattle.values.proofs.set.Reads as values·set
-use Rattle.wanted.proofs.start.Reads as wanted·start
+use Rattle.stages.proofs.start.Reads as wanted·start
 use Rattle.wanted.proofs.next.Reads as wanted·next
 use Rattle.wanted.proofs.is_name.Reads as wanted·is-name
-use Rattle.wanted.proofs.is_good.Reads as wanted·is-good
+use Rattle.stages.proofs.is_good.Reads as wanted·is-good
 use Rattle.units.proofs.unit_at.Reads as units·unit-at
 use Rattle.units.proofs.pack.Reads as units·pack
 use Rattle.units.proofs.is_text.Reads as units·is-text
