@@ -48,6 +48,7 @@ use Rattle.walk.proofs.pointed.Reads as walk·pointed
 use Rattle.walk.proofs.find.Reads as walk·find
 use Rattle.walk.proofs.head_on.Reads as walk·head-on
 use Rattle.walk.proofs.falls.Reads as walk·falls
+use Rattle.headers.proofs.judge_zero.Reads as headers·judge-zero
 use Rattle.pages.proofs.judge.Reads as pages·judge
 use Rattle.packet.proofs.address.Reads as packet·address
 use Rattle.packet.proofs.passes_by.Reads as packet·passes-by
@@ -199,6 +200,10 @@ walk·pointed-settled κs a x y s t p q = same p q
 
 pub walk·falls-settled : (κs : _) (a : _) (x y : _) (s t : _) → walk·falls.Post κs a x s → walk·falls.Post κs a y t → x ≡ y
 walk·falls-settled κs a x y s t p q = same p q
+
+pub headers·judge-zero-settled :
+    (κs : _) (a : _) (x y : _) (s t : _) → headers·judge-zero.Post κs a x s → headers·judge-zero.Post κs a y t → x ≡ y
+headers·judge-zero-settled κs a x y s t p q = same p q
 
 pub pages·judge-settled : (κs : _) (a : _) (x y : _) (s t : _) → pages·judge.Post κs a x s → pages·judge.Post κs a y t → x ≡ y
 pages·judge-settled κs a x y s t p q = same p q

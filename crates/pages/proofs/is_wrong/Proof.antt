@@ -4,7 +4,7 @@ use Prim.Native.Nat.{_+_}
 use native.Mathlib.Omega.{arith}
 use borrow.Author.Needs.{needs}
 use borrow.Author.Tests.{eq-eqb, ne-eqb}
-use Rattle.pages.proofs.Seeing.{over}
+use Rattle.pages.proofs.Judged.{over}
 use Rattle.pages.proofs.is_wrong.Statement.{statement}
 use Rattle.pages.proofs.is_wrong.Tie as tie
 
