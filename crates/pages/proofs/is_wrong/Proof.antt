@@ -13,7 +13,7 @@ sub-if1 c = search needs
 
 returns : tie.Need-returns
 returns c =
-    let n : c .before .args .y ≡ c .before .args .last + 1 → ⊥ = λ e. c .if1 .taken (omega arith) in
+    let n : c .before .args .y ≡ c .before .args .last + 1 → ⊥ = λ e. omega arith in
     rw (ne-eqb _ _ n)
 
 returns-2 : tie.Need-returns-2
