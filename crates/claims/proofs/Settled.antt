@@ -27,7 +27,7 @@ use Rattle.units.proofs.line_fits.Reads as units·line-fits
 use Rattle.pes.proofs.read.Reads as pes·read
 use Rattle.pes_writer.proofs.write.Reads as pes-writer·write
 use Rattle.stripped.proofs.carry.Reads as stripped·carry
-use Rattle.stripped.proofs.blank.Reads as stripped·blank
+use Rattle.loss.proofs.blank.Reads as stripped·blank
 use Rattle.ebu.proofs.is_ebu.Reads as ebu·is-ebu
 use Rattle.ebu.proofs.turn_run.Reads as ebu·turn-run
 use Rattle.blocks.proofs.record_at.Reads as blocks·record-at
