@@ -20,11 +20,12 @@ use Rattle.guide.specs.Cutting.{rowOf, rows, afterRows, pages, pagesFor}
 use Rattle.guide.proofs.Aligned.{Celled, stream-celled, after-celled, celled-aligned}
 use Rattle.guide.proofs.Counting.{covered}
 use Rattle.guide.proofs.Filling.{length-grab}
-use Rattle.pages.specs.declared.Page.the-variants.{Shut, Open}
+use Rattle.headers.specs.declared.Page.the-variants.{Shut, Open}
 use Rattle.walk.specs.Mode.{Mode, off, scan, gives}
-use Rattle.pages.specs.Seen.{Seen, junk, other, ours, row, see}
+use Rattle.headers.specs.Seen.{Seen, junk, other, ours, row}
+use Rattle.pages.specs.Seen.{see}
 use Rattle.state.specs.Acting.{State, act, handed}
-use Rattle.pages.specs.Judging.{incomplete, breaks}
+use Rattle.headers.specs.Judging.{incomplete, breaks}
 use Rattle.walk.specs.Reading.{dropIf, readMode, readBlocks}
 use Rattle.state.specs.State.{freshState}
 use Rattle.claims.specs.Noise.{Hears, Near, Elsewhere, Aired, ended, sent, between, Came, over, Alike, Each, Fits}

@@ -14,7 +14,8 @@ use Rattle.octet.specs.Decoding.{nib, undecodable}
 use Rattle.packet.specs.declared.Setting.{Setting}
 use Rattle.packet.specs.Packet.{address, packetZero, packetOf}
 use Rattle.packet.specs.Address.{decodes}
-use Rattle.pages.specs.Seen.{junk, other, ours, row, see, seeY, seeZero}
+use Rattle.headers.specs.Seen.{junk, other, ours, row, seeZero}
+use Rattle.pages.specs.Seen.{see, seeY}
 use Rattle.claims.specs.Noise.{Hears, Near, more, Each, nil, and, Elsewhere}
 use Rattle.claims.proofs.Losing.{near-drop}
 

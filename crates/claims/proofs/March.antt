@@ -12,11 +12,12 @@ use Rattle.blocks.specs.Block.{Block}
 use Rattle.packet.specs.declared.Setting.{Setting}
 use Rattle.packet.specs.Setting.{inRange}
 use Rattle.guide.proofs.Numbering.{FortyTwo, more}
-use Rattle.pages.specs.declared.Page.the-variants.{Shut}
+use Rattle.headers.specs.declared.Page.the-variants.{Shut}
 use Rattle.walk.specs.Mode.{off}
-use Rattle.pages.specs.Seen.{Seen, junk, other, foreign, ours, row, see, seeY, seeZero}
+use Rattle.headers.specs.Seen.{Seen, junk, other, foreign, ours, row, seeZero}
+use Rattle.pages.specs.Seen.{see, seeY}
 use Rattle.state.specs.Acting.{State, act, handed}
-use Rattle.pages.specs.Judging.{breaks}
+use Rattle.headers.specs.Judging.{breaks}
 use Rattle.walk.specs.Reading.{dropIf}
 use Rattle.state.specs.State.{readerOf, freshState}
 use Rattle.state.proofs.Ranging.{Sound, sound-fresh}

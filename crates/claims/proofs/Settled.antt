@@ -17,10 +17,10 @@ use Rattle.quick.proofs.turn.Reads as quick·turn
 use Rattle.fields.proofs.field_of.Reads as fields·field-of
 use Rattle.forms.proofs.words_of.Reads as forms·words-of
 use Rattle.values.proofs.set.Reads as values·set
-use Rattle.wanted.proofs.start.Reads as wanted·start
+use Rattle.stages.proofs.start.Reads as wanted·start
 use Rattle.wanted.proofs.next.Reads as wanted·next
 use Rattle.wanted.proofs.is_name.Reads as wanted·is-name
-use Rattle.wanted.proofs.is_good.Reads as wanted·is-good
+use Rattle.stages.proofs.is_good.Reads as wanted·is-good
 use Rattle.units.proofs.unit_at.Reads as units·unit-at
 use Rattle.units.proofs.pack.Reads as units·pack
 use Rattle.units.proofs.is_text.Reads as units·is-text
@@ -28,7 +28,7 @@ use Rattle.units.proofs.line_fits.Reads as units·line-fits
 use Rattle.pes.proofs.read.Reads as pes·read
 use Rattle.pes_writer.proofs.write.Reads as pes-writer·write
 use Rattle.stripped.proofs.carry.Reads as stripped·carry
-use Rattle.stripped.proofs.blank.Reads as stripped·blank
+use Rattle.loss.proofs.blank.Reads as stripped·blank
 use Rattle.ebu.proofs.is_ebu.Reads as ebu·is-ebu
 use Rattle.ebu.proofs.turn_run.Reads as ebu·turn-run
 use Rattle.blocks.proofs.record_at.Reads as blocks·record-at
@@ -49,6 +49,7 @@ use Rattle.walk.proofs.pointed.Reads as walk·pointed
 use Rattle.walk.proofs.find.Reads as walk·find
 use Rattle.walk.proofs.head_on.Reads as walk·head-on
 use Rattle.walk.proofs.falls.Reads as walk·falls
+use Rattle.headers.proofs.judge_zero.Reads as headers·judge-zero
 use Rattle.pages.proofs.judge.Reads as pages·judge
 use Rattle.packet.proofs.address.Reads as packet·address
 use Rattle.packet.proofs.passes_by.Reads as packet·passes-by
@@ -204,6 +205,10 @@ walk·pointed-settled κs a x y s t p q = same p q
 
 pub walk·falls-settled : (κs : _) (a : _) (x y : _) (s t : _) → walk·falls.Post κs a x s → walk·falls.Post κs a y t → x ≡ y
 walk·falls-settled κs a x y s t p q = same p q
+
+pub headers·judge-zero-settled :
+    (κs : _) (a : _) (x y : _) (s t : _) → headers·judge-zero.Post κs a x s → headers·judge-zero.Post κs a y t → x ≡ y
+headers·judge-zero-settled κs a x y s t p q = same p q
 
 pub pages·judge-settled : (κs : _) (a : _) (x y : _) (s t : _) → pages·judge.Post κs a x s → pages·judge.Post κs a y t → x ≡ y
 pages·judge-settled κs a x y s t p q = same p q

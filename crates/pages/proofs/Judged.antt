@@ -1,13 +1,13 @@
--- What a packet is seen as, from its bytes, and the verdict on it. Assumes nothing.
+-- What a packet is seen as, by its address, and the verdict on it. Assumes nothing.
 use mathlib.Core.Path.{_≡_, _∙_, refl, sym}
 use mathlib.Core.Bool.{Bool, true, false, not}
 use mathlib.Core.List.{List}
 use Prim.Native.Nat.{ℕ, _+_, _*_, _/_, _%_, _≤_, _<_}
 use native.Mathlib.Omega.{arith}
-use lib.Dec.{leb, eqb, lit<}
+use native.Mathlib.Decide.{decLt}
+use lib.Dec.{leb, ltb, eqb, lit<}
 use lib.ListN.{length, getD, drop}
-use lib.Seq.{getD-drop}
-use borrow.Author.Tests.{le-leb, lt-leb, lt-ltb, eq-eqb, ne-eqb}
+use borrow.Author.Tests.{le-leb, lt-leb, lt-ltb, le-ltb, eq-eqb, ne-eqb}
 use Rattle.laws.specs.Pick.{pick, both}
 use Rattle.laws.proofs.Tests.{both-first, both-second}
 use Rattle.octet.specs.Decoding.{nib}
@@ -15,34 +15,12 @@ use Rattle.packet.specs.declared.Setting.{Setting}
 use Rattle.packet.specs.Packet.{packetLength}
 use Rattle.packet.specs.Address.{decodes, addressOf, elsewhere}
 use Rattle.packet.proofs.Addressed.{address-long}
-use Rattle.pages.specs.declared.Page.{Page}
-use Rattle.pages.specs.declared.Page.the-variants.{Shut, Open}
-use Rattle.pages.specs.declared.Verdict.{Verdict}
-use Rattle.pages.specs.Judging.{incomplete, breaks, rowVerdict, verdictOf}
-use Rattle.pages.specs.Seen.{Seen, junk, other, foreign, ours, row, seeZero, seeY, see, seenAs}
-use Rattle.pages.proofs.Seeing.{decodes-at}
-
--- ---- packet 0 of our magazine
-
-module _ (s : Setting) (p : List ℕ) where
-  pub zero-junk : false ≡ decodes 6 (drop 2 p) → seeZero s (drop 2 p) ≡ junk
-  unfolding seeZero
-  zero-junk e = rw (← e)
-
-  module _ (e : true ≡ decodes 6 (drop 2 p)) {u t : ℕ} (eu : u ≡ nib (getD p 2 0)) (et : t ≡ nib (getD p 3 0)) where
-    module _ {x : ℕ} (ex : x ≡ nib (getD p 6 0)) {t′ : Bool} (eo : t′ ≡ both (eqb (u + 16 * t) (s .page)) (eqb x (s .stream))) where
-      pub zero-foreign : t′ ≡ false → seeZero s (drop 2 p) ≡ foreign
-      unfolding seeZero
-      zero-foreign n =
-          rw (← e, getD-drop 2 p 0 0, getD-drop 2 p 1 0, getD-drop 2 p 4 0, ← eu, ← et, ← ex, ← eo, n)
-
-      pub zero-ours :
-          {i a b : ℕ} → t′ ≡ true → i ≡ nib (getD p 4 0) → a ≡ nib (getD p 5 0) → b ≡ nib (getD p 7 0)
-          → seeZero s (drop 2 p) ≡ ours i (a % 8 + 8 * (b % 4))
-      unfolding seeZero
-      zero-ours r ei ea eb =
-          rw
-          (← e, getD-drop 2 p 0 0, getD-drop 2 p 1 0, getD-drop 2 p 2 0, getD-drop 2 p 3 0, getD-drop 2 p 4 0, getD-drop 2 p 5 0, ← eu, ← et, ← ex, ← eo, r, ← ei, ← ea, ← eb)
+use Rattle.headers.specs.declared.Page.{Page}
+use Rattle.headers.specs.declared.Verdict.{Verdict}
+use Rattle.headers.specs.Judging.{rowVerdict, verdictOf}
+use Rattle.headers.specs.Seen.{Seen, junk, other, foreign, ours, row, seeZero, seenZero}
+use Rattle.headers.proofs.Seeing.{decodes-at}
+use Rattle.pages.specs.Seen.{seeY, see, seenAs}
 
 -- ---- any packet
 
@@ -96,8 +74,8 @@ module _ (s : Setting) (p : List ℕ) where
       as-other n = rw (eq-eqb _ _ long, le-leb _ _ h, ne-eqb _ _ n)
 
       module _ (q : x % 8 ≡ s .magazine % 8) where
-        pub as-zero : x / 8 ≡ 0 → seenAs s x p ≡ seeZero s (drop 2 p)
-        unfolding seenAs seeY
+        pub as-zero : x / 8 ≡ 0 → seenAs s x p ≡ seenZero s p
+        unfolding seenAs seeY seenZero
         as-zero z = rw (eq-eqb _ _ long, le-leb _ _ h, eq-eqb _ _ q, eq-eqb _ _ z)
 
         pub as-over : 25 < x / 8 → seenAs s x p ≡ other
@@ -151,25 +129,20 @@ shaped s q =
 -- ---- the verdict, by what a packet is seen as
 
 module _ (page : Page) (index : ℕ) {x : Seen} where
-  pub as-lost :
-      {r : Verdict} → r ≡ record { page = Shut; index = index; drops = true; reads = false } → x ≡ junk → r ≡ verdictOf page index x
-  as-lost e f = rw (e, f)
-
   pub as-stays : x ≡ other → record { page = page; index = index; drops = false; reads = false } ≡ verdictOf page index x
   as-stays f = rw f
-
-  pub as-foreign :
-      {r : Verdict} {t : Bool} → r ≡ record { page = Shut; index = index; drops = t; reads = false } → t ≡ incomplete page → x ≡ foreign
-      → r ≡ verdictOf page index x
-  as-foreign e g f = rw (e, g, f)
-
-  pub as-ours :
-      {t : Bool} {opened : Page} {i n : ℕ} → t ≡ breaks page index i n → opened ≡ pick (leb n 25) (Open n 0) Shut → x ≡ ours i n
-      → record { page = opened; index = i; drops = t; reads = false } ≡ verdictOf page index x
-  as-ours e g f = rw (e, g, f)
 
   pub as-rowed : {r : Verdict} {y q : ℕ} {l : List ℕ} → r ≡ rowVerdict page index y → x ≡ row y q l → r ≡ verdictOf page index x
   as-rowed e f = rw (e, f)
 
   pub as-same : {r : Verdict} {y : Seen} → r ≡ verdictOf page index y → x ≡ y → r ≡ verdictOf page index x
   as-same e f = rw (e, f)
+
+-- ---- the test of a packet's number
+
+pub over : (a b : ℕ) → ltb a b ≡ not (leb b a)
+over a b =
+    elim (decLt a b) [
+      | yes h ↦ rw (lt-ltb _ _ h, lt-leb _ _ h)
+      | no h ↦ let k : b ≤ a = omega arith in rw (le-ltb _ _ k, le-leb _ _ k)
+    ]

@@ -20,7 +20,7 @@ use Rattle.reader.specs.declared.HeardAll.{HeardAll}
 use Rattle.reader.specs.declared.HeardAll.the-variants.{TookAll}
 use Rattle.reader.specs.declared.Taking.{Taking}
 use Rattle.walk.specs.declared.Run.{Run}
-use Rattle.pages.specs.declared.Page.{Page}
+use Rattle.headers.specs.declared.Page.{Page}
 use Rattle.reader.specs.declared.Going.{Going}
 use Rattle.pages.specs.Seen.{see}
 use Rattle.state.specs.Acting.{State, handed}

@@ -9,10 +9,11 @@ use Rattle.laws.specs.Pick.{both}
 use Rattle.octet.specs.Decoding.{nib}
 use Rattle.packet.specs.declared.Setting.{Setting}
 use Rattle.packet.specs.Packet.{packetLength}
-use Rattle.pages.specs.declared.Verdict.{Verdict}
-use Rattle.pages.specs.Seen.{Seen, junk, other, foreign, ours, row, see, seenAs}
+use Rattle.headers.specs.declared.Verdict.{Verdict}
+use Rattle.headers.specs.Seen.{Seen, junk, other, foreign, ours, row}
+use Rattle.pages.specs.Seen.{see, seenAs}
 use Rattle.packet.specs.Address.{addressOf}
-use Rattle.pages.specs.Judging.{verdictOf}
+use Rattle.headers.specs.Judging.{verdictOf}
 use Rattle.pages.proofs.Judged.{Shaped, shaped, as-seen}
 use Rattle.walk.specs.declared.Got.{Got}
 use Rattle.walk.specs.Mode.{running}

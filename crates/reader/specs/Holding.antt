@@ -7,7 +7,7 @@ use lib.ListN.{length}
 use lib.Seq.{sets}
 use Rattle.blocks.specs.Block.{recordsOf}
 use Rattle.walk.specs.declared.Run.{Run}
-use Rattle.pages.specs.declared.Page.{Page}
+use Rattle.headers.specs.declared.Page.{Page}
 use Rattle.reader.specs.declared.Going.{Going}
 use Rattle.reader.specs.declared.Taking.{Taking}
 use Rattle.walk.specs.Holding.{Holds}

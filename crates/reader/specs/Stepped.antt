@@ -4,8 +4,8 @@ use mathlib.Core.Bool.{Bool}
 use mathlib.Core.List.{List}
 use Prim.Native.Nat.{ℕ}
 use Rattle.blocks.specs.Block.{Block}
-use Rattle.pages.specs.declared.Verdict.{Verdict}
-use Rattle.pages.specs.Seen.{Seen}
+use Rattle.headers.specs.declared.Verdict.{Verdict}
+use Rattle.headers.specs.Seen.{Seen}
 use Rattle.walk.specs.Store.{modeOf}
 use Rattle.walk.specs.Holding.{Went}
 use Rattle.reader.specs.declared.Going.{Going}

@@ -13,9 +13,10 @@ use Rattle.walk.specs.Holding.{Good}
 use Rattle.walk.proofs.Along.{drop-good}
 use Rattle.walk.proofs.Room.{Within, within-none, read-room}
 use Rattle.state.specs.Acting.{State, pointerOf, bytesOf, handed}
-use Rattle.pages.specs.declared.Verdict.{Verdict}
-use Rattle.pages.specs.Judging.{verdictOf}
-use Rattle.pages.specs.Seen.{Seen, junk, other, foreign, ours, row, see}
+use Rattle.headers.specs.declared.Verdict.{Verdict}
+use Rattle.headers.specs.Judging.{verdictOf}
+use Rattle.headers.specs.Seen.{Seen, junk, other, foreign, ours, row}
+use Rattle.pages.specs.Seen.{see}
 use Rattle.pages.proofs.Judged.{Shaped, shaped}
 
 bytes-few : (q : List ℕ) (x : Seen) → length q ≡ packetLength → Shaped q x → length (bytesOf x) ≤ 39

@@ -17,16 +17,17 @@ use Rattle.pages.proofs.Judged.{Shaped, shaped}
 use Rattle.octet.specs.Decoding.{nib}
 use Rattle.blocks.specs.Block.{sizeOf}
 use Rattle.packet.specs.declared.Setting.{Setting}
-use Rattle.pages.specs.declared.Page.{Page}
-use Rattle.pages.specs.declared.Page.the-variants.{Shut, Open}
+use Rattle.headers.specs.declared.Page.{Page}
+use Rattle.headers.specs.declared.Page.the-variants.{Shut, Open}
 use Rattle.walk.specs.Mode.{Mode, off, scan, heading, body}
 use Rattle.walk.specs.Store.{storeLength, modeOf, runOf}
 use Rattle.state.specs.State.{stateOf, storeOf, readerOf, zeros, pageInRange, runInRange, heldBy, readerInRange, freshState}
 use Rattle.state.specs.Acting.{State, pointerOf, bytesOf, act}
-use Rattle.pages.specs.declared.Verdict.{Verdict}
-use Rattle.pages.specs.Judging.{verdictOf}
+use Rattle.headers.specs.declared.Verdict.{Verdict}
+use Rattle.headers.specs.Judging.{verdictOf}
 use Rattle.walk.specs.Reading.{dropIf, readMode}
-use Rattle.pages.specs.Seen.{Seen, junk, other, foreign, ours, row, see}
+use Rattle.headers.specs.Seen.{Seen, junk, other, foreign, ours, row}
+use Rattle.pages.specs.Seen.{see}
 
 -- ---- the state
 

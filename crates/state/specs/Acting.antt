@@ -4,10 +4,10 @@ use mathlib.Core.List.{List, []}
 use Prim.Native.Nat.{ℕ}
 use Rattle.laws.specs.Pick.{pick, both, either}
 use Rattle.blocks.specs.Block.{Block}
-use Rattle.pages.specs.declared.Page.{Page}
-use Rattle.pages.specs.declared.Verdict.{Verdict}
-use Rattle.pages.specs.Seen.{Seen, junk, other, foreign, ours, row}
-use Rattle.pages.specs.Judging.{verdictOf}
+use Rattle.headers.specs.declared.Page.{Page}
+use Rattle.headers.specs.declared.Verdict.{Verdict}
+use Rattle.headers.specs.Seen.{Seen, junk, other, foreign, ours, row}
+use Rattle.headers.specs.Judging.{verdictOf}
 use Rattle.walk.specs.Mode.{Mode, running}
 use Rattle.walk.specs.Reading.{dropIf, readMode, readBlocks, readDrops}
 

@@ -23,7 +23,8 @@ use Rattle.pes.specs.Reading.{readRules, recordsOf}
 use Rattle.pes_writer.specs.Writing.{unitCount, writeRules}
 use Rattle.pes_writer.proofs.Making.{fits-packet}
 use Rattle.pes_writer.proofs.Statements.{reads-writable}
-use Rattle.stripped.specs.Carried.{packetsOf, unreadable, numberOf, carried, room, answerOf, recordsAfter, packetsAfter, blanked}
+use Rattle.loss.specs.Loss.{unreadable}
+use Rattle.stripped.specs.Carried.{packetsOf, numberOf, carried, room, answerOf, recordsAfter, packetsAfter}
 use Rattle.stripped.specs.declared.Carried.{Carried as Carried·Carried}
 use Rattle.stripped.proofs.Stripping.{packets-length, packets-front}
 
@@ -111,11 +112,3 @@ module _ (pes records packets : List ℕ) where
       let s = le-leb room (length records) h in
       let t = lt-leb room (length packets) k in
       (rw (s, t), rw (s, t), rw (s, t))
-
-pub blank-fits : (packets : List ℕ) → 42 ≤ length packets → blanked packets ≡ sets packets 0 unreadable
-unfolding blanked
-blank-fits packets h = rw (le-leb 42 (length packets) h)
-
-pub blank-no-room : (packets : List ℕ) → length packets < 42 → blanked packets ≡ packets
-unfolding blanked
-blank-no-room packets h = rw (lt-leb 42 (length packets) h)

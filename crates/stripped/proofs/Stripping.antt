@@ -3,20 +3,10 @@ use mathlib.Core.Path.{_≡_, _∙_, refl, ap, ap₂}
 use mathlib.Core.List.{List, [], _++_}
 use Prim.Native.Nat.{ℕ, zero, suc, _+_, _-_, _*_, _<_, _≤_}
 use native.Mathlib.Nat.{add-zero}
-use native.Mathlib.Numerals.{add-one}
 use native.Mathlib.Omega.{arith}
-use lib.ListN.{length, getD, take, drop, set, replicate, length-append, length-take, length-drop}
+use lib.ListN.{length, getD, take, drop, set, length-append, length-take, length-drop}
 use lib.Seq.{sets, drop-cons, take-append-le, drop-append-le}
 use Rattle.stripped.specs.Carried.{packetsOf}
-
--- ---- one value from the front on
-
-pub blank-step :
-    (n i a : ℕ) (out : List ℕ) → i < n → sets (set out i a) (i + 1) (replicate (n - (i + 1)) a) ≡ sets out i (replicate (n - i) a)
-blank-step n i a out h = let k : n - i ≡ suc (n - (i + 1)) = omega arith in rw (k, add-one i)
-
-pub blank-end : (n i a : ℕ) (out : List ℕ) → n ≤ i → sets out i (replicate (n - i) a) ≡ out
-blank-end n i a out h = let k : n - i ≡ 0 = omega arith in rw k
 
 -- ---- one packet
 

@@ -4,7 +4,7 @@ use mathlib.Core.Bool.{Bool}
 use mathlib.Core.List.{List, [], _++_}
 use Prim.Native.Nat.{ℕ, zero, suc, _+_}
 use lib.Dec.{leb}
-use lib.ListN.{length, take, drop, replicate}
+use lib.ListN.{length, take, drop}
 use lib.Seq.{sets}
 use Rattle.laws.specs.Pick.{pick, both}
 use Rattle.answer.specs.Rules.{judged}
@@ -12,16 +12,13 @@ use Rattle.answer.specs.Writing.{left}
 use Rattle.ebu.specs.Texts.{textBytes}
 use Rattle.pes.specs.Reading.{recordSize, readRules, recordsOf}
 use Rattle.pes_writer.specs.Writing.{unitCount}
+use Rattle.loss.specs.Loss.{unreadable}
 use Rattle.stripped.specs.declared.Carried.{Carried as Carried·Carried}
 
 -- the packets of the u records from a place on
 unfoldable pub packetsOf : ℕ → List ℕ → ℕ → List ℕ
 packetsOf zero rs at = []
 packetsOf (suc u) rs at = take textBytes (drop (at + 2) rs) ++ packetsOf u rs (at + recordSize)
-
--- a packet whose bytes can't be decoded, so that a reader drops what it holds
-abbrev pub unreadable : List ℕ
-unreadable = replicate 42 0x16
 
 -- the number of reading the PES packet: 0 where it is accepted
 abbrev pub numberOf : List ℕ → ℕ
@@ -52,7 +49,3 @@ recordsAfter pes records packets = pick (roomy records packets) (left (readRules
 -- what goes out stands at the front
 unfoldable pub packetsAfter : List ℕ → List ℕ → List ℕ → List ℕ
 packetsAfter pes records packets = pick (roomy records packets) (sets packets 0 (carried pes)) packets
-
--- a packet that can't be decoded stands at the front, where it has room
-unfoldable pub blanked : List ℕ → List ℕ
-blanked packets = pick (leb 42 (length packets)) (sets packets 0 unreadable) packets

@@ -4,16 +4,16 @@
 //
 // The definitions are in specs/Carried.antt.
 use answer::Answer;
+use loss::PACKET;
+pub use loss::blank;
 ghost use mathlib.Core.Path.{_≡_};
 ghost use Prim.Native.Nat.{_+_, _*_, _≤_};
 ghost use lib.ListN.{length, take, drop};
 ghost use lib.Seq.{sets};
-ghost use Rattle.stripped.specs.Carried.{packetsOf, answerOf, recordsAfter, packetsAfter, blanked};
+ghost use Rattle.stripped.specs.Carried.{packetsOf, answerOf, recordsAfter, packetsAfter};
 
-// A record's bytes, and those of the packet in it.
+// A record's bytes: those of the packet in it, and two before them.
 const RECORD: usize = 44;
-
-const PACKET: usize = 42;
 
 // Space that holds the records of every PES packet, and so its packets.
 const ROOM: usize = 65536;
@@ -55,20 +55,6 @@ pub fn carry(pes: &[u8], records: &mut [u8], packets: &mut [u8]) -> Carried
                 bytes: PACKET * count,
             }
         }
-    }
-}
-
-// Writes one packet that can't be decoded to the front; nothing where it has no room.
-pub fn blank(packets: &mut [u8])
-    ensures { λ r. ⌜ now (packets .exit) ≡ blanked (now (packets .entry)) ⌝ }
-{
-    if packets.len() < PACKET {
-        return;
-    }
-    let mut i = 0;
-    while i < PACKET {
-        packets[i] = 0x16;
-        i += 1;
     }
 }
 

@@ -10,11 +10,12 @@ use Rattle.packet.specs.declared.Setting.{Setting}
 use Rattle.values.specs.declared.Field.{Field}
 use Rattle.values.specs.declared.Outcome.{Outcome}
 use Rattle.values.specs.Values.{isIn, withField, numberOf, outcomeOf}
-use Rattle.wanted.specs.declared.Stage.{Stage}
-use Rattle.wanted.specs.declared.Stage.the-variants.{Options, Value, Names, AllNames, Bad}
+use Rattle.stages.specs.declared.Stage.{Stage}
+use Rattle.stages.specs.declared.Stage.the-variants.{Options, Value, Names, AllNames, Bad}
 use Rattle.wanted.specs.declared.Word.the-variants.{Name}
-use Rattle.wanted.specs.declared.Words.{Words}
-use Rattle.wanted.specs.Words.{words, wordOf, afterOptions, afterNames, setBy, heard}
+use Rattle.stages.specs.declared.Words.{Words}
+use Rattle.stages.specs.Stages.{words}
+use Rattle.wanted.specs.Words.{wordOf, afterOptions, afterNames, setBy, heard}
 
 pub empty-name : (w : List ℕ) → length w ≡ 0 → Name ≡ wordOf w
 unfolding wordOf

@@ -12,10 +12,11 @@ use Rattle.packet.specs.declared.Setting.{Setting}
 use Rattle.packet.specs.Setting.{inRange}
 use Rattle.values.specs.declared.Field.{Field}
 use Rattle.values.specs.declared.Field.the-variants.{Magazine, Page, Stream, Application}
-use Rattle.wanted.specs.declared.Stage.{Stage}
-use Rattle.wanted.specs.declared.Stage.the-variants.{Options, Value, Names, AllNames, Bad}
+use Rattle.stages.specs.declared.Stage.{Stage}
+use Rattle.stages.specs.declared.Stage.the-variants.{Options, Value, Names, AllNames, Bad}
 use Rattle.values.specs.Values.{leastOf, mostOf, isIn, numberOf, withField}
-use Rattle.wanted.specs.Words.{words, startWords, setBy, heard}
+use Rattle.stages.specs.Stages.{words, startWords}
+use Rattle.wanted.specs.Words.{setBy, heard}
 
 -- in range, field by field
 pub record Within (s : Setting) : Type 0 where

@@ -8,19 +8,13 @@ use Rattle.laws.specs.Pick.{pick}
 use Rattle.packet.specs.declared.Setting.{Setting}
 use Rattle.values.specs.declared.Field.{Field}
 use Rattle.values.specs.declared.Field.the-variants.{Magazine, Page, Stream, Application}
-use Rattle.wanted.specs.declared.Stage.{Stage}
-use Rattle.wanted.specs.declared.Stage.the-variants.{Options, Value, Names, AllNames, Bad}
+use Rattle.stages.specs.declared.Stage.{Stage}
+use Rattle.stages.specs.declared.Stage.the-variants.{Options, Value, Names, AllNames, Bad}
 use Rattle.wanted.specs.declared.Word.{Word}
 use Rattle.wanted.specs.declared.Word.the-variants.{Option, Last, Name, Unknown}
-use Rattle.wanted.specs.declared.Words.{Words}
+use Rattle.stages.specs.declared.Words.{Words}
+use Rattle.stages.specs.Stages.{words}
 use Rattle.values.specs.Values.{numberOf, isIn, withField}
-
-abbrev pub words : Setting → Stage → Words
-words s t = record { setting = s; stage = t }
-
--- "set to magazine 1, page DF, stream 1, application 1"
-abbrev pub startWords : Words
-startWords = words (record { magazine = 1; page = 223; stream = 1; application = 1 }) Options
 
 -- the character of a `-`
 abbrev pub dash : ℕ
@@ -76,11 +70,3 @@ takenAsName (Value f) w = false
 takenAsName Names w = looksLikeName (wordOf w)
 takenAsName AllNames w = true
 takenAsName Bad w = false
-
--- the words may end: no word was bad, and no option lacks its value
-abbrev pub isWhole : Stage → Bool
-isWhole Options = true
-isWhole (Value f) = false
-isWhole Names = true
-isWhole AllNames = true
-isWhole Bad = false

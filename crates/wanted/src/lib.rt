@@ -2,30 +2,14 @@
 // application, then names of files. One word is heard at a time. A program hears them all, and asks
 // is_good, before it reads or prints anything; then it goes through them again for the names.
 use packet::Setting;
+pub use stages::Stage;
+pub use stages::Words;
+pub use stages::is_good;
+pub use stages::start;
 use values::Field;
 ghost use mathlib.Core.Path.{_≡_};
-ghost use Rattle.wanted.specs.Words.{startWords, heard, setBy, takenAsName, isWhole, wordOf, optionOf, looksLikeName, afterOptions, afterNames};
+ghost use Rattle.wanted.specs.Words.{heard, setBy, takenAsName, wordOf, optionOf, looksLikeName, afterOptions, afterNames};
 ghost use Rattle.values.specs.Values.{numberOf};
-
-// What may come next.
-pub enum Stage {
-    // An option, `--` or a name.
-    Options,
-    // The value of that option.
-    Value(Field),
-    // A name or `--`, but no option: a name came.
-    Names,
-    // A name, whatever it looks like: `--` came.
-    AllNames,
-    // Nothing: a word was bad.
-    Bad,
-}
-
-// The setting that the words heard so far ask for, and what may come next.
-pub struct Words {
-    pub setting: Setting,
-    pub stage: Stage,
-}
 
 // What a word looks like.
 enum Word {
@@ -38,22 +22,6 @@ enum Word {
 }
 
 const DASH: u8 = b'-';
-
-// Nothing is heard yet: magazine 1, page DF, stream 1, application 1.
-pub fn start() -> Words
-    ensures { λ r. ⌜ r ≡ startWords ⌝ }
-{
-    let setting = Setting {
-        magazine: 1,
-        page: 0xDF,
-        stream: 1,
-        application: 1,
-    };
-    Words {
-        setting,
-        stage: Stage::Options,
-    }
-}
 
 // One more word is heard.
 pub fn next(words: Words, word: &[u8]) -> Words
@@ -85,20 +53,6 @@ pub fn is_name(words: Words, word: &[u8]) -> bool
         Stage::Options => looks_like_name(word),
         Stage::Value(_) => false,
         Stage::Names => looks_like_name(word),
-        Stage::AllNames => true,
-        Stage::Bad => false,
-    }
-}
-
-// Whether the words may end here: none was bad, and no option lacks its value.
-pub fn is_good(words: Words) -> bool
-    ensures { λ r. ⌜ r ≡ isWhole (words .stage) ⌝ }
-{
-    let stage = words.stage;
-    match stage {
-        Stage::Options => true,
-        Stage::Value(_) => false,
-        Stage::Names => true,
         Stage::AllNames => true,
         Stage::Bad => false,
     }

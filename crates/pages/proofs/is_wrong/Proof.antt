@@ -4,7 +4,7 @@ use Prim.Native.Nat.{_+_}
 use native.Mathlib.Omega.{arith}
 use borrow.Author.Needs.{needs}
 use borrow.Author.Tests.{eq-eqb, ne-eqb}
-use Rattle.pages.proofs.Seeing.{over}
+use Rattle.pages.proofs.Judged.{over}
 use Rattle.pages.proofs.is_wrong.Statement.{statement}
 use Rattle.pages.proofs.is_wrong.Tie as tie
 
@@ -13,7 +13,7 @@ sub-if1 c = search needs
 
 returns : tie.Need-returns
 returns c =
-    let n : c .before .args .y ≡ c .before .args .last + 1 → ⊥ = λ e. c .if1 .taken (omega arith) in
+    let n : c .before .args .y ≡ c .before .args .last + 1 → ⊥ = λ e. omega arith in
     rw (ne-eqb _ _ n)
 
 returns-2 : tie.Need-returns-2

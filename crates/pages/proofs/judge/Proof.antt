@@ -3,7 +3,8 @@ use mathlib.Core.Path.{refl}
 use native.Mathlib.Omega.{arith}
 use denote.Ref.{now}
 use borrow.Author.Needs.{needs}
-use Rattle.pages.proofs.Judged.{as-short, as-junk, as-other, as-zero, as-over, as-row, as-lost, as-stays, as-rowed, as-same}
+use Rattle.headers.proofs.Judged.{as-lost}
+use Rattle.pages.proofs.Judged.{as-short, as-junk, as-other, as-zero, as-over, as-row, as-stays, as-rowed, as-same}
 use Rattle.pages.proofs.judge.Statement.{statement}
 use Rattle.pages.proofs.judge.Tie as tie
 
@@ -28,13 +29,13 @@ returns-3 c =
 cast-y : tie.Need-cast-y
 cast-y c = search needs
 
-zero-requires : tie.Need-zero-requires
-zero-requires c κs = search needs
+judge-zero-requires : tie.Need-judge-zero-requires
+judge-zero-requires c κs = search needs
 
 returns-4 : tie.Need-returns-4
 returns-4 c =
     let a = c .before .before .before .before .before .before .before .args in
-    as-same (a .page) (a .index) (c .zero .ensures)
+    as-same (a .page) (a .index) (c .judge-zero .ensures)
     (as-zero (a .setting) (now (a .packet)) (c .before .before .before .before .before .if1 .left) (c .before .before .before .before .if2 .left) (c .before .before .if3 .left) (c .before .if4 .taken))
 
 returns-5 : tie.Need-returns-5
@@ -61,7 +62,7 @@ judge-spec =
     cast-if3
     returns-3
     cast-y
-    zero-requires
+    judge-zero-requires
     returns-4
     returns-5
     row-requires

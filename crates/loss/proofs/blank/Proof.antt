@@ -1,14 +1,13 @@
--- `stripped::blank` meets its contract. The loop's invariant: what is still to be stored, stored now, gives the whole. Assumes nothing.
+-- `loss::blank` meets its contract. The loop's invariant: what is still to be stored, stored now, gives the whole. Assumes nothing.
 use borrow.Author.Needs.{needs}
 use mathlib.Core.Path.{_≡_, _∙_, sym}
 use Prim.Native.Nat.{_-_, _≤_}
 use lib.ListN.{length, length-set, replicate}
 use lib.Seq.{sets}
-use Rattle.stripped.specs.Carried.{unreadable}
-use Rattle.stripped.proofs.Stripping.{blank-step, blank-end}
-use Rattle.stripped.proofs.Carrying.{blank-fits, blank-no-room}
-use Rattle.stripped.proofs.blank.Statement.{statement}
-use Rattle.stripped.proofs.blank.Tie as tie
+use Rattle.loss.specs.Loss.{unreadable}
+use Rattle.loss.proofs.Blanking.{blank-step, blank-end, blank-fits, blank-no-room}
+use Rattle.loss.proofs.blank.Statement.{statement}
+use Rattle.loss.proofs.blank.Tie as tie
 
 abbrev Inv-loop : tie.InvT-loop
 Inv-loop packets₀ i₀ packets i =

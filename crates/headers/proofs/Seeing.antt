@@ -1,15 +1,14 @@
--- Bytes that decode, and the tests of a packet's number and index. Assumes nothing.
+-- Bytes that decode, and the test of a page's index. Assumes nothing.
 use mathlib.Core.Path.{_≡_, _∙_, sym}
-use mathlib.Core.Bool.{true, false, not}
+use mathlib.Core.Bool.{true, false}
 use mathlib.Core.List.{List}
 use Prim.Native.Nat.{ℕ, zero, suc, _+_, _-_, _%_, _≤_, _<_}
 use native.Mathlib.Numerals.{add-one, one-add}
 use native.Mathlib.Omega.{arith}
-use native.Mathlib.Decide.{decLt}
 use lib.ListN.{length, getD, drop}
 use lib.Seq.{drop-cons, getD-drop}
-use lib.Dec.{ltb, leb}
-use borrow.Author.Tests.{ltb-true, lt-ltb, le-ltb, lt-leb, le-leb}
+use lib.Dec.{ltb}
+use borrow.Author.Tests.{ltb-true, lt-ltb, le-ltb}
 use Rattle.octet.specs.Decoding.{nib, undecodable}
 use Rattle.octet.proofs.Laws.{nib-le}
 use Rattle.packet.specs.Address.{decodes}
@@ -31,24 +30,17 @@ decodes-not l j k h e =
     let f : undecodable ≤ nib (getD l j 0) = omega arith in
     rw (drop-cons l j 0, le-ltb _ _ f)
 
-module _ (s : List ℕ) (from k i : ℕ) where
+module _ (s : List ℕ) (to i : ℕ) where
   pub readable-on :
-      i < k → from + i < length s → (nib (getD s (from + i) 0) ≡ 16 → ⊥)
-      → decodes (k - (i + 1)) (drop (from + (i + 1)) s) ≡ decodes (k - i) (drop (from + i) s)
-  readable-on h j e =
-      let p : k - i ≡ suc (k - (i + 1)) = omega arith in
-      let q : from + (i + 1) ≡ from + i + 1 = omega arith in
-      rw (p, q) (sym (decodes-on s (from + i) (k - (i + 1)) j e))
+      i < to → i < length s → (nib (getD s i 0) ≡ 16 → ⊥) → decodes (to - (i + 1)) (drop (i + 1) s) ≡ decodes (to - i) (drop i s)
+  readable-on h j e = let p : to - i ≡ suc (to - (i + 1)) = omega arith in rw p (sym (decodes-on s i (to - (i + 1)) j e))
 
-  pub unreadable :
-      i < k → from + i < length s → nib (getD s (from + i) 0) ≡ 16 → decodes (k - i) (drop (from + i) s) ≡ false
-  unreadable h j e =
-      let p : k - i ≡ suc (k - (i + 1)) = omega arith in
-      rw p (decodes-not s (from + i) (k - (i + 1)) j e)
+  pub unreadable : i < to → i < length s → nib (getD s i 0) ≡ 16 → decodes (to - i) (drop i s) ≡ false
+  unreadable h j e = let p : to - i ≡ suc (to - (i + 1)) = omega arith in rw p (decodes-not s i (to - (i + 1)) j e)
 
-  pub readable-all : k ≤ i → decodes (k - i) (drop (from + i) s) ≡ true
+  pub readable-all : to ≤ i → decodes (to - i) (drop i s) ≡ true
   unfolding decodes
-  readable-all h = let p : k - i ≡ 0 = omega arith in rw p
+  readable-all h = let p : to - i ≡ 0 = omega arith in rw p
 
 -- each of k bytes that decode is a nibble
 pub decodes-at : (k i : ℕ) (l : List ℕ) → true ≡ decodes k l → i < k → nib (getD l i 0) < undecodable
@@ -59,14 +51,7 @@ decodes-at (suc k) (suc i) l e h =
     let p : getD (drop 1 l) i 0 ≡ getD l (suc i) 0 = getD-drop 1 l i 0 ∙ rw one-add in
     rw (← p) (decodes-at k i (drop 1 l) (sym (both-second (ltb (nib (getD l 0 0)) undecodable) (decodes k (drop 1 l)) (sym e))) (omega arith))
 
--- ---- tests of a packet's number and index
-
-pub over : (a b : ℕ) → ltb a b ≡ not (leb b a)
-over a b =
-    elim (decLt a b) [
-      | yes h ↦ rw (lt-ltb _ _ h, lt-leb _ _ h)
-      | no h ↦ let k : b ≤ a = omega arith in rw (le-ltb _ _ k, le-leb _ _ k)
-    ]
+-- ---- the test of a page's index
 
 pub index-on : (i : ℕ) → (i % 16 + 1) % 16 ≡ (i + 1) % 16
 index-on i = omega arith

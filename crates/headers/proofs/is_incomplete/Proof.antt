@@ -1,7 +1,7 @@
--- `pages::is_incomplete` meets its contract. Assumes nothing.
+-- `headers::is_incomplete` meets its contract. Assumes nothing.
 use borrow.Author.Needs.{needs}
-use Rattle.pages.proofs.is_incomplete.Statement.{statement}
-use Rattle.pages.proofs.is_incomplete.Tie as tie
+use Rattle.headers.proofs.is_incomplete.Statement.{statement}
+use Rattle.headers.proofs.is_incomplete.Tie as tie
 
 enum-told : tie.Need-enum-told
 enum-told c = search needs

@@ -1,7 +1,7 @@
--- `pages::is_ours` meets its contract: its tests in order. Assumes nothing.
+-- `headers::is_ours` meets its contract: its tests in order. Assumes nothing.
 use borrow.Author.Tests.{eq-eqb, ne-eqb}
-use Rattle.pages.proofs.is_ours.Statement.{statement}
-use Rattle.pages.proofs.is_ours.Tie as tie
+use Rattle.headers.proofs.is_ours.Statement.{statement}
+use Rattle.headers.proofs.is_ours.Tie as tie
 
 returns : tie.Need-returns
 returns c = rw (ne-eqb _ _ (c .if1 .taken))

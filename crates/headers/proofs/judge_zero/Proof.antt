@@ -1,15 +1,12 @@
--- `pages::zero` meets its contract: what its six bytes say decides. Assumes nothing.
+-- `headers::judge_zero` meets its contract: what its six bytes say decides. Assumes nothing.
 use mathlib.Core.Path.{_∙_, sym}
 use native.Mathlib.Omega.{arith}
-use lib.ListN.{drop}
-use lib.Seq.{getD-drop}
 use denote.Ref.{now}
 use borrow.Author.Needs.{needs}
 use borrow.Author.Tests.{not-true, not-false}
-use Rattle.pages.proofs.Seeing.{decodes-at}
-use Rattle.pages.proofs.Judged.{zero-junk, zero-foreign, zero-ours, as-lost, as-foreign, as-ours}
-use Rattle.pages.proofs.zero.Statement.{statement}
-use Rattle.pages.proofs.zero.Tie as tie
+use Rattle.headers.proofs.Judged.{legible-long, legible-at, zero-junk, zero-foreign, zero-ours, as-lost, as-foreign, as-ours}
+use Rattle.headers.proofs.judge_zero.Statement.{statement}
+use Rattle.headers.proofs.judge_zero.Tie as tie
 
 readable-requires : tie.Need-readable-requires
 readable-requires c κs = search needs
@@ -23,13 +20,17 @@ returns c =
     as-lost (a .page) (a .last) (c .shut .ensures) (zero-junk (a .setting) (now (a .packet)) (sym (not-true _ (c .before .if1 .taken)) ∙ c .before .before .readable .ensures))
 
 shared-slice-read-decode : tie.Need-shared-slice-read-decode
-shared-slice-read-decode c = search needs
+shared-slice-read-decode c =
+    let long = legible-long (now (c .before .before .before .before .args .packet)) (sym (not-false _ (c .before .if1 .left)) ∙ c .before .before .readable .ensures) in
+    search needs
 
 decode-requires : tie.Need-decode-requires
 decode-requires c κs = search needs
 
 shared-slice-read-decode-2 : tie.Need-shared-slice-read-decode-2
-shared-slice-read-decode-2 c = search needs
+shared-slice-read-decode-2 c =
+    let long = legible-long (now (c .before .before .before .before .before .before .args .packet)) (sym (not-false _ (c .before .before .before .if1 .left)) ∙ c .before .before .before .before .readable .ensures) in
+    search needs
 
 decode-requires-2 : tie.Need-decode-requires-2
 decode-requires-2 c κs = search needs
@@ -38,20 +39,18 @@ mul-number : tie.Need-mul-number
 mul-number c =
     let p = now (c .before .before .before .before .before .before .before .args .packet) in
     let e = sym (not-false _ (c .before .before .before .before .if1 .left)) ∙ c .before .before .before .before .before .readable .ensures in
-    let u = decodes-at 6 0 (drop 2 p) e (omega arith) in
-    let t = decodes-at 6 1 (drop 2 p) e (omega arith) in
-    omega (arith, c .decode2 .ensures, c .before .before .decode .ensures, (rw (getD-drop 2 p 0 0) at u), (rw (getD-drop 2 p 1 0) at t))
+    omega (arith, c .decode2 .ensures, c .before .before .decode .ensures, legible-at p 0 e (omega arith), legible-at p 1 e (omega arith))
 
 add-number : tie.Need-add-number
 add-number c =
     let p = now (c .before .before .before .before .before .before .before .args .packet) in
     let e = sym (not-false _ (c .before .before .before .before .if1 .left)) ∙ c .before .before .before .before .before .readable .ensures in
-    let u = decodes-at 6 0 (drop 2 p) e (omega arith) in
-    let t = decodes-at 6 1 (drop 2 p) e (omega arith) in
-    omega (arith, c .decode2 .ensures, c .before .before .decode .ensures, (rw (getD-drop 2 p 0 0) at u), (rw (getD-drop 2 p 1 0) at t))
+    omega (arith, c .decode2 .ensures, c .before .before .decode .ensures, legible-at p 0 e (omega arith), legible-at p 1 e (omega arith))
 
 shared-slice-read-decode-3 : tie.Need-shared-slice-read-decode-3
-shared-slice-read-decode-3 c = search needs
+shared-slice-read-decode-3 c =
+    let long = legible-long (now (c .before .before .before .before .before .before .before .before .args .packet)) (sym (not-false _ (c .before .before .before .before .before .if1 .left)) ∙ c .before .before .before .before .before .before .readable .ensures) in
+    search needs
 
 decode-requires-3 : tie.Need-decode-requires-3
 decode-requires-3 c κs = search needs
@@ -73,19 +72,25 @@ returns-2 c =
     (zero-foreign (a .setting) (now (a .packet)) e (c .before .before .before .before .before .before .before .before .decode .ensures) (c .before .before .before .before .before .before .decode2 .ensures) (c .before .before .before .before .decode3 .ensures) (c .before .before .before .is-ours .ensures) (not-true _ (c .before .before .if2 .taken)))
 
 shared-slice-read-decode-4 : tie.Need-shared-slice-read-decode-4
-shared-slice-read-decode-4 c = search needs
+shared-slice-read-decode-4 c =
+    let long = legible-long (now (c .before .before .before .before .before .before .before .before .before .before .before .before .args .packet)) (sym (not-false _ (c .before .before .before .before .before .before .before .before .before .if1 .left)) ∙ c .before .before .before .before .before .before .before .before .before .before .readable .ensures) in
+    search needs
 
 decode-requires-4 : tie.Need-decode-requires-4
 decode-requires-4 c κs = search needs
 
 shared-slice-read-decode-5 : tie.Need-shared-slice-read-decode-5
-shared-slice-read-decode-5 c = search needs
+shared-slice-read-decode-5 c =
+    let long = legible-long (now (c .before .before .before .before .before .before .before .before .before .before .before .before .before .before .args .packet)) (sym (not-false _ (c .before .before .before .before .before .before .before .before .before .before .before .if1 .left)) ∙ c .before .before .before .before .before .before .before .before .before .before .before .before .readable .ensures) in
+    search needs
 
 decode-requires-5 : tie.Need-decode-requires-5
 decode-requires-5 c κs = search needs
 
 shared-slice-read-decode-6 : tie.Need-shared-slice-read-decode-6
-shared-slice-read-decode-6 c = search needs
+shared-slice-read-decode-6 c =
+    let long = legible-long (now (c .before .before .before .before .before .before .before .before .before .before .before .before .before .before .before .before .args .packet)) (sym (not-false _ (c .before .before .before .before .before .before .before .before .before .before .before .before .before .if1 .left)) ∙ c .before .before .before .before .before .before .before .before .before .before .before .before .before .before .readable .ensures) in
+    search needs
 
 decode-requires-6 : tie.Need-decode-requires-6
 decode-requires-6 c κs = search needs
@@ -110,8 +115,8 @@ returns-3 c =
     (zero-ours (a .setting) (now (a .packet)) e (c .before .before .before .before .before .before .before .before .before .before .before .before .before .before .decode .ensures) (c .before .before .before .before .before .before .before .before .before .before .before .before .decode2 .ensures) (c .before .before .before .before .before .before .before .before .before .before .decode3 .ensures) (c .before .before .before .before .before .before .before .before .before .is-ours .ensures) (not-false _ (c .before .before .before .before .before .before .before .before .if2 .left))
     (c .before .before .before .before .before .before .decode4 .ensures) (c .before .before .before .before .decode5 .ensures) (c .before .before .decode6 .ensures))
 
-pub zero-spec : {M : Type 1} → statement M
-zero-spec =
+pub judge-zero-spec : {M : Type 1} → statement M
+judge-zero-spec =
     tie.close
     (tie.spec
     readable-requires

@@ -1,9 +1,9 @@
--- `pages::is_break` meets its contract: its tests in order. Assumes nothing.
+-- `headers::is_break` meets its contract: its tests in order. Assumes nothing.
 use borrow.Author.Needs.{needs}
 use borrow.Author.Tests.{lt-ltb, le-ltb}
-use Rattle.pages.proofs.Seeing.{index-on}
-use Rattle.pages.proofs.is_break.Statement.{statement}
-use Rattle.pages.proofs.is_break.Tie as tie
+use Rattle.headers.proofs.Seeing.{index-on}
+use Rattle.headers.proofs.is_break.Statement.{statement}
+use Rattle.headers.proofs.is_break.Tie as tie
 
 is-incomplete-requires : tie.Need-is-incomplete-requires
 is-incomplete-requires c κs = search needs

@@ -1,7 +1,7 @@
--- `pages::page_of` meets its contract. Assumes nothing.
+-- `headers::page_of` meets its contract. Assumes nothing.
 use borrow.Author.Tests.{lt-leb, le-leb}
-use Rattle.pages.proofs.page_of.Statement.{statement}
-use Rattle.pages.proofs.page_of.Tie as tie
+use Rattle.headers.proofs.page_of.Statement.{statement}
+use Rattle.headers.proofs.page_of.Tie as tie
 
 returns : tie.Need-returns
 returns c = rw (lt-leb _ _ (c .if1 .taken))

@@ -3,10 +3,10 @@ use mathlib.Core.Bool.{Bool, true, false, not}
 use Prim.Native.Nat.{ℕ, _+_, _%_}
 use lib.Dec.{eqb, leb, ltb}
 use Rattle.laws.specs.Pick.{pick, both, either}
-use Rattle.pages.specs.declared.Page.{Page}
-use Rattle.pages.specs.declared.Page.the-variants.{Shut, Open}
-use Rattle.pages.specs.declared.Verdict.{Verdict}
-use Rattle.pages.specs.Seen.{Seen, junk, other, foreign, ours, row}
+use Rattle.headers.specs.declared.Page.{Page}
+use Rattle.headers.specs.declared.Page.the-variants.{Shut, Open}
+use Rattle.headers.specs.declared.Verdict.{Verdict}
+use Rattle.headers.specs.Seen.{Seen, junk, other, foreign, ours, row}
 
 -- "a page of ours not yet complete"
 abbrev pub incomplete : Page → Bool

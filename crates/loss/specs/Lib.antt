@@ -1,0 +1,2 @@
+-- What goes out where packets are lost.
+pub mod Loss

@@ -1,0 +1,15 @@
+-- The packet that stands for a loss.
+use mathlib.Core.List.{List}
+use Prim.Native.Nat.{ℕ}
+use lib.Dec.{leb}
+use lib.ListN.{length, replicate}
+use lib.Seq.{sets}
+use Rattle.laws.specs.Pick.{pick}
+
+-- a packet whose bytes can't be decoded, so that a reader drops what it holds
+abbrev pub unreadable : List ℕ
+unreadable = replicate 42 0x16
+
+-- a packet that can't be decoded stands at the front, where it has room
+unfoldable pub blanked : List ℕ → List ℕ
+blanked packets = pick (leb 42 (length packets)) (sets packets 0 unreadable) packets

@@ -1,0 +1,2 @@
+-- What may come next on a command line, and whether it may end.
+pub mod Stages
