@@ -6,7 +6,7 @@ use walk::Taken;
 ghost use mathlib.Core.Path.{_≡_};
 ghost use mathlib.Core.List.{List, []};
 ghost use Prim.Native.Nat.{ℕ, _+_, _*_, _≤_};
-ghost use lib.ListN.{length, getD, take, drop, replicate};
+ghost use lib.ListN.{length, getD, take, drop};
 ghost use lib.Seq.{sets};
 ghost use Rattle.laws.specs.Pick.{both as Pick·both, either as Pick·either};
 ghost use Rattle.octet.specs.Decoding.{nib};
@@ -128,7 +128,7 @@ fn flow(got: Got, store: &mut [u8; 2047], s: &[u8], out: &mut [u8]) -> Got
                 let size = (head / 32) as usize;
                 let there = s.len() - next;
                 if there < size {
-                    copy(s, next, there, store, 0);
+                    moves::copy(s, next, there, store, 0);
                     let left = Run::Body {
                         head: head,
                         held: there,
@@ -194,7 +194,7 @@ fn body_in(head: u16, held: usize, store: &mut [u8; 2047], s: &[u8], from: usize
     let need = (head / 32) as usize - held;
     let there = s.len() - from;
     if need < there {
-        copy(s, from, need, store, held);
+        moves::copy(s, from, need, store, held);
         return Taken {
             run: Run::Body {
                 head: head,
@@ -203,7 +203,7 @@ fn body_in(head: u16, held: usize, store: &mut [u8; 2047], s: &[u8], from: usize
             next: from + need,
         };
     }
-    copy(s, from, there, store, held);
+    moves::copy(s, from, there, store, held);
     Taken {
         run: Run::Body {
             head: head,
@@ -248,7 +248,7 @@ fn hand_out(head: u16, held: usize, store: &mut [u8; 2047], out: &mut [u8], q: u
     ensures { λ _. ⌜ now (out .exit) ≡ sets (now (out .entry)) q (recordOf (blockWith head (take held (now (store .entry))))) ⌝ }
 {
     emit(head, &*store, 0, held, out, q);
-    clear(store, held);
+    moves::clear(store, held);
 }
 
 // The running block, dropped where the test holds.
@@ -271,7 +271,7 @@ fn let_go(run: Run, store: &mut [u8; 2047])
     match run {
         Run::Idle => {}
         Run::Head { got: _, bits: _ } => {}
-        Run::Body { head: _, held } => clear(store, held),
+        Run::Body { head: _, held } => moves::clear(store, held),
     }
 }
 
@@ -294,31 +294,7 @@ fn emit(head: u16, raw: &[u8], from: usize, size: usize, out: &mut [u8], q: usiz
 {
     out[q] = (head % 256) as u8;
     out[q + 1] = (head / 256) as u8;
-    copy(raw, from, size, out, q + 2);
-}
-
-// So many bytes of `src` from `from` on go to `dst` from `to` on.
-fn copy(src: &[u8], from: usize, n: usize, dst: &mut [u8], to: usize)
-    requires { ⌜ (from + n ≤ length (now src)) × (to + n ≤ length (now dst)) ⌝ }
-    ensures { λ _. ⌜ now (dst .exit) ≡ sets (now (dst .entry)) to (take n (drop from (now (src .entry)))) ⌝ }
-{
-    let mut i = 0;
-    while i < n {
-        dst[to + i] = src[from + i];
-        i += 1;
-    }
-}
-
-// The store without the bytes that it held.
-fn clear(store: &mut [u8; 2047], held: usize)
-    requires { ⌜ (held ≤ 2047) × (length (now store) ≡ 2047) ⌝ }
-    ensures { λ _. ⌜ now (store .exit) ≡ sets (now (store .entry)) 0 (replicate held 0) ⌝ }
-{
-    let mut i = 0;
-    while i < held {
-        store[i] = 0;
-        i += 1;
-    }
+    moves::copy(raw, from, size, out, q + 2);
 }
 
 // At least one of two tests.

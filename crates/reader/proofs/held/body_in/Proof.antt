@@ -5,7 +5,7 @@ use native.Mathlib.Omega.{arith}
 use lib.ListN.{length}
 use denote.Ref.{now}
 use borrow.Author.Needs.{needs}
-use Rattle.walk.proofs.Keeping.{body-fits, body-size, body-store, body-took}
+use Rattle.walk.proofs.Keeping.{body-fits, body-took}
 use Rattle.reader.proofs.held.body_in.Statement.{statement}
 use Rattle.reader.proofs.held.body_in.Tie as tie
 
@@ -19,9 +19,7 @@ sub-there : tie.Need-sub-there
 sub-there c = search needs
 
 copy-requires : tie.Need-copy-requires
-copy-requires c κs =
-    let k = c .before .before .before .pre .0 in
-    (omega arith, omega (arith, body-fits k, body-size k, body-store k))
+copy-requires c κs = search needs
 
 add-t14 : tie.Need-add-t14
 add-t14 c = search needs
@@ -36,9 +34,7 @@ returns c =
     body-took (now (a .s)) (a .from) (a .head / 32 - a .held) k (omega arith) (omega (arith, body-fits k)) (inl (omega (arith, body-fits k))) (c .copy .ensures)
 
 copy-requires-2 : tie.Need-copy-requires-2
-copy-requires-2 c κs =
-    let k = c .before .before .before .pre .0 in
-    (omega arith, omega (arith, body-fits k, body-size k, body-store k))
+copy-requires-2 c κs = search needs
 
 add-t9 : tie.Need-add-t9
 add-t9 c = search needs

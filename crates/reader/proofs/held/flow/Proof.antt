@@ -11,7 +11,7 @@ use Rattle.laws.proofs.Lists.{part-rest}
 use Rattle.walk.specs.Places.{zeroed}
 use Rattle.walk.specs.Holding.{aheadIn}
 use Rattle.walk.proofs.Stepping.{next-from, next-within}
-use Rattle.walk.proofs.Keeping.{zeroed-length, found-bits}
+use Rattle.walk.proofs.Keeping.{found-bits}
 use Rattle.walk.proofs.Adding.{place, Leads, from-place, flow-nothing, flow-broken, flow-cut, flow-held, flow-on}
 use Rattle.reader.proofs.held.flow.Statement.{statement}
 use Rattle.reader.proofs.held.flow.Tie as tie
@@ -101,10 +101,7 @@ sub-there : tie.Need-sub-there Inv-loop μ-loop
 sub-there c = next-within (c .before .before .before .find .result) (c .before .head .given .1) (c .before .before .before .find .ensures .1 .1)
 
 copy-requires : tie.Need-copy-requires Inv-loop μ-loop
-copy-requires c κs =
-    let u = next-within (c .before .before .before .before .before .find .result) (c .before .before .before .head .given .1) (c .before .before .before .before .before .find .ensures .1 .1) in
-    let l = c .before .before .before .before .before .before .loop in
-    (omega arith, omega (arith, ap length (l .inv .4), zeroed-length [] (omega arith)))
+copy-requires c κs = search needs
 
 so-far-requires-4 : tie.Need-so-far-requires-4 Inv-loop μ-loop
 so-far-requires-4 c κs = search needs

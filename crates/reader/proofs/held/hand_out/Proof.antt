@@ -12,9 +12,7 @@ emit-requires c κs =
     (omega (arith, body-fits k, body-size k, body-store k), omega arith)
 
 clear-requires : tie.Need-clear-requires
-clear-requires c κs =
-    let k = c .before .before .before .before .before .before .before .before .pre .0 in
-    (omega (arith, body-fits k, body-size k), body-store k)
+clear-requires c κs = search needs
 
 same-length : tie.Need-same-length
 same-length c = search needs

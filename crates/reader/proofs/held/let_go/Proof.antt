@@ -1,8 +1,7 @@
 -- `reader::held::let_go` meets its contract: only a block holds bytes, and they are cleared. Assumes nothing.
 use mathlib.Core.Path.{_∙_}
-use native.Mathlib.Omega.{arith}
 use borrow.Author.Needs.{needs}
-use Rattle.walk.proofs.Keeping.{kept-idle, kept-head, kept-body, body-fits, body-size, body-store, body-clear}
+use Rattle.walk.proofs.Keeping.{kept-idle, kept-head, kept-body, body-clear}
 use Rattle.reader.proofs.held.let_go.Statement.{statement}
 use Rattle.reader.proofs.held.let_go.Tie as tie
 
@@ -16,9 +15,7 @@ enum-known-run : tie.Need-enum-known-run
 enum-known-run c = search needs
 
 clear-requires : tie.Need-clear-requires
-clear-requires c κs =
-    let k = kept-body (c .before .before .before .before .pre) (c .before .before .run .given .1) in
-    (omega (arith, body-fits k, body-size k), body-store k)
+clear-requires c κs = search needs
 
 returns : tie.Need-returns
 returns c = kept-idle (c .before .before .pre) (c .enum-told .given .1)
