@@ -9,8 +9,9 @@ use lib.Seq.{drop-drop}
 use Rattle.laws.proofs.Lists.{part-of}
 use Rattle.state.specs.declared.Reader.{Reader}
 use Rattle.reader.specs.declared.Heard.{Heard}
-use Rattle.reader.specs.declared.HeardAll.{HeardAll}
-use Rattle.reader.specs.Feeding.{feedHeard, feedReader, feedOut, feedAllHeard, feedAllOut}
+use Rattle.rows.specs.declared.HeardAll.{HeardAll}
+use Rattle.reader.specs.Feeding.{feedHeard, feedReader, feedOut}
+use Rattle.rows.specs.Feeding.{feedAllHeard, feedAllOut}
 use Rattle.bench.specs.Feeding.{desk, start, added, eachCount, eachOut, blocksOf}
 
 -- the packet at a place of l, with what feed gives for it

@@ -6,8 +6,8 @@ use Rattle.packet.specs.declared.Setting.{Setting}
 use Rattle.state.specs.declared.Reader.{Reader}
 use Rattle.reader.specs.declared.Heard.{Heard}
 use Rattle.reader.specs.declared.Heard.the-variants.{Took, Refused}
-use Rattle.reader.specs.declared.HeardAll.{HeardAll}
-use Rattle.reader.specs.declared.HeardAll.the-variants.{TookAll, RefusedAll}
+use Rattle.rows.specs.declared.HeardAll.{HeardAll}
+use Rattle.rows.specs.declared.HeardAll.the-variants.{TookAll, RefusedAll}
 use Rattle.state.specs.State.{readerOf, freshState}
 use Rattle.reader.specs.Feeding.{feedHeard, feedReader, feedOut}
 

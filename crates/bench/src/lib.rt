@@ -14,7 +14,7 @@ ghost use Rattle.octet.specs.Turning.{turned};
 ghost use Rattle.pes.specs.Reading.{readRules, recordsOf};
 ghost use Rattle.bench.specs.Mixing.{mixed};
 ghost use Rattle.bench.specs.Feeding.{desk, start, wrap, added, eachCount, eachOut, blocksOf};
-ghost use Rattle.reader.specs.Feeding.{feedAllHeard, feedAllOut};
+ghost use Rattle.rows.specs.Feeding.{feedAllHeard, feedAllOut};
 
 // Decodes each byte. What it gives hangs on every one, so that none can be left out.
 #[no_mangle]

@@ -22,7 +22,7 @@ use Rattle.walk.proofs.Adding.{either-false}
 use Rattle.pages.specs.Seen.{see}
 use Rattle.state.specs.Acting.{State, handed, dropped}
 use Rattle.state.specs.State.{stateOf, readerOf}
-use Rattle.reader.specs.Feeding.{Ran, begun, ranOn, run}
+use Rattle.rows.specs.Feeding.{Ran, begun, ranOn, run}
 use Rattle.state.proofs.Ranging.{Sound, sound-after, state-held, reader-in-range}
 use Rattle.claims.specs.Feeding.{Call, packetsOf, comesOut, leaves, drops, rowOf, AsCalls}
 use Rattle.claims.proofs.Fed.{call-reader, call-blocks, call-drops}

@@ -53,9 +53,11 @@ use Rattle.headers.proofs.judge_zero.Reads as headers·judge-zero
 use Rattle.pages.proofs.judge.Reads as pages·judge
 use Rattle.packet.proofs.address.Reads as packet·address
 use Rattle.packet.proofs.passes_by.Reads as packet·passes-by
+use Rattle.moves.proofs.copy.Reads as moves·copy
+use Rattle.moves.proofs.clear.Reads as moves·clear
 use Rattle.state.proofs.fresh.Reads as reader·fresh
 use Rattle.reader.proofs.feed.Reads as reader·feed
-use Rattle.reader.proofs.feed_all.Reads as reader·feed-all
+use Rattle.rows.proofs.feed_all.Reads as reader·feed-all
 use Rattle.lengths.proofs.judge_lengths.Reads as lengths·judge-lengths
 use Rattle.table.proofs.read_block.Reads as table·read-block
 use Rattle.forms.proofs.judge_form.Reads as forms·judge-form
@@ -218,6 +220,14 @@ packet·address-settled κs a x y s t p q = same p q
 
 pub packet·passes-by-settled : (κs : _) (a : _) (x y : _) (s t : _) → packet·passes-by.Post κs a x s → packet·passes-by.Post κs a y t → x ≡ y
 packet·passes-by-settled κs a x y s t p q = same p q
+
+pub moves·copy-settled :
+    (κs : _) (a : _) (x y : _) (s t : _) → moves·copy.Post κs a x s → moves·copy.Post κs a y t → now (s .1 .1 .1 .0) ≡ now (t .1 .1 .1 .0)
+moves·copy-settled κs a x y s t p q = same p q
+
+pub moves·clear-settled :
+    (κs : _) (a : _) (x y : _) (s t : _) → moves·clear.Post κs a x s → moves·clear.Post κs a y t → now (s .0) ≡ now (t .0)
+moves·clear-settled κs a x y s t p q = same p q
 
 -- ---- the reader
 

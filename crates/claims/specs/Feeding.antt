@@ -12,9 +12,10 @@ use Rattle.packet.specs.declared.Setting.{Setting}
 use Rattle.state.specs.declared.Reader.{Reader}
 use Rattle.reader.specs.declared.Heard.{Heard}
 use Rattle.reader.specs.declared.Heard.the-variants.{Took, Refused}
-use Rattle.reader.specs.declared.HeardAll.the-variants.{TookAll}
+use Rattle.rows.specs.declared.HeardAll.the-variants.{TookAll}
 use Rattle.walk.specs.Reading.{room}
-use Rattle.reader.specs.Feeding.{feedHeard, feedReader, feedOut, feedAllHeard, feedAllReader, feedAllOut}
+use Rattle.reader.specs.Feeding.{feedHeard, feedReader, feedOut}
+use Rattle.rows.specs.Feeding.{feedAllHeard, feedAllReader, feedAllOut}
 
 -- how many bytes an answer reports as written
 abbrev pub writtenOf : Heard → ℕ

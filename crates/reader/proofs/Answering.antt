@@ -1,95 +1,82 @@
--- The answers of the calls, from their tests in order and from what the packets did. Assumes nothing.
-use mathlib.Core.Path.{_≡_, _∙_, refl}
+-- The answers of the call for one packet, from those of the call for a row of packets: a row of one packet takes it where there is room,
+-- and else takes none. Assumes nothing.
+use mathlib.Core.Path.{_≡_, refl, sym}
 use mathlib.Core.Bool.{Bool, true, false}
 use mathlib.Core.List.{List}
-use Prim.Native.Nat.{ℕ, _%_, _/_, _≤_, _<_}
+use Prim.Native.Nat.{ℕ, _/_, _%_, _≤_, _<_}
 use native.Mathlib.Omega.{arith}
-use lib.Dec.{eqb}
+use lib.Dec.{leb}
 use lib.ListN.{length}
-use borrow.Author.Tests.{le-leb, lt-leb, eqb-true}
+use lib.Seq.{take-all}
+use borrow.Author.Tests.{le-leb, leb-true, leb-false, eq-eqb, ne-eqb}
 use Rattle.laws.specs.Pick.{both}
-use Rattle.laws.proofs.Lists.{sets-front}
 use Rattle.blocks.specs.Block.{recordsOf}
 use Rattle.packet.specs.declared.Setting.{Setting}
 use Rattle.packet.specs.Setting.{inRange}
 use Rattle.packet.specs.Packet.{packetLength}
-use Rattle.state.specs.declared.Reader.{Reader}
-use Rattle.reader.specs.declared.Heard.{Heard}
-use Rattle.reader.specs.declared.Heard.the-variants.{Took}
-use Rattle.reader.specs.declared.HeardAll.{HeardAll}
-use Rattle.reader.specs.declared.HeardAll.the-variants.{TookAll}
-use Rattle.reader.specs.declared.Taking.{Taking}
-use Rattle.walk.specs.declared.Run.{Run}
-use Rattle.headers.specs.declared.Page.{Page}
-use Rattle.reader.specs.declared.Going.{Going}
-use Rattle.pages.specs.Seen.{see}
-use Rattle.state.specs.Acting.{State, handed}
-use Rattle.state.specs.State.{stateOf, readerOf, readerInRange}
 use Rattle.walk.specs.Reading.{room}
-use Rattle.reader.specs.Feeding.{feedHeard, feedReader, feedOut, refusedHeard, begun, ranOn, run, ranAll, refusedAll, feedAllHeard, feedAllReader, feedAllOut}
-use Rattle.walk.specs.Places.{zeroed}
-use Rattle.walk.specs.Holding.{Holds}
-use Rattle.reader.specs.Stepped.{stateIn}
-use Rattle.reader.specs.Holding.{started, RanTo}
-use Rattle.state.proofs.Holding.{ready-whole}
-use Rattle.reader.proofs.Running.{run-one}
+use Rattle.walk.specs.Store.{storeLength}
+use Rattle.walk.proofs.Adding.{both-false}
+use Rattle.state.specs.declared.Reader.{Reader}
+use Rattle.state.specs.Acting.{State}
+use Rattle.state.specs.State.{stateOf, readerOf, readerInRange, Sixteen}
+use Rattle.state.proofs.Holding.{ready-kept}
+use Rattle.rows.specs.declared.HeardAll.{HeardAll}
+use Rattle.rows.specs.Feeding.{begun, ranOn, run, feedAllHeard, feedAllReader, feedAllOut}
+use Rattle.rows.proofs.Running.{run-full}
+use Rattle.rows.proofs.Answering.{handed-back}
+use Rattle.reader.specs.declared.Heard.{Heard}
+use Rattle.reader.specs.Feeding.{refusedHeard, feedHeard, feedReader, feedOut}
+use Rattle.reader.specs.Telling.{told}
+
+-- ---- a row of one packet
+
+module _ (s : Setting) (long : ℕ) (st : State) (p : List ℕ) where
+  run-one : length p ≡ packetLength → room ≤ long → run s long (length p / packetLength) (begun st) p ≡ ranOn s (begun st) p
+  unfolding run recordsOf
+  run-one h r = rw (h, le-leb room long r, take-all packetLength p (omega (arith, h)))
+
+  run-none : long < room → run s long (length p / packetLength) (begun st) p ≡ begun st
+  unfolding recordsOf
+  run-none r = sym (run-full s long (length p / packetLength) (begun st) p r)
+
+-- ---- the answers
 
 -- the answer, the reader and the output are these
-abbrev pub Answers : Setting → Reader → List ℕ → List ℕ → Heard → Reader → List ℕ → Type 0
+abbrev Answers : Setting → Reader → List ℕ → List ℕ → Heard → Reader → List ℕ → Type 0
 Answers s r p old h after new = (h ≡ feedHeard s r p old) × ((after ≡ feedReader s r p old) × (new ≡ feedOut s r p old))
 
--- the reader that what has come is handed back as
-handed-back :
-    {st : State} {page : Page} {index : ℕ} {run : Run} {store : List ℕ} → page ≡ st .page → index ≡ st .index → Holds (st .mode) run store
-    → record { page = page; index = index; run = run; store = store } ≡ readerOf st
-unfolding zeroed
-handed-back x y w = rw (x, y, w .run, w .kept)
-
 module _ (s : Setting) (r : Reader) (p old : List ℕ) where
-  module _ {ready : Bool} (e : ready ≡ both (inRange s) (both (readerInRange r) (eqb (length p) packetLength))) where
-    pub not-ready : ready ≡ false → Answers s r p old (refusedHeard 16 0) r old
-    not-ready f = rw (← e, f) (refl, (refl, refl))
+  pub other-length : ¬ (length p ≡ packetLength) → Answers s r p old (refusedHeard 16 0) r old
+  other-length n = rw (ne-eqb _ _ n, both-false, both-false) (refl, (refl, refl))
 
-    pub no-room : ready ≡ true → length old < room → Answers s r p old (refusedHeard 1 0) r old
-    no-room f h = rw (← e, f, lt-leb _ _ h) (refl, (refl, refl))
+  -- the reader that a row of no packets hands back is the one handed in
+  same-reader :
+      both (inRange s) (both (readerInRange r) true) ≡ true → Sixteen (r .run) → length (r .store) ≡ storeLength → r ≡ readerOf (stateOf r)
+  same-reader e w k = handed-back refl refl (ready-kept s r true refl e w k)
 
-    pub taken :
-        {g : Going} {t : Taking} {store new : List ℕ} → ready ≡ true → g ≡ started (r .page) (r .index) (r .run) → room ≤ length old
-        → t .going .got .written ≤ length old
-        → RanTo (run s (length old) (length p / packetLength) (begun (stateIn g (r .store))) p) t store old new
-        → Answers s r p old (Took (t .going .got .blocks) (t .going .got .written) (t .going .got .dropped))
-        (record { page = t .going .page; index = t .going .index; run = t .going .got .run; store = store }) new
-    taken {g} {t} {store} {new} i q h f x =
-        let y : RanTo (run s (length old) (length p / packetLength) (begun (stateOf r)) p) t store old new = rw q at x in
-        let one = run-one s (length old) (stateOf r) p (eqb-true _ _ (ready-whole s r _ e i)) h in
-        let w : RanTo (ranOn s (begun (stateOf r)) p) t store old new = rw one at y in
-        rw (← e, i, le-leb _ _ h) (
-          rw (w .blocks, w .written, w .dropped),
-          (handed-back (w .page) (w .index) (w .holds), w .out ∙ sets-front old (recordsOf (handed (stateOf r) (see s p))) (omega (arith, w .written))),
-        )
+  of-row :
+      length p ≡ packetLength → Sixteen (r .run) → length (r .store) ≡ storeLength
+      → Answers s r p old (told (feedAllHeard s r p old)) (feedAllReader s r p old) (feedAllOut s r p old)
+  unfolding recordsOf
+  of-row l w k = go (both (inRange s) (both (readerInRange r) true)) refl (leb room (length old)) refl
+    where
+      z : length p % packetLength ≡ 0
+      z = omega (arith, l)
 
--- ---- a row of packets
+      go :
+          (ready : Bool) → ready ≡ both (inRange s) (both (readerInRange r) true) → (enough : Bool) → enough ≡ leb room (length old)
+          → Answers s r p old (told (feedAllHeard s r p old)) (feedAllReader s r p old) (feedAllOut s r p old)
+      go false e enough f = rw (eq-eqb _ _ l, eq-eqb _ _ z, ← e) (refl, (refl, refl))
+      go true e true f =
+          rw (eq-eqb _ _ l, eq-eqb _ _ z, ← e, ← f, run-one s (length old) (stateOf r) p l (leb-true _ _ (sym f))) (refl, (refl, refl))
+      go true e false f =
+          rw (eq-eqb _ _ l, eq-eqb _ _ z, ← e, ← f, run-none s (length old) (stateOf r) p (leb-false _ _ (sym f)))
+          (refl, (sym (same-reader (sym e) w k), refl))
 
-abbrev pub AnswersAll : Setting → Reader → List ℕ → List ℕ → HeardAll → Reader → List ℕ → Type 0
-AnswersAll s r l old h after new =
-    (h ≡ feedAllHeard s r l old) × ((after ≡ feedAllReader s r l old) × (new ≡ feedAllOut s r l old))
-
-module _ (s : Setting) (r : Reader) (l old : List ℕ) where
-  module _ {ready : Bool} (e : ready ≡ both (inRange s) (both (readerInRange r) (eqb (length l % packetLength) 0))) where
-    pub not-ready-all : ready ≡ false → AnswersAll s r l old (refusedAll 16 0) r old
-    not-ready-all i = rw (← e, i) (refl, (refl, refl))
-
-    pub taken-all :
-        {g : Going} {t : Taking} {store new : List ℕ} → ready ≡ true → g ≡ started (r .page) (r .index) (r .run)
-        → t .going .got .written ≤ length old
-        → RanTo (run s (length old) (length l / packetLength) (begun (stateIn g (r .store))) l) t store old new
-        → AnswersAll s r l old
-        (TookAll (t .packets) (t .going .got .blocks) (t .going .got .written) (t .going .got .dropped))
-        (record { page = t .going .page; index = t .going .index; run = t .going .got .run; store = store }) new
-    taken-all {g} {t} {store} {new} i q f x =
-        let bytes : List ℕ = recordsOf (ranAll s r l old .blocks) in
-        let w : RanTo (ranAll s r l old) t store old new = rw q at x in
-        rw (← e, i) (
-          rw (w .packets, w .blocks, w .written, w .dropped),
-          (handed-back (w .page) (w .index) (w .holds), w .out ∙ sets-front old bytes (omega (arith, w .written))),
-        )
+  -- the packet as a row of one
+  pub one :
+      {h : HeardAll} {x : Heard} {after : Reader} {new : List ℕ} → length p ≡ packetLength → Sixteen (r .run) → length (r .store) ≡ storeLength
+      → h ≡ feedAllHeard s r p old → x ≡ told h → after ≡ feedAllReader s r p old → new ≡ feedAllOut s r p old
+      → Answers s r p old x after new
+  one l w k e t f g = rw (t, e, f, g) (of-row l w k)

@@ -1,3 +1,2 @@
 pub mod Answering
-pub mod Heeding
-pub mod Running
+pub mod Typed

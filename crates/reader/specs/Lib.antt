@@ -1,4 +1,4 @@
--- The calls of the reader: document 01, "Packets of the guide page". The state and what a packet does to it stand in `state`.
+-- The call for one packet: document 01, "Packets of the guide page". A row of packets stands in `rows`, and what a packet does to the
+-- state in `state`.
 pub mod Feeding
-pub mod Stepped
-pub mod Holding
+pub mod Telling

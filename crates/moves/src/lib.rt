@@ -1,0 +1,45 @@
+// Bytes of lent memory, many at a time: copied to a place, or made zero. What doesn't lie within the
+// slices is left out.
+ghost use mathlib.Core.Path.{_≡_};
+ghost use Prim.Native.Nat.{_-_, min};
+ghost use lib.ListN.{take, drop, replicate};
+ghost use lib.Seq.{sets};
+
+// So many bytes of `src` from `from` on go to `dst` from `to` on.
+pub fn copy(src: &[u8], from: usize, n: usize, dst: &mut [u8], to: usize)
+    ensures { λ _. ⌜ now (dst .exit) ≡ sets (now (dst .entry)) to (take n (drop from (now (src .entry)))) ⌝ }
+{
+    let there = within(n, src.len(), from);
+    let m = within(there, dst.len(), to);
+    let mut i = 0;
+    while i < m {
+        dst[to + i] = src[from + i];
+        i += 1;
+    }
+}
+
+// A store without the bytes that it held: so many of its first are zero.
+pub fn clear(store: &mut [u8], held: usize)
+    ensures { λ _. ⌜ now (store .exit) ≡ sets (now (store .entry)) 0 (replicate held 0) ⌝ }
+{
+    let there = within(held, store.len(), 0);
+    let mut i = 0;
+    while i < there {
+        store[i] = 0;
+        i += 1;
+    }
+}
+
+// How many of n bytes from a place on lie within a slice so long.
+fn within(n: usize, long: usize, from: usize) -> usize
+    ensures { λ r. ⌜ r ≡ min n (long - from) ⌝ }
+{
+    if long < from {
+        return 0;
+    }
+    let there = long - from;
+    if n < there {
+        return n;
+    }
+    there
+}

@@ -1,0 +1,53 @@
+-- `rows::held::carry_on` meets its contract. Assumes nothing.
+use mathlib.Core.Path.{_∙_}
+use denote.Ref.{now}
+use borrow.Author.Needs.{needs}
+use Rattle.walk.specs.Store.{modeOf}
+use Rattle.walk.proofs.Keeping.{holds-kept}
+use Rattle.walk.proofs.Adding.{carried-on, runs-mode}
+use Rattle.rows.proofs.held.carry_on.Statement.{statement}
+use Rattle.rows.proofs.held.carry_on.Tie as tie
+
+take-in-requires : tie.Need-take-in-requires
+take-in-requires c κs = search needs
+
+is-running-requires : tie.Need-is-running-requires
+is-running-requires c κs = search needs
+
+is-running-requires-2 : tie.Need-is-running-requires-2
+is-running-requires-2 c κs = search needs
+
+both-requires : tie.Need-both-requires
+both-requires c κs = search needs
+
+either-requires : tie.Need-either-requires
+either-requires c κs = search needs
+
+finish-requires : tie.Need-finish-requires
+finish-requires c κs =
+    let p = c .before .before .before .before .before .before .before .before .before .before .pre in
+    let t = c .before .before .before .before .before .before .take-in .ensures in
+    (holds-kept _ (t .holds), record { long = p .1 .long; few = p .1 .few })
+
+same-length : tie.Need-same-length
+same-length c = search needs
+
+returns : tie.Need-returns
+returns c =
+    let a = c .before .before .before .before .before .before .before .before .before .before .before .before .before .args in
+    carried-on (modeOf (a .got .run) (now (a .store))) (now (a .s)) (a .got) (c .before .before .before .before .before .before .before .before .before .take-in .ensures)
+    (c .before .before .before .before .before .either .ensures ∙ rw (c .before .before .before .before .before .before .both .ensures, c .before .before .before .before .before .before .before .before .is-running .ensures, c .before .before .before .before .before .before .before .is-running2 .ensures, runs-mode))
+    (c .before .before .finish .ensures)
+
+pub carry-on-spec : {M : Type 1} → statement M
+carry-on-spec =
+    tie.close
+    (tie.spec
+    take-in-requires
+    is-running-requires
+    is-running-requires-2
+    both-requires
+    either-requires
+    finish-requires
+    same-length
+    returns)

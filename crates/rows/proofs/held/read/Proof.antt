@@ -1,0 +1,126 @@
+-- `rows::held::read` meets its contract: the pointer decides. Assumes nothing.
+use mathlib.Core.Path.{_≡_, _∙_, ap}
+use mathlib.Core.Bool.{true}
+use Prim.Native.Nat.{_+_, _-_}
+use native.Mathlib.Omega.{arith}
+use lib.ListN.{length, getD, take, drop, length-drop}
+use denote.Ref.{now}
+use borrow.Author.Needs.{needs}
+use Rattle.laws.proofs.Lists.{part-rest}
+use Rattle.octet.specs.Decoding.{nib}
+use Rattle.walk.specs.Mode.{carries, finished}
+use Rattle.walk.specs.Store.{modeOf}
+use Rattle.walk.proofs.Room.{carried-room, two-each}
+use Rattle.walk.proofs.Adding.{read-pointed, read-unpointed, read-skipped}
+use Rattle.rows.proofs.held.read.Statement.{statement}
+use Rattle.rows.proofs.held.read.Tie as tie
+
+shared-slice-read-pointed : tie.Need-shared-slice-read-pointed
+shared-slice-read-pointed c = search needs
+
+pointed-requires : tie.Need-pointed-requires
+pointed-requires c κs = search needs
+
+add-at : tie.Need-add-at
+add-at c = search needs
+
+sub-carry-to : tie.Need-sub-carry-to
+sub-carry-to c = search needs
+
+part-carry-to-start : tie.Need-part-carry-to-start
+part-carry-to-start c = search needs
+
+part-carry-to-end : tie.Need-part-carry-to-end
+part-carry-to-end c = search needs
+
+carry-to-requires : tie.Need-carry-to-requires
+carry-to-requires c κs = search needs
+
+sub-flow : tie.Need-sub-flow
+sub-flow c = search needs
+
+part-flow-start : tie.Need-part-flow-start
+part-flow-start c = search needs
+
+part-flow-end : tie.Need-part-flow-end
+part-flow-end c = search needs
+
+flow-requires : tie.Need-flow-requires
+flow-requires c κs =
+    let x = c .before .before .before .before .before .carry-to .ensures in
+    let a = c .before .before .before .before .before .before .before .before .before .before .before .before .before .before .args in
+    let q = c .before .before .before .before .before .before .before .before .before .before .before .before .before .before .pre in
+    let p = now (a .packet) in
+    let n = 3 + c .before .before .before .before .before .before .before .before .before .before .pointed .result in
+    let m = modeOf (a .got .run) (now (a .store)) in
+    let g = carried-room true m (take (n - 3) (drop 3 p)) (q .0 .good) in
+    let t = two-each (finished (carries true m (take (n - 3) (drop 3 p)))) in
+    let k = c .before .before .before .before .before .carry-to .kept .1 .1 .1 .0 in
+    let l : length (take (length p - n) (drop n p)) ≡ length p - n = ap length (part-rest n p) ∙ length-drop n p in
+    (x .holds .kept, (omega (arith, x .written, g, l, k, q), omega (arith, x .written, x .blocks, t, q)))
+
+same-length : tie.Need-same-length
+same-length c = search needs
+
+returns : tie.Need-returns
+returns c =
+    let a = c .before .before .before .before .before .before .before .before .before .before .before .before .before .before .before .before .before .args in
+    read-pointed (modeOf (a .got .run) (now (a .store))) (nib (getD (now (a .packet)) 2 0)) (now (a .packet)) (a .got) (c .before .before .before .before .before .before .before .before .before .before .before .before .before .pointed .ensures) (c .before .before .before .before .before .before .before .before .before .before .before .before .if1 .taken)
+    (c .before .before .before .before .before .before .before .before .carry-to .ensures) (c .before .before .flow .ensures)
+
+sub-carry-on : tie.Need-sub-carry-on
+sub-carry-on c = search needs
+
+part-carry-on-start : tie.Need-part-carry-on-start
+part-carry-on-start c = search needs
+
+part-carry-on-end : tie.Need-part-carry-on-end
+part-carry-on-end c = search needs
+
+carry-on-requires : tie.Need-carry-on-requires
+carry-on-requires c κs = search needs
+
+same-length-2 : tie.Need-same-length-2
+same-length-2 c = search needs
+
+returns-2 : tie.Need-returns-2
+returns-2 c =
+    let a = c .before .before .before .before .before .before .before .before .before .before .before .before .args in
+    read-unpointed (modeOf (a .got .run) (now (a .store))) (nib (getD (now (a .packet)) 2 0)) (now (a .packet)) (a .got) (c .before .before .before .before .before .before .before .before .pointed .ensures) (c .before .before .before .before .before .before .if2 .taken)
+    (c .before .before .carry-on .ensures)
+
+lose-requires : tie.Need-lose-requires
+lose-requires c κs = search needs
+
+returns-3 : tie.Need-returns-3
+returns-3 c =
+    let a = c .before .before .before .before .before .before .before .before .args in
+    read-skipped (modeOf (a .got .run) (now (a .store))) (nib (getD (now (a .packet)) 2 0)) (now (a .packet)) (a .got)
+    (c .before .before .before .before .pointed .ensures) (c .before .before .before .if1 .left) (c .before .before .if2 .left)
+    (c .lose .ensures (now (a .out)))
+
+pub read-spec : {M : Type 1} → statement M
+read-spec =
+    tie.close
+    (tie.spec
+    shared-slice-read-pointed
+    pointed-requires
+    add-at
+    sub-carry-to
+    part-carry-to-start
+    part-carry-to-end
+    carry-to-requires
+    sub-flow
+    part-flow-start
+    part-flow-end
+    flow-requires
+    same-length
+    returns
+    sub-carry-on
+    part-carry-on-start
+    part-carry-on-end
+    carry-on-requires
+    same-length-2
+    returns-2
+    lose-requires
+    returns-3)
