@@ -9,15 +9,11 @@ use lib.Dec.{leb}
 use lib.ListN.{length, getD, drop, length-drop}
 use lib.Seq.{getD-drop}
 use borrow.Author.Tests.{eq-eqb, ne-eqb, le-leb, lt-leb}
-use Rattle.laws.specs.Pick.{both}
+use Rattle.laws.proofs.Tests.{both-false}
 use Rattle.blocks.specs.declared.Found.the-variants.{End, Record, Broken}
 use Rattle.blocks.specs.Block.{headLength, headOf, recordLength, begins}
 use Rattle.blocks.specs.Place.{foundAt}
 use Rattle.blocks.proofs.Walking.{begins-not}
-
-both-false : (a : Bool) → both a false ≡ false
-both-false true = refl
-both-false false = refl
 
 pub found-end : (l : List ℕ) (p : ℕ) → p ≡ length l → foundAt l p ≡ End
 unfolding foundAt

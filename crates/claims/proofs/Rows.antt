@@ -18,7 +18,7 @@ use Rattle.packet.specs.Packet.{packetLength}
 use Rattle.guide.proofs.Numbering.{FortyTwo, none, more}
 use Rattle.state.specs.declared.Reader.{Reader}
 use Rattle.walk.specs.Reading.{room}
-use Rattle.walk.proofs.Adding.{either-false}
+use Rattle.laws.proofs.Tests.{either-false, either-assoc}
 use Rattle.pages.specs.Seen.{see}
 use Rattle.state.specs.Acting.{State, handed, dropped}
 use Rattle.state.specs.State.{stateOf, readerOf}
@@ -32,10 +32,6 @@ use Rattle.claims.proofs.Fed.{call-reader, call-blocks, call-drops}
 unfoldable after : Setting → Ran → List Call → Ran
 after s a [] = a
 after s a (c ∷ cs) = after s (ranOn s a (c .packet)) cs
-
-either-assoc : (a b c : Bool) → either a (either b c) ≡ either (either a b) c
-either-assoc true b c = refl
-either-assoc false b c = refl
 
 after-packets : (s : Setting) (a : Ran) (cs : List Call) → after s a cs .packets ≡ a .packets + length cs
 unfolding after
@@ -70,7 +66,7 @@ module _ (s : Setting) (i : inRange s ≡ true) where
   after-dropped a r [] e = sym (either-false (a .dropped))
   after-dropped a r (c ∷ cs) (more l e) =
       after-dropped (ranOn s a (c .packet)) (sound-after s (a .state) (c .packet) r) cs e
-      ∙ sym (either-assoc (a .dropped) (dropped (a .state) (see s (c .packet))) _)
+      ∙ either-assoc (a .dropped) (dropped (a .state) (see s (c .packet))) _
       ∙ ap₂ (λ (x : Bool) (y : Reader). either (a .dropped) (either x (drops s y cs))) (sym (call-drops s i (a .state) r c l))
       (sym (call-reader s i (a .state) r c l))
 

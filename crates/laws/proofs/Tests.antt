@@ -26,3 +26,19 @@ both-assoc false b c = refl
 pub either-first : (a b : Bool) → either a b ≡ true → b ≡ false → a ≡ true
 either-first true b h e = refl
 either-first false b h e = sym e ∙ h
+
+pub both-right : (a : Bool) → both a true ≡ a
+both-right true = refl
+both-right false = refl
+
+pub both-false : (a : Bool) → both a false ≡ false
+both-false true = refl
+both-false false = refl
+
+pub either-false : (a : Bool) → either a false ≡ a
+either-false true = refl
+either-false false = refl
+
+pub either-assoc : (a b c : Bool) → either (either a b) c ≡ either a (either b c)
+either-assoc true b c = refl
+either-assoc false b c = refl

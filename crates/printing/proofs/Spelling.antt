@@ -1,9 +1,9 @@
 -- Whether a word's bytes are letters, byte by byte. Assumes nothing.
-use mathlib.Core.Path.{_≡_, refl}
-use mathlib.Core.Bool.{Bool, true, false}
+use mathlib.Core.Path.{_≡_}
+use mathlib.Core.Bool.{true, false}
 use mathlib.Core.List.{[], _∷_}
 use Prim.Native.Nat.{ℕ, _/_, _%_}
-use Rattle.laws.specs.Pick.{both}
+use Rattle.laws.proofs.Tests.{both-right}
 use Rattle.forms.specs.Form.{spelled}
 use Rattle.printing.specs.Lines.{letter, letters}
 
@@ -19,8 +19,4 @@ module _ (w : ℕ) where
   pub letters-3 :
       letter (w / 256 / 256 % 256) ≡ true → letter (w / 256 % 256) ≡ true → letters (spelled (w ∷ [])) ≡ letter (w % 256)
   unfolding letters spelled
-  letters-3 a b = rw (a, b) (both-one (letter (w % 256)))
-    where
-      both-one : (x : Bool) → both x true ≡ x
-      both-one true = refl
-      both-one false = refl
+  letters-3 a b = rw (a, b) (both-right (letter (w % 256)))

@@ -10,13 +10,13 @@ use lib.ListN.{length}
 use lib.Seq.{take-all}
 use borrow.Author.Tests.{le-leb, leb-true, leb-false, eq-eqb, ne-eqb}
 use Rattle.laws.specs.Pick.{both}
+use Rattle.laws.proofs.Tests.{both-false}
 use Rattle.blocks.specs.Block.{recordsOf}
 use Rattle.packet.specs.declared.Setting.{Setting}
 use Rattle.packet.specs.Setting.{inRange}
 use Rattle.packet.specs.Packet.{packetLength}
 use Rattle.walk.specs.Reading.{room}
 use Rattle.walk.specs.Store.{storeLength}
-use Rattle.walk.proofs.Adding.{both-false}
 use Rattle.state.specs.declared.Reader.{Reader}
 use Rattle.state.specs.Acting.{State}
 use Rattle.state.specs.State.{stateOf, readerOf, readerInRange, Sixteen}

@@ -21,7 +21,8 @@ use Rattle.walk.specs.Reading.{dropIf}
 use Rattle.walk.specs.Store.{modeOf}
 use Rattle.walk.specs.Holding.{Kept, Went, ReadRow}
 use Rattle.walk.proofs.Keeping.{holds-mode}
-use Rattle.walk.proofs.Adding.{went-nowhere, went-on, either-false}
+use Rattle.laws.proofs.Tests.{either-false}
+use Rattle.walk.proofs.Adding.{went-nowhere, went-on}
 use Rattle.rows.specs.declared.Going.{Going}
 use Rattle.state.specs.Acting.{State, act, handed, dropped}
 use Rattle.rows.specs.Stepped.{Heeded, Acted, stateIn}

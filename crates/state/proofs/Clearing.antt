@@ -11,6 +11,7 @@ use lib.Dec.{eqb}
 use lib.Bits.{bitOr, or-zero-l, or-add-and, and-le-r}
 use borrow.Author.Tests.{ne-eqb}
 use Rattle.laws.specs.Pick.{both}
+use Rattle.laws.proofs.Tests.{both-right}
 use Rattle.state.specs.State.{zeros}
 
 pub untrue {ℓ} : {A : Type ℓ} → false ≡ true → A
@@ -33,8 +34,4 @@ clear-on l i s h = rw (drop-cons l i 0, add-one) (mixed-zero s (getD l i 0) (zer
 
 pub clear-ends : (l : List ℕ) (i s : ℕ) → length l ≤ i → both (eqb s 0) (zeros (drop i l)) ≡ eqb s 0
 unfolding zeros
-clear-ends l i s h = rw drop-of-length-le (go (eqb s 0))
-  where
-    go : (t : Bool) → both t true ≡ t
-    go true = refl
-    go false = refl
+clear-ends l i s h = rw drop-of-length-le (both-right (eqb s 0))

@@ -9,6 +9,7 @@ use lib.ListN.{length, take, drop, length-append}
 use lib.Seq.{sets, length-take-le, drop-drop}
 use borrow.Author.Tests.{le-leb, lt-leb, eq-eqb, ne-eqb}
 use Rattle.laws.specs.Pick.{both, either}
+use Rattle.laws.proofs.Tests.{both-right, either-false, either-assoc}
 use Rattle.laws.proofs.Lists.{sets-append, part-of, part-rest}
 use Rattle.blocks.specs.Block.{Block, sizeOf, recordOf, recordsOf}
 use Rattle.walk.specs.declared.Run.{Run}
@@ -22,22 +23,6 @@ use Rattle.walk.specs.Holding.{Bits, Good, Holds, Kept, Went, Finished, 
 use Rattle.walk.specs.Reading.{dropIf, pointedBy}
 use Rattle.walk.proofs.Walking.{waits, breaks-off, left-by, given-by, spoilt-by, found-left, found-given, found-spoilt, headed-long, headed-short}
 use Rattle.walk.proofs.Keeping.{kept-body, body-length, holds-idle, holds-mode, zeroed-more}
-
-pub either-false : (a : Bool) → either a false ≡ a
-either-false true = refl
-either-false false = refl
-
-pub either-assoc : (a b c : Bool) → either (either a b) c ≡ either a (either b c)
-either-assoc true b c = refl
-either-assoc false b c = refl
-
-pub both-true : (a : Bool) → both a true ≡ a
-both-true true = refl
-both-true false = refl
-
-pub both-false : (a : Bool) → both a false ≡ false
-both-false true = refl
-both-false false = refl
 
 pub recordsOf-append : (xs ys : List Block) → recordsOf (xs ++ ys) ≡ recordsOf xs ++ recordsOf ys
 unfolding recordsOf
@@ -346,4 +331,4 @@ module _ (m : Mode) (p : ℕ) (packet : List ℕ) (a : Got) {n : ℕ} {old : Lis
       let f = by-skipped p e h k in
       let i : 12 < p = omega (arith, f) in
       let j : p ≡ 13 → ⊥ = λ z. omega (arith, f, z) in
-      rw (lt-leb _ _ i, ne-eqb _ _ j, both-true) w
+      rw (lt-leb _ _ i, ne-eqb _ _ j, both-right) w

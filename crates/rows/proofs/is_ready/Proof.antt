@@ -2,7 +2,7 @@
 use mathlib.Core.Path.{_∙_, sym}
 use borrow.Author.Needs.{needs}
 use borrow.Author.Tests.{not-true, not-false}
-use Rattle.walk.proofs.Adding.{both-true, both-false}
+use Rattle.laws.proofs.Tests.{both-right, both-false}
 use Rattle.state.proofs.Clearing.{untrue}
 use Rattle.rows.proofs.is_ready.Statement.{statement}
 use Rattle.rows.proofs.is_ready.Tie as tie
@@ -22,7 +22,7 @@ in-range-requires c κs = search needs
 returns-3 : tie.Need-returns-3
 returns-3 c =
     let s = sym (c .before .before .before .is-in-range .ensures) ∙ not-false _ (c .before .before .if1 .left) in
-    (c .in-range .ensures .0 ∙ rw (s, not-false (c .before .before .before .before .before .args .whole) (c .before .if2 .left), both-true), c .in-range .ensures .1)
+    (c .in-range .ensures .0 ∙ rw (s, not-false (c .before .before .before .before .before .args .whole) (c .before .if2 .left), both-right), c .in-range .ensures .1)
 
 pub is-ready-spec : {M : Type 1} → statement M
 is-ready-spec =
