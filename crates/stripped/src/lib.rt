@@ -67,21 +67,9 @@ fn strip(records: &[u8], count: usize, packets: &mut [u8])
     let mut to = 0;
     let mut more = count;
     while 0 < more {
-        copy(records, at + 2, packets, to);
+        moves::copy(records, at + 2, PACKET, packets, to);
         at += RECORD;
         to += PACKET;
         more -= 1;
-    }
-}
-
-// Copies one packet.
-fn copy(src: &[u8], from: usize, out: &mut [u8], to: usize)
-    requires { ⌜ (from + 42 ≤ length (now src)) × (to + 42 ≤ length (now out)) ⌝ }
-    ensures { λ r. ⌜ now (out .exit) ≡ sets (now (out .entry)) to (take 42 (drop from (now (src .entry)))) ⌝ }
-{
-    let mut i = 0;
-    while i < PACKET {
-        out[to + i] = src[from + i];
-        i += 1;
     }
 }

@@ -49,11 +49,11 @@ loop-again c =
     let l = c .before .before .before .before .before .loop in
     let rs = now (c .before .before .before .before .before .before .before .before .args .records) in
     let p = c .before .before .copy in
-    let k = p .kept .1 .1 .0 in (
+    let k = p .kept .1 .1 .1 .0 in (
       omega arith,
       k ∙ l .inv .1,
       rw k (omega arith),
-      sets-next (l .packets) (p .last .1 .1 .0) (l .to) 42 (take 42 (drop (l .at + 2) rs)) (packetsOf (l .more - 1) rs (l .at + 44)) _
+      sets-next (l .packets) (p .last .1 .1 .1 .0) (l .to) 42 (take 42 (drop (l .at + 2) rs)) (packetsOf (l .more - 1) rs (l .at + 44)) _
           (packets-more (l .more) rs (l .at) (search needs)) (packet-length rs (l .at + 2) (omega arith)) (p .ensures) ∙ l .inv .3,
     )
 
