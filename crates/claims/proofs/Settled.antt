@@ -15,7 +15,7 @@ use Rattle.octet.proofs.turn.Reads as octet·turn
 use Rattle.quick.proofs.decode.Reads as quick·decode
 use Rattle.quick.proofs.turn.Reads as quick·turn
 use Rattle.fields.proofs.field_of.Reads as fields·field-of
-use Rattle.forms.proofs.words_of.Reads as forms·words-of
+use Rattle.items.proofs.words_of.Reads as items·words-of
 use Rattle.values.proofs.set.Reads as values·set
 use Rattle.stages.proofs.start.Reads as wanted·start
 use Rattle.wanted.proofs.next.Reads as wanted·next
@@ -66,9 +66,9 @@ use Rattle.sums.proofs.Summing.{one-sum}
 use Rattle.sums.proofs.checksum.Reads as sums·checksum
 use Rattle.sums.proofs.sound.Reads as sums·sound
 use Rattle.sums.proofs.sum_of.Reads as sums·sum-of
-use Rattle.forms.proofs.known.Reads as forms·known
-use Rattle.forms.proofs.byte_at.Reads as forms·byte-at
-use Rattle.forms.proofs.word_at.Reads as forms·word-at
+use Rattle.items.proofs.known.Reads as items·known
+use Rattle.items.proofs.byte_at.Reads as items·byte-at
+use Rattle.items.proofs.word_at.Reads as items·word-at
 use Rattle.printing.proofs.put_text.Reads as printing·put-text
 use Rattle.printing.proofs.put_number.Reads as printing·put-number
 use Rattle.printing.proofs.put_language.Reads as printing·put-language
@@ -267,14 +267,14 @@ pub spelling·write-form-settled :
     (κs : _) (a : _) (x y : _) (s t : _) → spelling·write-form.Post κs a x s → spelling·write-form.Post κs a y t → now (s .1 .0) ≡ now (t .1 .0)
 spelling·write-form-settled κs a x y s t p q = same p q
 
-pub forms·known-settled : (κs : _) (a : _) (x y : _) (s t : _) → forms·known.Post κs a x s → forms·known.Post κs a y t → x ≡ y
-forms·known-settled κs a x y s t p q = same p q
+pub items·known-settled : (κs : _) (a : _) (x y : _) (s t : _) → items·known.Post κs a x s → items·known.Post κs a y t → x ≡ y
+items·known-settled κs a x y s t p q = same p q
 
-pub forms·byte-at-settled : (κs : _) (a : _) (x y : _) (s t : _) → forms·byte-at.Post κs a x s → forms·byte-at.Post κs a y t → x ≡ y
-forms·byte-at-settled κs a x y s t p q = same (p .0) (q .0)
+pub items·byte-at-settled : (κs : _) (a : _) (x y : _) (s t : _) → items·byte-at.Post κs a x s → items·byte-at.Post κs a y t → x ≡ y
+items·byte-at-settled κs a x y s t p q = same (p .0) (q .0)
 
-pub forms·word-at-settled : (κs : _) (a : _) (x y : _) (s t : _) → forms·word-at.Post κs a x s → forms·word-at.Post κs a y t → x ≡ y
-forms·word-at-settled κs a x y s t p q = same (p .0) (q .0)
+pub items·word-at-settled : (κs : _) (a : _) (x y : _) (s t : _) → items·word-at.Post κs a x s → items·word-at.Post κs a y t → x ≡ y
+items·word-at-settled κs a x y s t p q = same (p .0) (q .0)
 
 pub table-writer·write-block-settled :
     (κs : _) (a : _) (x y : _) (s t : _) → table-writer·write-block.Post κs a x s → table-writer·write-block.Post κs a y t → (x ≡ y) × (now (s .1 .1 .0) ≡ now (t .1 .1 .0))
@@ -322,8 +322,8 @@ quick·turn-settled κs a x y s t p q = same p q
 pub fields·field-of-settled : (κs : _) (a : _) (x y : _) (s t : _) → fields·field-of.Post κs a x s → fields·field-of.Post κs a y t → x ≡ y
 fields·field-of-settled κs a x y s t p q = same (p .0) (q .0)
 
-pub forms·words-of-settled : (κs : _) (a : _) (x y : _) (s t : _) → forms·words-of.Post κs a x s → forms·words-of.Post κs a y t → x ≡ y
-forms·words-of-settled κs a x y s t p q = same (p .0) (q .0)
+pub items·words-of-settled : (κs : _) (a : _) (x y : _) (s t : _) → items·words-of.Post κs a x s → items·words-of.Post κs a y t → x ≡ y
+items·words-of-settled κs a x y s t p q = same (p .0) (q .0)
 
 pub values·set-settled : (κs : _) (a : _) (x y : _) (s t : _) → values·set.Post κs a x s → values·set.Post κs a y t → x ≡ y
 values·set-settled κs a x y s t p q = same p q

@@ -155,19 +155,6 @@ pub two-bytes : (a b : ℕ) → a < 256 → b < 256 → a + 256 * b ≡ whole 8 
 unfolding whole
 two-bytes a b ha hb = omega arith
 
--- a word, high byte first
-pub word-of : (a b c : ℕ) → a < 256 → b < 256 → c < 256 → (a * 256 + b) * 256 + c ≡ whole 8 (c ∷ b ∷ a ∷ [])
-unfolding whole
-word-of a b c ha hb hc = omega arith
-
--- past the end there is none
-pub word-past : (f : List ℕ) (i : ℕ) → length f ≤ i → 0 ≡ wordAt f i
-unfolding whole
-word-past f i h =
-    let h₁ : length f ≤ i + 1 = omega arith in
-    let h₂ : length f ≤ i + 2 = omega arith in
-    rw (List·getD-eq-default f 0 h, List·getD-eq-default f 0 h₁, List·getD-eq-default f 0 h₂)
-
 six :
     (f : List ℕ) → 6 ≤ length f
     → getD f 0 0 ∷ getD f 1 0 ∷ getD f 2 0 ∷ getD f 3 0 ∷ getD f 4 0 ∷ getD f 5 0 ∷ drop 6 f ≡ f

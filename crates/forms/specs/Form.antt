@@ -5,6 +5,7 @@ use Prim.Native.Nat.{ℕ, zero, suc, _+_, _*_, _/_, _%_}
 use lib.ListN.{length, getD, drop}
 use Rattle.fields.specs.Fields.{whole}
 use Rattle.forms.specs.Tables.{Descriptor, Table, per, entries}
+pub use Rattle.items.specs.Words.{wordAt}
 
 -- a word, high byte first
 unfoldable pub spelled : List ℕ → List ℕ
@@ -28,10 +29,6 @@ unfoldable pub form : Table → List ℕ
 form t = openingOf t ++ listed (t .kind) (t .descriptors)
 
 -- ---- back: the table that a form stands for. Past its end a form reads as zeros
-
--- the word at a place, high byte first
-abbrev pub wordAt : List ℕ → ℕ → ℕ
-wordAt f i = whole 8 (getD f (i + 2) 0 ∷ getD f (i + 1) 0 ∷ getD f i 0 ∷ [])
 
 unfoldable pub wordsIn : ℕ → List ℕ → List ℕ
 wordsIn zero f = []

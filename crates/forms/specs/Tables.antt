@@ -6,6 +6,8 @@ use lib.Dec.{eqb}
 use lib.ListN.{length}
 use Rattle.laws.specs.Pick.{pick, both, either}
 use Rattle.fields.specs.Fields.{Field, row, width, fitting}
+pub use Rattle.items.specs.Kinds.{TI, LI, known}
+unfoldable pub use Rattle.items.specs.Kinds.{per}
 
 -- a set of languages, or of languages with a page each: its descriptor_id, and its words of 24 bits: language, page, language,
 -- page .. in TI, languages in LI
@@ -19,20 +21,6 @@ pub record Table : Type 0 where
   pub block : ℕ
   pub network : ℕ
   pub descriptors : List Descriptor
-
--- 11.12.3: the datatype_id of a Subtitle and of a Language table
-abbrev pub TI : ℕ
-TI = 8
-
-abbrev pub LI : ℕ
-LI = 7
-
-abbrev pub known : ℕ → Bool
-known kind = either (eqb kind TI) (eqb kind LI)
-
--- the words of an entry: a subtitle is a language and a page, a language is itself
-unfoldable pub per : ℕ → ℕ
-per kind = pick (eqb kind TI) 2 1
 
 -- subtt_no, language_no: how many entries these words make
 abbrev pub entries : ℕ → List ℕ → ℕ

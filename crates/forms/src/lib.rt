@@ -3,21 +3,16 @@
 ghost use mathlib.Core.Bool.{true};
 ghost use mathlib.Core.Path.{_≡_};
 ghost use mathlib.Core.List.{_∷_, []};
-ghost use Prim.Native.Nat.{_+_, _*_, _%_, _^_, _<_, _≤_};
+ghost use Prim.Native.Nat.{_≤_};
 ghost use lib.ListN.{length, getD};
 ghost use Rattle.answer.specs.Rules.{rule, judged};
 ghost use Rattle.answer.specs.Values.{refused};
 ghost use Rattle.answer.specs.declared.Answer.the-variants.{Done};
 ghost use Rattle.fields.specs.Fields.{fitting};
-ghost use Rattle.forms.specs.Tables.{per, bits, loops, fits, known as Tables·known};
-ghost use Rattle.forms.specs.Form.{form, wordAt, tableIn};
+ghost use Rattle.forms.specs.Tables.{bits, loops, fits, known};
+ghost use Rattle.forms.specs.Form.{form, tableIn};
 ghost use Rattle.forms.specs.Writing.{formRules};
 use answer::Answer;
-
-// 11.12.3: the datatype_id of a Subtitle and of a Language table.
-pub const TI: usize = 8;
-
-const LI: usize = 7;
 
 // The bits before the first descriptor in tables 15 and 17.
 pub const LOOPS: usize = 58;
@@ -41,7 +36,7 @@ pub fn judge_form(table: &[u8]) -> Answer
     if table.len() < OPENING {
         return answer::refuse(13, 0);
     }
-    if !known(byte_at(table, 0)) {
+    if !items::known(items::byte_at(table, 0)) {
         return answer::refuse(15, 0);
     }
     if table.len() != form_size(table) {
@@ -54,11 +49,11 @@ pub fn judge_form(table: &[u8]) -> Answer
 fn form_size(table: &[u8]) -> usize
     ensures { λ r. ⌜ (r ≡ length (form (tableIn (now (table .entry))))) × (r ≤ 390666) ⌝ }
 {
-    let kind = byte_at(table, 0);
-    let mut left = byte_at(table, 5);
+    let kind = items::byte_at(table, 0);
+    let mut left = items::byte_at(table, 5);
     let mut at = OPENING;
     while 0 < left {
-        at += 2 + 3 * words_of(kind, byte_at(table, at + 1));
+        at += 2 + 3 * items::words_of(kind, items::byte_at(table, at + 1));
         left -= 1;
     }
     at
@@ -66,15 +61,15 @@ fn form_size(table: &[u8]) -> usize
 
 // 15: each value fits its field. Blocks, networks and words always do.
 fn judge_values(table: &[u8]) -> Answer
-    requires { ⌜ (Tables·known (getD (now table) 0 0) ≡ true)
+    requires { ⌜ (known (getD (now table) 0 0) ≡ true)
         × (length (now table) ≡ length (form (tableIn (now table))))
         × (length (now table) ≤ 390666) ⌝ }
     ensures { λ r.
         ⌜ r
         ≡ judged refused (rule (fits (tableIn (now (table .entry)))) 15 0 ∷ []) (Done (bits (tableIn (now (table .entry))))) ⌝ }
 {
-    let count = byte_at(table, 5);
-    if 1 < byte_at(table, 1) {
+    let count = items::byte_at(table, 5);
+    if 1 < items::byte_at(table, 1) {
         return answer::refuse(15, 0);
     }
     if 63 < count {
@@ -95,63 +90,19 @@ fn loops_fit(table: &[u8]) -> bool
     ensures { λ r.
         ⌜ r ≡ fitting (loops (tableIn (now (table .entry)) .kind) (tableIn (now (table .entry)) .descriptors)) ⌝ }
 {
-    let kind = byte_at(table, 0);
-    let mut left = byte_at(table, 5);
+    let kind = items::byte_at(table, 0);
+    let mut left = items::byte_at(table, 5);
     let mut at = OPENING;
     while 0 < left {
-        let entries = byte_at(table, at + 1);
-        if 63 < byte_at(table, at) {
+        let entries = items::byte_at(table, at + 1);
+        if 63 < items::byte_at(table, at) {
             return false;
         }
         if 15 < entries {
             return false;
         }
-        at += 2 + 3 * words_of(kind, entries);
+        at += 2 + 3 * items::words_of(kind, entries);
         left -= 1;
     }
     true
-}
-
-// TI or LI.
-pub fn known(kind: usize) -> bool
-    ensures { λ r. ⌜ r ≡ Tables·known kind ⌝ }
-{
-    if kind == TI {
-        return true;
-    }
-    kind == LI
-}
-
-// The words that so many entries of a kind have. Only a byte's worth of entries counts.
-pub fn words_of(kind: usize, entries: usize) -> usize
-    ensures { λ r. ⌜ (r ≡ per kind * (entries % 256)) × (r ≤ 2 * (entries % 256)) ⌝ }
-{
-    let n = entries % 256;
-    if kind == TI {
-        return 2 * n;
-    }
-    n
-}
-
-// The word at a place of a form, high byte first. Past its end a form reads as zeros.
-pub fn word_at(table: &[u8], i: usize) -> usize
-    ensures { λ r. ⌜ (r ≡ wordAt (now (table .entry)) i) × (r < 2 ^ 24) ⌝ }
-{
-    if table.len() <= i {
-        return 0;
-    }
-    let high = byte_at(table, i);
-    let middle = byte_at(table, i + 1);
-    let low = byte_at(table, i + 2);
-    (high * 256 + middle) * 256 + low
-}
-
-// The byte i; 0 past the end.
-pub fn byte_at(s: &[u8], i: usize) -> usize
-    ensures { λ r. ⌜ (r ≡ getD (now (s .entry)) i 0) × (r < 256) ⌝ }
-{
-    if i < s.len() {
-        return s[i] as usize;
-    }
-    0
 }

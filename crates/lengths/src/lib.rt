@@ -47,7 +47,7 @@ fn measure(body: &[u8]) -> usize
     let mut left = fields::field_of(body, COUNT, 6);
     let mut at = LOOPS;
     while 0 < left {
-        let words = forms::words_of(kind, fields::field_of(body, at + 6, 4));
+        let words = items::words_of(kind, fields::field_of(body, at + 6, 4));
         at += HEADING + WORD * words;
         left -= 1;
     }

@@ -86,7 +86,7 @@ fn write_descriptor(body: &[u8], kind: usize, at: usize, out: &mut [u8], q: usiz
 {
     let id = fields::field_of(body, at, 6);
     let entries = fields::field_of(body, at + 6, 4);
-    let words = forms::words_of(kind, entries);
+    let words = items::words_of(kind, entries);
     put((id % 256) as u8, out, q);
     put((entries % 256) as u8, out, q + 1);
     write_words(body, at + HEADING, words, out, q + 2);

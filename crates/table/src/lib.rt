@@ -83,7 +83,7 @@ fn judge_frame(application: u8, rec: &[u8]) -> Answer
 fn head_of(rec: &[u8]) -> usize
     ensures { λ r. ⌜ (r ≡ headOf (now (rec .entry))) × (r < 65536) ⌝ }
 {
-    forms::byte_at(rec, 0) + 256 * forms::byte_at(rec, 1)
+    items::byte_at(rec, 0) + 256 * items::byte_at(rec, 1)
 }
 
 // The rules after those of the frame; where all hold, the bytes of the table's form.
@@ -113,7 +113,7 @@ fn judge_front(size: usize, body: &[u8]) -> Answer
         return answer::refuse(10, HEAD + good);
     }
     let kind = fields::field_of(body, KIND, 6);
-    if !forms::known(kind) {
+    if !items::known(kind) {
         return answer::refuse(12, 0);
     }
     if fields::field_of(body, ACCESS, 2) != 0 {

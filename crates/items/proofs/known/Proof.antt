@@ -1,8 +1,8 @@
--- `forms::known` meets its contract, kind by kind. Assumes nothing.
+-- `items::known` meets its contract, kind by kind. Assumes nothing.
 use mathlib.Core.Path.{refl}
 use borrow.Author.Tests.{eq-eqb, ne-eqb}
-use Rattle.forms.proofs.known.Statement.{statement}
-use Rattle.forms.proofs.known.Tie as tie
+use Rattle.items.proofs.known.Statement.{statement}
+use Rattle.items.proofs.known.Tie as tie
 
 returns : tie.Need-returns
 returns c = rw (eq-eqb _ _ (c .if1 .taken)) refl

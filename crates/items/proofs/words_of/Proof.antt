@@ -1,11 +1,11 @@
--- `forms::words_of` meets its contract, kind by kind. Assumes nothing.
+-- `items::words_of` meets its contract, kind by kind. Assumes nothing.
 use borrow.Author.Needs.{needs}
 use native.Mathlib.Nat.{one-mul}
 use borrow.Author.Tests.{eq-eqb, ne-eqb}
-use Rattle.forms.specs.Tables.{per}
+use Rattle.items.specs.Kinds.{per}
 use mathlib.Core.Path.{refl, sym}
-use Rattle.forms.proofs.words_of.Statement.{statement}
-use Rattle.forms.proofs.words_of.Tie as tie
+use Rattle.items.proofs.words_of.Statement.{statement}
+use Rattle.items.proofs.words_of.Tie as tie
 
 mul-result : tie.Need-mul-result
 mul-result c = search needs

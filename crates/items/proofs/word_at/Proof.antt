@@ -1,4 +1,4 @@
--- `forms::word_at` meets its contract: three bytes, the high one first, or none. Assumes nothing.
+-- `items::word_at` meets its contract: three bytes, the high one first, or none. Assumes nothing.
 use borrow.Author.Needs.{needs}
 use mathlib.Core.Path.{_≡_, _∙_}
 use mathlib.Core.List.{List}
@@ -6,9 +6,9 @@ use Prim.Native.Nat.{ℕ, _+_}
 use native.Mathlib.Omega.{arith}
 use lib.ListN.{getD}
 use denote.Ref.{now}
-use Rattle.forms.proofs.Forms.{word-of, word-past}
-use Rattle.forms.proofs.word_at.Statement.{statement}
-use Rattle.forms.proofs.word_at.Tie as tie
+use Rattle.items.proofs.Words.{word-of, word-past}
+use Rattle.items.proofs.word_at.Statement.{statement}
+use Rattle.items.proofs.word_at.Tie as tie
 
 returns : tie.Need-returns
 returns c = (word-past (now (c .before .before .args .table)) (c .before .before .args .i) (c .if1 .taken), search needs)

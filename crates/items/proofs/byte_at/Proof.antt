@@ -1,11 +1,11 @@
--- `forms::byte_at` meets its contract: a slice of bytes has bytes. Assumes nothing.
+-- `items::byte_at` meets its contract: a slice of bytes has bytes. Assumes nothing.
 use borrow.Author.Needs.{needs}
 use mathlib.Core.Path.{sym}
 use native.Mathlib.Omega.{arith}
 use lib.ListN.{List·getD-eq-default}
 use denote.Ref.{now}
-use Rattle.forms.proofs.byte_at.Statement.{statement}
-use Rattle.forms.proofs.byte_at.Tie as tie
+use Rattle.items.proofs.byte_at.Statement.{statement}
+use Rattle.items.proofs.byte_at.Tie as tie
 
 shared-slice-read-result : tie.Need-shared-slice-read-result
 shared-slice-read-result c = search needs
