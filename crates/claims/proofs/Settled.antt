@@ -10,7 +10,7 @@ use denote.Ref.{now}
 use Rattle.answer.proofs.refuse.Reads as answer·refuse
 use Rattle.octet.proofs.image.Reads as octet·image
 use Rattle.octet.proofs.decode.Reads as octet·decode
-use Rattle.octet.proofs.fault_place.Reads as octet·fault-place
+use Rattle.faults.proofs.fault_place.Reads as octet·fault-place
 use Rattle.octet.proofs.turn.Reads as octet·turn
 use Rattle.quick.proofs.decode.Reads as quick·decode
 use Rattle.quick.proofs.turn.Reads as quick·turn

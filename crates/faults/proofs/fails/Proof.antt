@@ -1,14 +1,14 @@
--- `octet::fails` meets its contract: at each place of the row the parity so far, with what is left of the product, is that of
+-- `faults::fails` meets its contract: at each place of the row the parity so far, with what is left of the product, is that of
 -- the whole product. Assumes nothing.
 use borrow.Author.Needs.{needs}
 use mathlib.Core.Path.{_≡_, _∙_, refl, sym, ap}
 use Prim.Native.Nat.{ℕ, _+_, _-_, _*_, _/_, _%_, _≤_, _<_}
 use native.Mathlib.Omega.{arith}
 use lib.ListN.{drop, length}
-use Rattle.octet.specs.Parity.{product, fails}
-use Rattle.octet.proofs.Rows.{row, row-length, bit-product, product-step, product-end}
-use Rattle.octet.proofs.fails.Statement.{statement}
-use Rattle.octet.proofs.fails.Tie as tie
+use Rattle.faults.specs.Parity.{product, fails}
+use Rattle.faults.proofs.Rows.{row, row-length, bit-product, product-step, product-end}
+use Rattle.faults.proofs.fails.Statement.{statement}
+use Rattle.faults.proofs.fails.Tie as tie
 
 abbrev Inv-loop : tie.InvT-loop
 Inv-loop k b sum₀ rest₀ i₀ sum rest i = (i ≤ 8) × (sum ≤ 1) × ((sum + product (drop i (row k)) rest) % 2 ≡ fails (row k) b)

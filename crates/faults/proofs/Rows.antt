@@ -11,7 +11,7 @@ use lib.ListN.{length, getD, drop, drop-of-length-le}
 use lib.Seq.{drop-cons}
 use borrow.Author.Tests.{eq-eqb, ne-eqb}
 use Rattle.laws.proofs.Whole.{all-at, all2-at}
-use Rattle.octet.specs.Parity.{checks, product, column, placeFrom}
+use Rattle.faults.specs.Parity.{checks, product, column, placeFrom}
 
 -- row k
 abbrev pub row : ℕ → List ℕ

@@ -1,10 +1,10 @@
--- `octet::column` meets its contract: each entry is a bit, so nothing wraps, and the sum is the column's number. Assumes nothing.
+-- `faults::column` meets its contract: each entry is a bit, so nothing wraps, and the sum is the column's number. Assumes nothing.
 use borrow.Author.Needs.{needs}
 use native.Mathlib.Omega.{arith}
-use Rattle.octet.specs.Bits.{number}
-use Rattle.octet.specs.Parity.{checks, column}
-use Rattle.octet.proofs.column.Statement.{statement}
-use Rattle.octet.proofs.column.Tie as tie
+use Rattle.faults.specs.Bits.{number}
+use Rattle.faults.specs.Parity.{checks, column}
+use Rattle.faults.proofs.column.Statement.{statement}
+use Rattle.faults.proofs.column.Tie as tie
 
 check-requires : tie.Need-check-requires
 check-requires c κs = search needs

@@ -1,10 +1,10 @@
--- `octet::check` meets its contract: the constant is the definition's rows, and each entry is a bit. Assumes nothing.
+-- `faults::check` meets its contract: the constant is the definition's rows, and each entry is a bit. Assumes nothing.
 use borrow.Author.Needs.{needs}
 use mathlib.Core.Path.{refl}
-use Rattle.octet.specs.Parity.{checks}
-use Rattle.octet.proofs.Rows.{row-bit}
-use Rattle.octet.proofs.check.Statement.{statement}
-use Rattle.octet.proofs.check.Tie as tie
+use Rattle.faults.specs.Parity.{checks}
+use Rattle.faults.proofs.Rows.{row-bit}
+use Rattle.faults.proofs.check.Statement.{statement}
+use Rattle.faults.proofs.check.Tie as tie
 
 mul-result : tie.Need-mul-result
 mul-result c = search needs

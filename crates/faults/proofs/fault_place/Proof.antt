@@ -1,14 +1,14 @@
--- `octet::fault_place` meets its contract: what is left of the search from place i on is the whole search. Assumes nothing.
+-- `faults::fault_place` meets its contract: what is left of the search from place i on is the whole search. Assumes nothing.
 use borrow.Author.Needs.{needs}
 use borrow.Author.Tests.{eq-eqb, ne-eqb}
 use mathlib.Core.Path.{_≡_, _∙_, sym}
 use Prim.Native.Nat.{ℕ, _+_, _*_, _-_, _≤_}
 use native.Mathlib.Omega.{arith}
-use Rattle.octet.specs.Bits.{number}
-use Rattle.octet.specs.Parity.{checks, fails, failing, placeFrom, faultPlace}
-use Rattle.octet.proofs.Rows.{row, place-step, place-found, place-none}
-use Rattle.octet.proofs.fault_place.Statement.{statement}
-use Rattle.octet.proofs.fault_place.Tie as tie
+use Rattle.faults.specs.Bits.{number}
+use Rattle.faults.specs.Parity.{checks, fails, failing, placeFrom, faultPlace}
+use Rattle.faults.proofs.Rows.{row, place-step, place-found, place-none}
+use Rattle.faults.proofs.fault_place.Statement.{statement}
+use Rattle.faults.proofs.fault_place.Tie as tie
 
 abbrev Inv-loop : tie.InvT-loop
 Inv-loop b f i₀ i = (i ≤ 8) × (placeFrom (8 - i) i f ≡ faultPlace b)
