@@ -1,7 +1,7 @@
--- `units::is_text` meets its contract, by its two tests. Assumes nothing.
+-- `marks::is_text` meets its contract, by its two tests. Assumes nothing.
 use borrow.Author.Tests.{eq-eqb, ne-eqb}
-use Rattle.units.proofs.is_text.Statement.{statement}
-use Rattle.units.proofs.is_text.Tie as tie
+use Rattle.marks.proofs.is_text.Statement.{statement}
+use Rattle.marks.proofs.is_text.Tie as tie
 
 returns : tie.Need-returns
 returns c = rw (eq-eqb _ _ (c .if1 .taken))

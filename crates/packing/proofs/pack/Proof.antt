@@ -1,9 +1,9 @@
--- `units::pack` meets its contract, arm by arm. Assumes nothing.
+-- `packing::pack` meets its contract, arm by arm. Assumes nothing.
 use borrow.Author.Needs.{needs}
 use mathlib.Core.Path.{_∙_, sym, ap}
-use Rattle.units.specs.Values.{packed}
-use Rattle.units.proofs.pack.Statement.{statement}
-use Rattle.units.proofs.pack.Tie as tie
+use Rattle.packing.specs.Values.{packed}
+use Rattle.packing.proofs.pack.Statement.{statement}
+use Rattle.packing.proofs.pack.Tie as tie
 
 enum-told : tie.Need-enum-told
 enum-told c = search needs

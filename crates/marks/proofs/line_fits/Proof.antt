@@ -1,7 +1,7 @@
--- `units::line_fits` meets its contract, by its three tests. Assumes nothing.
+-- `marks::line_fits` meets its contract, by its three tests. Assumes nothing.
 use borrow.Author.Tests.{eq-eqb, ne-eqb, lt-leb, le-leb}
-use Rattle.units.proofs.line_fits.Statement.{statement}
-use Rattle.units.proofs.line_fits.Tie as tie
+use Rattle.marks.proofs.line_fits.Statement.{statement}
+use Rattle.marks.proofs.line_fits.Tie as tie
 
 returns : tie.Need-returns
 returns c = rw (eq-eqb _ _ (c .if1 .taken))
