@@ -13,8 +13,9 @@ use Rattle.laws.specs.Pick.{pick, either}
 use Rattle.laws.proofs.Picks.{agree}
 use Rattle.octet.specs.Decoding.{nib, undecodable}
 use Rattle.blocks.specs.Block.{Block, sizeOf}
 use Rattle.walk.specs.Mode.{Mode, off, scan, heading, body, filler, shifted, full, headed, step, emitted, spoiled, ends, gives, spoils, carry, carries, unfinished}
-use Rattle.walk.specs.Places.{Found, nothing, broken, cut, whole, fillers, heads, found}
+use Rattle.walk.specs.Places.{Found, nothing, broken, cut, whole, heads, found}
+use Rattle.walk.proofs.Staying.{carries-off}
 
 -- ---- nothing is read past a stray nibble
 
@@ -32,11 +33,6 @@ pub spoils-off : (l : List ℕ) → spoils off l ≡ false
 unfolding spoils step spoiled
 spoils-off [] = refl
 spoils-off (b ∷ bs) = spoils-off bs
-
-pub carries-off : (p : Bool) (l : List ℕ) → carries p off l ≡ off
-unfolding carries carry
-carries-off p [] = refl
-carries-off p (b ∷ bs) = carries-off p bs
 
 -- ---- from the pointed byte on
 
@@ -243,43 +239,3 @@ chunk-carried p (suc n) h held (b ∷ bs) e k =
     let f : length held < sizeOf h = omega arith in
     let g : length (held ++ b ∷ []) + n ≤ sizeOf h = simp length-append (omega arith) in
     rw (lt-leb _ _ f, ← append-snoc held b (take n bs)) (chunk-carried p n h (held ++ b ∷ []) bs g (omega arith))
-
--- a block that is held whole stays where no start is pointed at
-pub stays : (h : ℕ) (held l : List ℕ) → sizeOf h ≤ length held → carries false (body h held) l ≡ body h held
-unfolding carries carry
-stays h held [] e = refl
-stays h held (b ∷ bs) e = rw (le-leb _ _ e) (stays h held bs e)
-
-pub fillers-le : (l : List ℕ) → fillers l ≤ length l
-unfolding fillers
-fillers-le [] = omega arith
-fillers-le (b ∷ bs) = go (filler b) (fillers-le bs)
-  where
-    go : (t : Bool) → fillers bs ≤ length bs → pick t (suc (fillers bs)) 0 ≤ suc (length bs)
-    go true h = omega arith
-    go false h = omega arith
-
--- where a start is pointed at it stays over filler alone
-pub waits :
-    (h : ℕ) (held l : List ℕ) → sizeOf h ≤ length held → length l ≤ fillers l → carries true (body h held) l ≡ body h held
-unfolding carries carry fillers
-waits h held [] e k = refl
-waits h held (b ∷ bs) e k = rw (le-leb _ _ e) (go (filler b) (waits h held bs e) k)
-  where
-    go :
-        (t : Bool) → (length bs ≤ fillers bs → carries true (body h held) bs ≡ body h held)
-        → suc (length bs) ≤ pick t (suc (fillers bs)) 0 → carries true (pick t (body h held) off) bs ≡ body h held
-    go true r k = r (omega arith)
-    go false r k = absurd (omega arith)
-
-pub breaks-off :
-    (h : ℕ) (held l : List ℕ) → sizeOf h ≤ length held → fillers l < length l → carries true (body h held) l ≡ off
-unfolding carries carry fillers
-breaks-off h held [] e k = absurd (omega arith)
-breaks-off h held (b ∷ bs) e k = rw (le-leb _ _ e) (go (filler b) (breaks-off h held bs e) k)
-  where
-    go :
-        (t : Bool) → (fillers bs < length bs → carries true (body h held) bs ≡ off)
-        → pick t (suc (fillers bs)) 0 < suc (length bs) → carries true (pick t (body h held) off) bs ≡ off
-    go true r k = r (omega arith)
-    go false r k = carries-off true bs

@@ -11,12 +11,12 @@ use borrow.Author.Tests.{ltb-false}
 use Rattle.laws.specs.Pick.{pick}
 use Rattle.octet.specs.Decoding.{nib, undecodable}
 use Rattle.blocks.specs.Block.{Block, headLength, recordsOf}
 use Rattle.walk.specs.Mode.{Mode, off, scan, heading, body, filler, shifted, full, step, emitted, gives, carries, finished}
 use Rattle.walk.specs.Store.{storeLength}
 use Rattle.walk.specs.Reading.{room, pointed, readBlocks}
 use Rattle.walk.specs.Holding.{Good, blockWith}
-use Rattle.walk.proofs.Adding.{recordsOf-append}
-use Rattle.walk.proofs.Along.{Along, good-along, carries-along}
+use Rattle.holding.proofs.Adding.{recordsOf-append}
+use Rattle.holding.proofs.Along.{Along, good-along, carries-along}
 
 -- each block's record is two bytes long at least
 pub two-each : (bs : List Block) → 2 * length bs ≤ length (recordsOf bs)

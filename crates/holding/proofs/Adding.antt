@@ -12,17 +12,18 @@ use Rattle.laws.specs.Pick.{both, either}
 use Rattle.laws.proofs.Tests.{both-right, either-false, either-assoc}
 use Rattle.laws.proofs.Lists.{sets-append, part-of, part-rest}
 use Rattle.blocks.specs.Block.{Block, sizeOf, recordOf, recordsOf}
 use Rattle.walk.specs.declared.Run.{Run}
 use Rattle.walk.specs.declared.Run.the-variants.{Idle, Head, Body}
 use Rattle.walk.specs.declared.Got.{Got}
 use Rattle.walk.specs.declared.Taken.{Taken}
 use Rattle.walk.specs.Mode.{Mode, off, scan, heading, body, full, isFull, finished, unfinished, running, carries}
 use Rattle.walk.specs.Store.{storeLength, modeOf}
 use Rattle.walk.specs.Places.{Found, nothing, broken, cut, whole, fillers, found, zeroed}
 use Rattle.walk.specs.Holding.{Bits, Good, Holds, Kept, Went, Finished, blockWith, runs, awaits, stands, TookIn, CarriedTo, CarriedOn, Flowed, ReadRow, Lost}
 use Rattle.walk.specs.Reading.{dropIf, pointedBy}
-use Rattle.walk.proofs.Walking.{waits, breaks-off, left-by, given-by, spoilt-by, found-left, found-given, found-spoilt, headed-long, headed-short}
-use Rattle.walk.proofs.Keeping.{kept-body, body-length, holds-idle, holds-mode, zeroed-more}
+use Rattle.walk.proofs.Staying.{waits, breaks-off}
+use Rattle.holding.proofs.Walking.{left-by, given-by, spoilt-by, found-left, found-given, found-spoilt, headed-long, headed-short}
+use Rattle.holding.proofs.Keeping.{kept-body, body-length, holds-idle, holds-mode, zeroed-more}
 
 pub recordsOf-append : (xs ys : List Block) → recordsOf (xs ++ ys) ≡ recordsOf xs ++ recordsOf ys
 unfolding recordsOf

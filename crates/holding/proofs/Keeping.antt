@@ -14,17 +14,18 @@ use Rattle.laws.specs.Pick.{pick}
 use Rattle.laws.proofs.Picks.{same}
 use Rattle.octet.specs.Decoding.{nib, undecodable}
 use Rattle.blocks.specs.Block.{sizeOf}
 use Rattle.walk.specs.declared.Run.{Run}
 use Rattle.walk.specs.declared.Run.the-variants.{Idle, Head, Body}
 use Rattle.walk.specs.declared.Taken.{Taken}
 use Rattle.walk.specs.declared.Ahead.{Ahead}
 use Rattle.walk.specs.declared.Ahead.the-variants.{Nothing, Broken, Cut, Whole}
 use Rattle.walk.specs.Mode.{Mode, off, scan, heading, body, filler, shifted, full, carries}
 use Rattle.walk.specs.Store.{storeLength, modeOf, runOf, heldOf}
 use Rattle.walk.specs.Places.{Found, nothing, broken, cut, whole, heads, found, zeroed}
 use Rattle.walk.specs.Holding.{Bits, Good, Holds, Kept, TookIn, aheadIn, awaits}
-use Rattle.walk.proofs.Along.{more-bits, decoded}
-use Rattle.walk.proofs.Walking.{stays, chunk-carried, carried-by, heads-carried}
+use Rattle.walk.proofs.Staying.{stays}
+use Rattle.holding.proofs.Along.{more-bits, decoded}
+use Rattle.holding.proofs.Walking.{chunk-carried, carried-by, heads-carried}
 
 -- ---- a list of N bytes, zeros past those held
 
