@@ -10,7 +10,7 @@ use denote.Ref.{now}
 use Rattle.answer.proofs.refuse.Reads as answer·refuse
 use Rattle.octet.proofs.image.Reads as octet·image
 use Rattle.octet.proofs.decode.Reads as octet·decode
-use Rattle.octet.proofs.fault_place.Reads as octet·fault-place
+use Rattle.faults.proofs.fault_place.Reads as octet·fault-place
 use Rattle.octet.proofs.turn.Reads as octet·turn
 use Rattle.quick.proofs.decode.Reads as quick·decode
 use Rattle.quick.proofs.turn.Reads as quick·turn
@@ -22,9 +22,9 @@ use Rattle.wanted.proofs.next.Reads as wanted·next
 use Rattle.wanted.proofs.is_name.Reads as wanted·is-name
 use Rattle.stages.proofs.is_good.Reads as wanted·is-good
 use Rattle.units.proofs.unit_at.Reads as units·unit-at
-use Rattle.units.proofs.pack.Reads as units·pack
-use Rattle.units.proofs.is_text.Reads as units·is-text
-use Rattle.units.proofs.line_fits.Reads as units·line-fits
+use Rattle.packing.proofs.pack.Reads as packing·pack
+use Rattle.marks.proofs.is_text.Reads as marks·is-text
+use Rattle.marks.proofs.line_fits.Reads as marks·line-fits
 use Rattle.pes.proofs.read.Reads as pes·read
 use Rattle.pes_writer.proofs.write.Reads as pes-writer·write
 use Rattle.stripped.proofs.carry.Reads as stripped·carry
@@ -102,14 +102,14 @@ octet·turn-settled κs a x y s t p q = same p q
 pub units·unit-at-settled : (κs : _) (a : _) (x y : _) (s t : _) → units·unit-at.Post κs a x s → units·unit-at.Post κs a y t → x ≡ y
 units·unit-at-settled κs a x y s t p q = same p q
 
-pub units·pack-settled : (κs : _) (a : _) (x y : _) (s t : _) → units·pack.Post κs a x s → units·pack.Post κs a y t → x ≡ y
-units·pack-settled κs a x y s t p q = same p q
+pub packing·pack-settled : (κs : _) (a : _) (x y : _) (s t : _) → packing·pack.Post κs a x s → packing·pack.Post κs a y t → x ≡ y
+packing·pack-settled κs a x y s t p q = same p q
 
-pub units·is-text-settled : (κs : _) (a : _) (x y : _) (s t : _) → units·is-text.Post κs a x s → units·is-text.Post κs a y t → x ≡ y
-units·is-text-settled κs a x y s t p q = same p q
+pub marks·is-text-settled : (κs : _) (a : _) (x y : _) (s t : _) → marks·is-text.Post κs a x s → marks·is-text.Post κs a y t → x ≡ y
+marks·is-text-settled κs a x y s t p q = same p q
 
-pub units·line-fits-settled : (κs : _) (a : _) (x y : _) (s t : _) → units·line-fits.Post κs a x s → units·line-fits.Post κs a y t → x ≡ y
-units·line-fits-settled κs a x y s t p q = same p q
+pub marks·line-fits-settled : (κs : _) (a : _) (x y : _) (s t : _) → marks·line-fits.Post κs a x s → marks·line-fits.Post κs a y t → x ≡ y
+marks·line-fits-settled κs a x y s t p q = same p q
 
 pub pes·read-settled :
     (κs : _) (a : _) (x y : _) (s t : _) → pes·read.Post κs a x s → pes·read.Post κs a y t → (x ≡ y) × (now (s .1 .0) ≡ now (t .1 .0))

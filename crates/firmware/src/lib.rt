@@ -5,7 +5,7 @@ ghost use mathlib.Core.Path.{_≡_};
 ghost use Rattle.octet.specs.Decoding.{nib};
 ghost use Rattle.octet.specs.Turning.{turned};
 ghost use Rattle.units.specs.Units.{unitAt};
-ghost use Rattle.units.specs.Values.{packed};
+ghost use Rattle.packing.specs.Values.{packed};
 
 // The nibble that a protected byte decodes to, 0 to 15, or 16 where it can't be decoded.
 #[no_mangle]
@@ -28,5 +28,5 @@ pub extern "C" fn guide_turn(b: u8) -> u8
 pub extern "C" fn guide_unit_at(pes: &[u8], at: usize) -> u64
     ensures { λ r. ⌜ r ≡ packed (unitAt (now (pes .entry)) at) ⌝ }
 {
-    units::pack(units::unit_at(pes, at))
+    packing::pack(units::unit_at(pes, at))
 }

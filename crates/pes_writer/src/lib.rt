@@ -87,10 +87,10 @@ fn records_fit(records: &[u8], units: usize) -> bool
 fn record_fits(id: u8, line: u8) -> bool
     ensures { λ r. ⌜ r ≡ both (textId id) (lineFits line) ⌝ }
 {
-    if !units::is_text(id) {
+    if !marks::is_text(id) {
         return false;
     }
-    units::line_fits(line)
+    marks::line_fits(line)
 }
 
 // Writes the whole packet, where it has room.

@@ -20,9 +20,9 @@ use Rattle.walk.specs.Mode.{running}
 use Rattle.walk.specs.Reading.{dropIf}
 use Rattle.walk.specs.Store.{modeOf}
 use Rattle.walk.specs.Holding.{Kept, Went, ReadRow}
-use Rattle.walk.proofs.Keeping.{holds-mode}
+use Rattle.holding.proofs.Keeping.{holds-mode}
 use Rattle.laws.proofs.Tests.{either-false}
-use Rattle.walk.proofs.Adding.{went-nowhere, went-on}
+use Rattle.holding.proofs.Adding.{went-nowhere, went-on}
 use Rattle.rows.specs.declared.Going.{Going}
 use Rattle.state.specs.Acting.{State, act, handed, dropped}
 use Rattle.rows.specs.Stepped.{Heeded, Acted, stateIn}

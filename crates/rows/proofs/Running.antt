@@ -22,9 +22,9 @@ use Rattle.rows.specs.Feeding.{Ran, begun, ranOn, run}
 use Rattle.walk.specs.Holding.{Good, Kept}
 use Rattle.rows.specs.Stepped.{Acted, stateIn}
 use Rattle.rows.specs.Holding.{RanTo}
-use Rattle.walk.proofs.Keeping.{holds-mode}
-use Rattle.walk.proofs.Adding.{recordsOf-append}
-use Rattle.walk.proofs.Room.{two-each}
+use Rattle.holding.proofs.Keeping.{holds-mode}
+use Rattle.holding.proofs.Adding.{recordsOf-append}
+use Rattle.holding.proofs.Room.{two-each}
 use Rattle.state.proofs.Bounding.{packet-room}
 
 abbrev pub taking : Going → ℕ → Taking

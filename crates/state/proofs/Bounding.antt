@@ -10,8 +10,8 @@ use Rattle.packet.specs.declared.Setting.{Setting}
 use Rattle.packet.specs.Packet.{packetLength}
 use Rattle.walk.specs.Reading.{dropIf, readBlocks}
 use Rattle.walk.specs.Holding.{Good}
-use Rattle.walk.proofs.Along.{drop-good}
-use Rattle.walk.proofs.Room.{Within, within-none, read-room}
+use Rattle.holding.proofs.Along.{drop-good}
+use Rattle.holding.proofs.Room.{Within, within-none, read-room}
 use Rattle.state.specs.Acting.{State, pointerOf, bytesOf, handed}
 use Rattle.headers.specs.declared.Verdict.{Verdict}
 use Rattle.headers.specs.Judging.{verdictOf}

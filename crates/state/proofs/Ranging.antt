@@ -12,7 +12,7 @@ use borrow.Author.Tests.{le-leb}
 use Rattle.laws.specs.Pick.{pick, both}
 use Rattle.laws.proofs.Tests.{both-true}
 use Rattle.walk.specs.Holding.{Good}
-use Rattle.walk.proofs.Along.{drop-good, read-good}
+use Rattle.holding.proofs.Along.{drop-good, read-good}
 use Rattle.pages.proofs.Judged.{Shaped, shaped}
 use Rattle.octet.specs.Decoding.{nib}
 use Rattle.blocks.specs.Block.{sizeOf}

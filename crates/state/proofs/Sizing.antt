@@ -19,7 +19,7 @@ use Rattle.headers.specs.declared.Verdict.{Verdict}
 use Rattle.headers.specs.Judging.{verdictOf}
 use Rattle.walk.specs.Reading.{dropIf, readBlocks}
 use Rattle.headers.specs.Seen.{Seen, junk, other, foreign, ours, row}
-use Rattle.walk.proofs.Along.{Along, good-along, drop-good, carries-along}
+use Rattle.holding.proofs.Along.{Along, good-along, drop-good, carries-along}
 use Rattle.walk.specs.Holding.{Good}
 use Rattle.state.proofs.Ranging.{Sound}
 

@@ -1,29 +1,22 @@
 -- A data unit, "id, length, that many bytes", and the data field of a text unit: EN 300 472, tables 1, 2, 4 and 5.
 use mathlib.Core.Bool.{Bool}
 use mathlib.Core.List.{List, [], _∷_, _++_}
-use Prim.Native.Nat.{ℕ, _+_, _%_}
+use Prim.Native.Nat.{ℕ, _+_}
 use lib.Dec.{eqb, leb, ltb}
 use lib.ListN.{length, getD}
-use Rattle.laws.specs.Pick.{pick, both, either}
+use Rattle.laws.specs.Pick.{pick, either}
 use Rattle.answer.specs.Rules.{Rule, rule, judged}
 use Rattle.answer.specs.Values.{refusal}
+pub use Rattle.marks.specs.Marks.{textId, lineFits}
 use Rattle.units.specs.declared.DataUnit.{DataUnit}
 
 -- the packet's byte at a place
 abbrev pub byteAt : List ℕ → ℕ → ℕ
 byteAt pes at = getD pes at 0
 
--- table 4: EBU Teletext non-subtitle data, EBU Teletext subtitle data
-abbrev pub textId : ℕ → Bool
-textId i = either (eqb i 0x02) (eqb i 0x03)
-
 -- table 4: data_unit for stuffing
 abbrev pub stuffingId : ℕ → Bool
 stuffingId i = eqb i 0xFF
-
--- the line byte: "two reserved bits, field parity, five bits of line offset", whose offset is "0 or 0x07..0x16" (table 5)
-abbrev pub lineFits : ℕ → Bool
-lineFits b = either (eqb (b % 32) 0x00) (both (leb 0x07 (b % 32)) (leb (b % 32) 0x16))
 
 -- the bytes after the length of a text unit: the line byte, the framing byte, 42 bytes
 abbrev pub textLength : ℕ

@@ -1,15 +1,15 @@
 // The data units of a PES packet of teletext, one at a time: EN 300 472, clauses 4.3 and 4.4. Every public
 // function takes any bytes and answers; nothing is kept between calls.
 //
-// The definitions are in specs/Units.antt. What a unit that is met tells is in proofs/Meets.antt.
+// The definitions are in specs/Units.antt. What a unit that is met tells is in proofs/Meets.antt. What an id and a line byte say alone
+// is crate `marks`, the walk's answer as a number for C crate `packing`.
 use answer::Refusal;
 ghost use mathlib.Core.Path.{_≡_};
-ghost use Prim.Native.Nat.{_+_, _*_, _%_, _^_, _≤_};
+ghost use Prim.Native.Nat.{_≤_};
 ghost use lib.ListN.{length};
 ghost use Rattle.laws.specs.Pick.{either};
 ghost use Rattle.answer.specs.Rules.{judged};
-ghost use Rattle.units.specs.Units.{textId, stuffingId, lineFits, nextUnit, textRules, badUnit, unitAt};
-ghost use Rattle.units.specs.Values.{packed};
+ghost use Rattle.units.specs.Units.{textId, stuffingId, nextUnit, textRules, badUnit, unitAt};
 
 // What the unit walk finds at a place of a packet. Offsets and places count from the packet's first
 // byte.
@@ -48,24 +48,6 @@ pub fn unit_at(pes: &[u8], at: usize) -> DataUnit
     text_at(pes, at)
 }
 
-// What the walk finds as one number, for C: specs/Values.antt has its layout.
-pub fn pack(unit: DataUnit) -> u64
-    ensures { λ r. ⌜ r ≡ packed unit ⌝ }
-{
-    match unit {
-        DataUnit::End => 0,
-        DataUnit::Text(next) => joined(254, next),
-        DataUnit::Stuffing(next) => joined(255, next),
-        DataUnit::Refused(r) => joined(r.no, r.at),
-    }
-}
-
-fn joined(code: u8, place: usize) -> u64
-    ensures { λ r. ⌜ r ≡ code + 256 * (place % 2 ^ 56) ⌝ }
-{
-    (code as u64) + 256 * ((place as u64) % 0x0100_0000_0000_0000)
-}
-
 // The text unit at `at`, which doesn't run past the end.
 fn text_at(pes: &[u8], at: usize) -> DataUnit
     requires { ⌜ nextUnit (now pes) at ≤ length (now pes) ⌝ }
@@ -76,7 +58,7 @@ fn text_at(pes: &[u8], at: usize) -> DataUnit
         return DataUnit::Refused(Refusal { no: 8, at });
     }
     let line = at + 2;
-    if !line_fits(pes[line]) {
+    if !marks::line_fits(pes[line]) {
         return DataUnit::Refused(Refusal { no: 9, at: line });
     }
     let framing = at + 3;
@@ -86,36 +68,12 @@ fn text_at(pes: &[u8], at: usize) -> DataUnit
     DataUnit::Text(at + 46)
 }
 
-// Whether an id is a text unit's: non-subtitle or subtitle data.
-pub fn is_text(id: u8) -> bool
-    ensures { λ r. ⌜ r ≡ textId id ⌝ }
-{
-    if id == 0x02 {
-        return true;
-    }
-    id == 0x03
-}
-
 // Whether an id is a text unit's or that of stuffing.
 fn is_unit(id: u8) -> bool
     ensures { λ r. ⌜ r ≡ either (textId id) (stuffingId id) ⌝ }
 {
-    if is_text(id) {
+    if marks::is_text(id) {
         return true;
     }
     id == 0xFF
-}
-
-// Whether the line offset of a line byte is 0 or from 07 to 16 hex.
-pub fn line_fits(b: u8) -> bool
-    ensures { λ r. ⌜ r ≡ lineFits b ⌝ }
-{
-    let offset = b % 32;
-    if offset == 0 {
-        return true;
-    }
-    if offset < 0x07 {
-        return false;
-    }
-    offset <= 0x16
 }

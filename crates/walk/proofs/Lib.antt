@@ -1,7 +1,2 @@
-pub mod Adding
-pub mod Along
-pub mod Keeping
-pub mod Room
+pub mod Staying
 pub mod Stepping
-pub mod Storing
-pub mod Walking

@@ -1,5 +1,6 @@
 // Within a packet: where a block starts in its bytes, what its header says, and whether what stands before the pointed byte may stand
-// there. A place past the end is the end. The running block's bytes are the reader's (crate `reader`).
+// there. A place past the end is the end. The running block's bytes are the reader's (crate `reader`); the laws of the running block in
+// its store are crate `holding`.
 ghost use mathlib.Core.Path.{_≡_};
 ghost use mathlib.Core.Bool.{not};
 ghost use Prim.Native.Nat.{_+_, _-_, _≤_};

@@ -5,7 +5,7 @@ use denote.Ref.{now}
 use borrow.Author.Needs.{needs}
 use Rattle.octet.specs.Decoding.{nib}
 use Rattle.blocks.specs.Block.{recordsOf}
-use Rattle.walk.proofs.Keeping.{holds-kept}
+use Rattle.holding.proofs.Keeping.{holds-kept}
 use Rattle.rows.specs.Stepped.{stateIn}
 use Rattle.rows.proofs.Heeding.{heed-only, heed-read}
 use Rattle.rows.proofs.heed.Statement.{statement}

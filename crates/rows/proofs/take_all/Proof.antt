@@ -9,7 +9,7 @@ use Rattle.packet.specs.Packet.{packetLength}
 use Rattle.rows.specs.Feeding.{Ran, begun, run}
 use Rattle.rows.specs.Holding.{RanTo}
 use Rattle.rows.specs.Stepped.{stateIn}
-use Rattle.walk.proofs.Keeping.{holds-kept}
+use Rattle.holding.proofs.Keeping.{holds-kept}
 use Rattle.pages.proofs.Judged.{see-elsewhere}
 use Rattle.rows.proofs.Heeding.{acted, act-other}
 use Rattle.rows.proofs.Running.{taking, begins, further, run-full, run-out, packet-length, still-room}

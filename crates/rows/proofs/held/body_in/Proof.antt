@@ -5,7 +5,7 @@ use native.Mathlib.Omega.{arith}
 use lib.ListN.{length}
 use denote.Ref.{now}
 use borrow.Author.Needs.{needs}
-use Rattle.walk.proofs.Keeping.{body-fits, body-took}
+use Rattle.holding.proofs.Keeping.{body-fits, body-took}
 use Rattle.rows.proofs.held.body_in.Statement.{statement}
 use Rattle.rows.proofs.held.body_in.Tie as tie
 

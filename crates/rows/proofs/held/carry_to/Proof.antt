@@ -3,8 +3,8 @@ use mathlib.Core.Path.{_∙_}
 use denote.Ref.{now}
 use borrow.Author.Needs.{needs}
 use Rattle.walk.specs.Store.{modeOf}
-use Rattle.walk.proofs.Keeping.{holds-kept}
-use Rattle.walk.proofs.Adding.{carried-to, runs-mode}
+use Rattle.holding.proofs.Keeping.{holds-kept}
+use Rattle.holding.proofs.Adding.{carried-to, runs-mode}
 use Rattle.rows.proofs.held.carry_to.Statement.{statement}
 use Rattle.rows.proofs.held.carry_to.Tie as tie
 

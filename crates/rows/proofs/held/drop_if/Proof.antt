@@ -1,6 +1,6 @@
 -- `rows::held::drop_if` meets its contract. Assumes nothing.
 use borrow.Author.Needs.{needs}
-use Rattle.walk.proofs.Keeping.{holds-idle}
+use Rattle.holding.proofs.Keeping.{holds-idle}
 use Rattle.rows.proofs.held.drop_if.Statement.{statement}
 use Rattle.rows.proofs.held.drop_if.Tie as tie
 

@@ -5,7 +5,7 @@ use native.Mathlib.Omega.{arith}
 use lib.ListN.{take, drop, length-set}
 use denote.Ref.{now}
 use borrow.Author.Needs.{needs}
-use Rattle.walk.proofs.Storing.{two-first}
+use Rattle.holding.proofs.Storing.{two-first}
 use Rattle.rows.proofs.held.emit.Statement.{statement}
 use Rattle.rows.proofs.held.emit.Tie as tie
 

@@ -2,8 +2,8 @@
 use native.Mathlib.Omega.{arith}
 use denote.Ref.{now}
 use borrow.Author.Needs.{needs}
-use Rattle.walk.proofs.Keeping.{kept-body, body-fits, body-size}
-use Rattle.walk.proofs.Adding.{stays-running, body-short, goes-out}
+use Rattle.holding.proofs.Keeping.{kept-body, body-fits, body-size}
+use Rattle.holding.proofs.Adding.{stays-running, body-short, goes-out}
 use Rattle.rows.proofs.held.finish.Statement.{statement}
 use Rattle.rows.proofs.held.finish.Tie as tie
 

@@ -2,7 +2,7 @@
 use mathlib.Core.Path.{_∙_}
 use native.Mathlib.Omega.{arith}
 use borrow.Author.Needs.{needs}
-use Rattle.walk.proofs.Keeping.{body-fits, body-size, body-store, body-clear}
+use Rattle.holding.proofs.Keeping.{body-fits, body-size, body-store, body-clear}
 use Rattle.rows.proofs.held.hand_out.Statement.{statement}
 use Rattle.rows.proofs.held.hand_out.Tie as tie
 

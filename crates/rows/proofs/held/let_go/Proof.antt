@@ -1,7 +1,7 @@
 -- `rows::held::let_go` meets its contract: only a block holds bytes, and they are cleared. Assumes nothing.
 use mathlib.Core.Path.{_∙_}
 use borrow.Author.Needs.{needs}
-use Rattle.walk.proofs.Keeping.{kept-idle, kept-head, kept-body, body-clear}
+use Rattle.holding.proofs.Keeping.{kept-idle, kept-head, kept-body, body-clear}
 use Rattle.rows.proofs.held.let_go.Statement.{statement}
 use Rattle.rows.proofs.held.let_go.Tie as tie
 

@@ -1,7 +1,7 @@
 -- `rows::held::lose` meets its contract. Assumes nothing.
 use mathlib.Core.Path.{_∙_}
 use borrow.Author.Needs.{needs}
-use Rattle.walk.proofs.Adding.{went-none, runs-mode}
+use Rattle.holding.proofs.Adding.{went-none, runs-mode}
 use Rattle.rows.proofs.held.lose.Statement.{statement}
 use Rattle.rows.proofs.held.lose.Tie as tie
 

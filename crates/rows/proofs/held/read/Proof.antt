@@ -10,8 +10,8 @@ use Rattle.laws.proofs.Lists.{part-rest}
 use Rattle.octet.specs.Decoding.{nib}
 use Rattle.walk.specs.Mode.{carries, finished}
 use Rattle.walk.specs.Store.{modeOf}
-use Rattle.walk.proofs.Room.{carried-room, two-each}
-use Rattle.walk.proofs.Adding.{read-pointed, read-unpointed, read-skipped}
+use Rattle.holding.proofs.Room.{carried-room, two-each}
+use Rattle.holding.proofs.Adding.{read-pointed, read-unpointed, read-skipped}
 use Rattle.rows.proofs.held.read.Statement.{statement}
 use Rattle.rows.proofs.held.read.Tie as tie
 

@@ -2,8 +2,8 @@
 use native.Mathlib.Omega.{arith}
 use denote.Ref.{now}
 use borrow.Author.Needs.{needs}
-use Rattle.walk.proofs.Walking.{carries-off}
-use Rattle.walk.proofs.Keeping.{kept-idle, kept-head, kept-body, begun-body, idle-took, head-nothing, head-broken, head-cut, head-whole}
+use Rattle.walk.proofs.Staying.{carries-off}
+use Rattle.holding.proofs.Keeping.{kept-idle, kept-head, kept-body, begun-body, idle-took, head-nothing, head-broken, head-cut, head-whole}
 use Rattle.rows.proofs.held.take_in.Statement.{statement}
 use Rattle.rows.proofs.held.take_in.Tie as tie
 

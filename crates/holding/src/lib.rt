@@ -1,0 +1,1 @@
+// No code: laws of the running block in its store, which the crates that hold it cite.

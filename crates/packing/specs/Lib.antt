@@ -1,0 +1,2 @@
+-- What the unit walk finds, as one number.
+pub mod Values
