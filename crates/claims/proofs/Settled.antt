@@ -26,6 +26,7 @@ use Rattle.units.proofs.pack.Reads as units·pack
 use Rattle.units.proofs.is_text.Reads as units·is-text
 use Rattle.units.proofs.line_fits.Reads as units·line-fits
 use Rattle.pes.proofs.read.Reads as pes·read
+use Rattle.writable.proofs.judge_records.Reads as writable·judge-records
 use Rattle.pes_writer.proofs.write.Reads as pes-writer·write
 use Rattle.stripped.proofs.carry.Reads as stripped·carry
 use Rattle.loss.proofs.blank.Reads as stripped·blank
@@ -121,6 +122,10 @@ ebu·is-ebu-settled κs a x y s t p q = same p q
 pub ebu·turn-run-settled :
     (κs : _) (a : _) (x y : _) (s t : _) → ebu·turn-run.Post κs a x s → ebu·turn-run.Post κs a y t → now (s .1 .1 .0) ≡ now (t .1 .1 .0)
 ebu·turn-run-settled κs a x y s t p q = same p q
+
+pub writable·judge-records-settled :
+    (κs : _) (a : _) (x y : _) (s t : _) → writable·judge-records.Post κs a x s → writable·judge-records.Post κs a y t → x ≡ y
+writable·judge-records-settled κs a x y s t p q = same p q
 
 pub pes-writer·write-settled :
     (κs : _) (a : _) (x y : _) (s t : _) → pes-writer·write.Post κs a x s → pes-writer·write.Post κs a y t → (x ≡ y) × (now (s .1 .1 .0) ≡ now (t .1 .1 .0))
