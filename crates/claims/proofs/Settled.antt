@@ -70,6 +70,7 @@ use Rattle.sums.proofs.sum_of.Reads as sums·sum-of
 use Rattle.forms.proofs.known.Reads as forms·known
 use Rattle.forms.proofs.byte_at.Reads as forms·byte-at
 use Rattle.forms.proofs.word_at.Reads as forms·word-at
+use Rattle.puts.proofs.put.Reads as puts·put
 use Rattle.printing.proofs.put_text.Reads as printing·put-text
 use Rattle.printing.proofs.put_number.Reads as printing·put-number
 use Rattle.printing.proofs.put_language.Reads as printing·put-language
@@ -293,6 +294,10 @@ firmware·guide-turn-settled κs a x y s t p q = same p q
 
 pub firmware·guide-unit-at-settled : (κs : _) (a : _) (x y : _) (s t : _) → firmware·guide-unit-at.Post κs a x s → firmware·guide-unit-at.Post κs a y t → x ≡ y
 firmware·guide-unit-at-settled κs a x y s t p q = same p q
+
+pub puts·put-settled :
+    (κs : _) (a : _) (x y : _) (s t : _) → puts·put.Post κs a x s → puts·put.Post κs a y t → (x ≡ y) × (now (s .1 .0) ≡ now (t .1 .0))
+puts·put-settled κs a x y s t p q = (same (p .0 .moved) (q .0 .moved), same (p .0 .stored) (q .0 .stored))
 
 pub printing·put-text-settled :
     (κs : _) (a : _) (x y : _) (s t : _) → printing·put-text.Post κs a x s → printing·put-text.Post κs a y t → (x ≡ y) × (now (s .1 .0) ≡ now (t .1 .0))
