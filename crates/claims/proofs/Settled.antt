@@ -26,6 +26,7 @@ use Rattle.packing.proofs.pack.Reads as packing·pack
 use Rattle.marks.proofs.is_text.Reads as marks·is-text
 use Rattle.marks.proofs.line_fits.Reads as marks·line-fits
 use Rattle.pes.proofs.read.Reads as pes·read
+use Rattle.writable.proofs.judge_records.Reads as writable·judge-records
 use Rattle.pes_writer.proofs.write.Reads as pes-writer·write
 use Rattle.stripped.proofs.carry.Reads as stripped·carry
 use Rattle.loss.proofs.blank.Reads as stripped·blank
@@ -69,6 +70,7 @@ use Rattle.sums.proofs.sum_of.Reads as sums·sum-of
 use Rattle.items.proofs.known.Reads as items·known
 use Rattle.items.proofs.byte_at.Reads as items·byte-at
 use Rattle.items.proofs.word_at.Reads as items·word-at
+use Rattle.puts.proofs.put.Reads as puts·put
 use Rattle.printing.proofs.put_text.Reads as printing·put-text
 use Rattle.printing.proofs.put_number.Reads as printing·put-number
 use Rattle.printing.proofs.put_language.Reads as printing·put-language
@@ -121,6 +123,10 @@ ebu·is-ebu-settled κs a x y s t p q = same p q
 pub ebu·turn-run-settled :
     (κs : _) (a : _) (x y : _) (s t : _) → ebu·turn-run.Post κs a x s → ebu·turn-run.Post κs a y t → now (s .1 .1 .0) ≡ now (t .1 .1 .0)
 ebu·turn-run-settled κs a x y s t p q = same p q
+
+pub writable·judge-records-settled :
+    (κs : _) (a : _) (x y : _) (s t : _) → writable·judge-records.Post κs a x s → writable·judge-records.Post κs a y t → x ≡ y
+writable·judge-records-settled κs a x y s t p q = same p q
 
 pub pes-writer·write-settled :
     (κs : _) (a : _) (x y : _) (s t : _) → pes-writer·write.Post κs a x s → pes-writer·write.Post κs a y t → (x ≡ y) × (now (s .1 .1 .0) ≡ now (t .1 .1 .0))
@@ -288,6 +294,10 @@ firmware·guide-turn-settled κs a x y s t p q = same p q
 
 pub firmware·guide-unit-at-settled : (κs : _) (a : _) (x y : _) (s t : _) → firmware·guide-unit-at.Post κs a x s → firmware·guide-unit-at.Post κs a y t → x ≡ y
 firmware·guide-unit-at-settled κs a x y s t p q = same p q
+
+pub puts·put-settled :
+    (κs : _) (a : _) (x y : _) (s t : _) → puts·put.Post κs a x s → puts·put.Post κs a y t → (x ≡ y) × (now (s .1 .0) ≡ now (t .1 .0))
+puts·put-settled κs a x y s t p q = (same (p .0 .moved) (q .0 .moved), same (p .0 .stored) (q .0 .stored))
 
 pub printing·put-text-settled :
     (κs : _) (a : _) (x y : _) (s t : _) → printing·put-text.Post κs a x s → printing·put-text.Post κs a y t → (x ≡ y) × (now (s .1 .0) ≡ now (t .1 .0))

@@ -16,6 +16,10 @@ ebuData d = both (leb 0x10 d) (leb d 0x1F)
 abbrev pub textBytes : ℕ
 textBytes = 42
 
+-- the bytes of a record: a unit's id, its line byte, its text
+abbrev pub recordSize : ℕ
+recordSize = 44
+
 -- so many bytes from a place on, "bit-reversed"
 abbrev pub textOf : List ℕ → ℕ → List ℕ
 textOf src from = map turned (take textBytes (drop from src))

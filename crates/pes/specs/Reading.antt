@@ -7,12 +7,10 @@ use lib.ListN.{length, take, drop}
 use Rattle.laws.specs.Pick.{pick}
 use Rattle.answer.specs.Rules.{Rule}
 use Rattle.octet.specs.Turning.{turned}
+pub use Rattle.ebu.specs.Texts.{recordSize}
 use Rattle.ebu.specs.Texts.{textBytes}
 use Rattle.units.specs.Units.{byteAt, stuffingId, nextUnit, rulesAt}
 use Rattle.pes.specs.Header.{headerRules}
-
-abbrev pub recordSize : ℕ
-recordSize = 44
 
 -- "a record of 44 bytes: unit id, line byte, the 42 turned bytes"
 unfoldable pub recordAt : List ℕ → ℕ → List ℕ

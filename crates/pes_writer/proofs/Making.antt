@@ -1,6 +1,5 @@
 -- The parts of a packet that is written: one unit more, and how long each part is. Assumes nothing.
 use mathlib.Core.Path.{_≡_, _∙_, refl}
-use mathlib.Core.Bool.{true, false}
 use mathlib.Core.List.{List, [], _++_}
 use Prim.Native.Nat.{ℕ, zero, suc, _+_, _-_, _*_, _<_, _≤_}
 use native.Mathlib.Omega.{arith}
@@ -12,25 +11,9 @@ use Rattle.laws.proofs.Stores.{sets-next}
 use Rattle.laws.proofs.Tests.{both-first}
 use Rattle.answer.specs.Rules.{Every}
 use Rattle.answer.proofs.Steps.{first-holds, others-hold}
-use Rattle.pes_writer.specs.Writing.{unitCount, packetSize, recordFits, recordsFit, writeRules, headerOf, unitOf, unitsOf, stuffingUnit, stuffingUnits, packetOf}
+use Rattle.pes_writer.specs.Writing.{unitCount, packetSize, writeRules, headerOf, unitOf, unitsOf, stuffingUnit, stuffingUnits, packetOf}
 
 -- ---- one more, or none
-
-pub fit-stops : (u : ℕ) (rs : List ℕ) (at : ℕ) → 0 < u → recordFits rs at ≡ false → recordsFit u rs at ≡ false
-unfolding recordsFit
-fit-stops zero rs at h f = absurd (omega arith)
-fit-stops (suc u) rs at h f = rw f
-
-pub fit-goes :
-    (u : ℕ) (rs : List ℕ) (at : ℕ) → 0 < u → recordFits rs at ≡ true → recordsFit u rs at ≡ recordsFit (u - 1) rs (at + 44)
-unfolding recordsFit
-fit-goes zero rs at h f = absurd (omega arith)
-fit-goes (suc u) rs at h f = let e : suc u - 1 ≡ u = omega arith in rw (f, e)
-
-pub fit-none : (u : ℕ) (rs : List ℕ) (at : ℕ) → u ≤ 0 → recordsFit u rs at ≡ true
-unfolding recordsFit
-fit-none zero rs at h = refl
-fit-none (suc u) rs at h = absurd (omega arith)
 
 pub units-none : (u : ℕ) (rs : List ℕ) (at : ℕ) → u ≤ 0 → unitsOf u rs at ≡ []
 unfolding unitsOf

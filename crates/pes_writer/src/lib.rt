@@ -1,20 +1,16 @@
 // 44-byte records to PES packets of teletext, the other way than crate `pes`: EN 300 472, clauses 4.2 to 4.4.
 // The call takes any bytes and answers; a refusal leaves the lent output as it was.
 //
-// The definitions are in specs/Writing.antt: the call's rules, in order, and its bytes. What reading and
-// writing owe each other is proofs/Statements.antt.
+// The definitions are in specs/Writing.antt: the packet's bytes; the call's rules, in order, are crate
+// `writable`'s. What reading and writing owe each other is proofs/Statements.antt.
 use answer::Answer;
 use answer::Refusal;
 ghost use mathlib.Core.Path.{_≡_};
 ghost use Prim.Native.Nat.{_+_, _*_, _≤_};
 ghost use lib.ListN.{length, replicate};
 ghost use lib.Seq.{sets};
-ghost use Rattle.laws.specs.Pick.{both};
-ghost use Rattle.answer.specs.Rules.{judged};
-ghost use Rattle.answer.specs.Values.{refused};
 ghost use Rattle.answer.specs.Writing.{answered, left};
-ghost use Rattle.units.specs.Units.{textId, lineFits};
-ghost use Rattle.pes_writer.specs.Writing.{unitCount, packetSize, recordsFit, writeRules, headerOf, unitOf, unitsOf, stuffingUnit, stuffingUnits, packetOf};
+ghost use Rattle.pes_writer.specs.Writing.{unitCount, packetBytes, writeRules, headerOf, unitOf, unitsOf, stuffingUnit, stuffingUnits, packetOf};
 
 // A record's bytes: a unit's id, its line byte, and the text.
 const RECORD: usize = 44;
@@ -34,7 +30,7 @@ pub fn write(data_identifier: u8, records: &[u8], out: &mut [u8]) -> Answer
     ensures answer { λ r. ⌜ r ≡ answered (writeRules «data_identifier» (now (records .entry))) (packetOf «data_identifier» (now (records .entry))) (now (out .entry)) ⌝ }
     ensures bytes { λ r. ⌜ now (out .exit) ≡ left (writeRules «data_identifier» (now (records .entry))) (packetOf «data_identifier» (now (records .entry))) (now (out .entry)) ⌝ }
 {
-    match judge_records(data_identifier, records) {
+    match writable::judge_records(data_identifier, records) {
         Answer::Refused(r) => Answer::Refused(r),
         Answer::Done(need) => {
             if out.len() < need {
@@ -46,56 +42,9 @@ pub fn write(data_identifier: u8, records: &[u8], out: &mut [u8]) -> Answer
     }
 }
 
-// Judges what is to be written, writing nothing: its refusal, or how many bytes the packet takes.
-fn judge_records(d: u8, records: &[u8]) -> Answer
-    ensures { λ r. ⌜ r ≡ judged refused (writeRules d (now (records .entry))) (Answer.Done (length (packetOf d (now (records .entry))))) ⌝ }
-{
-    if !ebu::is_ebu(d) {
-        return Answer::Refused(Refusal { no: 16, at: 0 });
-    }
-    if records.len() % RECORD != 0 {
-        return Answer::Refused(Refusal { no: 13, at: 0 });
-    }
-    let units = records.len() / RECORD;
-    if 1423 < units {
-        return Answer::Refused(Refusal { no: 15, at: 0 });
-    }
-    if !records_fit(records, units) {
-        return Answer::Refused(Refusal { no: 15, at: 0 });
-    }
-    Answer::Done((units / 4 + 1) * PART)
-}
-
-// Whether each of the records is one that reading gives.
-fn records_fit(records: &[u8], units: usize) -> bool
-    requires { ⌜ 44 * units ≤ length (now records) ⌝ }
-    ensures { λ r. ⌜ r ≡ recordsFit units (now (records .entry)) 0 ⌝ }
-{
-    let mut at = 0;
-    let mut more = units;
-    while 0 < more {
-        if !record_fits(records[at], records[at + 1]) {
-            return false;
-        }
-        at += RECORD;
-        more -= 1;
-    }
-    true
-}
-
-// Whether an id and a line byte are those of a text unit that reading takes.
-fn record_fits(id: u8, line: u8) -> bool
-    ensures { λ r. ⌜ r ≡ both (textId id) (lineFits line) ⌝ }
-{
-    if !marks::is_text(id) {
-        return false;
-    }
-    marks::line_fits(line)
-}
-
 // Writes the whole packet, where it has room.
 fn put_packet(d: u8, records: &[u8], out: &mut [u8])
-    requires { ⌜ (unitCount (now records) ≤ 1423) × (packetSize (unitCount (now records)) * 184 ≤ length (now out)) ⌝ }
+    requires { ⌜ (unitCount (now records) ≤ 1423) × (packetBytes (now records) ≤ length (now out)) ⌝ }
     ensures { λ r. ⌜ now (out .exit) ≡ sets (now (out .entry)) 0 (packetOf d (now (records .entry))) ⌝ }
 {
     let units = records.len() / RECORD;

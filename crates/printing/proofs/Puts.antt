@@ -1,73 +1,13 @@
--- Puts one after the other are one. Assumes nothing.
-use mathlib.Core.Path.{_≡_, _∙_, refl, sym, ap}
-use mathlib.Core.List.{List, [], _∷_, _++_}
+-- What is put within reach, and past it. Assumes nothing.
+use mathlib.Core.Path.{sym}
+use mathlib.Core.List.{List, _++_, append-assoc}
 use Prim.Native.Nat.{ℕ, _+_, _≤_, _<_}
-use native.Mathlib.Nat.{add-zero}
-use native.Mathlib.Numerals.{add-one}
-use native.Mathlib.Omega.{arith}
-use lib.ListN.{length, getD, drop, length-append, drop-of-length-le}
-use lib.Seq.{sets, drop-cons, set-out}
-use Rattle.laws.proofs.Lists.{sets-append}
 use borrow.Author.Tests.{le-leb, lt-leb}
+use lib.ListN.{length}
+use Rattle.puts.specs.Putting.{last, placed}
+use Rattle.puts.proofs.Puts.{put-at}
 use Rattle.printing.specs.Putting.{Put, reach, within}
-
-pub then :
-    {out out₁ out₂ xs ys : List ℕ} {q q₁ q₂ : ℕ} → Put out q xs out₁ q₁ → Put out₁ q₁ ys out₂ q₂ → Put out q (xs ++ ys) out₂ q₂
-then {out} {out₁} {out₂} {xs} {ys} {q} {q₁} {q₂} a b =
-    record {
-      stored =
-          b .stored ∙ (rw (a .stored, a .moved) (sym (sets-append out q xs ys)));
-      moved = rw length-append (omega (arith, a .moved, b .moved));
-    }
-
-pub put-none : (out : List ℕ) (q : ℕ) → Put out q [] out q
-put-none out q = record { stored = refl; moved = sym (add-zero q) }
-
--- what is still to be put from here makes what was to be put from the start
-pub record Left (out : List ℕ) (p : ℕ) (rest out₀ : List ℕ) (q : ℕ) (all : List ℕ) : Type 0 where
-  pub same : sets out p rest ≡ sets out₀ q all
-  pub far : p + length rest ≡ q + length all
-
-pub left-start : (out : List ℕ) (q : ℕ) (all : List ℕ) → Left out q all out q all
-left-start out q all = record { same = refl; far = refl }
-
-pub left-on :
-    {out out₀ out′ first rest whole all : List ℕ} {p p′ q : ℕ} → whole ≡ first ++ rest → Put out p first out′ p′
-    → Left out p whole out₀ q all
-    → Left out′ p′ rest out₀ q all
-left-on {out} {out₀} {out′} {first} {rest} {whole} {all} {p} {p′} {q} e a l =
-    record {
-      same =
-          (rw (a .stored, a .moved) (sym (sets-append out p first rest))) ∙ sym (ap (sets out p) e) ∙ l .same;
-      far =
-          let k : length whole ≡ length first + length rest = ap length e ∙ length-append first rest in
-          omega (arith, k, a .moved, l .far);
-    }
-
-pub left-end :
-    {out out₀ rest all : List ℕ} {p q : ℕ} → rest ≡ [] → Left out p rest out₀ q all → Put out₀ q all out p
-left-end {out} {out₀} {rest} {all} {p} {q} e l =
-    record {
-      stored = sym (ap (sets out p) e) ∙ l .same;
-      moved = let k : length rest ≡ 0 = ap length e in omega (arith, k, l .far);
-    }
-
--- the same bytes, said otherwise
-pub put-as : {out out′ xs ys : List ℕ} {q q′ : ℕ} → xs ≡ ys → Put out q xs out′ q′ → Put out q ys out′ q′
-put-as {out} {out′} {xs} {ys} {q} {q′} e p = rw (← e) p
-
--- a text, a byte at a time
-pub text-on : (text : List ℕ) (i : ℕ) → i < length text → drop i text ≡ (getD text i 0 ∷ []) ++ drop (i + 1) text
-text-on text i h = rw (add-one, drop-cons text i 0)
-
-pub text-end : (text : List ℕ) (i : ℕ) → length text ≤ i → drop i text ≡ []
-text-end text i h = drop-of-length-le text h
-
--- a byte for which there is no room
-pub put-out : (out : List ℕ) (q b : ℕ) → length out ≤ q → Put out q (b ∷ []) out (q + 1)
-put-out out q b h = record { stored = sym (set-out out q b h); moved = refl }
-
--- ---- within reach, and past it
+pub use Rattle.puts.proofs.Puts.{then, put-none, Left, left-start, left-on, left-end, put-as}
 
 pub put-within : {out out′ xs : List ℕ} {q q′ : ℕ} → q ≤ reach → Put out q xs out′ q′ → Put out q (within q xs) out′ q′
 put-within {q = q} h p = rw (le-leb q reach h) p
@@ -77,3 +17,11 @@ put-there {q = q} h p = rw (le-leb q reach h) at p
 
 pub put-past : (out : List ℕ) (q : ℕ) (xs : List ℕ) → reach < q → Put out q (within q xs) out q
 put-past out q xs h = rw (lt-leb q reach h) (put-none out q)
+
+-- ---- a line within reach: a name, then what is behind it with the line's end
+
+pub put-line :
+    (name rest end : List ℕ) {out out₁ out₂ : List ℕ} {q q₁ q₂ : ℕ} → q ≤ reach → q + length name ≤ last → Put out q (placed q name) out₁ q₁
+    → Put out₁ q₁ (rest ++ end) out₂ q₂
+    → Put out q (within q (name ++ rest ++ end)) out₂ q₂
+put-line name rest end h k a b = put-within h (put-as (sym (append-assoc name rest end)) (then {xs = name} (put-at k a) b))

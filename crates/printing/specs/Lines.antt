@@ -16,6 +16,10 @@ place unit n = pick (leb unit n) ((48 + n / unit % 10) ∷ []) []
 unfoldable pub decimal : ℕ → List ℕ
 decimal n = place 10000 n ++ place 1000 n ++ place 100 n ++ place 10 n ++ ((48 + n % 10) ∷ [])
 
+-- all five, leading zeros too
+abbrev pub places : ℕ → List ℕ
+places n = (48 + n / 10000 % 10) ∷ (48 + n / 1000 % 10) ∷ (48 + n / 100 % 10) ∷ (48 + n / 10 % 10) ∷ (48 + n % 10) ∷ []
+
 -- "Hex digits are lower case"
 unfoldable pub digit : ℕ → ℕ
 digit n = pick (ltb n 10) (48 + n) (87 + n)

@@ -1,17 +1,9 @@
--- Bytes put into lent bytes at a place, as far as there is room, and the place after them. The place goes on where there is no
--- room, so that one walk both measures and writes.
-use mathlib.Core.Path.{_≡_}
+-- Lines are put as `puts` puts bytes, up to a place that no list passes.
 use mathlib.Core.List.{List, []}
-use Prim.Native.Nat.{ℕ, _+_}
+use Prim.Native.Nat.{ℕ}
 use lib.Dec.{leb}
-use lib.ListN.{length}
-use lib.Seq.{sets}
 use Rattle.laws.specs.Pick.{pick}
-
--- xs, put into `out` at q, makes it `out′`, and q′ is the place after them
-pub record Put (out : List ℕ) (q : ℕ) (xs out′ : List ℕ) (q′ : ℕ) : Type 0 where
-  pub stored : out′ ≡ sets out q xs
-  pub moved : q′ ≡ q + length xs
+pub use Rattle.puts.specs.Putting.{Put}
 
 -- no place that a list's lines take is further on: 255 descriptors of 255 entries take less
 abbrev pub reach : ℕ

@@ -4,11 +4,11 @@
 // Each call answers the place after what it puts, and that goes on where there is no room, so that one
 // walk both measures and writes. At a place past `REACH` nothing is put.
 ghost use mathlib.Core.Path.{_≡_};
-ghost use mathlib.Core.List.{_∷_, []};
+ghost use mathlib.Core.List.{_∷_, [], _++_};
 ghost use Prim.Native.Nat.{_+_, _^_, _≤_, _<_};
-ghost use lib.ListN.{length};
+ghost use lib.ListN.{length, drop};
 ghost use Rattle.forms.specs.Form.{spelled};
-ghost use Rattle.printing.specs.Lines.{place as Lines·place, decimal, digit as Lines·digit, hexed, letter as Lines·letter, letters as Lines·letters, numberLine, languageOf, languageLine, pageLine};
+ghost use Rattle.printing.specs.Lines.{places, decimal, digit as Lines·digit, hexed, letter as Lines·letter, letters as Lines·letters, numberLine, languageOf, languageLine, pageLine};
 ghost use Rattle.printing.specs.Putting.{Put, within};
 
 // No place that a list's lines take is further on.
@@ -23,9 +23,8 @@ pub fn put_number(name: &[u8], n: usize, out: &mut [u8], q: usize) -> usize
     if q > REACH {
         return q;
     }
-    let a = put_text(name, out, q);
-    let b = put_decimal(n, out, a);
-    put(10, out, b)
+    let at = puts::put(name, out, q);
+    put_decimal(n, out, at)
 }
 
 // A line of a language.
@@ -35,9 +34,8 @@ pub fn put_language(w: usize, out: &mut [u8], q: usize) -> usize
     if q > REACH {
         return q;
     }
-    let a = put_text(b"language=", out, q);
-    let b = put_name(w, out, a);
-    put(10, out, b)
+    let at = puts::put(b"language=", out, q);
+    put_name(w, out, at)
 }
 
 // A line of a page, in hex.
@@ -47,9 +45,8 @@ pub fn put_page(w: usize, out: &mut [u8], q: usize) -> usize
     if q > REACH {
         return q;
     }
-    let a = put_text(b"page=", out, q);
-    let b = put_hex(w, out, a);
-    put(10, out, b)
+    let at = puts::put(b"page=", out, q);
+    put_hex(w, out, at)
 }
 
 // A text as it is.
@@ -60,24 +57,24 @@ pub fn put_text(text: &[u8], out: &mut [u8], q: usize) -> usize
     if q > REACH {
         return q;
     }
-    let mut p = q;
-    let mut i = 0;
-    while i < text.len() {
-        p = put(text[i], out, p);
-        i += 1;
-    }
-    p
+    puts::put(text, out, q)
 }
 
-// A language: three of a..z as they are, others in hex.
+// A language, three of a..z as they are, others in hex, and the end of the line.
 fn put_name(w: usize, out: &mut [u8], q: usize) -> usize
-    requires { ⌜ q + 6 < 2 ^ 64 ⌝ }
-    ensures { λ r. ⌜ Put (now (out .entry)) q (languageOf w) (now (out .exit)) r × (r ≤ q + 6) ⌝ }
+    requires { ⌜ q + 7 < 2 ^ 64 ⌝ }
+    ensures { λ r. ⌜ Put (now (out .entry)) q (languageOf w ++ (10 ∷ [])) (now (out .exit)) r × (r ≤ q + 7) ⌝ }
 {
-    if letters(w) {
-        return put_word(w, out, q);
+    if !letters(w) {
+        return put_hex(w, out, q);
     }
-    put_hex(w, out, q)
+    let line = [
+        (w / 256 / 256 % 256) as u8,
+        (w / 256 % 256) as u8,
+        (w % 256) as u8,
+        10,
+    ];
+    puts::put(&line, out, q)
 }
 
 // Whether the bytes of a word are three of a..z.
@@ -102,33 +99,24 @@ fn letter(b: usize) -> bool
     b <= 122
 }
 
-// A word as its three bytes.
-fn put_word(w: usize, out: &mut [u8], q: usize) -> usize
-    requires { ⌜ q + 6 < 2 ^ 64 ⌝ }
-    ensures { λ r. ⌜ Put (now (out .entry)) q (spelled (w ∷ [])) (now (out .exit)) r × (r ≤ q + 6) ⌝ }
-{
-    let a = put((w / 256 / 256 % 256) as u8, out, q);
-    let b = put((w / 256 % 256) as u8, out, a);
-    put((w % 256) as u8, out, b)
-}
-
-// A word as its six hex digits.
+// A word as its six hex digits, and the end of the line.
 fn put_hex(w: usize, out: &mut [u8], q: usize) -> usize
-    requires { ⌜ q + 6 < 2 ^ 64 ⌝ }
-    ensures { λ r. ⌜ Put (now (out .entry)) q (hexed (spelled (w ∷ []))) (now (out .exit)) r × (r ≤ q + 6) ⌝ }
+    requires { ⌜ q + 7 < 2 ^ 64 ⌝ }
+    ensures { λ r. ⌜ Put (now (out .entry)) q (hexed (spelled (w ∷ [])) ++ (10 ∷ [])) (now (out .exit)) r × (r ≤ q + 7) ⌝ }
 {
-    let a = put_pair(w / 256 / 256 % 256, out, q);
-    let b = put_pair(w / 256 % 256, out, a);
-    put_pair(w % 256, out, b)
-}
-
-// A byte as its two hex digits.
-fn put_pair(b: usize, out: &mut [u8], q: usize) -> usize
-    requires { ⌜ (b < 256) × (q + 2 < 2 ^ 64) ⌝ }
-    ensures { λ r. ⌜ Put (now (out .entry)) q (hexed (b ∷ [])) (now (out .exit)) r × (r ≤ q + 2) ⌝ }
-{
-    let at = put(digit(b / 16), out, q);
-    put(digit(b % 16), out, at)
+    let a = w / 256 / 256 % 256;
+    let b = w / 256 % 256;
+    let c = w % 256;
+    let line = [
+        digit(a / 16),
+        digit(a % 16),
+        digit(b / 16),
+        digit(b % 16),
+        digit(c / 16),
+        digit(c % 16),
+        10,
+    ];
+    puts::put(&line, out, q)
 }
 
 fn digit(n: usize) -> u8
@@ -141,36 +129,38 @@ fn digit(n: usize) -> u8
     (87 + n) as u8
 }
 
+// A number in decimal, and the end of the line.
 fn put_decimal(n: usize, out: &mut [u8], q: usize) -> usize
-    requires { ⌜ q + 5 < 2 ^ 64 ⌝ }
-    ensures { λ r. ⌜ Put (now (out .entry)) q (decimal n) (now (out .exit)) r × (r ≤ q + 5) ⌝ }
+    requires { ⌜ q + 6 < 2 ^ 64 ⌝ }
+    ensures { λ r. ⌜ Put (now (out .entry)) q (decimal n ++ (10 ∷ [])) (now (out .exit)) r × (r ≤ q + 6) ⌝ }
 {
-    let a = put_place(10000, n, out, q);
-    let b = put_place(1000, n, out, a);
-    let c = put_place(100, n, out, b);
-    let d = put_place(10, n, out, c);
-    put((48 + n % 10) as u8, out, d)
+    let from = leading(n);
+    let line = [
+        (48 + n / 10000 % 10) as u8,
+        (48 + n / 1000 % 10) as u8,
+        (48 + n / 100 % 10) as u8,
+        (48 + n / 10 % 10) as u8,
+        (48 + n % 10) as u8,
+        10,
+    ];
+    puts::put(&line[from..], out, q)
 }
 
-// A decimal place that isn't a leading zero.
-fn put_place(unit: usize, n: usize, out: &mut [u8], q: usize) -> usize
-    requires { ⌜ (0 < unit) × (q + 1 < 2 ^ 64) ⌝ }
-    ensures { λ r. ⌜ Put (now (out .entry)) q (Lines·place unit n) (now (out .exit)) r × (r ≤ q + 1) ⌝ }
+// How many of a number's five places are leading zeros.
+fn leading(n: usize) -> usize
+    ensures { λ r. ⌜ (r ≤ 4) × (drop r (places n ++ (10 ∷ [])) ≡ decimal n ++ (10 ∷ [])) ⌝ }
 {
-    if unit <= n {
-        return put((48 + n / unit % 10) as u8, out, q);
+    if n < 10 {
+        return 4;
     }
-    q
-}
-
-// A byte, where there is room for it, and the place after it.
-fn put(b: u8, out: &mut [u8], q: usize) -> usize
-    requires { ⌜ q + 1 < 2 ^ 64 ⌝ }
-    ensures { λ r. ⌜ Put (now (out .entry)) q (b ∷ []) (now (out .exit)) r × (r ≤ q + 1) ⌝ }
-{
-    if out.len() <= q {
-        return q + 1;
+    if n < 100 {
+        return 3;
     }
-    out[q] = b;
-    q + 1
+    if n < 1000 {
+        return 2;
+    }
+    if n < 10000 {
+        return 1;
+    }
+    0
 }

@@ -9,7 +9,7 @@ use Rattle.answer.specs.declared.Answer.the-variants.{Done}
 use Rattle.answer.specs.Rules.{Every}
 use Rattle.answer.proofs.Steps.{done-every, done-value}
 use Rattle.answer.proofs.Lent.{lent-refused, lent-short, lent-done}
-use Rattle.pes_writer.specs.Writing.{writeRules, packetOf}
+use Rattle.pes_writer.specs.Writing.{packetBytes, writeRules, packetOf}
 use Rattle.pes_writer.proofs.Making.{packet-length, fits-packet}
 use Rattle.pes_writer.proofs.write.Statement.{statement}
 use Rattle.pes_writer.proofs.write.Tie as tie
@@ -23,7 +23,7 @@ enum-known-r c = search needs
 enum-known-need : tie.Need-enum-known-need
 enum-known-need c = search needs
 
--- what is judged to be done: every rule holds, and the need is exact
+-- what is judged to be done: every rule holds, and the need is the packet's length
 passed :
     (c : tie.After-need)
     → Every (writeRules (c .before .before .before .before .before .args .data-identifier) (c .before .before .before .before .before .args .records .now))
@@ -33,14 +33,14 @@ passed c =
     let e = sym (c .before .before .judge-records .ensures) ∙ c .need .given .1 in
     let a = c .before .before .before .before .before .args in
     let rules = writeRules (a .data-identifier) (now (a .records)) in
-    (done-every rules _ _ e, done-value rules _ _ e)
+    (done-every rules _ _ e, done-value rules _ _ e ∙ sym (packet-length (a .data-identifier) (now (a .records))))
 
 returns : tie.Need-returns
 returns c =
     let a = c .before .before .before .before .before .before .before .args in
     let p = passed (c .before .before) in
     lent-short (writeRules (a .data-identifier) (now (a .records))) (packetOf (a .data-identifier) (now (a .records))) (now (a .out))
-    (length (packetOf (a .data-identifier) (now (a .records))))
+    (packetBytes (now (a .records)))
     (c .before .before .before .before .judge-records .ensures) (c .before .before .need .given .1) (omega (arith, p .1, c .if1 .taken))
 
 put-packet-requires : tie.Need-put-packet-requires
@@ -54,7 +54,7 @@ returns-2 : tie.Need-returns-2
 returns-2 c =
     let a = c .before .before .before .before .before .before .args in
     lent-refused (writeRules (a .data-identifier) (now (a .records))) (packetOf (a .data-identifier) (now (a .records))) (now (a .out))
-    (length (packetOf (a .data-identifier) (now (a .records))))
+    (packetBytes (now (a .records)))
     (c .before .before .before .judge-records .ensures) (c .before .r .given .1)
 
 same-length : tie.Need-same-length
@@ -67,7 +67,7 @@ returns-3 c =
     let p = passed (d .before .before) in
     let l =
     lent-done (writeRules (a .data-identifier) (now (a .records))) (packetOf (a .data-identifier) (now (a .records))) (now (a .out))
-    (length (packetOf (a .data-identifier) (now (a .records))))
+    (packetBytes (now (a .records)))
     (d .before .before .before .before .judge-records .ensures) (d .before .before .need .given .1) (omega (arith, p .1, d .if1 .left)) in
     (ap Done (p .1) ∙ l .0, c .before .before .put-packet .ensures ∙ l .1)
 

@@ -1,28 +1,69 @@
--- `printing::put_hex` meets its contract: two digits for each of three bytes. Assumes nothing.
+-- `printing::put_hex` meets its contract: two digits for each of three bytes and the line's end, put at once. Assumes nothing.
 use borrow.Author.Needs.{needs}
 use Rattle.forms.specs.Form.{spelled}
+use Rattle.puts.proofs.Puts.{put-at}
 use Rattle.printing.specs.Lines.{hexed}
-use Rattle.printing.proofs.Puts.{then}
 use Rattle.printing.proofs.put_hex.Statement.{statement}
 use Rattle.printing.proofs.put_hex.Tie as tie
 
-put-pair-requires : tie.Need-put-pair-requires
-put-pair-requires c κs = search needs
+digit-requires : tie.Need-digit-requires
+digit-requires c κs = search needs
 
-put-pair-requires-2 : tie.Need-put-pair-requires-2
-put-pair-requires-2 c κs = search needs
+digit-requires-2 : tie.Need-digit-requires-2
+digit-requires-2 c κs = search needs
 
-put-pair-requires-3 : tie.Need-put-pair-requires-3
-put-pair-requires-3 c κs = search needs
+digit-requires-3 : tie.Need-digit-requires-3
+digit-requires-3 c κs = search needs
+
+digit-requires-4 : tie.Need-digit-requires-4
+digit-requires-4 c κs = search needs
+
+digit-requires-5 : tie.Need-digit-requires-5
+digit-requires-5 c κs = search needs
+
+digit-requires-6 : tie.Need-digit-requires-6
+digit-requires-6 c κs = search needs
+
+slice-aggregate-put : tie.Need-slice-aggregate-put
+slice-aggregate-put c = search needs
+
+put-requires : tie.Need-put-requires
+put-requires c κs = search needs
 
 same-length : tie.Need-same-length
 same-length c = search needs
 
 returns : tie.Need-returns
 unfolding hexed spelled
-returns c = (then (then (c .before .before .before .before .before .before .before .before .before .before .put-pair .ensures .0) (c .before .before .before .before .before .before .put-pair2 .ensures .0)) (c .before .before .put-pair3 .ensures .0), search needs)
+returns c =
+    let p = c .before .before .put in
+    let f = c .before .before .before .before .before in
+    let e = f .before in
+    let d = e .before in
+    let b = d .before in
+    let a = b .before in (
+      rw (
+        ← (a .before .digit .ensures),
+        ← (a .digit2 .ensures),
+        ← (b .digit3 .ensures),
+        ← (d .digit4 .ensures),
+        ← (e .digit5 .ensures),
+        ← (f .digit6 .ensures),
+      ) (put-at (search needs) (p .ensures .0)),
+      search needs,
+    )
 
 pub put-hex-spec : {M : Type 1} → statement M
 put-hex-spec =
     tie.close
-    (tie.spec put-pair-requires put-pair-requires-2 put-pair-requires-3 same-length returns)
+    (tie.spec
+    digit-requires
+    digit-requires-2
+    digit-requires-3
+    digit-requires-4
+    digit-requires-5
+    digit-requires-6
+    slice-aggregate-put
+    put-requires
+    same-length
+    returns)

@@ -1,24 +1,22 @@
 -- `printing::put_language` meets its contract: name, language, end of line. Assumes nothing.
 use borrow.Author.Needs.{needs}
-use Rattle.printing.specs.Lines.{languageLine}
-use Rattle.printing.proofs.Puts.{then, put-within, put-there, put-past}
+use mathlib.Core.List.{[], _∷_}
+use Rattle.printing.specs.Lines.{languageLine, languageName, languageOf}
+use Rattle.printing.proofs.Puts.{put-past, put-line}
 use Rattle.printing.proofs.put_language.Statement.{statement}
 use Rattle.printing.proofs.put_language.Tie as tie
 
 returns : tie.Need-returns
 returns c = (put-past _ _ _ (c .if1 .taken), search needs)
 
-slice-aggregate-put-text : tie.Need-slice-aggregate-put-text
-slice-aggregate-put-text c = search needs
-
-put-text-requires : tie.Need-put-text-requires
-put-text-requires c κs = search needs
-
-put-name-requires : tie.Need-put-name-requires
-put-name-requires c κs = search needs
+slice-aggregate-put : tie.Need-slice-aggregate-put
+slice-aggregate-put c = search needs
 
 put-requires : tie.Need-put-requires
 put-requires c κs = search needs
+
+put-name-requires : tie.Need-put-name-requires
+put-name-requires c κs = search needs
 
 same-length : tie.Need-same-length
 same-length c = search needs
@@ -26,18 +24,18 @@ same-length c = search needs
 returns-2 : tie.Need-returns-2
 unfolding languageLine
 returns-2 c =
-    let a = c .before .before .before .before .before .before .before .before .before .before .put-text in
-    let b = c .before .before .before .before .before .before .put-name in
-    (put-within (search needs) (then (then (put-there (search needs) (a .ensures .0)) (b .ensures .0)) (c .before .before .put .ensures .0)), search needs)
+    let b = c .before .before .put-name in
+    let a = c .before .before .before .before .before .before in
+    let s = a .before .before .before .before .before in
+    (put-line languageName (languageOf (s .args .w)) (10 ∷ []) (search needs) (search needs) (a .put .ensures .0) (b .ensures .0), search needs)
 
 pub put-language-spec : {M : Type 1} → statement M
 put-language-spec =
     tie.close
     (tie.spec
     returns
-    slice-aggregate-put-text
-    put-text-requires
-    put-name-requires
+    slice-aggregate-put
     put-requires
+    put-name-requires
     same-length
     returns-2)

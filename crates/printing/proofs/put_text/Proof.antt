@@ -1,68 +1,21 @@
--- `printing::put_text` meets its contract: what is left to be put from here makes what was to be put. The measure is the bytes left. Assumes nothing.
+-- `printing::put_text` meets its contract: within reach a text has an end. Assumes nothing.
 use borrow.Author.Needs.{needs}
-use mathlib.Core.List.{List}
-use mathlib.Core.Path.{_≡_, _∙_, refl}
-use Prim.Native.Nat.{ℕ, _+_, _-_, _≤_}
-use native.Mathlib.Omega.{arith}
-use lib.ListN.{length, drop}
-use denote.Ref.{now}
-use Rattle.printing.proofs.Puts.{Left, left-start, left-on, left-end, text-on, text-end, put-within, put-past}
+use Rattle.puts.proofs.Puts.{put-at}
+use Rattle.printing.proofs.Puts.{put-within, put-past}
 use Rattle.printing.proofs.put_text.Statement.{statement}
 use Rattle.printing.proofs.put_text.Tie as tie
 
-abbrev Inv-loop : tie.InvT-loop
-Inv-loop text out₀ q p₀ i₀ out p i = (i ≤ length text) × (length out ≡ length out₀) × (p + (length text - i) ≤ q + length text) × Left out p (drop i text) out₀ q text
-
-abbrev μ-loop : tie.MeasureT-loop
-μ-loop text out₀ q p₀ i₀ out p i = length text - i
-
-returns : tie.Need-returns Inv-loop μ-loop
+returns : tie.Need-returns
 returns c = (put-past _ _ _ (c .if1 .taken), search needs)
 
-loop-holds : tie.Need-loop-holds Inv-loop μ-loop
-loop-holds c = (search needs, refl, search needs, left-start _ _ _)
-
-shared-slice-read-put : tie.Need-shared-slice-read-put Inv-loop μ-loop
-shared-slice-read-put c = search needs
-
-put-requires : tie.Need-put-requires Inv-loop μ-loop
+put-requires : tie.Need-put-requires
 put-requires c κs = search needs
 
-add-i : tie.Need-add-i Inv-loop μ-loop
-add-i c = search needs
-
-loop-less : tie.Need-loop-less Inv-loop μ-loop
-loop-less c = search needs
-
-loop-again : tie.Need-loop-again Inv-loop μ-loop
-loop-again c =
-    let l = c .before .before .before .before .before .before .loop in
-    let s = c .before .before .before .before .before .before .before .before .before .before in
-    let t : List ℕ = now (s .args .text) in
-    let p = c .before .before .put in
-    (search needs, p .kept .1 .0 ∙ l .inv .1, omega (arith, l .inv .2, p .ensures .1), left-on (text-on t (l .i) (search needs)) (p .ensures .0) (l .inv .3))
-
-same-length : tie.Need-same-length Inv-loop μ-loop
+same-length : tie.Need-same-length
 same-length c = search needs
 
-returns-2 : tie.Need-returns-2 Inv-loop μ-loop
-returns-2 c =
-    let l = c .before .loop in
-    let t : List ℕ = now (c .before .before .before .before .before .args .text) in
-    (put-within (search needs) (left-end (text-end t (l .i) (search needs)) (l .inv .3)), search needs)
+returns-2 : tie.Need-returns-2
+returns-2 c = let p = c .before .before .put in (put-within (search needs) (put-at (search needs) (p .ensures .0)), p .ensures .1)
 
 pub put-text-spec : {M : Type 1} → statement M
-put-text-spec =
-    tie.close
-    (tie.spec
-    Inv-loop
-    μ-loop
-    returns
-    loop-holds
-    shared-slice-read-put
-    put-requires
-    add-i
-    loop-less
-    loop-again
-    same-length
-    returns-2)
+put-text-spec = tie.close (tie.spec returns put-requires same-length returns-2)

@@ -1,13 +1,9 @@
--- `pes_writer::judge_records` meets its contract: each test is a rule, or half of one, and they come in their order. Assumes nothing.
+-- `writable::judge_records` meets its contract: each test is a rule, or half of one, and they come in their order. Assumes nothing.
 use borrow.Author.Needs.{needs}
 use borrow.Author.Tests.{le-leb, lt-leb, eq-eqb, ne-eqb, not-true, not-false}
-use mathlib.Core.Path.{sym, ap}
-use denote.Ref.{now}
-use Rattle.answer.specs.declared.Answer.the-variants.{Done}
-use Rattle.pes_writer.specs.Writing.{writeRules}
-use Rattle.pes_writer.proofs.Making.{packet-length}
-use Rattle.pes_writer.proofs.judge_records.Statement.{statement}
-use Rattle.pes_writer.proofs.judge_records.Tie as tie
+use Rattle.writable.specs.Records.{writeRules}
+use Rattle.writable.proofs.judge_records.Statement.{statement}
+use Rattle.writable.proofs.judge_records.Tie as tie
 
 is-ebu-requires : tie.Need-is-ebu-requires
 is-ebu-requires c κs = search needs
@@ -56,7 +52,6 @@ unfolding writeRules
 returns-5 c =
     let e = c .before .before in
     let d = e .before .before in
-    let a = d .before .before .before .args in
     rw (
       ← (d .before .is-ebu .ensures),
       not-false (d .before .is-ebu .result) (d .if1 .left),
@@ -64,7 +59,7 @@ returns-5 c =
       le-leb _ _ (e .if3 .left),
       ← (c .before .records-fit .ensures),
       not-false (c .before .records-fit .result) (c .if4 .left),
-    ) (ap Done (sym (packet-length (a .d) (now (a .records)))))
+    )
 
 pub judge-records-spec : {M : Type 1} → statement M
 judge-records-spec =

@@ -1,4 +1,4 @@
--- `pes_writer::records_fit` meets its contract. The loop's invariant: whether the records from here on fit is the whole answer. The measure
+-- `writable::records_fit` meets its contract. The loop's invariant: whether the records from here on fit is the whole answer. The measure
 -- is the number of records that are left. Assumes nothing.
 use borrow.Author.Needs.{needs}
 use borrow.Author.Tests.{not-true, not-false}
@@ -6,10 +6,10 @@ use mathlib.Core.Path.{_≡_, _∙_, sym}
 use Prim.Native.Nat.{_+_, _*_, _≤_}
 use native.Mathlib.Omega.{arith}
 use lib.ListN.{length}
-use Rattle.pes_writer.specs.Writing.{recordsFit}
-use Rattle.pes_writer.proofs.Making.{fit-stops, fit-goes, fit-none}
-use Rattle.pes_writer.proofs.records_fit.Statement.{statement}
-use Rattle.pes_writer.proofs.records_fit.Tie as tie
+use Rattle.writable.specs.Records.{recordsFit}
+use Rattle.writable.proofs.Fits.{fit-stops, fit-goes, fit-none}
+use Rattle.writable.proofs.records_fit.Statement.{statement}
+use Rattle.writable.proofs.records_fit.Tie as tie
 
 abbrev Inv-loop : tie.InvT-loop
 Inv-loop records units at₀ more₀ at more =

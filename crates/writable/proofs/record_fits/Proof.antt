@@ -1,8 +1,8 @@
--- `pes_writer::record_fits` meets its contract, by its two tests. Assumes nothing.
+-- `writable::record_fits` meets its contract, by its two tests. Assumes nothing.
 use borrow.Author.Needs.{needs}
 use borrow.Author.Tests.{not-true, not-false}
-use Rattle.pes_writer.proofs.record_fits.Statement.{statement}
-use Rattle.pes_writer.proofs.record_fits.Tie as tie
+use Rattle.writable.proofs.record_fits.Statement.{statement}
+use Rattle.writable.proofs.record_fits.Tie as tie
 
 is-text-requires : tie.Need-is-text-requires
 is-text-requires c κs = search needs

@@ -1,8 +1,8 @@
--- `printing::put` meets its contract: a store past the end changes nothing. Assumes nothing.
+-- `puts::put_byte` meets its contract: a store past the end changes nothing. Assumes nothing.
 use borrow.Author.Needs.{needs}
-use Rattle.printing.proofs.Puts.{put-out}
-use Rattle.printing.proofs.put.Statement.{statement}
-use Rattle.printing.proofs.put.Tie as tie
+use Rattle.puts.proofs.Puts.{put-out}
+use Rattle.puts.proofs.put_byte.Statement.{statement}
+use Rattle.puts.proofs.put_byte.Tie as tie
 
 add-result : tie.Need-add-result
 add-result c = search needs
@@ -22,6 +22,6 @@ same-length c = search needs
 returns-2 : tie.Need-returns-2
 returns-2 c = search needs
 
-pub put-spec : {M : Type 1} → statement M
-put-spec =
+pub put-byte-spec : {M : Type 1} → statement M
+put-byte-spec =
     tie.close (tie.spec add-result returns slice-write-out add-result-2 same-length returns-2)
