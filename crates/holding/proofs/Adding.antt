@@ -12,6 +12,7 @@ use Rattle.laws.specs.Pick.{both, either}
 use Rattle.laws.proofs.Tests.{both-right, either-false, either-assoc}
 use Rattle.laws.proofs.Lists.{sets-append, part-of, part-rest}
 use Rattle.blocks.specs.Block.{Block, sizeOf, recordOf, recordsOf}
+use Rattle.packet.specs.Packet.{packetLength}
 use Rattle.walk.specs.declared.Run.{Run}
 use Rattle.walk.specs.declared.Run.the-variants.{Idle, Head, Body}
 use Rattle.walk.specs.declared.Got.{Got}
@@ -299,37 +300,38 @@ module _ (p : ℕ) {n : ℕ} (e : n ≡ pointedBy p) where
         | no k ↦ f (omega arith)
       ]
 
-  by-pointed : n ≤ 36 → (p ≤ 12) × (n ≡ 3 * p)
-  by-pointed h = three (λ l. (l, small l)) (λ f. absurd (omega (arith, thirteen f, h))) (λ k. absurd (omega (arith, over k, h)))
+  by-pointed : n ≤ 39 → (n ≡ 39 → ⊥) → (p ≤ 12) × (n ≡ 3 * p)
+  by-pointed h i = three (λ l. (l, small l)) (λ f. absurd (i (thirteen f))) (λ k. absurd (omega (arith, over k, h)))
 
   by-none : n ≡ 39 → p ≡ 13
   by-none h = three (λ l. absurd (omega (arith, small l, l, h))) (λ f. f) (λ k. absurd (omega (arith, over k, h)))
 
-  by-skipped : 36 < n → (n ≡ 39 → ⊥) → 13 < p
-  by-skipped h k = three (λ l. absurd (omega (arith, small l, l, h))) (λ f. absurd (k (thirteen f))) (λ i. i)
+  by-skipped : 39 < n → 13 < p
+  by-skipped h = three (λ l. absurd (omega (arith, small l, l, h))) (λ f. absurd (omega (arith, thirteen f, h))) (λ i. i)
 
 module _ (m : Mode) (p : ℕ) (packet : List ℕ) (a : Got) {n : ℕ} {old : List ℕ} (e : n ≡ pointedBy p) where
   pub read-pointed :
-      {b r : Got} {between store mid new : List ℕ} → n ≤ 36 → CarriedTo m (take (3 + n - 3) (drop 3 packet)) a b between old mid
+      {b r : Got} {between store mid new : List ℕ} → n ≤ 39 → (n ≡ 39 → ⊥) → CarriedTo m (take (3 + n - 3) (drop 3 packet)) a b between old mid
       → Flowed (take (length packet - (3 + n)) (drop (3 + n) packet)) b r store mid new
       → ReadRow m p (drop 3 packet) a r store old new
-  read-pointed h x y =
-      let k = by-pointed p e h in
+  read-pointed h i x y =
+      let k = by-pointed p e h i in
       rw (le-leb _ _ (k .0), drop-drop)
       (went-on (rw (k .1, part-of 3 (3 * p) packet) at x) (rw (k .1, part-rest (3 + 3 * p) packet) at y))
 
   pub read-unpointed :
-      {r : Got} {store new : List ℕ} → n ≡ 39 → CarriedOn m (take (length packet - 3) (drop 3 packet)) a r store old new
+      {r : Got} {store new : List ℕ} → length packet ≡ packetLength → n ≡ 39 → CarriedOn m (take (3 + n - 3) (drop 3 packet)) a r store old new
       → ReadRow m p (drop 3 packet) a r store old new
-  read-unpointed h x =
+  read-unpointed z h x =
       let f = by-none p e h in
       let k : 12 < p = omega (arith, f) in
-      rw (lt-leb _ _ k, eq-eqb _ _ f) (rw (part-rest 3 packet) at x)
+      let w : 3 + n - 3 ≡ length packet - 3 = omega (arith, z, h) in
+      rw (lt-leb _ _ k, eq-eqb _ _ f) (rw (w, part-rest 3 packet) at x)
 
   pub read-skipped :
-      {r : Got} {store : List ℕ} → 36 < n → (n ≡ 39 → ⊥) → Lost true m a r store old → ReadRow m p (drop 3 packet) a r store old old
-  read-skipped h k w =
-      let f = by-skipped p e h k in
+      {r : Got} {store : List ℕ} → 39 < n → Lost true m a r store old → ReadRow m p (drop 3 packet) a r store old old
+  read-skipped h w =
+      let f = by-skipped p e h in
       let i : 12 < p = omega (arith, f) in
       let j : p ≡ 13 → ⊥ = λ z. omega (arith, f, z) in
       rw (lt-leb _ _ i, ne-eqb _ _ j, both-right) w

@@ -13,7 +13,7 @@ ghost use Rattle.octet.specs.Decoding.{nib};
 ghost use Rattle.blocks.specs.Block.{recordOf};
 ghost use Rattle.packet.specs.Packet.{packetLength};
 ghost use Rattle.walk.specs.declared.Run.the-variants.{Body};
-ghost use Rattle.walk.specs.Mode.{body};
+ghost use Rattle.walk.specs.Mode.{Mode, body, running};
 ghost use Rattle.walk.specs.Store.{modeOf};
 ghost use Rattle.walk.specs.Reading.{dropIf};
 ghost use Rattle.walk.specs.Places.{zeroed};
@@ -28,15 +28,17 @@ pub(crate) fn read(got: Got, store: &mut [u8; 2047], packet: &[u8], out: &mut [u
     ensures { λ r. ⌜ ReadRow (modeOf (got .run) (now (store .entry))) (nib (getD (now (packet .entry)) 2 0)) (drop 3 (now (packet .entry))) got r (now (store .exit)) (now (out .entry)) (now (out .exit)) ⌝ }
 {
     let before = walk::pointed(packet[2]);
-    if before <= 36 {
-        let at = 3 + before;
-        let carried = carry_to(got, store, &packet[3..at], out);
-        return flow(carried, store, &packet[at..], out);
+    if before > 39 {
+        return lose(true, got, store);
     }
+    let at = 3 + before;
+    let was = got.run;
+    let taken = take_in(was, store, &packet[3..at]);
     if before == 39 {
-        return carry_on(got, store, &packet[3..], out);
+        return carry_on(got, taken, store, out);
     }
-    lose(true, got, store)
+    let carried = carry_to(got, taken, store, &packet[3..at], out);
+    flow(carried, store, &packet[at..], out)
 }
 
 // The running block is dropped where the test holds, and that is noted.
@@ -55,18 +57,17 @@ pub(crate) fn lose(t: bool, got: Got, store: &mut [u8; 2047]) -> Got
     }
 }
 
-// Up to the pointed byte: the running block is finished by then with only filler between, or it is
-// dropped.
-fn carry_to(got: Got, store: &mut [u8; 2047], s: &[u8], out: &mut [u8]) -> Got
-    requires { ⌜ Kept (got .run) (now store) ⌝ }
+// Up to the pointed byte, from which a running block has taken its bytes: it is finished by then with
+// only filler between, or it is dropped.
+fn carry_to(got: Got, taken: Taken, store: &mut [u8; 2047], s: &[u8], out: &mut [u8]) -> Got
+    requires { ⌜ Kept (taken .run) (now store) ⌝ }
     requires { ⌜ Room got (now out) ⌝ }
-    ensures { λ r. ⌜ CarriedTo (modeOf (got .run) (now (store .entry))) (now (s .entry)) got r (now (store .exit)) (now (out .entry)) (now (out .exit)) ⌝ }
+    ensures { λ r. ⌜ ((m : Mode) → runs (got .run) ≡ running m → TookIn m (now (s .entry)) (now (s .entry)) taken (now (store .entry)) → CarriedTo m (now (s .entry)) got r (now (store .exit)) (now (out .entry)) (now (out .exit))) ⌝ }
 {
-    let was = got.run;
-    let taken = take_in(was, store, s);
     let run = taken.run;
     let lost = walk::falls(run, s, taken.next);
     let kept = drop_if(lost, run, store);
+    let was = got.run;
     let dropped = either(got.dropped, both(is_running(was), lost));
     finish(
         Got {
@@ -80,15 +81,14 @@ fn carry_to(got: Got, store: &mut [u8; 2047], s: &[u8], out: &mut [u8]) -> Got
     )
 }
 
-// No start is pointed at: the running block takes what it wants, and what follows it isn't read.
-fn carry_on(got: Got, store: &mut [u8; 2047], s: &[u8], out: &mut [u8]) -> Got
-    requires { ⌜ Kept (got .run) (now store) ⌝ }
+// No start is pointed at: the running block has taken what it wants, and what follows it isn't read.
+fn carry_on(got: Got, taken: Taken, store: &mut [u8; 2047], out: &mut [u8]) -> Got
+    requires { ⌜ Kept (taken .run) (now store) ⌝ }
     requires { ⌜ Room got (now out) ⌝ }
-    ensures { λ r. ⌜ CarriedOn (modeOf (got .run) (now (store .entry))) (now (s .entry)) got r (now (store .exit)) (now (out .entry)) (now (out .exit)) ⌝ }
+    ensures { λ r. ⌜ ((m : Mode) (l : List ℕ) → runs (got .run) ≡ running m → TookIn m l l taken (now (store .entry)) → CarriedOn m l got r (now (store .exit)) (now (out .entry)) (now (out .exit))) ⌝ }
 {
-    let was = got.run;
-    let taken = take_in(was, store, s);
     let run = taken.run;
+    let was = got.run;
     let dropped = either(got.dropped, both(is_running(was), !is_running(run)));
     finish(
         Got {
@@ -192,24 +192,14 @@ fn body_in(head: u16, held: usize, store: &mut [u8; 2047], s: &[u8], from: usize
     ensures { λ r. ⌜ TookIn (body head (take held (now (store .entry)))) (drop from (now (s .entry))) (now (s .entry)) r (now (store .exit)) ⌝ }
 {
     let need = (head / 32) as usize - held;
-    let there = s.len() - from;
-    if need < there {
-        moves::copy(s, from, need, store, held);
-        return Taken {
-            run: Run::Body {
-                head: head,
-                held: held + need,
-            },
-            next: from + need,
-        };
-    }
-    moves::copy(s, from, there, store, held);
+    let n = moves::within(need, s.len(), from);
+    moves::copy(s, from, n, store, held);
     Taken {
         run: Run::Body {
             head: head,
-            held: held + there,
+            held: held + n,
         },
-        next: from + there,
+        next: from + n,
     }
 }
 

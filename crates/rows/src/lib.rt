@@ -122,16 +122,15 @@ fn take_all(
                 packets: count,
             };
         }
-        let from = at;
-        at += 42;
+        let next = at + 42;
         count += 1;
-        let address = packet::address(&packets[from..at]);
-        if packet::passes_by(setting, address) {
-            continue;
+        let address = packet::address(&packets[at..next]);
+        if !packet::passes_by(setting, address) {
+            let page = a.page;
+            let v = pages::judge(setting, page, a.index, address, &packets[at..next]);
+            a = heed(v, a, store, &packets[at..next], out);
         }
-        let page = a.page;
-        let v = pages::judge(setting, page, a.index, address, &packets[from..at]);
-        a = heed(v, a, store, &packets[from..at], out);
+        at = next;
     }
     Taking {
         going: a,

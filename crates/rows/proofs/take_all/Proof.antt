@@ -5,6 +5,7 @@ use native.Mathlib.Omega.{arith}
 use lib.ListN.{length, take, drop}
 use denote.Ref.{now}
 use borrow.Author.Needs.{needs}
+use borrow.Author.Tests.{not-false}
 use Rattle.packet.specs.Packet.{packetLength}
 use Rattle.rows.specs.Feeding.{Ran, begun, run}
 use Rattle.rows.specs.Holding.{RanTo}
@@ -57,8 +58,8 @@ returns c =
     let e = run-full (a .setting) (length (now (a .out))) _ b _ (omega (arith, w .written, l .inv .2)) in
     (rw (sym (e ∙ l .inv .6 .2)) w, l .inv .3)
 
-add-at : tie.Need-add-at Inv-loop μ-loop
-add-at c = search needs
+add-next : tie.Need-add-next Inv-loop μ-loop
+add-next c = search needs
 
 add-count : tie.Need-add-count Inv-loop μ-loop
 add-count c = search needs
@@ -77,28 +78,6 @@ address-requires c κs = search needs
 
 passes-by-requires : tie.Need-passes-by-requires Inv-loop μ-loop
 passes-by-requires c κs = search needs
-
-loop-less : tie.Need-loop-less Inv-loop μ-loop
-loop-less c = search needs
-
-loop-again : tie.Need-loop-again Inv-loop μ-loop
-loop-again c =
-    let a = c .before .before .before .before .before .before .before .before .before .before .args in
-    let l = c .before .before .before .before .before .before .before .loop in
-    let w = l .inv .6 .1 in
-    let h : l .at + 42 ≤ length (now (a .packets)) = omega arith in
-    let p = take (l .at + 42 - l .at) (drop (l .at) (now (a .packets))) in
-    let o = see-elsewhere (a .setting) p (omega (arith, packet-length (now (a .packets)) (l .at) h)) (c .before .before .address .ensures) (sym (c .before .passes-by .ensures) ∙ c .if2 .taken) in (
-      h,
-      omega arith,
-      l .inv .2,
-      l .inv .3,
-      l .inv .4,
-      omega arith,
-      further (a .setting) (length (now (a .out))) (now (a .packets)) (l .at) (l .inv .6 .0) w h
-          (omega (arith, w .written, l .inv .2, l .inv .3, c .before .before .before .before .if1 .left))
-          (act-other (l .a) (l .out) (holds-kept _ (w .holds)) o) (l .inv .6 .2),
-    )
 
 sub-judge : tie.Need-sub-judge Inv-loop μ-loop
 sub-judge c = search needs
@@ -132,11 +111,11 @@ heed-requires c κs =
       ),
     )
 
-loop-less-2 : tie.Need-loop-less-2 Inv-loop μ-loop
-loop-less-2 c = search needs
+loop-less : tie.Need-loop-less Inv-loop μ-loop
+loop-less c = search needs
 
-loop-again-2 : tie.Need-loop-again-2 Inv-loop μ-loop
-loop-again-2 c =
+loop-again : tie.Need-loop-again Inv-loop μ-loop
+loop-again c =
     let a = c .before .before .before .before .before .before .before .before .before .before .before .before .before .before .before .before .before .before .args in
     let l = c .before .before .before .before .before .before .before .before .before .before .before .before .before .before .before .loop in
     let w = l .inv .6 .1 in
@@ -154,6 +133,28 @@ loop-again-2 c =
       omega (arith, l .inv .5),
       further (a .setting) (length (now (a .out))) (now (a .packets)) (l .at) (l .inv .6 .0) w h
           (omega (arith, w .written, l .inv .2, l .inv .3, c .before .before .before .before .before .before .before .before .before .before .before .before .if1 .left)) x (l .inv .6 .2),
+    )
+
+loop-less-2 : tie.Need-loop-less-2 Inv-loop μ-loop
+loop-less-2 c = search needs
+
+loop-again-2 : tie.Need-loop-again-2 Inv-loop μ-loop
+loop-again-2 c =
+    let a = c .before .before .before .before .before .before .before .before .before .before .args in
+    let l = c .before .before .before .before .before .before .before .loop in
+    let w = l .inv .6 .1 in
+    let h : l .at + 42 ≤ length (now (a .packets)) = omega arith in
+    let p = take (l .at + 42 - l .at) (drop (l .at) (now (a .packets))) in
+    let o = see-elsewhere (a .setting) p (omega (arith, packet-length (now (a .packets)) (l .at) h)) (c .before .before .address .ensures) (sym (c .before .passes-by .ensures) ∙ not-false _ (c .if2 .left)) in (
+      h,
+      omega arith,
+      l .inv .2,
+      l .inv .3,
+      l .inv .4,
+      omega arith,
+      further (a .setting) (length (now (a .out))) (now (a .packets)) (l .at) (l .inv .6 .0) w h
+          (omega (arith, w .written, l .inv .2, l .inv .3, c .before .before .before .before .if1 .left))
+          (act-other (l .a) (l .out) (holds-kept _ (w .holds)) o) (l .inv .6 .2),
     )
 
 same-length-2 : tie.Need-same-length-2 Inv-loop μ-loop
@@ -177,15 +178,13 @@ take-all-spec =
     sub-if1
     same-length
     returns
-    add-at
+    add-next
     add-count
     sub-address
     part-address-start
     part-address-end
     address-requires
     passes-by-requires
-    loop-less
-    loop-again
     sub-judge
     part-judge-start
     part-judge-end
@@ -194,6 +193,8 @@ take-all-spec =
     part-heed-start
     part-heed-end
     heed-requires
+    loop-less
+    loop-again
     loop-less-2
     loop-again-2
     same-length-2

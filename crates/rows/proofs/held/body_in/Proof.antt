@@ -1,6 +1,8 @@
 -- `rows::held::body_in` meets its contract: it copies all that the block wants, or all that there is. Assumes nothing.
+use mathlib.Core.Path.{_≡_}
 use mathlib.Core.Logic.{inl, inr}
-use Prim.Native.Nat.{_-_, _/_}
+use Prim.Native.Nat.{_-_, _/_, min}
+use native.Mathlib.Decide.{decLt}
 use native.Mathlib.Omega.{arith}
 use lib.ListN.{length}
 use denote.Ref.{now}
@@ -15,51 +17,32 @@ cast-need c = search needs
 sub-need : tie.Need-sub-need
 sub-need c = body-fits (c .before .pre .0)
 
-sub-there : tie.Need-sub-there
-sub-there c = search needs
+within-requires : tie.Need-within-requires
+within-requires c κs = search needs
 
 copy-requires : tie.Need-copy-requires
 copy-requires c κs = search needs
 
+add-t9 : tie.Need-add-t9
+add-t9 c = search needs
+
 add-t14 : tie.Need-add-t14
 add-t14 c = search needs
-
-add-t16 : tie.Need-add-t16
-add-t16 c = search needs
 
 returns : tie.Need-returns
 returns c =
     let a = c .before .before .before .before .args in
     let k = c .before .before .before .before .pre .0 in
-    body-took (now (a .s)) (a .from) (a .head / 32 - a .held) k (omega arith) (omega (arith, body-fits k)) (inl (omega (arith, body-fits k))) (c .copy .ensures)
-
-copy-requires-2 : tie.Need-copy-requires-2
-copy-requires-2 c κs = search needs
-
-add-t9 : tie.Need-add-t9
-add-t9 c = search needs
-
-add-t21 : tie.Need-add-t21
-add-t21 c = search needs
-
-returns-2 : tie.Need-returns-2
-returns-2 c =
-    let a = c .before .before .before .before .args in
-    let k = c .before .before .before .before .pre .0 in
-    body-took (now (a .s)) (a .from) (length (now (a .s)) - a .from) k (omega arith) (omega (arith, body-fits k)) (inr (omega arith)) (c .copy2 .ensures)
+    let f = body-fits k in
+    let n = c .before .before .within .result in
+    let e : n ≡ min (a .head / 32 - a .held) (length (now (a .s)) - a .from) = c .before .before .within .ensures in
+    body-took (now (a .s)) (a .from) n k (omega (arith, e)) (omega (arith, e, f))
+    (elim (decLt (a .head / 32 - a .held) (length (now (a .s)) - a .from)) [
+      | yes h ↦ inl (omega (arith, e, f, h))
+      | no h ↦ inr (omega (arith, e, f, h))
+    ])
+    (c .copy .ensures)
 
 pub body-in-spec : {M : Type 1} → statement M
 body-in-spec =
-    tie.close
-    (tie.spec
-    cast-need
-    sub-need
-    sub-there
-    copy-requires
-    add-t14
-    add-t16
-    returns
-    copy-requires-2
-    add-t9
-    add-t21
-    returns-2)
+    tie.close (tie.spec cast-need sub-need within-requires copy-requires add-t9 add-t14 returns)

@@ -1,15 +1,9 @@
 -- `rows::held::carry_on` meets its contract. Assumes nothing.
 use mathlib.Core.Path.{_∙_}
-use denote.Ref.{now}
 use borrow.Author.Needs.{needs}
-use Rattle.walk.specs.Store.{modeOf}
-use Rattle.holding.proofs.Keeping.{holds-kept}
-use Rattle.holding.proofs.Adding.{carried-on, runs-mode}
+use Rattle.holding.proofs.Adding.{carried-on}
 use Rattle.rows.proofs.held.carry_on.Statement.{statement}
 use Rattle.rows.proofs.held.carry_on.Tie as tie
-
-take-in-requires : tie.Need-take-in-requires
-take-in-requires c κs = search needs
 
 is-running-requires : tie.Need-is-running-requires
 is-running-requires c κs = search needs
@@ -24,26 +18,21 @@ either-requires : tie.Need-either-requires
 either-requires c κs = search needs
 
 finish-requires : tie.Need-finish-requires
-finish-requires c κs =
-    let p = c .before .before .before .before .before .before .before .before .before .before .pre in
-    let t = c .before .before .before .before .before .before .take-in .ensures in
-    (holds-kept _ (t .holds), record { long = p .1 .long; few = p .1 .few })
+finish-requires c κs = search needs
 
 same-length : tie.Need-same-length
 same-length c = search needs
 
 returns : tie.Need-returns
-returns c =
-    let a = c .before .before .before .before .before .before .before .before .before .before .before .before .before .args in
-    carried-on (modeOf (a .got .run) (now (a .store))) (now (a .s)) (a .got) (c .before .before .before .before .before .before .before .before .before .take-in .ensures)
-    (c .before .before .before .before .before .either .ensures ∙ rw (c .before .before .before .before .before .before .both .ensures, c .before .before .before .before .before .before .before .before .is-running .ensures, c .before .before .before .before .before .before .before .is-running2 .ensures, runs-mode))
+returns c m l e t =
+    carried-on m l (c .before .before .before .before .before .before .before .before .before .before .args .got) t
+    (c .before .before .before .before .before .either .ensures ∙ rw (c .before .before .before .before .before .before .both .ensures, c .before .before .before .before .before .before .before .before .is-running .ensures, c .before .before .before .before .before .before .before .is-running2 .ensures, e))
     (c .before .before .finish .ensures)
 
 pub carry-on-spec : {M : Type 1} → statement M
 carry-on-spec =
     tie.close
     (tie.spec
-    take-in-requires
     is-running-requires
     is-running-requires-2
     both-requires

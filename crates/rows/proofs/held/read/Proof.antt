@@ -1,5 +1,5 @@
 -- `rows::held::read` meets its contract: the pointer decides. Assumes nothing.
-use mathlib.Core.Path.{_≡_, _∙_, ap}
+use mathlib.Core.Path.{_≡_, _∙_, ap, sym}
 use mathlib.Core.Bool.{true}
 use Prim.Native.Nat.{_+_, _-_}
 use native.Mathlib.Omega.{arith}
@@ -11,7 +11,8 @@ use Rattle.octet.specs.Decoding.{nib}
 use Rattle.walk.specs.Mode.{carries, finished}
 use Rattle.walk.specs.Store.{modeOf}
 use Rattle.holding.proofs.Room.{carried-room, two-each}
-use Rattle.holding.proofs.Adding.{read-pointed, read-unpointed, read-skipped}
+use Rattle.holding.proofs.Keeping.{holds-kept}
+use Rattle.holding.proofs.Adding.{runs-mode, read-pointed, read-unpointed, read-skipped}
 use Rattle.rows.proofs.held.read.Statement.{statement}
 use Rattle.rows.proofs.held.read.Tie as tie
 
@@ -21,8 +22,44 @@ shared-slice-read-pointed c = search needs
 pointed-requires : tie.Need-pointed-requires
 pointed-requires c κs = search needs
 
+lose-requires : tie.Need-lose-requires
+lose-requires c κs = search needs
+
+returns : tie.Need-returns
+returns c =
+    let a = c .before .before .before .before .before .before .before .args in
+    read-skipped (modeOf (a .got .run) (now (a .store))) (nib (getD (now (a .packet)) 2 0)) (now (a .packet)) (a .got)
+    (c .before .before .before .pointed .ensures) (c .before .before .if1 .taken) (c .lose .ensures (now (a .out)))
+
 add-at : tie.Need-add-at
 add-at c = search needs
+
+sub-take-in : tie.Need-sub-take-in
+sub-take-in c = search needs
+
+part-take-in-start : tie.Need-part-take-in-start
+part-take-in-start c = search needs
+
+part-take-in-end : tie.Need-part-take-in-end
+part-take-in-end c = search needs
+
+take-in-requires : tie.Need-take-in-requires
+take-in-requires c κs = search needs
+
+carry-on-requires : tie.Need-carry-on-requires
+carry-on-requires c κs =
+    let r = c .before .before .before .before .before .before .before .before .before .before .before .pre .1 .1 in
+    (holds-kept _ (c .before .before .before .take-in .ensures .holds), record { long = omega (arith, r .long); few = r .few })
+
+same-length : tie.Need-same-length
+same-length c = search needs
+
+returns-2 : tie.Need-returns-2
+returns-2 c =
+    let a = c .before .before .before .before .before .before .before .before .before .before .before .before .before .before .args in
+    read-unpointed (modeOf (a .got .run) (now (a .store))) (nib (getD (now (a .packet)) 2 0)) (now (a .packet)) (a .got)
+    (c .before .before .before .before .before .before .before .before .before .before .pointed .ensures) (c .before .before .before .before .before .before .before .before .before .before .before .before .before .before .pre .1 .0) (c .before .before .before .before .before .if2 .taken)
+    (c .before .before .carry-on .ensures _ _ (sym (runs-mode (a .got .run) (now (a .store)))) (c .before .before .before .before .before .before .take-in .ensures))
 
 sub-carry-to : tie.Need-sub-carry-to
 sub-carry-to c = search needs
@@ -34,7 +71,9 @@ part-carry-to-end : tie.Need-part-carry-to-end
 part-carry-to-end c = search needs
 
 carry-to-requires : tie.Need-carry-to-requires
-carry-to-requires c κs = search needs
+carry-to-requires c κs =
+    let r = c .before .before .before .before .before .before .before .before .before .before .before .before .pre .1 .1 in
+    (holds-kept _ (c .before .before .before .before .take-in .ensures .holds), record { long = omega (arith, r .long); few = r .few })
 
 sub-flow : tie.Need-sub-flow
 sub-flow c = search needs
@@ -47,57 +86,28 @@ part-flow-end c = search needs
 
 flow-requires : tie.Need-flow-requires
 flow-requires c κs =
-    let x = c .before .before .before .before .before .carry-to .ensures in
-    let a = c .before .before .before .before .before .before .before .before .before .before .before .before .before .before .args in
-    let q = c .before .before .before .before .before .before .before .before .before .before .before .before .before .before .pre in
+    let a = c .before .before .before .before .before .before .before .before .before .before .before .before .before .before .before .before .before .before .args in
+    let q = c .before .before .before .before .before .before .before .before .before .before .before .before .before .before .before .before .before .before .pre in
+    let x = c .before .before .before .before .before .carry-to .ensures _ (sym (runs-mode (a .got .run) (now (a .store)))) (c .before .before .before .before .before .before .before .before .before .before .take-in .ensures) in
     let p = now (a .packet) in
-    let n = 3 + c .before .before .before .before .before .before .before .before .before .before .pointed .result in
+    let n = 3 + c .before .before .before .before .before .before .before .before .before .before .before .before .before .before .pointed .result in
     let m = modeOf (a .got .run) (now (a .store)) in
     let g = carried-room true m (take (n - 3) (drop 3 p)) (q .0 .good) in
     let t = two-each (finished (carries true m (take (n - 3) (drop 3 p)))) in
-    let k = c .before .before .before .before .before .carry-to .kept .1 .1 .1 .0 in
+    let k = c .before .before .before .before .before .carry-to .kept .1 .1 .1 .1 .0 in
     let l : length (take (length p - n) (drop n p)) ≡ length p - n = ap length (part-rest n p) ∙ length-drop n p in
     (x .holds .kept, (omega (arith, x .written, g, l, k, q), omega (arith, x .written, x .blocks, t, q)))
-
-same-length : tie.Need-same-length
-same-length c = search needs
-
-returns : tie.Need-returns
-returns c =
-    let a = c .before .before .before .before .before .before .before .before .before .before .before .before .before .before .before .before .before .args in
-    read-pointed (modeOf (a .got .run) (now (a .store))) (nib (getD (now (a .packet)) 2 0)) (now (a .packet)) (a .got) (c .before .before .before .before .before .before .before .before .before .before .before .before .before .pointed .ensures) (c .before .before .before .before .before .before .before .before .before .before .before .before .if1 .taken)
-    (c .before .before .before .before .before .before .before .before .carry-to .ensures) (c .before .before .flow .ensures)
-
-sub-carry-on : tie.Need-sub-carry-on
-sub-carry-on c = search needs
-
-part-carry-on-start : tie.Need-part-carry-on-start
-part-carry-on-start c = search needs
-
-part-carry-on-end : tie.Need-part-carry-on-end
-part-carry-on-end c = search needs
-
-carry-on-requires : tie.Need-carry-on-requires
-carry-on-requires c κs = search needs
 
 same-length-2 : tie.Need-same-length-2
 same-length-2 c = search needs
 
-returns-2 : tie.Need-returns-2
-returns-2 c =
-    let a = c .before .before .before .before .before .before .before .before .before .before .before .before .args in
-    read-unpointed (modeOf (a .got .run) (now (a .store))) (nib (getD (now (a .packet)) 2 0)) (now (a .packet)) (a .got) (c .before .before .before .before .before .before .before .before .pointed .ensures) (c .before .before .before .before .before .before .if2 .taken)
-    (c .before .before .carry-on .ensures)
-
-lose-requires : tie.Need-lose-requires
-lose-requires c κs = search needs
-
 returns-3 : tie.Need-returns-3
 returns-3 c =
-    let a = c .before .before .before .before .before .before .before .before .args in
-    read-skipped (modeOf (a .got .run) (now (a .store))) (nib (getD (now (a .packet)) 2 0)) (now (a .packet)) (a .got)
-    (c .before .before .before .before .pointed .ensures) (c .before .before .before .if1 .left) (c .before .before .if2 .left)
-    (c .lose .ensures (now (a .out)))
+    let a = c .before .before .before .before .before .before .before .before .before .before .before .before .before .before .before .before .before .before .before .before .before .args in
+    read-pointed (modeOf (a .got .run) (now (a .store))) (nib (getD (now (a .packet)) 2 0)) (now (a .packet)) (a .got)
+    (c .before .before .before .before .before .before .before .before .before .before .before .before .before .before .before .before .before .pointed .ensures) (c .before .before .before .before .before .before .before .before .before .before .before .before .before .before .before .before .if1 .left) (c .before .before .before .before .before .before .before .before .before .before .before .before .if2 .left)
+    (c .before .before .before .before .before .before .before .before .carry-to .ensures _ (sym (runs-mode (a .got .run) (now (a .store)))) (c .before .before .before .before .before .before .before .before .before .before .before .before .before .take-in .ensures))
+    (c .before .before .flow .ensures)
 
 pub read-spec : {M : Type 1} → statement M
 read-spec =
@@ -105,7 +115,16 @@ read-spec =
     (tie.spec
     shared-slice-read-pointed
     pointed-requires
+    lose-requires
+    returns
     add-at
+    sub-take-in
+    part-take-in-start
+    part-take-in-end
+    take-in-requires
+    carry-on-requires
+    same-length
+    returns-2
     sub-carry-to
     part-carry-to-start
     part-carry-to-end
@@ -114,13 +133,5 @@ read-spec =
     part-flow-start
     part-flow-end
     flow-requires
-    same-length
-    returns
-    sub-carry-on
-    part-carry-on-start
-    part-carry-on-end
-    carry-on-requires
     same-length-2
-    returns-2
-    lose-requires
     returns-3)
