@@ -35,6 +35,10 @@ seeZero s l =
 abbrev pub legible : List ℕ → Bool
 legible p = both (eqb (length p) packetLength) (decodes 6 (drop 2 p))
 
--- a packet 0 of 42 bytes; one of another length counts as one that can't be read
+-- a packet that isn't 42 bytes long counts as one that can't be read
+abbrev pub inFull : List ℕ → Seen → Seen
+inFull p x = pick (eqb (length p) packetLength) x junk
+
+-- a packet 0
 unfoldable pub seenZero : Setting → List ℕ → Seen
-seenZero s p = pick (eqb (length p) packetLength) (seeZero s (drop 2 p)) junk
+seenZero s p = inFull p (seeZero s (drop 2 p))

@@ -2,13 +2,12 @@
 use mathlib.Core.List.{List}
 use Prim.Native.Nat.{ℕ, _+_, _*_, _/_, _%_}
 use lib.Dec.{eqb, leb}
-use lib.ListN.{length, getD, drop}
-use Rattle.laws.specs.Pick.{pick, both}
+use lib.ListN.{getD, drop}
+use Rattle.laws.specs.Pick.{pick}
 use Rattle.octet.specs.Decoding.{nib}
 use Rattle.packet.specs.declared.Setting.{Setting}
-use Rattle.packet.specs.Packet.{packetLength}
 use Rattle.packet.specs.Address.{decodes}
-use Rattle.headers.specs.Seen.{Seen, junk, other, row, seeZero}
+use Rattle.headers.specs.Seen.{Seen, junk, other, row, seeZero, inFull}
 
 -- a packet of our magazine, by its number Y
 unfoldable pub seeY : Setting → ℕ → List ℕ → Seen
@@ -20,8 +19,7 @@ see s p =
     let two = nib (getD p 1 0) in
     pick (decodes 2 p) (pick (eqb (one % 8) (s .magazine % 8)) (seeY s (one / 8 + 2 * two) p) other) junk
 
--- a packet of 42 bytes with this address; one of another length counts as one that can't be read
+-- a packet with this address
 unfoldable pub seenAs : Setting → ℕ → List ℕ → Seen
 seenAs s address p =
-    pick (both (eqb (length p) packetLength) (leb address 255))
-    (pick (eqb (address % 8) (s .magazine % 8)) (seeY s (address / 8) p) other) junk
+    inFull p (pick (leb address 255) (pick (eqb (address % 8) (s .magazine % 8)) (seeY s (address / 8) p) other) junk)

@@ -57,8 +57,8 @@ pub(crate) fn lose(t: bool, got: Got, store: &mut [u8; 2047]) -> Got
     }
 }
 
-// Up to the pointed byte, from which a running block has taken its bytes: it is finished by then with
-// only filler between, or it is dropped.
+// The bytes before the pointed one, of which a running block has taken its own: it is finished by then
+// with only filler behind it, or it is dropped.
 fn carry_to(got: Got, taken: Taken, store: &mut [u8; 2047], s: &[u8], out: &mut [u8]) -> Got
     requires { ⌜ Kept (taken .run) (now store) ⌝ }
     requires { ⌜ Room got (now out) ⌝ }
@@ -81,7 +81,7 @@ fn carry_to(got: Got, taken: Taken, store: &mut [u8; 2047], s: &[u8], out: &mut 
     )
 }
 
-// No start is pointed at: the running block has taken what it wants, and what follows it isn't read.
+// No start is pointed at: a running block has taken what it wants, and what follows it isn't read.
 fn carry_on(got: Got, taken: Taken, store: &mut [u8; 2047], out: &mut [u8]) -> Got
     requires { ⌜ Kept (taken .run) (now store) ⌝ }
     requires { ⌜ Room got (now out) ⌝ }
