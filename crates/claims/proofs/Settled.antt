@@ -56,7 +56,6 @@ use Rattle.packet.proofs.address.Reads as packet·address
 use Rattle.packet.proofs.passes_by.Reads as packet·passes-by
 use Rattle.moves.proofs.copy.Reads as moves·copy
 use Rattle.moves.proofs.clear.Reads as moves·clear
-use Rattle.moves.proofs.within.Reads as moves·within
 use Rattle.state.proofs.fresh.Reads as reader·fresh
 use Rattle.reader.proofs.feed.Reads as reader·feed
 use Rattle.rows.proofs.feed_all.Reads as reader·feed-all
@@ -235,9 +234,6 @@ moves·copy-settled κs a x y s t p q = same p q
 pub moves·clear-settled :
     (κs : _) (a : _) (x y : _) (s t : _) → moves·clear.Post κs a x s → moves·clear.Post κs a y t → now (s .0) ≡ now (t .0)
 moves·clear-settled κs a x y s t p q = same p q
-
-pub moves·within-settled : (κs : _) (a : _) (x y : _) (s t : _) → moves·within.Post κs a x s → moves·within.Post κs a y t → x ≡ y
-moves·within-settled κs a x y s t p q = same p q
 
 -- ---- the reader
 

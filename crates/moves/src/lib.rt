@@ -1,4 +1,4 @@
-// Bytes of lent memory, many at a time: copied to a place, made zero, or counted. What doesn't lie within the
+// Bytes of lent memory, many at a time: copied to a place, or made zero. What doesn't lie within the
 // slices is left out.
 ghost use mathlib.Core.Path.{_≡_};
 ghost use Prim.Native.Nat.{_-_, min};
@@ -31,7 +31,7 @@ pub fn clear(store: &mut [u8], held: usize)
 }
 
 // How many of n bytes from a place on lie within a slice so long.
-pub fn within(n: usize, long: usize, from: usize) -> usize
+fn within(n: usize, long: usize, from: usize) -> usize
     ensures { λ r. ⌜ r ≡ min n (long - from) ⌝ }
 {
     if long < from {

@@ -185,21 +185,30 @@ fn take_in(run: Run, store: &mut [u8; 2047], s: &[u8]) -> Taken
     }
 }
 
-// A block takes the bytes that it still wants, from `from` on.
+// A block takes the bytes that it still wants, from `from` on, or all that are there.
 fn body_in(head: u16, held: usize, store: &mut [u8; 2047], s: &[u8], from: usize) -> Taken
     requires { ⌜ Kept (Body head held) (now store) ⌝ }
     requires { ⌜ from ≤ length (now s) ⌝ }
     ensures { λ r. ⌜ TookIn (body head (take held (now (store .entry)))) (drop from (now (s .entry))) (now (s .entry)) r (now (store .exit)) ⌝ }
 {
     let need = (head / 32) as usize - held;
-    let n = moves::within(need, s.len(), from);
-    moves::copy(s, from, n, store, held);
+    let there = s.len() - from;
+    moves::copy(s, from, need, store, held);
+    if need < there {
+        return Taken {
+            run: Run::Body {
+                head: head,
+                held: held + need,
+            },
+            next: from + need,
+        };
+    }
     Taken {
         run: Run::Body {
             head: head,
-            held: held + n,
+            held: held + there,
         },
-        next: from + n,
+        next: from + there,
     }
 }
 
