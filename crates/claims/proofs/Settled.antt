@@ -47,9 +47,9 @@ use Rattle.walk.specs.declared.Ahead.the-variants.{Nothing, Broken, Cut, Whole}
 use Rattle.walk.specs.Places.{Found, nothing, broken, cut, whole}
 use Rattle.walk.specs.Holding.{aheadIn, nextOf}
 use Rattle.walk.proofs.pointed.Reads as walk·pointed
-use Rattle.walk.proofs.find.Reads as walk·find
+use Rattle.starts.proofs.find.Reads as starts·find
 use Rattle.walk.proofs.head_on.Reads as walk·head-on
-use Rattle.walk.proofs.falls.Reads as walk·falls
+use Rattle.starts.proofs.falls.Reads as starts·falls
 use Rattle.headers.proofs.judge_zero.Reads as headers·judge-zero
 use Rattle.pages.proofs.judge.Reads as pages·judge
 use Rattle.packet.proofs.address.Reads as packet·address
@@ -199,8 +199,8 @@ back-at s d Broken e = refl
 back-at s d (Cut g v) e = refl
 back-at s d (Whole h n) e = rw e
 
-pub walk·find-settled : (κs : _) (a : _) (x y : _) (s t : _) → walk·find.Post κs a x s → walk·find.Post κs a y t → x ≡ y
-walk·find-settled κs a x y s t p q =
+pub starts·find-settled : (κs : _) (a : _) (x y : _) (s t : _) → starts·find.Post κs a x s → starts·find.Post κs a y t → x ≡ y
+starts·find-settled κs a x y s t p q =
     sym (back-ahead (now (a .0)) x (p .1 .1)) ∙ ap (back (now (a .0))) (sym (p .0) ∙ q .0) ∙ back-ahead (now (a .0)) y (q .1 .1)
 
 pub walk·head-on-settled :
@@ -211,8 +211,8 @@ walk·head-on-settled κs a x y s t p q =
 pub walk·pointed-settled : (κs : _) (a : _) (x y : _) (s t : _) → walk·pointed.Post κs a x s → walk·pointed.Post κs a y t → x ≡ y
 walk·pointed-settled κs a x y s t p q = same p q
 
-pub walk·falls-settled : (κs : _) (a : _) (x y : _) (s t : _) → walk·falls.Post κs a x s → walk·falls.Post κs a y t → x ≡ y
-walk·falls-settled κs a x y s t p q = same p q
+pub starts·falls-settled : (κs : _) (a : _) (x y : _) (s t : _) → starts·falls.Post κs a x s → starts·falls.Post κs a y t → x ≡ y
+starts·falls-settled κs a x y s t p q = same p q
 
 pub headers·judge-zero-settled :
     (κs : _) (a : _) (x y : _) (s t : _) → headers·judge-zero.Post κs a x s → headers·judge-zero.Post κs a y t → x ≡ y

@@ -65,7 +65,7 @@ fn carry_to(got: Got, taken: Taken, store: &mut [u8; 2047], s: &[u8], out: &mut 
     ensures { λ r. ⌜ ((m : Mode) → runs (got .run) ≡ running m → TookIn m (now (s .entry)) (now (s .entry)) taken (now (store .entry)) → CarriedTo m (now (s .entry)) got r (now (store .exit)) (now (out .entry)) (now (out .exit))) ⌝ }
 {
     let run = taken.run;
-    let lost = walk::falls(run, s, taken.next);
+    let lost = starts::falls(run, s, taken.next);
     let kept = drop_if(lost, run, store);
     let was = got.run;
     let dropped = either(got.dropped, both(is_running(was), lost));
@@ -114,7 +114,7 @@ fn flow(got: Got, store: &mut [u8; 2047], s: &[u8], out: &mut [u8]) -> Got
     let mut q = got.written;
     let mut at = 0;
     loop {
-        match walk::find(s, at) {
+        match starts::find(s, at) {
             Ahead::Nothing => {
                 return so_far(Run::Idle, blocks, q, dropped);
             }

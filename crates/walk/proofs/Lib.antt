@@ -1,2 +1,2 @@
 pub mod Staying
-pub mod Stepping
+pub mod Heading

@@ -1,14 +1,13 @@
-// Within a packet: where a block starts in its bytes, what its header says, and whether what stands before the pointed byte may stand
-// there. A place past the end is the end. The running block's bytes are the reader's (crate `reader`); the laws of the running block in
-// its store are crate `holding`.
+// Within a packet: what its pointer says, and what a block's header says. Where a block starts in its bytes, and whether what stands before
+// the pointed byte may stand there, is crate `starts`; the running block's bytes are the reader's (crate `rows`), and the laws of the
+// running block in its store are crate `holding`.
 ghost use mathlib.Core.Path.{_≡_};
-ghost use mathlib.Core.Bool.{not};
 ghost use Prim.Native.Nat.{_+_, _-_, _≤_};
 ghost use lib.ListN.{length, drop};
 ghost use Rattle.octet.specs.Decoding.{nib};
 ghost use Rattle.walk.specs.Reading.{pointedBy};
-ghost use Rattle.walk.specs.Places.{fillers, heads, found};
-ghost use Rattle.walk.specs.Holding.{aheadIn, nextOf, stands};
+ghost use Rattle.walk.specs.Places.{heads};
+ghost use Rattle.walk.specs.Holding.{aheadIn, nextOf};
 
 // The running block: none; its start and so many nibbles of its 16 bits; its 16 bits, and how many
 // of its bytes are in the store.
@@ -57,22 +56,6 @@ pub fn pointed(b: u8) -> usize
     40
 }
 
-// What stands ahead from `from` on where nothing runs.
-pub fn find(s: &[u8], from: usize) -> Ahead
-    ensures { λ r. ⌜ found (drop from (now (s .entry))) ≡ aheadIn (now (s .entry)) r ⌝ }
-    ensures { λ r. ⌜ from + 5 ≤ nextOf r (from + 5) ⌝ }
-    ensures { λ r. ⌜ nextOf r 0 ≤ length (now (s .entry)) ⌝ }
-{
-    let at = skip(s, from);
-    if at >= s.len() {
-        return Ahead::Nothing;
-    }
-    if quick::decode(s[at]) != 12 {
-        return Ahead::Nothing;
-    }
-    head_on(s, at + 1, 0, 0)
-}
-
 // A header from `from` on, of which `got` nibbles are in `bits` already. With four or more it is whole.
 pub fn head_on(s: &[u8], from: usize, got: u8, bits: u16) -> Ahead
     ensures { λ r. ⌜ heads (4 - got) bits (drop from (now (s .entry))) ≡ aheadIn (now (s .entry)) r ⌝ }
@@ -95,37 +78,4 @@ pub fn head_on(s: &[u8], from: usize, got: u8, bits: u16) -> Ahead
         i += 1;
     }
     Ahead::Whole { head: v, next: i }
-}
-
-// Whether a block that has taken its bytes is lost at the pointed byte: it isn't whole, or more than
-// filler follows it.
-pub fn falls(run: Run, s: &[u8], next: usize) -> bool
-    ensures { λ r. ⌜ r ≡ not (stands run (drop next (now (s .entry)))) ⌝ }
-{
-    match run {
-        Run::Idle => true,
-        Run::Head { got: _, bits: _ } => true,
-        Run::Body { head, held } => {
-            if held < (head / 32) as usize {
-                return true;
-            }
-            skip(s, next) < s.len()
-        }
-    }
-}
-
-// The place of the first byte from `from` on that isn't filler: a start, a stray nibble, or the end.
-fn skip(s: &[u8], from: usize) -> usize
-    ensures { λ r. ⌜ r ≡ from + fillers (drop from (now (s .entry))) ⌝ }
-{
-    let mut i = from;
-    loop {
-        if i >= s.len() {
-            break i;
-        }
-        if quick::decode(s[i]) != 3 {
-            break i;
-        }
-        i += 1;
-    }
 }

@@ -8,7 +8,7 @@ use denote.Ref.{now}
 use borrow.Author.Needs.{needs}
 use Rattle.octet.proofs.Laws.{nib-le}
 use Rattle.walk.specs.Places.{heads}
-use Rattle.walk.proofs.Stepping.{head-on, head-cut, head-broken, head-whole}
+use Rattle.walk.proofs.Heading.{head-on, head-cut, head-broken, head-whole}
 use Rattle.walk.proofs.head_on.Statement.{statement}
 use Rattle.walk.proofs.head_on.Tie as tie
 

@@ -10,7 +10,7 @@ use borrow.Author.Needs.{needs}
 use Rattle.laws.proofs.Lists.{part-rest}
 use Rattle.walk.specs.Places.{zeroed}
 use Rattle.walk.specs.Holding.{aheadIn}
-use Rattle.walk.proofs.Stepping.{next-from, next-within}
+use Rattle.starts.proofs.Stepping.{next-from, next-within}
 use Rattle.holding.proofs.Keeping.{found-bits}
 use Rattle.holding.proofs.Adding.{place, Leads, from-place, flow-nothing, flow-broken, flow-cut, flow-held, flow-on}
 use Rattle.rows.proofs.held.flow.Statement.{statement}

@@ -1,14 +1,14 @@
--- `walk::skip` meets its contract: what is filler from the place on is the filler from `from` on. Assumes nothing.
+-- `starts::skip` meets its contract: what is filler from the place on is the filler from `from` on. Assumes nothing.
 use mathlib.Core.Path.{_≡_, _∙_}
 use Prim.Native.Nat.{_+_, _-_, _≤_}
 use native.Mathlib.Omega.{arith}
 use lib.ListN.{length, drop}
 use denote.Ref.{now}
 use borrow.Author.Needs.{needs}
 use Rattle.walk.specs.Places.{fillers}
-use Rattle.walk.proofs.Stepping.{filler-on, filler-stops, filler-ends}
-use Rattle.walk.proofs.skip.Statement.{statement}
-use Rattle.walk.proofs.skip.Tie as tie
+use Rattle.starts.proofs.Stepping.{filler-on, filler-stops, filler-ends}
+use Rattle.starts.proofs.skip.Statement.{statement}
+use Rattle.starts.proofs.skip.Tie as tie
 
 abbrev Inv-loop : tie.InvT-loop
 Inv-loop s from i₀ i = i + fillers (drop i s) ≡ from + fillers (drop from s)

@@ -1,12 +1,12 @@
--- `walk::find` meets its contract: filler leads to the place, and what stands there decides. Assumes nothing.
+-- `starts::find` meets its contract: filler leads to the place, and what stands there decides. Assumes nothing.
 use mathlib.Core.Path.{_∙_}
 use Prim.Native.Nat.{_+_, _-_}
 use native.Mathlib.Omega.{arith}
 use denote.Ref.{now}
 use borrow.Author.Needs.{needs}
-use Rattle.walk.proofs.Stepping.{found-at, not-filler, found-none, found-stray, found-start, next-later}
-use Rattle.walk.proofs.find.Statement.{statement}
-use Rattle.walk.proofs.find.Tie as tie
+use Rattle.starts.proofs.Stepping.{found-at, not-filler, found-none, found-stray, found-start, next-later}
+use Rattle.starts.proofs.find.Statement.{statement}
+use Rattle.starts.proofs.find.Tie as tie
 
 skip-requires : tie.Need-skip-requires
 skip-requires c κs = search needs

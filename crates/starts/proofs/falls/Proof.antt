@@ -1,11 +1,11 @@
--- `walk::falls` meets its contract. Assumes nothing.
+-- `starts::falls` meets its contract. Assumes nothing.
 use native.Mathlib.Omega.{arith}
 use denote.Ref.{now}
 use borrow.Author.Needs.{needs}
 use borrow.Author.Tests.{lt-leb, le-leb}
-use Rattle.walk.proofs.Stepping.{past-end}
-use Rattle.walk.proofs.falls.Statement.{statement}
-use Rattle.walk.proofs.falls.Tie as tie
+use Rattle.starts.proofs.Stepping.{past-end}
+use Rattle.starts.proofs.falls.Statement.{statement}
+use Rattle.starts.proofs.falls.Tie as tie
 
 enum-told : tie.Need-enum-told
 enum-told c = search needs

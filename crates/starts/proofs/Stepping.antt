@@ -1,8 +1,8 @@
--- One turn of each loop that reads: what is left from the next place is what was left from this one. Assumes nothing.
+-- Filler passed by, one byte after the other, and what stands ahead then. Assumes nothing.
 use mathlib.Core.Path.{_≡_, _∙_, refl}
 use mathlib.Core.Bool.{Bool, true, false, not}
 use mathlib.Core.List.{List, [], _∷_}
-use Prim.Native.Nat.{ℕ, suc, _+_, _-_, _*_, _/_, _≤_, _<_}
+use Prim.Native.Nat.{ℕ, suc, _+_, _-_, _≤_, _<_}
 use native.Mathlib.Numerals.{add-one}
 use native.Mathlib.Omega.{arith}
 use native.Mathlib.Decide.{decLt}
@@ -12,11 +12,11 @@ use lib.Dec.{eqb, ltb, leb}
 use borrow.Author.Tests.{eq-eqb, ne-eqb, eqb-false, lt-ltb, le-ltb, lt-leb, le-leb}
 use Rattle.laws.specs.Pick.{pick}
 use Rattle.octet.specs.Decoding.{nib}
 use Rattle.walk.specs.declared.Ahead.{Ahead}
 use Rattle.walk.specs.declared.Ahead.the-variants.{Nothing, Broken, Cut, Whole}
 use Rattle.walk.specs.Mode.{filler}
 use Rattle.walk.specs.Holding.{nextOf}
-use Rattle.walk.specs.Places.{nothing, broken, cut, whole, fillers, heads, found}
+use Rattle.walk.specs.Places.{nothing, fillers, heads, found}
 
 -- ---- filler
 
@@ -31,34 +31,6 @@ filler-stops l i h e = rw (drop-cons l i 0, ne-eqb _ _ e) (omega arith)
 pub filler-ends : (l : List ℕ) (i : ℕ) → length l ≤ i → i ≡ i + fillers (drop i l)
 unfolding fillers
 filler-ends l i h = rw drop-of-length-le (omega arith)
-
--- ---- a header, g nibbles of which have come
-
-pub head-on :
-    (l : List ℕ) (i g v n : ℕ) → i < length l → g < 4 → n ≡ nib (getD l i 0) → (n ≡ 16 → ⊥)
-    → heads (4 - (g + 1)) (v / 16 + n * 4096) (drop (i + 1) l) ≡ heads (4 - g) v (drop i l)
-unfolding heads
-head-on l i g v n h k q e =
-    let p : 4 - g ≡ suc (4 - (g + 1)) = omega arith in
-    rw (p, drop-cons l i 0, ← q, ne-eqb _ _ e, add-one i)
-
-pub head-broken :
-    (l : List ℕ) (i g v : ℕ) → i < length l → g < 4 → nib (getD l i 0) ≡ 16 → heads (4 - g) v (drop i l) ≡ broken
-unfolding heads
-head-broken l i g v h k e =
-    let p : 4 - g ≡ suc (3 - g) = omega arith in
-    rw (p, drop-cons l i 0, eq-eqb _ _ e)
-
-pub head-cut : (l : List ℕ) (i g v : ℕ) → length l ≤ i → g < 4 → heads (4 - g) v (drop i l) ≡ cut g v
-unfolding heads
-head-cut l i g v h k =
-    let p : 4 - g ≡ suc (3 - g) = omega arith in
-    let q : 3 - (3 - g) ≡ g = omega arith in
-    rw (p, drop-of-length-le, q)
-
-pub head-whole : (l : List ℕ) (i g v : ℕ) → 4 ≤ g → heads (4 - g) v (drop i l) ≡ whole v (drop i l)
-unfolding heads
-head-whole l i g v k = let p : 4 - g ≡ 0 = omega arith in rw p
 
 -- ---- what stands ahead: filler is passed by, then a start or another nibble stands there, or the end
 
