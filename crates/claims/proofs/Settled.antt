@@ -71,7 +71,6 @@ use Rattle.items.proofs.known.Reads as items·known
 use Rattle.items.proofs.byte_at.Reads as items·byte-at
 use Rattle.items.proofs.word_at.Reads as items·word-at
 use Rattle.puts.proofs.put.Reads as puts·put
-use Rattle.printing.proofs.put_text.Reads as printing·put-text
 use Rattle.printing.proofs.put_number.Reads as printing·put-number
 use Rattle.printing.proofs.put_language.Reads as printing·put-language
 use Rattle.printing.proofs.put_page.Reads as printing·put-page
@@ -298,10 +297,6 @@ firmware·guide-unit-at-settled κs a x y s t p q = same p q
 pub puts·put-settled :
     (κs : _) (a : _) (x y : _) (s t : _) → puts·put.Post κs a x s → puts·put.Post κs a y t → (x ≡ y) × (now (s .1 .0) ≡ now (t .1 .0))
 puts·put-settled κs a x y s t p q = (same (p .0 .moved) (q .0 .moved), same (p .0 .stored) (q .0 .stored))
-
-pub printing·put-text-settled :
-    (κs : _) (a : _) (x y : _) (s t : _) → printing·put-text.Post κs a x s → printing·put-text.Post κs a y t → (x ≡ y) × (now (s .1 .0) ≡ now (t .1 .0))
-printing·put-text-settled κs a x y s t p q = (same (p .0 .moved) (q .0 .moved), same (p .0 .stored) (q .0 .stored))
 
 pub printing·put-number-settled :
     (κs : _) (a : _) (x y : _) (s t : _) → printing·put-number.Post κs a x s → printing·put-number.Post κs a y t → (x ≡ y) × (now (s .1 .1 .0) ≡ now (t .1 .1 .0))

@@ -174,7 +174,7 @@ fn put_kind(kind: usize, out: &mut [u8], q: usize) -> usize
     ensures { λ r. ⌜ Put (now (out .entry)) q (kindLine kind) (now (out .exit)) r × (r ≤ q + 8) ⌝ }
 {
     if kind == TI {
-        return printing::put_text(b"kind=TI\n", out, q);
+        return puts::put(b"kind=TI\n", out, q);
     }
-    printing::put_text(b"kind=LI\n", out, q)
+    puts::put(b"kind=LI\n", out, q)
 }

@@ -49,17 +49,6 @@ pub fn put_page(w: usize, out: &mut [u8], q: usize) -> usize
     put_hex(w, out, at)
 }
 
-// A text as it is.
-pub fn put_text(text: &[u8], out: &mut [u8], q: usize) -> usize
-    ensures { λ r.
-        ⌜ Put (now (out .entry)) q (within q (now (text .entry))) (now (out .exit)) r × (r ≤ q + length (now (text .entry))) ⌝ }
-{
-    if q > REACH {
-        return q;
-    }
-    puts::put(text, out, q)
-}
-
 // A language, three of a..z as they are, others in hex, and the end of the line.
 fn put_name(w: usize, out: &mut [u8], q: usize) -> usize
     requires { ⌜ q + 7 < 2 ^ 64 ⌝ }
