@@ -1,6 +1,6 @@
 -- What stands at a place, by the tests that tell: the number of bytes left, and the 16 bits there. Assumes nothing.
-use mathlib.Core.Path.{_≡_, _∙_, refl, sym, ap₂}
-use mathlib.Core.Bool.{Bool, true, false}
+use mathlib.Core.Path.{_≡_, _∙_, sym, ap₂}
+use mathlib.Core.Bool.{true, false}
 use mathlib.Core.List.{List}
 use Prim.Native.Nat.{ℕ, _+_, _-_, _*_, _/_, _<_, _≤_}
 use native.Mathlib.Nat.{add-zero, add-assoc}

@@ -41,7 +41,6 @@ use Rattle.cells.proofs.first.Reads as cells·first
 use Rattle.cells.proofs.cells_of.Reads as cells·cells-of
 use Rattle.guide.proofs.cut.Reads as guide·cut
 use Rattle.guide.proofs.cut_pages.Reads as guide·cut-pages
-use Rattle.blocks.specs.Block.{Block}
 use Rattle.walk.specs.declared.Ahead.{Ahead}
 use Rattle.walk.specs.declared.Ahead.the-variants.{Nothing, Broken, Cut, Whole}
 use Rattle.walk.specs.Places.{Found, nothing, broken, cut, whole}

@@ -7,14 +7,14 @@ use native.Mathlib.Nat.{add-zero, mod-eq-of-lt, mul-comm, mul-div-cancel-left}
 use native.Mathlib.Omega.{arith}
 use borrow.Author.Tests.{ltb-true, lt-ltb, eqb-true, eq-eqb}
 use lib.Dec.{ltb, eqb}
-use lib.ListN.{length, getD, take, drop, length-drop, take-append-drop, List·getD-eq-default}
+use lib.ListN.{length, getD, take, drop, length-drop, take-append-drop}
 use lib.Seq.{drop-drop, drop-at, drop-cons, getD-drop}
 use Rattle.laws.specs.Pick.{both, either}
 use Rattle.laws.proofs.Tests.{both-true}
 use Rattle.fields.specs.Fields.{row, fitting, parts, whole}
 use Rattle.fields.proofs.Laid.{fitting-append, whole-parts, whole-first, whole-next, whole-lt}
 use Rattle.forms.specs.Tables.{Descriptor, Table, TI, LI, known, per, entries, loops, bits, entire, fits}
-use Rattle.forms.specs.Form.{spelled, listed, openingOf, form, wordAt, wordsIn, descriptorsIn, tableIn}
+use Rattle.forms.specs.Form.{spelled, listed, openingOf, form, wordsIn, descriptorsIn, tableIn}
 use Rattle.forms.proofs.Sendable.{Sendable, sendable, sends, entries-whole}
 use Rattle.forms.proofs.Measures.{per-pos, length-spelled, length-listed, length-form, bits-of, eights}
 

@@ -4,7 +4,7 @@ use mathlib.Core.List.{List, [], _∷_, _++_}
 use Prim.Native.Nat.{ℕ, _+_, _*_, _/_, _-_}
 use lib.Dec.{eqb}
 use lib.ListN.{length}
-use Rattle.laws.specs.Pick.{pick, both, either}
+use Rattle.laws.specs.Pick.{both}
 use Rattle.fields.specs.Fields.{Field, row, width, fitting}
 pub use Rattle.items.specs.Kinds.{TI, LI, known}
 unfoldable pub use Rattle.items.specs.Kinds.{per}

@@ -17,7 +17,7 @@ ghost use lib.ListN.{length};
 ghost use lib.Seq.{sets};
 ghost use Rattle.answer.specs.Writing.{answered, left};
 ghost use Rattle.blocks.specs.Block.{blocks as Block·blocks};
-ghost use Rattle.packet.specs.Packet.{packetLength, address};
+ghost use Rattle.packet.specs.Packet.{packetLength};
 ghost use Rattle.pens.specs.Stream.{byteOf, cell, perPacket, streamOf, grab, beforeStart};
 ghost use Rattle.pens.specs.Pen.{restOf, Within, Goes};
 ghost use Rattle.guide.specs.Cutting.{rowOf, pages, pagesFor, joined, cutBytes, usualPage, cutRules};

@@ -2,7 +2,6 @@
 //
 // The call answers the place after what it puts, and that goes on where there is no room, so that one walk
 // both measures and writes.
-ghost use mathlib.Core.Path.{_≡_};
 ghost use mathlib.Core.List.{_∷_, []};
 ghost use Prim.Native.Nat.{_+_, _^_, _≤_, _<_};
 ghost use lib.ListN.{length};

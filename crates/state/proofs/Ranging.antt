@@ -1,20 +1,19 @@
 -- The states that calls leave: a taken packet's state is in range again, and a reader holds it without loss. So a fresh reader, and
 -- whatever a run of packets makes of it, is never refused for its state. Assumes nothing.
-use mathlib.Core.Path.{_≡_, refl, sym, ap}
+use mathlib.Core.Path.{_≡_, refl, ap}
 use mathlib.Core.Bool.{Bool, true, false}
 use mathlib.Core.List.{List}
-use Prim.Native.Nat.{ℕ, zero, suc, _+_, _-_, _*_, _/_, _%_, _≤_}
+use Prim.Native.Nat.{ℕ, zero, suc, _-_, _≤_}
 use native.Mathlib.Omega.{arith}
-use lib.Dec.{eqb, leb, lit<}
-use lib.ListN.{length, getD, drop, replicate}
+use lib.Dec.{leb}
+use lib.ListN.{length, drop, replicate}
 use lib.Seq.{take-append-seam, drop-append-seam}
 use borrow.Author.Tests.{le-leb}
-use Rattle.laws.specs.Pick.{pick, both}
+use Rattle.laws.specs.Pick.{pick}
 use Rattle.laws.proofs.Tests.{both-true}
 use Rattle.walk.specs.Holding.{Good}
 use Rattle.holding.proofs.Along.{drop-good, read-good}
 use Rattle.pages.proofs.Judged.{Shaped, shaped}
-use Rattle.octet.specs.Decoding.{nib}
 use Rattle.blocks.specs.Block.{sizeOf}
 use Rattle.packet.specs.declared.Setting.{Setting}
 use Rattle.headers.specs.declared.Page.{Page}

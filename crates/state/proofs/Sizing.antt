@@ -11,14 +11,12 @@ use Rattle.laws.specs.Pick.{pick}
 use Rattle.octet.specs.Decoding.{nib, undecodable}
 use Rattle.blocks.specs.Block.{Block, sizeOf}
 use Rattle.blocks.specs.Sizes.{Sized, none, more}
-use Rattle.headers.specs.declared.Page.{Page}
-use Rattle.headers.specs.declared.Page.the-variants.{Shut, Open}
 use Rattle.walk.specs.Mode.{Mode, off, scan, heading, body, shifted, full, step, emitted, gives, carries, finished}
 use Rattle.state.specs.Acting.{State, pointerOf, bytesOf, handed}
 use Rattle.headers.specs.declared.Verdict.{Verdict}
 use Rattle.headers.specs.Judging.{verdictOf}
 use Rattle.walk.specs.Reading.{dropIf, readBlocks}
-use Rattle.headers.specs.Seen.{Seen, junk, other, foreign, ours, row}
+use Rattle.headers.specs.Seen.{Seen}
 use Rattle.holding.proofs.Along.{Along, good-along, drop-good, carries-along}
 use Rattle.walk.specs.Holding.{Good}
 use Rattle.state.proofs.Ranging.{Sound}

@@ -8,7 +8,7 @@ use loss::PACKET;
 pub use loss::blank;
 ghost use mathlib.Core.Path.{_≡_};
 ghost use Prim.Native.Nat.{_+_, _*_, _≤_};
-ghost use lib.ListN.{length, take, drop};
+ghost use lib.ListN.{length};
 ghost use lib.Seq.{sets};
 ghost use Rattle.stripped.specs.Carried.{packetsOf, answerOf, recordsAfter, packetsAfter};
 

@@ -12,10 +12,9 @@ use Rattle.answer.specs.declared.Answer.the-variants.{Done}
 use Rattle.answer.specs.Values.{refused}
 use Rattle.answer.proofs.Steps.{done-every, first-holds, others-hold}
 use Rattle.fields.specs.Fields.{field, whole}
-use Rattle.forms.specs.Tables.{known, control, size}
+use Rattle.forms.specs.Tables.{known}
 use Rattle.sums.specs.Block.{headOf}
 use Rattle.sums.specs.Sums.{checksum, sound}
-use Rattle.spelling.specs.Control.{tableOf}
 use Rattle.table.specs.Reading.{frameRules, frontRules, wholeRules, readRules}
 
 -- ---- the frame
