@@ -1,5 +1,5 @@
 /*
- * The loader in plain C, by document 01: the reader of the guide page, block
+ * The loader in plain C, by docs/SCOPE.md: the reader of the guide page, block
  * reading, and the desk's lines. It is here to be measured beside ours and is
  * held to the same vectors (bench/check.c). Nothing of it is proved.
  */
@@ -29,7 +29,7 @@ struct plain_reader {
 };
 
 struct plain_heard {
-    uint8_t no;                     /* document 01's number; 0: accepted */
+    uint8_t no;                     /* the refusal's number (SCOPE 2); 0: accepted */
     uint8_t dropped;
     uint16_t blocks, written;
 };
@@ -43,7 +43,7 @@ void plain_fresh(struct plain_reader *reader);
 struct plain_heard plain_feed(struct plain_reader *reader, const struct plain_setting *setting,
                               const uint8_t *packet, size_t length, uint8_t *out, size_t room);
 
-/* A record's table form in form, and its length in *written. Answers document 01's number; *at is its offset. */
+/* A record's table form in form, and its length in *written. Answers the number (SCOPE 2); *at is its offset. */
 unsigned plain_read_block(uint8_t application, const uint8_t *record, size_t length,
                           uint8_t *form, size_t room, size_t *written, size_t *at);
 

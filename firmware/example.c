@@ -1,4 +1,4 @@
-/* Calls each function of guide.h and prints what it got, on cases of document 01. */
+/* Calls each function of guide.h and prints what it got, on the marked cases (docs/SCOPE.md, 14) and others. */
 #include <stdio.h>
 #include <string.h>
 

@@ -20,7 +20,7 @@ def record(t):
 
 
 def case_g():
-    """The desk's stored run: case G's 84 bytes, and document 01's text."""
+    """The desk's stored run: case G's 84 bytes, and the text of SCOPE 13.6."""
     packets = guide.cut(DESK, 0, 1, record(CASE_G))
     return packets, listing.desk(packets)
 

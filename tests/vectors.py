@@ -1,5 +1,33 @@
 """The vectors of the test programs: standard input, and the text that the model
-expects on standard output (the form is the design's section 13)."""
+expects on standard output.
+
+Standard input is a row of cases. A case is an op (1 byte), a room (4 bytes, low
+byte first: how long the lent output is), a length (the same way) and so many
+bytes, the payload; a room or length over 65,536 is taken as 65,536. The program
+fills the output with A5 before each call and prints a line for each case:
+
+    op=N no=N at=N out=HEX kept=yes
+
+no and at are the refusal's number and offset, both 0 where it is accepted; out
+is what the call reports as written; kept is whether every other byte is still
+A5. Op 21 adds blocks=N dropped=yes or no. An op that isn't known, or a payload
+that is too short for it: op=N unknown. A case that the end cuts short: short=N.
+
+    op  program      payload                                  out
+    1   try_octet    a byte                                   its nibble, or 16
+    2   try_octet    a byte                                   its image
+    3   try_octet    a byte                                   it turned
+    4   try_octet    a byte                                   its fault place
+    10  try_pes      a PES packet                             records of 44 bytes
+    11  try_pes      data_identifier, records                 a PES packet
+    20  try_guide    magazine, page, stream, application      nothing; a fresh reader
+    21  try_guide    one packet for that reader               the blocks' records
+    22  try_guide    magazine, page, stream, first index,     packets
+                     packets a page (0: no number), records
+    30  try_table    application, a record                    a table form
+    31  try_table    application, a table form                a record
+    40  try_listing  a table form                             the desk's lines
+"""
 
 from cases import guide, listing, octet, pes, table, unpes
 from cases.form import Dice

@@ -44,7 +44,7 @@ def script_of(dice, size):
     read = lambda packet, room=65536: script.case(10, room, packet)
     write = lambda identifier, records, room=65536: script.case(11, room, bytes([identifier]) + records)
 
-    # 2: fewer than 45 bytes, or another front
+    # 2: too short, or another front
     one = pes.write(0x10, some_records(dice, 2))
     for length in (0, 1, 3, 4, 5, 6, 43, 44, 45, 46):
         read(one[:length])
@@ -58,7 +58,7 @@ def script_of(dice, size):
     for lent in (45, 100, 183, 185, 230):       # 6 more than the length, but no N
         read(with_bytes((one * 2)[:lent], (4, 0), (5, lent - 6)))
     read(with_bytes(one[:-1], (6, 0), (8, 0), (45, 0)))
-    # 4: byte 6 or 8, the first that is wrong
+    # 4: byte 6, byte 8, both
     for top in range(8):
         read(with_bytes(one, (6, (top >> 1) << 6 | (top & 1) << 2 | dice.below(256) & 0x3B)))
     for value in (0x00, 0x23, 0x25, 0xFF):
@@ -70,7 +70,7 @@ def script_of(dice, size):
     for identifier in (0x00, 0x0F, *range(0x10, 0x20), 0x20, 0x7F, 0x80, 0xFF):
         read(with_bytes(one, (45, identifier)))
     read(with_bytes(one, (45, 0x20), (46, 0)))
-    # units: 6 (one byte left), 7, 6 (overrun), 8, 9
+    # units, in the order of SCOPE 3.4
     unit, = text_units(dice, 1)
     room_in_one = 184 - 46
     for before in (0, 1, 2):

@@ -162,7 +162,7 @@ def running_cases(hear, dice, size):
         rest, _ = running(air, n=1)
         packet = air.header(1, 1, 1, 3)
         hear.feed(with_bytes(packet, (mended, packet[mended] ^ 1 << dice.below(8))), air.row(1, 4, rest[3:]))
-    # n over 25 sets the index; the next page then fits or doesn't; n 0 is complete at once
+    # an n over 25: its index counts, and the next page fits it or doesn't; n 0 is complete at once
     for n in (0, 26, 31):
         for index in (1, 2):
             air = Air(dice)
@@ -190,7 +190,7 @@ def running_cases(hear, dice, size):
         hear.fresh(air)
         hear.feed(air.header(0, 3), air.row(1, pointer, air.block(9)), air.row(2, 0, air.block(50)),
                   air.row(3, 13, dice.bytes(39)))
-    # with no page of ours open: nothing, in a fresh reader too
+    # our page shut, in a fresh reader too (SCOPE 8.10)
     air = Air(dice)
     hear.fresh(air)
     hear.feed(air.row(1, 0, air.block(3)), air.header(5, 2), air.row(1, 0, air.block(3)), air.elsewhere("page"),

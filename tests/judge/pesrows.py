@@ -1,4 +1,4 @@
-"""A PES packet for each rule that libzvbi has otherwise than document 01."""
+"""A PES packet for each rule that libzvbi has otherwise than SCOPE 6."""
 
 from typing import NamedTuple
 
@@ -13,7 +13,7 @@ CHAIN = "what is left out here the reader behind it can't see; refused whole, it
 class Row(NamedTuple):
     rule: str           # of field.PES_RULES
     befalls: str        # what arrives
-    why: str            # why document 01's side is the safe one
+    why: str            # why our side is the safe one
     packet: bytes
 
 

@@ -1,11 +1,11 @@
-"""The loader as the documents say it, one module per layer.
+"""The loader as its specification says it, one module per layer.
 
-Written from document 01 (the specification), EN 300 472 and EN 300 707, for
-reading and not for speed. A call gives its bytes or raises Refused."""
+Written from that (docs/SCOPE.md), EN 300 472 and EN 300 707, for reading and not
+for speed. A call gives its bytes or raises Refused."""
 
 
 class Refused(Exception):
-    """A refusal: document 01's number and the offset that goes with it."""
+    """A refusal: its number (SCOPE 2) and the offset that goes with it (SCOPE 3.1)."""
 
     def __init__(self, no, at=0):
         super().__init__(no, at)

@@ -1,6 +1,6 @@
 #!/usr/bin/env python3
-"""Holds the model to what document 01 and EN 300 707 print: the sixteen images,
-cases A to K, annex L.1, and the third demand under random noise."""
+"""Holds the model to what SCOPE and EN 300 707 print: the sixteen images, cases
+A to K, annex L.1, and the third demand under random noise."""
 
 import pathlib
 import sys

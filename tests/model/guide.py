@@ -1,4 +1,4 @@
-"""Packets of the guide page (document 01, its sentences as comments)."""
+"""Packets of the guide page: SCOPE 7 to 11."""
 
 from typing import NamedTuple
 
@@ -6,12 +6,12 @@ from . import need
 from .octet import UNDECODABLE, decode, images
 
 PACKET, DATA = 42, 40           # an address, then 40 bytes
-CELL, CELLS = 3, 13             # block starts stand at bytes 1+3p, p 0..12
+CELL, CELLS = 3, 13             # starts stand at bytes 1 + 3p, p up to 12 (SCOPE 9.2)
 NONE = 13                       # the pointer where no block starts
 FILLER, START = 0x3, 0xC
 MOST_ROWS = 25
-LAST_Y = 25                     # Y 26..31 are no concern of ours
-ROOM = 2112                     # what the reader must be lent
+LAST_Y = 25                     # Y above it are no concern of ours (SCOPE 8.4)
+ROOM = 2112                     # what the reader must be lent (SCOPE 3.5)
 
 
 class Setting(NamedTuple):
@@ -21,7 +21,7 @@ class Setting(NamedTuple):
     application: int = 0        # only block reading uses it
 
     def in_range(self):
-        """Magazine 1..8, page 0..255, stream 0..15, application 0..31."""
+        """Each number may be what SCOPE 8.1 says; none is ever below 0."""
         return (1 <= self.magazine <= 8 and self.page <= 255
                 and self.stream <= 15 and self.application <= 31)
 
@@ -29,7 +29,7 @@ class Setting(NamedTuple):
 # --- records: 16 bits, low byte first, then the block's raw bytes --------------
 
 def head_of(application, size):
-    """application_id low 5 bits, block_size high 11."""
+    """The size stands above five bits of application (SCOPE 9.7)."""
     return application + 32 * size
 
 
@@ -61,18 +61,18 @@ def nibbles_of(head):
 # --- the writer ----------------------------------------------------------------
 
 def address(magazine, y):
-    """Magazine (0 means 8) plus 8 times the lowest bit of Y; then Y div 2."""
+    """The two bytes in front: magazine and Y (SCOPE 7.1)."""
     return images([magazine % 8 + 8 * (y % 2), y // 2])
 
 
 def packet_0(setting, index, n):
-    """Page units, page tens, S1, S2, S3, S4, two control bytes, 32 characters."""
+    """A page's first packet, its control bits 0 and its characters blank (SCOPE 7.3 to 7.5)."""
     six = [setting.page % 16, setting.page // 16, index, n % 8, setting.stream, n // 8]
     return address(setting.magazine, 0) + images(six + [0, 0]) + b"\x20" * 32
 
 
 def cells_of(record):
-    """A block's bytes, filled up to whole cells: the next start is a byte 1+3p."""
+    """A block's bytes, filled up to whole cells, where the next may start (SCOPE 11.1)."""
     head = int.from_bytes(record[:2], "little")
     block = images([START] + nibbles_of(head)) + record[2:]
     block += images([FILLER]) * (-len(block) % CELL)
@@ -80,7 +80,7 @@ def cells_of(record):
 
 
 def row(setting, y, cells):
-    """Every packet's pointer names the first start in it, or is 13."""
+    """A packet; its pointer is the cell of its first start, or 13 (SCOPE 11.5)."""
     pointer = next((p for p, (_, starts) in enumerate(cells) if starts), NONE)
     data = b"".join(cell for cell, _ in cells)
     return address(setting.magazine, y) + images([pointer]) + data
@@ -88,7 +88,7 @@ def row(setting, y, cells):
 
 def cut(setting, first_index, k, records, room=2 ** 32):
     """The packets of a list of records, in pages of k packets (0: 25)."""
-    k = k or MOST_ROWS          # Unless told otherwise it fills pages of 25
+    k = k or MOST_ROWS          # 25 where no number is given (SCOPE 7.6)
     need(setting.in_range() and first_index <= 15 and 1 <= k <= MOST_ROWS, 16)
     cells = []                  # each with whether a block starts in it
     for record in records_in(records):
@@ -97,7 +97,7 @@ def cut(setting, first_index, k, records, room=2 ** 32):
     rows = [cells[i:i + CELLS] for i in range(0, len(cells), CELLS)]
     packets = b""
     for i, cells_of_row in enumerate(rows):
-        if i % k == 0:          # later indices rise modulo 16
+        if i % k == 0:          # a new page, the index one up (SCOPE 11.4)
             packets += packet_0(setting, (first_index + i // k) % 16, k)
         packets += row(setting, 1 + i % k, cells_of_row)
     need(len(packets) <= room, 1)
@@ -119,7 +119,7 @@ class Block:
         return len(self.nibbles) == 4 and len(self.raw) == size_of(self.head())
 
     def take(self, byte):
-        """False where one of a start's four bytes can't be decoded."""
+        """False where the byte is of the header and can't be decoded (SCOPE 9.11)."""
         if len(self.nibbles) == 4:
             self.raw.append(byte)
             return True
@@ -157,7 +157,7 @@ class Reader:
             self.running, self.dropped = None, True
 
     def hand_out(self):
-        """As its 16 bits, low byte first, and its raw bytes."""
+        """The running block goes out as a record (SCOPE 10.3)."""
         self.finished.append(record_of(self.running.head(), self.running.raw))
         self.running = None
 
@@ -168,23 +168,23 @@ class Reader:
             return
         magazine, y = one % 8 or 8, one // 8 + 2 * two
         if magazine != self.setting.magazine or y > LAST_Y:
-            return                      # nothing changes
+            return                      # it isn't for us (SCOPE 8.3, 8.4)
         if y == 0:
             self.packet_0(data)
-        elif self.page:                 # with no page of ours open: nothing
+        elif self.page:                 # where it is shut, SCOPE 8.10
             self.row(y, data)
 
     def unreadable(self):
-        """Address undecodable: running block dropped, our page closed."""
+        """A packet whose address says nothing (SCOPE 8.2)."""
         self.drop()
         self.page = None
 
     def packet_0(self, data):
-        # A page of ours not yet complete drops the running block.
+        # Packets of our page are missing (SCOPE 8.5).
         if self.page and self.page.last < self.page.n:
             self.drop()
         self.page = None
-        # If one of its six bytes is undecodable ..
+        # A header that can't be read (SCOPE 8.6).
         six = [decode(byte) for byte in data[:6]]
         if UNDECODABLE in six:
             self.drop()
@@ -192,25 +192,25 @@ class Reader:
         units, tens, s1, s2, s3, s4 = six
         if (units + 16 * tens, s3) != (self.setting.page, self.setting.stream):
             return
-        # .. or n exceeds 25 or the index isn't one above our last (modulo 16)
-        n = s2 % 8 + 8 * (s4 % 4)       # C4, C5, C6 stand above them
+        # A page too long, or pages missing (SCOPE 8.7, 8.8).
+        n = s2 % 8 + 8 * (s4 % 4)       # C4, C5 and C6 are left out (SCOPE 7.4)
         if n > MOST_ROWS or s1 != (self.index + 1) % 16:
             self.drop()
-        self.index = s1                 # n over 25 sets it too
+        self.index = s1                 # whatever n is (SCOPE 8.8)
         if n <= MOST_ROWS:
             self.page = Page(n, last=0)
 
     def row(self, y, data):
         n, last = self.page
-        if y != last + 1 or y > n:      # a wrong Y drops the running block
+        if y != last + 1 or y > n:      # the wrong Y (SCOPE 8.11, 8.12)
             self.drop()
-        if y <= n:                      # above n it is skipped
+        if y <= n:                      # read all the same (SCOPE 8.12, 8.13)
             self.page = Page(n, last=y)
             self.data(data)
 
     def data(self, data):
         pointer = decode(data[0])
-        if pointer > NONE:              # undecodable, 14 or 15
+        if pointer > NONE:              # no pointer at all (SCOPE 9.4)
             self.drop()
             return
         pointed = 1 + CELL * pointer    # for 13 the packet's end
@@ -220,28 +220,28 @@ class Reader:
             self.starts(data, pointed)
 
     def go_on(self, data, pointed, none):
-        """A running block takes bytes from 1, up to the pointed byte."""
+        """The running block, from byte 1 up to the pointed byte (SCOPE 9.5)."""
         at = self.fill(data, 1, pointed)
-        if self.running is None:        # a header byte: resume at the pointed byte
+        if self.running is None:        # its header was broken (SCOPE 9.11)
             return
-        # It must be finished by the pointed byte with only filler between.
+        # complete by the pointed byte, and only filler behind it
         filler = all(decode(byte) == FILLER for byte in data[at:pointed])
         if self.running.finished() and (filler or none):
-            self.hand_out()             # after 13, bytes behind it aren't read
+            self.hand_out()             # under 13 nothing behind it is read (SCOPE 9.3)
         elif not none:
             self.drop()
 
     def starts(self, data, at):
         while True:
-            # Filler is skipped to the next start or the end.
+            # Filler is passed over (SCOPE 9.9).
             while at < DATA and decode(data[at]) == FILLER:
                 at += 1
-            # Another nibble, or a byte that can't be decoded, ends the packet.
+            # The packet ends, or something else than a start comes (SCOPE 9.10).
             if at == DATA or decode(data[at]) != START:
                 return
             self.running = Block()
             at = self.fill(data, at + 1, DATA)
-            # A header byte that can't be decoded skips the rest of the packet.
+            # Its header is broken (SCOPE 9.11), or it goes on in the next packet.
             if self.running is None or not self.running.finished():
                 return
             self.hand_out()

@@ -1,4 +1,4 @@
-"""The desk program's list (document 01)."""
+"""The desk's list (SCOPE 13)."""
 
 from . import Refused, need
 from .guide import PACKET, Setting, read_all
@@ -9,7 +9,7 @@ NAMES = {LI: "LI", TI: "TI"}
 
 
 def language(word):
-    """A language not three of a..z is printed as six hex digits."""
+    """Three letters a to z as such, anything else as six hex digits (SCOPE 13.4)."""
     letters = word.to_bytes(3, "big")
     if all(0x61 <= letter <= 0x7A for letter in letters):
         return letters.decode("ascii")
@@ -24,7 +24,7 @@ def lines(table):
         yield f"descriptor={id}"
         for at in range(0, len(words), WORDS[table.kind]):
             yield f"language={language(words[at])}"
-            if table.kind == TI:        # LI has no page lines
+            if table.kind == TI:        # pages in TI only
                 yield f"page={words[at + 1]:06x}"
 
 
@@ -36,7 +36,7 @@ def list_table(form, room=2 ** 32):
 
 
 def desk(data, setting=DESK):
-    """All that the desk prints for a file: a file gets a fresh reader."""
+    """All that the desk prints for a file, with a reader of its own (SCOPE 10.7)."""
     out, accepted, refused = b"", 0, 0
     for record in read_all(setting, data):
         try:
@@ -44,5 +44,5 @@ def desk(data, setting=DESK):
             accepted += 1
         except Refused:
             refused += 1
-    # accepted blocks, refused blocks, trailing bytes not fed
+    # the last line: SCOPE 13.5
     return out + f"blocks={accepted} refused={refused} short={len(data) % PACKET}\n".encode()

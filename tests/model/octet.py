@@ -1,4 +1,4 @@
-"""One protected byte, and the turning (document 01, "One protected byte")."""
+"""One protected byte (SCOPE 5), and the turning (SCOPE 6.6)."""
 
 UNDECODABLE = 16  # in place of a nibble
 NO_FAULT = 8      # in place of a bit's place
@@ -9,7 +9,7 @@ def bit(number, place):
 
 
 def image(nibble):
-    """Bits, least first, are P1 D1 P2 D2 P3 D3 P4 D4."""
+    """From the lowest bit up: P1 D1 P2 D2 P3 D3 P4 D4 (SCOPE 5.1)."""
     d1, d2, d3, d4 = (bit(nibble, i) for i in range(4))
     p1 = (1 + d1 + d3 + d4) % 2
     p2 = (1 + d1 + d2 + d4) % 2
@@ -29,7 +29,7 @@ def flips(a, b):
 
 
 def nibble_of(byte):
-    """An image, or a byte one bit away from one, gives that nibble."""
+    """The nibble whose image is at most one bit away (SCOPE 5.3)."""
     for n in range(16):
         if flips(image(n), byte) <= 1:
             return n
@@ -43,8 +43,8 @@ def decode(byte):
     return DECODED[byte]
 
 
-# The parity checks as rows of eight bits, least first: the places whose number
-# of ones is odd in every image. The first three go with P1, P2, P3.
+# The parity checks as four rows, lowest bit first (SCOPE 5.5): the places whose
+# number of ones is odd in every image. The first three go with P1, P2, P3.
 CHECKS = (
     (1, 1, 0, 0, 0, 1, 0, 1),
     (0, 1, 1, 1, 0, 0, 0, 1),

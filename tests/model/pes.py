@@ -1,20 +1,20 @@
-"""PES packets and their units (EN 300 472, clauses 4.2 to 4.4)."""
+"""PES packets and their units (SCOPE 6; EN 300 472, clauses 4.2 to 4.4)."""
 
 from . import need
 from .octet import turned
 
 FRONT = b"\x00\x00\x01\xbd"       # start code prefix, stream_id private stream 1
-HEADER = 45                       # the entire PES header is 45 bytes long
+HEADER = 45                       # its length, always (SCOPE 6.1)
 TEXT, STUFFING = (0x02, 0x03), 0xFF
 TEXT_LENGTH = 0x2C
-UNIT = 2 + TEXT_LENGTH            # id, length, that many bytes
-RECORD = 44                       # unit id, line byte, the 42 turned bytes
+UNIT = 2 + TEXT_LENGTH            # with id and length (SCOPE 6.4)
+RECORD = 44                       # id, line byte, 42 bytes turned (SCOPE 6.9)
 FRAMING = 0xE4                    # 27 turned
-MOST = 356                        # N is from 1 to 356
+MOST = 356                        # the greatest N
 
 
 def line_taken(line):
-    """Line offset 0 or 0x07..0x16, in the five low bits."""
+    """By the line offset, the five lowest bits (SCOPE 6.5)."""
     return line % 32 == 0 or 0x07 <= line % 32 <= 0x16
 
 
@@ -25,11 +25,11 @@ def identifier_taken(data_identifier):
 
 def unit_at(pes, at):
     """One unit: its record, or nothing for stuffing, and the next unit's place."""
-    need(len(pes) - at > 1, 6, at)                         # one byte is left over
+    need(len(pes) - at > 1, 6, at)                         # in the order of SCOPE 3.4
     id, length = pes[at], pes[at + 1]
     need(id in TEXT or id == STUFFING, 7, at)
     end = at + 2 + length
-    need(end <= len(pes), 6, at)                           # runs past the end
+    need(end <= len(pes), 6, at)                           # over the end
     if id == STUFFING:
         return b"", end
     need(length == TEXT_LENGTH, 8, at)
@@ -56,7 +56,7 @@ def read(pes, room=65536):
 
 
 def write(data_identifier, records, room=65536):
-    """One packet with the least N that holds the records."""
+    """One packet, of the smallest N with room for the records (SCOPE 6.10)."""
     need(identifier_taken(data_identifier), 16)
     need(len(records) % RECORD == 0, 13)
     units = [records[i:i + RECORD] for i in range(0, len(records), RECORD)]
@@ -71,5 +71,5 @@ def write(data_identifier, records, room=65536):
 
 
 def text_unit(record):
-    """The line byte isn't turned; every byte from the framing on is."""
+    """Turned are the framing byte and those behind it, not the line byte (SCOPE 6.6)."""
     return bytes([record[0], TEXT_LENGTH, record[1], FRAMING]) + turned(record[2:])

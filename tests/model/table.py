@@ -1,4 +1,4 @@
-"""Subtitle (TI) and Language (LI) blocks (EN 300 707, tables 15 and 17)."""
+"""Subtitle (TI) and Language (LI) blocks (SCOPE 12; EN 300 707, tables 15 and 17)."""
 
 from typing import NamedTuple
 
@@ -34,7 +34,7 @@ def width(table):
 
 
 def control_size(table):
-    """Unit of measurement is (no. of control bits)/8, fill included."""
+    """In bytes of control bits, fill included (SCOPE 12.6)."""
     return (width(table) + 7) // 8
 
 
@@ -78,7 +78,7 @@ def table_of(form):
 # --- reading ------------------------------------------------------------------------
 
 class Bits:
-    """Fields are laid lowest bit first; past the end a number reads as zeros."""
+    """Fields from the lowest bit up (SCOPE 12.1); past the end a number reads as zeros."""
 
     def __init__(self, nibbles):
         self.number = sum(n << 4 * i for i, n in enumerate(nibbles))
@@ -166,7 +166,7 @@ def summed(application, nibbles):
 
 
 def write_block(application, form, room=65536):
-    """The record of a table form; fill is 0."""
+    """The record of a table form; fill is 0 (SCOPE 12.10)."""
     need(application <= 31, 16)
     table = table_of(form)
     number = laid(control_fields(table))

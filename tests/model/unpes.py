@@ -2,7 +2,7 @@
 
 from . import Refused, pes
 
-UNREADABLE = b"\x16" * 42  # one for each loss, so that a reader drops what it holds
+UNREADABLE = b"\x16" * 42  # one for each loss, so that a reader drops what it holds (SCOPE 6.12)
 
 
 def length_at(data, at):

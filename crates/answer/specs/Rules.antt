@@ -1,4 +1,5 @@
--- Refusals in order: a call judges its rules from first to last, and the first that doesn't hold decides. Over any type of answer.
+-- Refusals in order (SCOPE 2.1): a call judges its rules from first to last, and the first that doesn't hold decides. Over any type of
+-- answer.
 use mathlib.Core.Path.{_≡_}
 use mathlib.Core.Bool.{Bool, true, false}
 use mathlib.Core.List.{List, [], _∷_}

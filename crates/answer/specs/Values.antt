@@ -1,4 +1,4 @@
--- "Where an answer is an enum, a definition sets out this paper's number and values for each of its cases."
+-- An answer is an enum: the number and the values that each of its cases stands for (SCOPE 4.3).
 use Prim.Native.Nat.{ℕ}
 use Rattle.answer.specs.declared.Refusal.{Refusal}
 use Rattle.answer.specs.declared.Answer.{Answer}

@@ -8,7 +8,7 @@ use Rattle.answer.specs.declared.Answer.the-variants.{Done, Refused}
 use Rattle.answer.specs.Rules.{Rule, rule, judged}
 use Rattle.answer.specs.Values.{refused}
 
--- "1: the lent output is shorter than needed", always the last rule and judged by the exact need
+-- 1, where there is no room for the bytes: always the last rule, and judged by the exact need (SCOPE 3.7)
 abbrev pub room : List ℕ → List ℕ → Rule
 room bytes old = rule (leb (length bytes) (length old)) 1 0
 
@@ -16,7 +16,7 @@ room bytes old = rule (leb (length bytes) (length old)) 1 0
 abbrev pub answered : List Rule → List ℕ → List ℕ → Answer
 answered rules bytes old = judged refused (rules ++ room bytes old ∷ []) (Done (length bytes))
 
--- the output after an answer: "an accepted call changes only the output bytes that it reports as written", and a refusal none
+-- the output after an answer: only the bytes that are reported as written change (SCOPE 3.3), and at a refusal none (SCOPE 3.2)
 abbrev pub after : Answer → List ℕ → List ℕ → List ℕ
 after (Done n) bytes old = bytes ++ drop (length bytes) old
 after (Refused r) bytes old = old

@@ -1,6 +1,6 @@
-// What a call answers that writes bytes into a lent output. The numbers are document 01's, "Refusal
-// numbers"; specs/Rules.antt says how the order of a call's refusals decides, and specs/Values.antt
-// which number and values each case stands for.
+// What a call answers that writes bytes into a lent output. The numbers are those of SCOPE 2;
+// specs/Rules.antt says how the order of a call's refusals decides, and specs/Values.antt which number
+// and values each case stands for.
 
 ghost use mathlib.Core.Path.{_≡_};
 ghost use Rattle.answer.specs.Values.{refused};

@@ -11,7 +11,7 @@ pub record Block : Type 0 where
   pub head : ℕ
   pub raw : List ℕ
 
--- "16 bits, lowest nibble first: application_id low 5 bits, block_size high 11 (bytes that follow, 0..2047)"
+-- of the 16 bits the five lowest are application_id, and the eleven above them block_size, which counts the raw bytes (SCOPE 9.7)
 abbrev pub applicationOf : ℕ → ℕ
 applicationOf head = head % 32
 
@@ -22,7 +22,7 @@ sizeOf head = head / 32
 abbrev pub headLength : ℕ
 headLength = 2
 
--- "A finished block goes out as its 16 bits, low byte first, and its raw bytes"
+-- a block's record: the low and the high byte of its 16 bits, then its raw bytes (SCOPE 10.3)
 abbrev pub recordOf : Block → List ℕ
 recordOf b = b .head % 256 ∷ b .head / 256 ∷ b .raw
 

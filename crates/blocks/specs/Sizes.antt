@@ -1,4 +1,4 @@
--- Blocks that go as records: "block_size high 11 (bytes that follow, 0..2047)".
+-- Blocks that go as records: block_size counts the raw bytes (SCOPE 9.7).
 use mathlib.Core.Path.{_≡_}
 use mathlib.Core.List.{List, [], _∷_}
 use lib.ListN.{length}

@@ -1,5 +1,5 @@
-// Blocks as they go between the calls: a record is a block's 16 bits, low byte first, and its raw
-// bytes. The reader hands out records, one after the other; the writer and block reading take them.
+// Blocks as they go between the calls: a record has a block's 16 bits in two bytes, the low one first,
+// and its raw bytes (SCOPE 10.3). The reader hands out records, one after the other; the writer and block reading take them.
 ghost use mathlib.Core.Path.{_≡_};
 ghost use Rattle.blocks.specs.Place.{foundAt};
 

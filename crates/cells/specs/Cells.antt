@@ -1,4 +1,4 @@
--- Which start of a packet is its first.
+-- Which start of a packet is its first, the one that its pointer names (SCOPE 11.5).
 use mathlib.Core.Bool.{Bool}
 use Prim.Native.Nat.{ℕ, min}
 use Rattle.laws.specs.Pick.{pick}

@@ -1,6 +1,5 @@
--- The third demand. "A list of tables cut by our writer, all packets fed in order to one fresh reader, other magazines between: at most
--- one flipped bit in each byte: exactly that list; up to two: only tables that were sent, in order, each at most once." One theorem over
--- the number of flips, and its two corollaries. Assumes nothing.
+-- The third demand (SCOPE 15.3): what comes out of the reader of a list of tables that our writer has cut, with noise on each byte and
+-- packets of other magazines between. One theorem over the number of flips, and its two corollaries. Assumes nothing.
 use mathlib.Core.Path.{_≡_, sym, subst}
 use mathlib.Core.Bool.{true}
 use mathlib.Core.List.{List}
@@ -34,7 +33,7 @@ module _ (d : ℕ) (small : d ≤ 2) (s : Setting) (within : inRange s ≡ true)
       tables-came (Flipped d) (2 ≤ d) hears app (range s within .application) ts fit
       (subst (λ (bs : List Block). Came (2 ≤ d) (Alike (Flipped d)) bs (comesOut s (readerOf freshState) calls)) (blocks-written app fit) c)
 
-  -- at most one flipped bit in each byte: exactly that list
+  -- with one flip a byte at the most, the list itself comes out
   pub exactly : d ≤ 1 → received s calls ≡ ts
   exactly one = came-exactly (λ a b e. e) (λ x. omega arith) carried
 

@@ -1,4 +1,4 @@
--- The marked cases A to K of document 01, from the definitions, as one list under one claim. Assumes nothing.
+-- The marked cases A to K of SCOPE 14.1, from the definitions, as one list under one claim. Assumes nothing.
 use mathlib.Core.Path.{_≡_, refl, subst, sym}
 use Rattle.answer.specs.declared.Answer.the-variants.{Done}
 use Rattle.answer.specs.Rules.{judged}
@@ -22,25 +22,25 @@ unfolding recordWith laid parts row width fields loops per nibbles checksumOf ch
 record-g = refl
 
 pub record Marked : Type 0 where
-  -- A 14 gives 0, B 16 is refused, C 00 gives 1, D FF gives E, E turning 15 gives A8
+  -- A to D: bytes decoded or refused; E: a byte turned
   pub a-to-e : CasesAtoE
   pub images : TheImages
-  -- F application 1, size 30: 02 A1 5E 15
+  -- F: the four bytes of a header
   pub f : CaseF
-  -- G's block: 116 bits, fill 4, size 30; its packets
+  -- G: a table of one subtitle, as a block and in packets
   pub g-block : (bits G ≡ 116) × (fill G ≡ 4) × (size G ≡ 30)
   pub g-packets : CaseG (recordOf 1 G)
-  -- H no descriptors: 58 bits, fill 6, size 16
+  -- H: a table with no descriptors
   pub h : (bits H ≡ 58) × (fill H ≡ 6) × (size H ≡ 16)
-  -- I eleven descriptors of 15 subtitles: 8,088 bits, size 2,022; twelve: 15
+  -- I: the most descriptors of 15 subtitles that can be written, and one more
   pub i :
       (bits (I 11) ≡ 8088)
       × (size (I 11) ≡ 2022)
       × (judged refused (writeRules 1 (form (I 11))) (Done 0) ≡ Done 0)
       × (judged refused (writeRules 1 (form (I 12))) (Done 0) ≡ refused 15 0)
-  -- J N=1: 184 bytes, length 178, three units
+  -- J: the smallest PES packet
   pub j : CaseJ
-  -- K line offset 06 refused, 07 and 16 taken, 17 refused
+  -- K: line offsets at either end of those taken
   pub k : CaseK
 
 pub marked : Marked

@@ -1,5 +1,5 @@
--- Each call's statement settles its outcome: any two outcomes that it allows are equal, the answer, the state handed back and every
--- lent byte. The statements are the contracts themselves, as the checker reads them (`Post`: of the arguments, the result and the
+-- Each call's statement settles what comes of it (SCOPE 4.1): two outcomes that it allows have the same answer, the same state and the same
+-- lent bytes. The statements are the contracts themselves, as the checker reads them (`Post`: of the arguments, the result and the
 -- parameters at exit). Assumes nothing.
 use mathlib.Core.Path.{_≡_, _∙_, refl, sym, ap}
 use mathlib.Core.List.{List}

@@ -1,6 +1,6 @@
 -- Wrong programs that were tried against the third demand, and what shuts each out: our loader meets `Carries`, and a loader that
--- hands out nothing (one that refuses all, or whose feed does nothing), one that hands out one fixed table, and one that goes by the
--- first packet alone (whose feed thereafter only answers) do not. Assumes nothing.
+-- hands out nothing (by refusing everything, or by a feed that is idle), one that always hands out the same table, and one that goes by the
+-- first packet alone do not (SCOPE 4.4). Assumes nothing.
 use mathlib.Core.Path.{_≡_, _∙_, refl, sym, ap, subst}
 use mathlib.Core.Bool.{true}
 use mathlib.Core.List.{List, [], _∷_}
@@ -122,15 +122,15 @@ count (t ∷ ts) = length (t .descriptors)
 not-both : (l : List Table) → l ≡ G ∷ [] → l ≡ H ∷ [] → ⊥
 not-both l g h = let z : _≡_ {A = ℕ} 1 0 = ap count (sym g ∙ h) in omega arith
 
--- one that refuses all, or whose feed does nothing
+-- one that refuses everything, or whose feed is idle
 pub idle-shut-out : Carries (λ s calls. []) → ⊥
 idle-shut-out c = let z : _≡_ {A = ℕ} 0 1 = ap length (given (λ s calls. []) c G g-fits) in omega arith
 
--- one that hands out a fixed list, as one fixed table
+-- one that always hands out the same list
 pub fixed-shut-out : (ts : List Table) → Carries (λ s calls. ts) → ⊥
 fixed-shut-out ts c = not-both ts (given (λ s calls. ts) c G g-fits) (given (λ s calls. ts) c H h-fits)
 
--- one that truly reads the first packet and thereafter only answers
+-- one that hears its first packet and makes all of its answers of that (SCOPE 4.4)
 pub first-only-shut-out :
     (f : Setting → List Call → List Table) → ((s : Setting) (a : Call) (l m : List Call) → f s (a ∷ l) ≡ f s (a ∷ m)) → Carries f → ⊥
 unfolding callsFor

@@ -1,5 +1,5 @@
--- What comes out of the reader's calls, in terms of what the calls themselves say: "fed one by one from a fresh reader, each given
--- room".
+-- What comes out of the reader's calls, in terms of what the calls themselves say: packets are fed one after the other, and each call is
+-- lent enough room (SCOPE 3.5).
 use mathlib.Core.Path.{_≡_}
 use mathlib.Core.Bool.{Bool, false}
 use mathlib.Core.Logic.{_⊎_}

@@ -1,4 +1,4 @@
--- What may come of a list, in the customer's words.
+-- What may come of a list (SCOPE 15.3).
 use mathlib.Core.List.{List, [], _∷_}
 
 -- the first list is got from the second by leaving some out: each was sent, in order, and each sending is used at most once

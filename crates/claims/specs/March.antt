@@ -8,7 +8,7 @@ use Rattle.octet.specs.Decoding.{nib}
 use Rattle.packet.specs.declared.Setting.{Setting}
 use Rattle.packet.specs.Address.{decodes}
 
--- its address can't be decoded, or it is packet 0 of our magazine and one of its six bytes can't
+-- its address can't be decoded (SCOPE 8.2), or it is packet 0 of our magazine and one of its six bytes can't (SCOPE 8.6)
 pub data Unreadable (s : Setting) (q : List ℕ) : Type 0 where
   address : decodes 2 q ≡ false → Unreadable s q
   zero :

@@ -11,7 +11,7 @@ use Rattle.blocks.specs.Block.{Block, sizeOf}
 use Rattle.packet.specs.declared.Setting.{Setting}
 use Rattle.packet.specs.Packet.{address}
 
--- "at most one flipped bit in each byte", "up to two": the byte b that arrives is at most d flips from the byte a that was sent
+-- the byte b that arrives is at most d flips from the byte a that was sent (SCOPE 15.3)
 abbrev pub Flipped : ℕ → ℕ → ℕ → Type 0
 Flipped d a b = flips a b ≤ d
 
@@ -24,7 +24,7 @@ pub data Near (R : ℕ → ℕ → Type 0) : List ℕ → List ℕ → Type 0 wh
   none : Near R [] []
   more : {a b : ℕ} {l m : List ℕ} → R a b → Near R l m → Near R (a ∷ l) (b ∷ m)
 
--- a packet of 42 bytes, rightly addressed to another magazine, with noise
+-- a packet of 42 bytes, rightly addressed (SCOPE 7.2) to another magazine, with noise
 pub record Elsewhere (R : ℕ → ℕ → Type 0) (s : Setting) (q : List ℕ) : Type 0 where
   pub magazine : ℕ
   pub y : ℕ
@@ -34,7 +34,7 @@ pub record Elsewhere (R : ℕ → ℕ → Type 0) (s : Setting) (q : List ℕ) :
   pub differs : magazine % 8 ≡ s .magazine % 8 → ⊥
   pub near : Near R (address magazine y ++ rest) q
 
--- "all packets fed in order to one fresh reader, other magazines between": what arrives of the packets that were sent
+-- what arrives of the packets that were sent: all of them, in order, with packets of other magazines between (SCOPE 15.3)
 pub data Aired (R : ℕ → ℕ → Type 0) (s : Setting) : List (List ℕ) → List (List ℕ) → Type 0 where
   ended : Aired R s [] []
   sent : {p q : List ℕ} {ps qs : List (List ℕ)} → Near R p q → Aired R s ps qs → Aired R s (p ∷ ps) (q ∷ qs)

@@ -1,4 +1,4 @@
--- Tables through the whole loader: written, cut, fed, and read again.
+-- Tables through the whole loader: written, cut, fed, and read again (SCOPE 15.3).
 use mathlib.Core.List.{List, [], _∷_, _++_}
 use Prim.Native.Nat.{ℕ}
 use Rattle.blocks.specs.Block.{Block, recordOf as Block·recordOf}
@@ -15,7 +15,7 @@ unfoldable pub recordsOf : ℕ → List Table → List ℕ
 recordsOf application [] = []
 recordsOf application (t ∷ ts) = recordOf application t ++ recordsOf application ts
 
--- "A list of tables cut by our writer": the packets, from an index on, in pages of k packets
+-- a list of tables as the writer cuts it: the packets, from an index on, in pages of k packets
 abbrev pub sent : Setting → ℕ → ℕ → List Table → List (List ℕ)
 sent s index k ts = packets s index k (recordsOf (s .application) ts)
 

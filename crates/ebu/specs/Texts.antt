@@ -8,7 +8,7 @@ use lib.Seq.{sets}
 use Rattle.laws.specs.Pick.{pick, both}
 use Rattle.octet.specs.Turning.{turned}
 
--- table 3: 0x10 to 0x1F is EBU data
+-- table 3: 0x10 to 0x1F is EBU data (SCOPE 6.3)
 abbrev pub ebuData : ℕ → Bool
 ebuData d = both (leb 0x10 d) (leb d 0x1F)
 
@@ -20,7 +20,7 @@ textBytes = 42
 abbrev pub recordSize : ℕ
 recordSize = 44
 
--- so many bytes from a place on, "bit-reversed"
+-- 42 bytes from a place on, each turned (SCOPE 6.6)
 abbrev pub textOf : List ℕ → ℕ → List ℕ
 textOf src from = map turned (take textBytes (drop from src))
 

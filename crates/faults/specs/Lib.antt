@@ -1,3 +1,3 @@
--- The parity checks of a protected byte: document 01, "One protected byte", after EN 300 706.
+-- The parity checks of a protected byte: SCOPE 5.5, after EN 300 706.
 pub mod Bits
 pub mod Parity

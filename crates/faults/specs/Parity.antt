@@ -1,4 +1,4 @@
--- "The four parity checks also stand as rows of eight bits, and the fault place that they give agrees with the table".
+-- The four parity checks as rows of eight bits, and the place of the fault that they find (SCOPE 5.5).
 use mathlib.Core.List.{List, [], _∷_, map}
 use Prim.Native.Nat.{ℕ, zero, suc, _+_, _*_, _/_, _%_}
 use lib.Dec.{eqb}

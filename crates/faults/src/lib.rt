@@ -1,8 +1,8 @@
 // The fault place of a protected byte, by the parity checks of EN 300 706. It takes any byte and answers; nothing is kept between
 // calls.
 //
-// Document 01, "One protected byte": the checks also stand as rows of eight bits, and the fault place that they give agrees with the
-// decoding (crate `noise` proves it). The definitions are in specs/: the bits of a byte and the checks.
+// SCOPE 5.5: the checks as four rows of eight bits. The place that they find agrees with the decoding (crate `noise` proves it). The
+// definitions are in specs/: the bits of a byte and the checks.
 ghost use mathlib.Core.Path.{_≡_};
 ghost use mathlib.Core.List.{[]};
 ghost use Prim.Native.Nat.{_<_, _≤_};

@@ -4,6 +4,6 @@ use Prim.Native.Nat.{ℕ}
 use Rattle.octet.specs.Decoding.{nib}
 use Rattle.fields.specs.Fields.{whole}
 
--- A.3: the "large compound" that protected bytes hold, a nibble each, the lowest first
+-- the one number that protected bytes hold, a nibble each and the lowest first (A.3; SCOPE 12.1)
 abbrev pub compound : List ℕ → ℕ
 compound bytes = whole 4 (map nib bytes)

@@ -1,5 +1,5 @@
--- Fields in a row of bits. Control data is one number, its lowest bit first: clause 9, "the concatenation starts with the LSB
--- of the first field, which provides the LSB of the concatenated sequence, and continues till the MSB of the last field".
+-- Fields in a row of bits. Control data is one number: the first field has its lowest bits, and each next one those above (clause 9;
+-- SCOPE 12.1).
 use mathlib.Core.Bool.{Bool, true}
 use mathlib.Core.List.{List, [], _∷_}
 use Prim.Native.Nat.{ℕ, zero, suc, _+_, _*_, _/_, _%_, _^_}

@@ -1,5 +1,5 @@
-// Fields of some bits each, out of protected bytes. The definitions are in specs/, and the laws that
-// other crates cite in proofs/Laid.antt.
+// Fields of some bits each, out of protected bytes (SCOPE 12.1, 12.11). The definitions are in specs/,
+// and the laws that other crates cite in proofs/Laid.antt.
 ghost use mathlib.Core.Path.{_≡_};
 ghost use mathlib.Core.List.{map};
 ghost use Prim.Native.Nat.{_%_, _^_, _<_, min};

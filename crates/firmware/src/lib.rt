@@ -1,6 +1,6 @@
 // What the recorder's firmware, which is in C, calls: the functions that firmware/guide.h declares, and
-// nothing else. Each takes any value, keeps nothing between calls and touches no memory but what its
-// arguments name.
+// nothing else (SCOPE 6.11). Each takes any value, keeps nothing between calls and touches no memory but
+// what its arguments name.
 ghost use mathlib.Core.Path.{_≡_};
 ghost use Rattle.octet.specs.Decoding.{nib};
 ghost use Rattle.octet.specs.Turning.{turned};

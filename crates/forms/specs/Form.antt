@@ -1,4 +1,4 @@
--- A table in lent bytes, the table form: kind, copyright, block_no low, high, network, number of descriptors; of each
+-- A table in lent bytes, the table form (SCOPE 12.12): kind, copyright, block_no low, high, network, number of descriptors; of each
 -- descriptor its id, its number of entries, then its words, high byte first ("dut" is 64 75 74).
 use mathlib.Core.List.{List, [], _∷_, _++_}
 use Prim.Native.Nat.{ℕ, zero, suc, _+_, _*_, _/_, _%_}

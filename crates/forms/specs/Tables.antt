@@ -32,8 +32,8 @@ loops kind [] = []
 loops kind (d ∷ ds) =
     (6, d .id) ∷ (4, entries kind (d .words)) ∷ row 24 (d .words) ++ loops kind ds
 
--- tables 15 and 17 from checksum on, with what isn't the table's own: checksum, control_block_size and reserved_for_future_use.
--- CA_mode is 0, "Access is free to everyone" (11.1.3)
+-- tables 15 and 17 from checksum on (SCOPE 12.2, 12.3), with what isn't the table's own: checksum, control_block_size and
+-- reserved_for_future_use. CA_mode is 0: free to everyone (11.1.3; SCOPE 12.8)
 unfoldable pub fields : ℕ → ℕ → ℕ → Table → List Field
 fields checksum control reserved t =
     (8, checksum)
@@ -51,15 +51,15 @@ fields checksum control reserved t =
 abbrev pub bits : Table → ℕ
 bits t = width (fields 0 0 0 t)
 
--- control_block_size: "a value of N indicates the presence of 8 × N control bits", fill_up bits included
+-- control_block_size: in bytes of control bits, fill_up bits included (11.1.2; SCOPE 12.6)
 abbrev pub control : Table → ℕ
 control t = (bits t + 7) / 8
 
--- fill_up: 0 to 7 bits to a whole byte
+-- fill_up: none to seven bits, up to a whole byte (SCOPE 12.4)
 abbrev pub fill : Table → ℕ
 fill t = 8 * control t - bits t
 
--- block_size: two protected bytes make eight bits
+-- block_size: eight bits go in two protected bytes (SCOPE 12.1, 12.6)
 abbrev pub size : Table → ℕ
 size t = 2 * control t
 
@@ -68,8 +68,8 @@ unfoldable pub entire : ℕ → List Descriptor → Bool
 entire kind [] = true
 entire kind (d ∷ ds) = both (eqb (entries kind (d .words) * per kind) (length (d .words))) (entire kind ds)
 
--- a table that can be sent: of a kind that is read, its entries whole, and each value fitting its field; of control_block_size
--- that is "over 8,184 bits"
+-- a table that can be sent: of a kind that is read, its entries whole, and each value fitting its field; what doesn't fit
+-- control_block_size is a table of more than 8,184 bits (SCOPE 2.1, number 15)
 unfoldable pub fits : Table → Bool
 fits t =
     both (known (t .kind)) (both (entire (t .kind) (t .descriptors)) (fitting (fields 0 (control t) 0 t)))

@@ -1,4 +1,4 @@
--- Block writing: its rules in document 01's order.
+-- Block writing: its rules, in the order of writers (SCOPE 3.7).
 use mathlib.Core.List.{List, [], _∷_}
 use Prim.Native.Nat.{ℕ}
 use lib.Dec.{eqb, ltb, leb}
@@ -7,8 +7,8 @@ use Rattle.answer.specs.Rules.{Rule, rule}
 use Rattle.forms.specs.Tables.{known, fits}
 use Rattle.forms.specs.Form.{form, opening, tableIn}
 
--- 13, 15: a form under six bytes, or whose length isn't that of its counts; a form of another kind can't be measured past its
--- opening; and a value that doesn't fit its field
+-- 13 for a form under six bytes, or of another length than its counts make (SCOPE 12.12); 15 for a value that doesn't fit its field, and
+-- for another kind as soon as the opening is there, since such a form can't be measured
 unfoldable pub formRules : List ℕ → List Rule
 formRules f =
     rule (leb opening (length f)) 13 0

@@ -135,7 +135,7 @@ pub aligned :
     → cell * pointerOf (grab perPacket (drop (j * perPacket) (streamOf bs))) ≡ beforeStart (grab perPacket (drop (j * perPacket) (streamOf bs)))
 aligned bs j = celled-aligned (after-celled j (stream-celled bs))
 
--- "every start stands at a byte 1+3p": byte 1 + i of the packet's forty, with i a multiple of three
+-- each start stands at a byte of the form 1 + 3 × p (SCOPE 11.1): byte 1 + i of the packet's forty, with i a multiple of three
 pub starts-aligned :
     (bs : List Block) (j i : ℕ) → getD (grab perPacket (drop (j * perPacket) (streamOf bs))) i fill ≡ start → i % cell ≡ 0
 starts-aligned bs j i e = start-at (packet-celled (after-celled j (stream-celled bs))) i e

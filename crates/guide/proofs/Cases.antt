@@ -1,4 +1,4 @@
--- Case F of document 01, and case G's packets, from the definitions: they join the one list of all cases in crate `claims`.
+-- Case F of SCOPE 14.1, and case G's packets, from the definitions: they join the one list of all cases in crate `claims`.
 -- Assumes nothing.
 use mathlib.Core.Path.{_≡_, refl}
 use mathlib.Core.List.{List, [], _∷_, _++_, map}
@@ -12,7 +12,7 @@ use Rattle.packet.specs.Packet.{packetZero, packetOf}
 use Rattle.pens.specs.Stream.{byteOf, symbols, cellsOf, streamOf, grab, beforeStart}
 use Rattle.guide.specs.Cutting.{rows, pages, packets, joined, cutBytes}
 
--- "F application 1, size 30 → 02 A1 5E 15": the four bytes behind the start
+-- F: of application 1 and size 30, the four bytes behind the start
 abbrev pub CaseF : Type 0
 CaseF =
     map byteOf (take 4 (drop 1 (symbols (record { head = 1 + 32 * 30; raw = [] })))) ≡ 0x02 ∷ 0xA1 ∷ 0x5E ∷ 0x15 ∷ []
@@ -21,12 +21,11 @@ pub case-f : CaseF
 unfolding symbols image withParity number
 case-f = refl
 
--- "set to magazine 1, page DF, stream 1, application 1"
+-- the desk's setting (SCOPE 13.1)
 abbrev pub desk : Setting
 desk = record { magazine = 1; page = 0xDF; stream = 1; application = 1 }
 
--- "G's block: .. its packet 0 is 02 15 EA B6 15 02 02 15 15 15, then 32 times 20; its packet 1 begins C7 15 15 A1": 84 bytes, for
--- the record of G's block, "pages of 1, index 0"
+-- G: the record of its block, in pages of one packet from index 0 on: 84 bytes, packet 0, and how packet 1 begins
 abbrev pub CaseG : List ℕ → Type 0
 CaseG record′ =
     (length (cutBytes desk 0 1 record′) ≡ 84)

@@ -57,7 +57,7 @@ none-at-all ss h i e =
       | no g ↦ let d : getD ss i fill ≡ fill = List·getD-eq-default ss fill (omega arith) in let z : _≡_ {A = ℕ} 0 1 = cc in omega arith
     ]
 
--- "Every packet's pointer names the first start in it, or is 13"
+-- each packet's pointer says where its first start stands, or that there is none (SCOPE 11.5)
 pub celled-names : {ss : List Symbol} → Celled ss → Names (grab perPacket ss) (pointerOf (grab perPacket ss))
 celled-names {ss} h =
     let row = grab perPacket ss in

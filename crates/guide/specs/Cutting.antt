@@ -33,11 +33,11 @@ pages s k (suc p) index ss = packetZero s index k ∷ (rows s k 1 ss ++ pages s 
 abbrev pub rowsFor : ℕ → ℕ
 rowsFor n = (n + (perPacket - 1)) / perPacket
 
--- how many pages of k packets they need: the last page is filled with filler
+-- how many pages of k packets they need: the last page is filled up (SCOPE 11.2)
 abbrev pub pagesFor : ℕ → ℕ → ℕ
 pagesFor k n = (rowsFor n + (k - 1)) / k
 
--- the packets of a list of records, the first index given. "An empty list gives no packet."
+-- the packets of a list of records, the first index given (SCOPE 11.4); of an empty list there are none (SCOPE 11.3)
 unfoldable pub packets : Setting → ℕ → ℕ → List ℕ → List (List ℕ)
 packets s index k records =
     let ss = streamOf (blocks records) in
@@ -51,11 +51,11 @@ joined (p ∷ ps) = p ++ joined ps
 abbrev pub cutBytes : Setting → ℕ → ℕ → List ℕ → List ℕ
 cutBytes s index k records = joined (packets s index k records)
 
--- "Unless told otherwise it fills pages of 25 packets; it takes 1 to 25."
+-- how many packets a page has where no number is given (SCOPE 7.6)
 abbrev pub usualPage : ℕ
 usualPage = 25
 
--- the writer's refusals, in order: 16 for the setting, the index or the page's length, 13 for a list that isn't whole records
+-- the writer's refusals, in order (SCOPE 3.7): 16 for the setting, the index or the page's length, 13 for a list that isn't whole records
 abbrev pub cutRules : Setting → ℕ → ℕ → List ℕ → List Rule
 cutRules s index k records =
     rule (both (inRange s) (both (leb index 15) (both (leb 1 k) (leb k 25)))) 16 0 ∷ rule (whole records) 13 0 ∷ []

@@ -9,13 +9,13 @@ use Rattle.packet.specs.Packet.{packetZero}
 use Rattle.pens.specs.Stream.{Symbol, start, fill, cell, perPacket, symbols}
 use Rattle.guide.specs.Cutting.{rowOf}
 
--- packet y of page j: packet 0 has n = k and the index j above the first, "later ones rise modulo 16"; the others go on with the
--- stream where the packets before it stopped
+-- packet y of page j: packet 0 has n = k and the index j above the first, modulo 16 (SCOPE 11.4); the others go on with the stream where
+-- the packets before it stopped
 unfoldable pub numbered : Setting → ℕ → ℕ → List Symbol → ℕ → ℕ → List ℕ
 numbered s index k ss j zero = packetZero s ((index + j) % 16) k
 numbered s index k ss j (suc w) = rowOf s (suc w) (drop ((j * k + w) * perPacket) ss)
 
--- "Every packet's pointer names the first start in it, or is 13": p is the cell of the first start, or 13 and there is none
+-- what a pointer says: p is the cell of the first start, or 13 and there is none (SCOPE 11.5)
 pub data Names (ss : List Symbol) : ℕ → Type 0 where
   first : {p : ℕ} → p < 13 → getD ss (cell * p) fill ≡ start → ((i : ℕ) → i < cell * p → getD ss i fill ≡ start → ⊥) → Names ss p
   none : ((i : ℕ) → getD ss i fill ≡ start → ⊥) → Names ss 13

@@ -30,6 +30,6 @@ pageLength k = packetLength * (k + 1)
 abbrev pub pagesBytes : Setting → ℕ → ℕ → ℕ → List ℕ → List ℕ
 pagesBytes s index k count l = joined (pages s k count index (streamOf (blocks l)))
 
--- "setting or state out of range"
+-- what the writer is set to is in range; otherwise it is 16 (SCOPE 3.7, 7.6)
 abbrev pub takesOf : Setting → ℕ → ℕ → Bool
 takesOf s index k = both (inRange s) (both (leb index 15) (both (leb 1 k) (leb k 25)))

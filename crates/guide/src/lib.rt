@@ -1,4 +1,4 @@
-// The writer of the guide page: it cuts records into packets.
+// The writer of the guide page: it cuts records into packets (SCOPE 11).
 //
 // The writer's 39 bytes after a packet's pointer are thirteen cells of three. A block goes in whole
 // cells: its start, its 16 bits in four nibbles, its raw bytes, then filler. So every start stands at
@@ -47,7 +47,7 @@ enum Measured {
 }
 
 // Cuts a list of records into packets, one after the other at the front of `out`: pages of 25
-// packets and a packet 0, the first page with the given index. An empty list gives no packet.
+// packets and a packet 0, the first page with the given index; for an empty list none at all.
 // Refused are 16 a setting or an index out of range, 13 a list that isn't whole records, 1 an output
 // that is shorter than the packets.
 pub fn cut(s: Setting, index: u8, records: &[u8], out: &mut [u8]) -> Answer

@@ -8,26 +8,28 @@ use Rattle.headers.specs.declared.Page.the-variants.{Shut, Open}
 use Rattle.headers.specs.declared.Verdict.{Verdict}
 use Rattle.headers.specs.Seen.{Seen, junk, other, foreign, ours, row}
 
--- "a page of ours not yet complete"
+-- our page is open, and not all of its packets have come (SCOPE 8.5)
 abbrev pub incomplete : Page → Bool
 incomplete Shut = false
 incomplete (Open n last) = ltb last n
 
--- "n exceeds 25 or the index isn't one above our last (modulo 16; n over 25 sets it too)", or our page isn't complete
+-- a packet 0 of ours drops the running block: our page isn't complete (SCOPE 8.5), n is over 25 (SCOPE 8.7), or the index isn't our last
+-- and one, modulo 16 (SCOPE 8.8)
 abbrev pub breaks : Page → ℕ → ℕ → ℕ → Bool
 breaks page last index n = either (incomplete page) (either (ltb 25 n) (not (eqb index ((last + 1) % 16))))
 
--- "Y must be last+1 and at most n"
+-- Y isn't the one after last, or is above n (SCOPE 8.11)
 abbrev pub wrongY : ℕ → ℕ → ℕ → Bool
 wrongY n last y = not (both (eqb y (last + 1)) (leb y n))
 
--- packet Y. "Y from 1 to 25 with no page of ours open: nothing."
+-- packet Y, 1 to 25. With our page shut nothing changes (SCOPE 8.10); with it open a wrong Y drops, and up to n it becomes last and the
+-- packet is read (SCOPE 8.12, 8.13)
 abbrev pub rowVerdict : Page → ℕ → ℕ → Verdict
 rowVerdict Shut index y = record { page = Shut; index = index; drops = false; reads = false }
 rowVerdict (Open n last) index y =
     record { page = pick (leb y n) (Open n y) (Open n last); index = index; drops = wrongY n last y; reads = leb y n }
 
--- any packet
+-- any packet, case by case: SCOPE 8.2 and 8.6 (junk), 8.3 and 8.4 (other), 8.5 and 8.9 (foreign), 8.5 to 8.9 (ours), 8.10 to 8.13 (row)
 abbrev pub verdictOf : Page → ℕ → Seen → Verdict
 verdictOf page index junk = record { page = Shut; index = index; drops = true; reads = false }
 verdictOf page index other = record { page = page; index = index; drops = false; reads = false }

@@ -11,9 +11,9 @@ use Rattle.packet.specs.Packet.{packetLength}
 use Rattle.packet.specs.Address.{decodes}
 
 pub data Seen : Type 0 where
-  -- an address, or one of the six bytes of our magazine's packet 0, that can't be decoded
+  -- an address (SCOPE 8.2), or one of the six bytes of our magazine's packet 0 (SCOPE 8.6), that can't be decoded
   junk : Seen
-  -- another magazine, or Y 26..31
+  -- another magazine (SCOPE 8.3), or Y 26 to 31 (SCOPE 8.4)
   other : Seen
   -- packet 0 of another page or stream of our magazine
   foreign : Seen
@@ -22,7 +22,7 @@ pub data Seen : Type 0 where
   -- packet Y of our magazine, 1..25: Y, its pointer (16: can't be decoded) and the 39 bytes after it
   row : ℕ → ℕ → List ℕ → Seen
 
--- packet 0, from the byte after its address on: page units, page tens, S1, S2, S3, S4
+-- packet 0, from the byte after its address on: page units, page tens, S1, S2, S3, S4 (SCOPE 7.3, 7.4)
 unfoldable pub seeZero : Setting → List ℕ → Seen
 seeZero s l =
     pick (decodes 6 l)

@@ -87,8 +87,8 @@ fn is_ours(setting: Setting, number: u8, stream: u8) -> bool
     stream == setting.stream
 }
 
-// Whether a packet 0 of ours drops the running block: our page isn't complete, n is over 25, or the
-// index isn't one above our last.
+// Whether a packet 0 of ours drops the running block: our page isn't complete (SCOPE 8.5), n is over 25
+// (SCOPE 8.7), or the index doesn't follow on our last (SCOPE 8.8).
 fn is_break(page: Page, last: u8, index: u8, n: u8) -> bool
     ensures { λ r. ⌜ r ≡ breaks page last index n ⌝ }
 {

@@ -4,7 +4,7 @@ use Prim.Native.Nat.{ℕ}
 use lib.Dec.{eqb}
 use Rattle.laws.specs.Pick.{pick, either}
 
--- 11.12.3: the datatype_id of a Subtitle and of a Language table
+-- the datatype_id of a Subtitle and of a Language table (11.12.3; SCOPE 12.7)
 abbrev pub TI : ℕ
 TI = 8
 
@@ -14,6 +14,6 @@ LI = 7
 abbrev pub known : ℕ → Bool
 known kind = either (eqb kind TI) (eqb kind LI)
 
--- the words of an entry: a subtitle is a language and a page, a language is itself
+-- the words of an entry: a subtitle is a language and a page (SCOPE 12.2), a language is itself (SCOPE 12.3)
 unfoldable pub per : ℕ → ℕ
 per kind = pick (eqb kind TI) 2 1

@@ -1,4 +1,4 @@
--- The rule of block reading that judges lengths, document 01's 14.
+-- The rule of block reading that judges lengths: 14 (SCOPE 3.6).
 use mathlib.Core.List.{List, [], _∷_}
 use Prim.Native.Nat.{ℕ}
 use lib.Dec.{eqb}

@@ -1,2 +1,2 @@
--- A table as the desk's lines: document 01, "The desk program's list".
+-- A table as the desk's lines: SCOPE 13.2.
 pub mod Lines

@@ -1,4 +1,4 @@
--- The desk's lines of a table: document 01, "The desk program's list". Characters are their codes, and 10 ends a line.
+-- The desk's lines of a table: SCOPE 13.2. Characters are their codes, and 10 ends a line.
 use mathlib.Core.Bool.{Bool}
 use mathlib.Core.List.{List, [], _∷_, _++_}
 use Prim.Native.Nat.{ℕ}
@@ -15,19 +15,19 @@ kindTI = 107 ∷ 105 ∷ 110 ∷ 100 ∷ 61 ∷ 84 ∷ 73 ∷ 10 ∷ []
 abbrev pub kindLI : List ℕ
 kindLI = 107 ∷ 105 ∷ 110 ∷ 100 ∷ 61 ∷ 76 ∷ 73 ∷ 10 ∷ []
 
--- "kind=TI", "kind=LI"
+-- `kind=TI`, `kind=LI`
 unfoldable pub kindLine : ℕ → List ℕ
 kindLine kind = pick (eqb kind TI) kindTI kindLI
 
--- "block="
+-- `block=`
 abbrev pub blockName : List ℕ
 blockName = 98 ∷ 108 ∷ 111 ∷ 99 ∷ 107 ∷ 61 ∷ []
 
--- "network="
+-- `network=`
 abbrev pub networkName : List ℕ
 networkName = 110 ∷ 101 ∷ 116 ∷ 119 ∷ 111 ∷ 114 ∷ 107 ∷ 61 ∷ []
 
--- "descriptor="
+-- `descriptor=`
 abbrev pub descriptorName : List ℕ
 descriptorName = 100 ∷ 101 ∷ 115 ∷ 99 ∷ 114 ∷ 105 ∷ 112 ∷ 116 ∷ 111 ∷ 114 ∷ 61 ∷ []
 
@@ -44,7 +44,7 @@ subtitleLines [] = []
 subtitleLines (l ∷ []) = languageLine l
 subtitleLines (l ∷ p ∷ ws) = languageLine l ++ pageLine p ++ subtitleLines ws
 
--- "LI has no page lines"
+-- pages are printed in TI only (SCOPE 13.2)
 unfoldable pub entryLines : ℕ → List ℕ → List ℕ
 entryLines kind ws = pick (eqb kind TI) (subtitleLines ws) (languageLines ws)
 
@@ -59,7 +59,7 @@ descriptorLines kind (d ∷ ds) = descriptorLine kind (d .id) (d .words) ++ desc
 unfoldable pub headLines : Table → List ℕ
 headLines t = kindLine (t .kind) ++ numberLine blockName (t .block) ++ numberLine networkName (t .network)
 
--- the lines from "descriptor=" on
+-- the lines from `descriptor=` on
 unfoldable pub descriptorLinesOf : Table → List ℕ
 descriptorLinesOf t = descriptorLines (t .kind) (t .descriptors)
 

@@ -1,4 +1,4 @@
-// A table as the desk's lines.
+// A table as the desk's lines (SCOPE 13).
 ghost use mathlib.Core.Path.{_≡_};
 ghost use Prim.Native.Nat.{_+_, _*_, _/_, _<_, _≤_};
 ghost use lib.Dec.{ltb};

@@ -6,7 +6,7 @@ use lib.ListN.{length, replicate}
 use lib.Seq.{sets}
 use Rattle.laws.specs.Pick.{pick}
 
--- a packet whose bytes can't be decoded, so that a reader drops what it holds
+-- a packet whose bytes can't be decoded, so that a reader drops what it holds (SCOPE 6.12, 8.2)
 abbrev pub unreadable : List ℕ
 unreadable = replicate 42 0x16
 

@@ -1,2 +1,2 @@
--- The id and the line byte of a text unit: document 01, "PES packets and their units", after EN 300 472.
+-- The id and the line byte of a text unit: SCOPE 6.5, after EN 300 472.
 pub mod Marks

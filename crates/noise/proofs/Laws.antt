@@ -67,7 +67,7 @@ unfolding differing
 flips-self zero a = refl
 flips-self (suc k) a = rw (eq-eqb (a % 2) (a % 2) refl, flips-self k (a / 2))
 
--- "an image, or a byte one bit away from one, gives that nibble; the others are refused"
+-- decoded to a nibble exactly where the byte is at most one bit from its image (SCOPE 5.3)
 exact-test : ℕ → ℕ → Bool
 exact-test n b = Bool·beq (eqb (nib b) n) (leb (flips (image n) b) 1)
 

@@ -1,4 +1,4 @@
--- Cases A to E of document 01, from the definitions: they join the one list of all cases in crate `claims`. Assumes nothing.
+-- Cases A to E of SCOPE 14.1, from the definitions: they join the one list of all cases in crate `claims`. Assumes nothing.
 use mathlib.Core.Path.{_≡_, refl}
 use mathlib.Core.List.{[], _∷_}
 use Rattle.laws.specs.Range.{tabulate}
@@ -7,7 +7,7 @@ use Rattle.octet.specs.Image.{image, withParity}
 use Rattle.octet.specs.Decoding.{nib, nibbleFrom, undecodable}
 use Rattle.octet.specs.Turning.{turned}
 
--- A 14 gives 0 (mended), B 16 is refused, C 00 gives 1, D FF gives E, E turning 15 gives A8
+-- A to D: bytes that are decoded, mended or refused; E: a byte turned
 abbrev pub CasesAtoE : Type 0
 CasesAtoE =
     (nib 0x14 ≡ 0) × (nib 0x16 ≡ undecodable) × (nib 0x00 ≡ 1) × (nib 0xFF ≡ 14) × (turned 0x15 ≡ 0xA8)
@@ -16,7 +16,7 @@ pub cases-a-to-e : CasesAtoE
 unfolding nib nibbleFrom image withParity differing number turned bits
 cases-a-to-e = (refl, refl, refl, refl, refl)
 
--- "The sixteen images, 0 to F"
+-- the images of the sixteen nibbles (SCOPE 5.2)
 abbrev pub TheImages : Type 0
 TheImages =
     tabulate image 0 16

@@ -1,4 +1,4 @@
--- What a byte decodes to: "an image, or a byte one bit away from one, gives that nibble; the others are refused".
+-- What a byte decodes to: the nibble whose image it is, or is but for one bit; every other byte is refused (SCOPE 5.3).
 use mathlib.Core.Bool.{true, false}
 use Prim.Native.Nat.{ℕ, zero, suc}
 use lib.Dec.{leb}

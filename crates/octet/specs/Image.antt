@@ -3,8 +3,8 @@ use mathlib.Core.List.{[], _∷_}
 use Prim.Native.Nat.{ℕ, _+_, _/_, _%_}
 use Rattle.octet.specs.Bits.{number}
 
--- "bits, least first, are P1 D1 P2 D2 P3 D3 P4 D4": the byte of these four data bits. "P1 = 1+D1+D3+D4, P2 = 1+D1+D2+D4,
--- P3 = 1+D1+D2+D3, all modulo 2; P4 makes the number of ones odd"
+-- the byte of four data bits: from its lowest bit up P1 D1 P2 D2 P3 D3 P4 D4, each of P1 to P3 one more than the sum of three data bits,
+-- modulo 2, and P4 such that the ones of the byte are odd in number (SCOPE 5.1)
 unfoldable pub withParity : ℕ → ℕ → ℕ → ℕ → ℕ
 withParity d1 d2 d3 d4 =
     let p1 = (1 + d1 + d3 + d4) % 2 in

@@ -1,4 +1,4 @@
--- One protected byte: document 01, "One protected byte", after EN 300 706; and the turning, document 01, "PES packets and their units".
+-- One protected byte, SCOPE 5, after EN 300 706; and the turning, SCOPE 6.6.
 pub mod Bits
 pub mod Image
 pub mod Decoding

@@ -1,4 +1,4 @@
--- The turning: each byte stands in order of sending, so "27 stands as E4".
+-- The turning: bytes of a PES packet have their bits in the order of sending, so that 27 reads E4 there (SCOPE 6.6).
 use mathlib.Core.List.{reverse}
 use Prim.Native.Nat.{ℕ}
 use Rattle.octet.specs.Bits.{bits, number}

@@ -1,16 +1,16 @@
 // One byte: the protected nibble of EN 300 706, and the turning of bits. Every public function takes
 // any byte and answers; nothing is kept between calls.
 //
-// Document 01, "One protected byte": bits, least first, are P1 D1 P2 D2 P3 D3 P4 D4. The definitions
-// are in specs/, the laws that other crates cite in proofs/Laws.antt, and those of flipped bits in crate
-// `noise`. The place of a fault, by the parity checks, is crate `faults`.
+// SCOPE 5: from the lowest up, the bits are P1 D1 P2 D2 P3 D3 P4 D4. The definitions are in specs/, the
+// laws that other crates cite in proofs/Laws.antt, and those of flipped bits in crate `noise`. The place
+// of a fault, by the parity checks, is crate `faults`.
 pub use faults::fault_place;
 ghost use mathlib.Core.Path.{_≡_};
 ghost use Rattle.octet.specs.Image.{image as Image·image};
 ghost use Rattle.octet.specs.Decoding.{nib};
 ghost use Rattle.octet.specs.Turning.{turned};
 
-// The sixteen images, 0 to F.
+// The images of the nibbles from 0 on (SCOPE 5.2).
 const CODE: [u8; 16] = [
     0x15,
     0x02,
@@ -30,7 +30,7 @@ const CODE: [u8; 16] = [
     0xEA,
 ];
 
-// What each byte decodes to, the images marked; 16: it can't be.
+// What each byte decodes to, the images marked; 16: it can't be (SCOPE 5.4).
 const DECODE: [u8; 256] = [
     1,
     16,
@@ -290,7 +290,7 @@ const DECODE: [u8; 256] = [
     14,
 ];
 
-// Each byte with its bits in the other order.
+// Each byte with its bits in the other order (SCOPE 6.6).
 const TURN: [u8; 256] = [
     0,
     128,

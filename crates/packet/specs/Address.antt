@@ -1,4 +1,4 @@
--- A packet's address, as it is read.
+-- A packet's address, as it is read (SCOPE 7.1, 8.2, 8.3).
 use mathlib.Core.Bool.{Bool, true, not}
 use mathlib.Core.List.{List}
 use Prim.Native.Nat.{ℕ, zero, suc, _+_, _*_, _%_}

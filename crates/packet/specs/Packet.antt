@@ -8,14 +8,12 @@ use Rattle.packet.specs.declared.Setting.{Setting}
 abbrev pub packetLength : ℕ
 packetLength = 42
 
--- "Address, two protected bytes: nibble one is magazine (0 means 8) plus 8 times the lowest bit of packet number Y; nibble two is
--- Y div 2"
+-- the address: the image of the magazine, 8 as 0, with the lowest bit of Y on top; then that of Y's other bits (SCOPE 7.1)
 abbrev pub address : ℕ → ℕ → List ℕ
 address magazine y = image (magazine % 8 + 8 * (y % 2)) ∷ image (y / 2) ∷ []
 
--- "Packet 0 goes on with page units, page tens, S1, S2 with C4 at its top, S3, S4 with C5 and C6 at its top, two control bytes, 32
--- characters. S1 is the continuity index, S3 the stream, S2 (three bits) plus 8 times S4 (two bits) the count n of packets that
--- follow." "The writer sets C4..C14 to 0 and the characters to 20."
+-- packet 0 (SCOPE 7.3): after the address the page's units and tens, the index in S1, the low three bits of n in S2, the stream in S3, the
+-- two bits above them in S4 (SCOPE 7.4), then two bytes and 32 characters; all control bits are 0 and each character is 20 (SCOPE 7.5)
 unfoldable pub packetZero : Setting → ℕ → ℕ → List ℕ
 packetZero s index n =
     address (s .magazine) 0

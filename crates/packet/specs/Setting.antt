@@ -1,4 +1,4 @@
--- "set to magazine 1..8, page 0..255, stream 0..15, application 0..31"
+-- What a reader or writer is set to: magazine 1 to 8, page up to 255, stream up to 15, application up to 31 (SCOPE 8.1).
 use mathlib.Core.Bool.{Bool}
 use lib.Dec.{leb}
 use Rattle.laws.specs.Pick.{both}

@@ -3,8 +3,8 @@ ghost use mathlib.Core.Path.{_≡_};
 ghost use Rattle.packet.specs.Setting.{inRange};
 ghost use Rattle.packet.specs.Address.{addressOf, elsewhere};
 
-// Which page and stream carry the guide, and which application its blocks are of. In range:
-// magazine 1..8, page 0..255 (any byte), stream 0..15, application 0..31.
+// Which page and stream carry the guide, and which application its blocks are of. In range are
+// magazines from 1 to 8, any page, streams up to 15 and applications up to 31 (SCOPE 8.1).
 pub struct Setting {
     pub magazine: u8,
     pub page: u8,

@@ -1,8 +1,8 @@
--- "Where an answer is an enum, a definition sets out this paper's number and values for each of its cases."
+-- The walk's answer is an enum: the number and the values that each of its cases stands for (SCOPE 4.3).
 use Prim.Native.Nat.{ℕ, _+_, _*_, _%_, _^_}
 use Rattle.units.specs.declared.DataUnit.{DataUnit}
 
--- document 01's number of what the walk finds: 0, or that of the refusal
+-- the number of what the walk finds: 0, or that of the refusal (SCOPE 2)
 abbrev pub numberOf : DataUnit → ℕ
 numberOf DataUnit.End = 0
 numberOf (DataUnit.Text next) = 0

@@ -1,2 +1,2 @@
--- What a packet is to the reader, by its address: document 01, "Packets of the guide page", from "Reader, set to magazine .." on.
+-- What a packet is to the reader, by its address: SCOPE 8.2 to 8.4.
 pub mod Seen

@@ -1,4 +1,4 @@
--- What a packet is to a reader of a setting, by its address.
+-- What a packet is to a reader of a setting, by its address (SCOPE 7.1, 8.2 to 8.4).
 use mathlib.Core.List.{List}
 use Prim.Native.Nat.{ℕ, _+_, _*_, _/_, _%_}
 use lib.Dec.{eqb, leb}

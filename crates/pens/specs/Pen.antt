@@ -1,4 +1,4 @@
--- Where the writer stands in the stream, and what it sends from there.
+-- Where the writer stands in the stream, and what it sends from there (SCOPE 11.1).
 use mathlib.Core.Path.{_≡_}
 use mathlib.Core.Bool.{Bool, true, false}
 use mathlib.Core.List.{List}

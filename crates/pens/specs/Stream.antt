@@ -1,4 +1,4 @@
--- What is sent of a list of blocks, one symbol a byte: "The writer puts each start at the next byte 1+3p, with filler before".
+-- What is sent of a list of blocks, one symbol a byte: each start at the next byte 1 + 3 × p, and filler up to there (SCOPE 11.1).
 -- 39 bytes follow a packet's pointer and 39 is 13 times 3, so the starts tile the stream in cells of three bytes.
 use mathlib.Core.List.{List, [], _∷_, _++_, map}
 use Prim.Native.Nat.{ℕ, zero, suc, _*_, _/_, _%_}
@@ -9,7 +9,7 @@ use Rattle.blocks.specs.Block.{Block}
 abbrev pub cell : ℕ
 cell = 3
 
--- "thirteen to a packet"
+-- the bytes after a pointer: thirteen cells
 abbrev pub perPacket : ℕ
 perPacket = 13 * cell
 
@@ -20,7 +20,7 @@ pub data Symbol : Type 0 where
   bits : ℕ → Symbol
   raw : ℕ → Symbol
 
--- "A start is nibble C", filler is nibble 3; a raw byte goes as it is
+-- a start is sent as nibble C (SCOPE 9.7), filler as nibble 3 (SCOPE 9.5); a raw byte goes as it is
 abbrev pub byteOf : Symbol → ℕ
 byteOf start = image 12
 byteOf fill = image 3
@@ -31,7 +31,7 @@ byteOf (raw b) = b
 abbrev pub fillAfter : ℕ → List Symbol
 fillAfter n = replicate (n * 2 % cell) fill
 
--- "A start is nibble C, then four protected bytes of 16 bits, lowest nibble first", then the raw bytes
+-- a block: its start, the four nibbles of its 16 bits from the lowest up, its raw bytes (SCOPE 9.7)
 unfoldable pub symbols : Block → List Symbol
 symbols b =
     start ∷ bits (b .head % 16) ∷ bits (b .head / 16 % 16) ∷ bits (b .head / 16 / 16 % 16) ∷ bits (b .head / 16 / 16 / 16 % 16)
@@ -59,6 +59,6 @@ beforeStart (fill ∷ ss) = suc (beforeStart ss)
 beforeStart (bits n ∷ ss) = suc (beforeStart ss)
 beforeStart (raw b ∷ ss) = suc (beforeStart ss)
 
--- "Every packet's pointer names the first start in it, or is 13": the cell of the first start; with none, all thirteen are before it
+-- a packet's pointer: the cell of its first start; where there is none, all thirteen stand before it (SCOPE 11.5)
 abbrev pub pointerOf : List Symbol → ℕ
 pointerOf ss = beforeStart ss / cell

@@ -1,4 +1,5 @@
--- The PES packet header, "always 45 bytes; its optional fields aren't read", and the data_identifier: EN 300 472, 4.2 and 4.4.
+-- The header of a PES packet, 45 bytes of which the optional fields aren't looked at (SCOPE 6.1), and the data_identifier (SCOPE 6.3):
+-- EN 300 472, 4.2 and 4.4.
 use mathlib.Core.Bool.{Bool}
 use mathlib.Core.List.{List, [], _∷_}
 use Prim.Native.Nat.{ℕ, _+_, _-_, _*_, _/_, _%_}
@@ -9,7 +10,7 @@ use Rattle.answer.specs.Rules.{Rule, rule}
 use Rattle.ebu.specs.Texts.{ebuData}
 use Rattle.units.specs.Units.{byteAt}
 
--- "00 00 01 BD at the front": packet_start_code_prefix, and the stream_id "private stream 1"
+-- its first four bytes are 00 00 01 BD: packet_start_code_prefix, and the stream_id of private stream 1
 abbrev pub startsRight : List ℕ → Bool
 startsRight pes =
     both (eqb (byteAt pes 0) 0x00)
@@ -19,21 +20,21 @@ startsRight pes =
 abbrev pub packetLength : List ℕ → ℕ
 packetLength pes = byteAt pes 4 * 256 + byteAt pes 5
 
--- PES_packet_length of a packet of N×184 bytes: "N×184−6"
+-- PES_packet_length of a packet of N times 184 bytes: the six up to its own end aren't counted
 abbrev pub lengthOf : ℕ → ℕ
 lengthOf n = n * 184 - 6
 
--- it is that with "N from 1 to 356"
+-- it is that of some N, 1 to 356 (SCOPE 2.1, number 3)
 abbrev pub lengthFits : ℕ → Bool
 lengthFits l =
     let n = (l + 6) / 184 in
     both (leb 1 n) (both (leb n 356) (eqb l (lengthOf n)))
 
--- byte 6: "its leading bits 10" and data_alignment_indicator
+-- byte 6: its two highest bits are 1 and 0, and data_alignment_indicator is set
 abbrev pub flagsFit : ℕ → Bool
 flagsFit b = both (eqb (b / 64) 2) (eqb (b / 4 % 2) 1)
 
--- refusals 2 to 5, in order
+-- 2 to 5, in order, with their offsets (SCOPE 3.1, 3.4)
 unfoldable pub headerRules : List ℕ → List Rule
 headerRules pes =
     rule (both (leb 45 (length pes)) (startsRight pes)) 2 0

@@ -1,4 +1,4 @@
--- Reading a PES packet: its header, then its "units from first to last".
+-- Reading a PES packet: its header, then its units one by one.
 use mathlib.Core.Bool.{true, false}
 use mathlib.Core.List.{List, [], _∷_, _++_, map, flatMap}
 use Prim.Native.Nat.{ℕ, zero, suc, _+_}
@@ -12,11 +12,11 @@ use Rattle.ebu.specs.Texts.{textBytes}
 use Rattle.units.specs.Units.{byteAt, stuffingId, nextUnit, rulesAt}
 use Rattle.pes.specs.Header.{headerRules}
 
--- "a record of 44 bytes: unit id, line byte, the 42 turned bytes"
+-- the record of the text unit at a place: its id, its line byte, and its 42 bytes turned (SCOPE 6.9)
 unfoldable pub recordAt : List ℕ → ℕ → List ℕ
 recordAt pes at = byteAt pes at ∷ byteAt pes (at + 2) ∷ map turned (take textBytes (drop (at + 4) pes))
 
--- what the unit at a place gives: "stuffing gives nothing"
+-- what the unit at a place gives: nothing, where it is stuffing (SCOPE 6.7)
 abbrev pub givenAt : List ℕ → ℕ → List ℕ
 givenAt pes at = pick (stuffingId (byteAt pes at)) [] (recordAt pes at)
 
@@ -33,14 +33,14 @@ placesFrom (suc f) pes at = elim (ltb at (length pes)) [ true ↦ at ∷ placesF
 unfoldable pub places : List ℕ → List ℕ
 places pes = placesFrom (length pes) pes firstUnit
 
--- the rules of all units, "from first to last"
+-- the rules of all units, in the order of the units
 unfoldable pub unitsRules : List ℕ → List Rule
 unitsRules pes = flatMap (rulesAt pes) (places pes)
 
--- "2, 3, 4, 5, then units from first to last, each 6 (one byte left), 7, 6 (overrun), 8, 9"
+-- the header's, then the units': the order of SCOPE 3.4
 unfoldable pub readRules : List ℕ → List Rule
 readRules pes = headerRules pes ++ unitsRules pes
 
--- "for each text unit in order, a record of 44 bytes"
+-- a record for each text unit, in their order (SCOPE 6.9)
 unfoldable pub recordsOf : List ℕ → List ℕ
 recordsOf pes = flatMap (givenAt pes) (places pes)

@@ -28,7 +28,7 @@ const FIRST: usize = 46;
 // A packet's length is a multiple of this, what one transport packet carries.
 const PART: usize = 184;
 
-// The records of a PES packet, 44 bytes for each text unit in order, into the front of `out`. Goes
+// The records of a PES packet's text units, 44 bytes each (SCOPE 6.9), into the front of `out`. Goes
 // along the packet twice, to judge it and to write, and holds nothing but its place.
 pub fn read(pes: &[u8], out: &mut [u8]) -> Answer
     ensures answer { λ r. ⌜ r ≡ answered (readRules (now (pes .entry))) (recordsOf (now (pes .entry))) (now (out .entry)) ⌝ }
@@ -108,7 +108,7 @@ fn starts(pes: &[u8]) -> bool
     pes[3] == 0xBD
 }
 
-// Whether PES_packet_length, by its two bytes, is N×184−6 with N from 1 to 356, and the packet is as
+// Whether PES_packet_length, by its two bytes, is that of some N times 184 bytes, and the packet is as
 // long as it says. Two bytes hold no N above 356.
 fn length_fits(high: u8, low: u8, whole: usize) -> bool
     ensures { λ r. ⌜ r ≡ both (lengthFits (high * 256 + low)) (eqb (high * 256 + low + 6) whole) ⌝ }

@@ -1,4 +1,4 @@
--- Cases J and K of document 01, from the definitions: they join the one list of all cases in crate `claims`. Assumes nothing.
+-- Cases J and K of SCOPE 14.1, from the definitions: they join the one list of all cases in crate `claims`. Assumes nothing.
 use mathlib.Core.Path.{_≡_, refl}
 use mathlib.Core.List.{List, [], _∷_, flatMap}
 use Prim.Native.Nat.{ℕ}
@@ -21,7 +21,7 @@ readAnswer pes = answered (readRules pes) (recordsOf pes) (replicate 1000 0)
 abbrev pub writeAnswer : ℕ → List ℕ → Answer
 writeAnswer d rs = answered (writeRules d rs) (packetOf d rs) (replicate 1000 0)
 
--- J: N = 1 has 184 bytes, length 178, three units
+-- J: the smallest packet, its bytes, its length field and its units
 abbrev pub CaseJ : Type 0
 CaseJ =
     (writeAnswer 0x10 [] ≡ Done 184) × (packetLength (packetOf 0x10 []) ≡ 178) × (length (places (packetOf 0x10 [])) ≡ 3)

@@ -1,5 +1,5 @@
 -- What the two calls owe each other, from their definitions: what is written reads back as the same records, a written packet has
--- the shape that document 01 gives it, and reading gives no record that writing would refuse. Assumes nothing.
+-- the shape that SCOPE 6 gives it, and reading gives no record that writing would refuse. Assumes nothing.
 use mathlib.Core.Path.{_≡_, refl, sym, subst, subst₂}
 use mathlib.Core.Bool.{true}
 use mathlib.Core.List.{List, _++_}
@@ -66,7 +66,7 @@ walked d rs e b =
     subst₂ (λ (m : ℕ) (g : List ℕ). Walked (packetOf d rs) 46 m g) c whole
     (back-units u (4 * n - 1 - u) rs b 0 (omega arith) fit (packetOf d rs) 46 (after-header d rs))
 
--- "what is written reads back as the same records"
+-- the records that a packet is written from are those that it reads back as (SCOPE 15.2)
 pub record WritesBack (d : ℕ) (rs : List ℕ) : Type 0 where
   pub accepted : Every (readRules (packetOf d rs))
   pub same : recordsOf (packetOf d rs) ≡ rs
@@ -86,7 +86,7 @@ reads-back d rs old e b h =
     let w = writes-back d rs e b in
     rw (w .same) (lent-accepted (readRules (packetOf d rs)) rs old (w .accepted) h)
 
--- "a packet of N×184 bytes holds 4N−1 units", "with the least N that holds them (N=1 for none)"
+-- N × 184 bytes with 4 × N − 1 units (SCOPE 6.8), for the smallest N that has room, 1 for none (SCOPE 6.10)
 pub record Shaped (d : ℕ) (rs : List ℕ) : Type 0 where
   pub bytes : length (packetOf d rs) ≡ packetSize (unitCount rs) * 184
   pub field : packetLength (packetOf d rs) ≡ packetSize (unitCount rs) * 184 - 6
@@ -107,7 +107,7 @@ shaped d rs e b =
 
 -- ---- a packet that is read
 
--- "reading never gives a record that writing would refuse", under the packet's own data_identifier
+-- each record that reading gives can be written, under the packet's own data_identifier
 pub reads-writable : (pes : List ℕ) → Every (readRules pes) → Every (writeRules (byteAt pes 45) (recordsOf pes))
 unfolding readRules unitsRules headerRules recordsOf places writeRules
 reads-writable pes e =

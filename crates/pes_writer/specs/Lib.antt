@@ -1,2 +1,2 @@
--- Writing PES packets: document 01, "PES packets and their units", after EN 300 472.
+-- Writing PES packets: SCOPE 6.2 and 6.10, after EN 300 472.
 pub mod Writing

@@ -1,4 +1,4 @@
-// 44-byte records to PES packets of teletext, the other way than crate `pes`: EN 300 472, clauses 4.2 to 4.4.
+// 44-byte records to PES packets of teletext, the other way than crate `pes`: SCOPE 6; EN 300 472, clauses 4.2 to 4.4.
 // The call takes any bytes and answers; a refusal leaves the lent output as it was.
 //
 // The definitions are in specs/Writing.antt: the packet's bytes; the call's rules, in order, are crate

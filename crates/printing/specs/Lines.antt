@@ -1,4 +1,4 @@
--- What is printed piece by piece: document 01, "The desk program's list". Characters are their codes, and 10 ends a line.
+-- What is printed piece by piece: SCOPE 13. Characters are their codes, and 10 ends a line.
 use mathlib.Core.Bool.{Bool, true}
 use mathlib.Core.List.{List, [], _∷_, _++_}
 use Prim.Native.Nat.{ℕ, _+_, _/_, _%_}
@@ -12,7 +12,7 @@ use Rattle.forms.specs.Form.{spelled}
 unfoldable pub place : ℕ → ℕ → List ℕ
 place unit n = pick (leb unit n) ((48 + n / unit % 10) ∷ []) []
 
--- "other numbers decimal": a number of at most five places
+-- a number in decimal digits, at most five (SCOPE 13.3)
 unfoldable pub decimal : ℕ → List ℕ
 decimal n = place 10000 n ++ place 1000 n ++ place 100 n ++ place 10 n ++ ((48 + n % 10) ∷ [])
 
@@ -20,7 +20,7 @@ decimal n = place 10000 n ++ place 1000 n ++ place 100 n ++ place 10 n ++ ((48 +
 abbrev pub places : ℕ → List ℕ
 places n = (48 + n / 10000 % 10) ∷ (48 + n / 1000 % 10) ∷ (48 + n / 100 % 10) ∷ (48 + n / 10 % 10) ∷ (48 + n % 10) ∷ []
 
--- "Hex digits are lower case"
+-- a hex digit, in lower case (SCOPE 13.3)
 unfoldable pub digit : ℕ → ℕ
 digit n = pick (ltb n 10) (48 + n) (87 + n)
 
@@ -31,15 +31,15 @@ hexed (b ∷ bs) = digit (b / 16) ∷ digit (b % 16) ∷ hexed bs
 
 -- ---- a line each
 
--- a name, "name=" and a number
+-- a name with its `=`, and a number
 unfoldable pub numberLine : List ℕ → ℕ → List ℕ
 numberLine name n = name ++ decimal n ++ (10 ∷ [])
 
--- "language="
+-- `language=`
 abbrev pub languageName : List ℕ
 languageName = 108 ∷ 97 ∷ 110 ∷ 103 ∷ 117 ∷ 97 ∷ 103 ∷ 101 ∷ 61 ∷ []
 
--- "page="
+-- `page=`
 abbrev pub pageName : List ℕ
 pageName = 112 ∷ 97 ∷ 103 ∷ 101 ∷ 61 ∷ []
 
@@ -51,7 +51,7 @@ unfoldable pub letters : List ℕ → Bool
 letters [] = true
 letters (b ∷ bs) = both (letter b) (letters bs)
 
--- "A language not three of a..z is printed as six hex digits"
+-- a language: its three letters, or six hex digits where one of them isn't a to z (SCOPE 13.4)
 unfoldable pub languageOf : ℕ → List ℕ
 languageOf w = pick (letters (spelled (w ∷ []))) (spelled (w ∷ [])) (hexed (spelled (w ∷ [])))
 

@@ -18,7 +18,7 @@ use Rattle.pages.specs.Seen.{see}
 use Rattle.state.specs.Acting.{State, act, handed, dropped as Acting·dropped}
 use Rattle.state.specs.State.{stateOf, readerOf, readerInRange}
 
--- "Reader: 16, then 1"
+-- 16 for setting, state or packet, and after it 1 (SCOPE 3.5)
 abbrev pub feedRules : Setting → Reader → List ℕ → List ℕ → List Rule
 feedRules s r p old =
     rule (both (inRange s) (both (readerInRange r) (eqb (length p) packetLength))) 16 0 ∷ rule (leb room (length old)) 1 0 ∷ []
@@ -30,13 +30,13 @@ refusedHeard number offset = Refused (refusal number offset)
 abbrev pub handedBytes : Setting → State → List ℕ → List ℕ
 handedBytes s st p = recordsOf (handed st (see s p))
 
--- the answer: how many blocks, how many bytes, whether one was dropped
+-- the answer: how many blocks, how many bytes, whether one was dropped (SCOPE 10.5)
 abbrev pub feedHeard : Setting → Reader → List ℕ → List ℕ → Heard
 feedHeard s r p old =
     judged refusedHeard (feedRules s r p old)
     (Took (length (handed (stateOf r) (see s p))) (length (handedBytes s (stateOf r) p)) (Acting·dropped (stateOf r) (see s p)))
 
--- the reader handed back: a refusal's is equal to the one handed in
+-- the reader handed back: a refusal's is equal to the one handed in (SCOPE 3.2)
 abbrev pub feedReader : Setting → Reader → List ℕ → List ℕ → Reader
 feedReader s r p old = judged (λ number offset. r) (feedRules s r p old) (readerOf (act (stateOf r) (see s p)))
 

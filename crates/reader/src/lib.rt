@@ -1,4 +1,5 @@
-// The reader of the guide page, called packet by packet; `feed_all` takes a row of packets in one call.
+// The reader of the guide page, called packet by packet; `feed_all` takes a row of packets in one call
+// (SCOPE 8 to 10).
 use answer::Refusal;
 use packet::Setting;
 pub use rows::FedAll;

@@ -1,4 +1,4 @@
--- A row of packets: each is taken while the room left is enough for one.
+-- A row of packets: each is taken while the room left is enough for one (SCOPE 10.6).
 use mathlib.Core.Bool.{Bool, false}
 use mathlib.Core.List.{List, [], _∷_, _++_}
 use Prim.Native.Nat.{ℕ, zero, suc, _+_, _%_, _/_}

@@ -11,7 +11,7 @@ descriptorsOf each (suc k) n =
     let words = each * field 6 4 n in
     record { id = field 0 6 n; words = parts 24 words (n / 2 ^ 10) } ∷ descriptorsOf each k (n / 2 ^ (10 + 24 * words))
 
--- the table that control data n holds: each field at its place in tables 15 and 17
+-- the table that control data n holds: each field at its place in tables 15 and 17 (SCOPE 12.2, 12.3)
 unfoldable pub tableOf : ℕ → Table
 tableOf n =
     record {

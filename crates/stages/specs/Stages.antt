@@ -8,7 +8,7 @@ use Rattle.stages.specs.declared.Words.{Words}
 abbrev pub words : Setting → Stage → Words
 words s t = record { setting = s; stage = t }
 
--- "set to magazine 1, page DF, stream 1, application 1"
+-- before any word: the desk's own setting (SCOPE 13.1)
 abbrev pub startWords : Words
 startWords = words (record { magazine = 1; page = 223; stream = 1; application = 1 }) Options
 

@@ -25,7 +25,7 @@ pub struct Words {
     pub stage: Stage,
 }
 
-// Nothing is heard yet: magazine 1, page DF, stream 1, application 1.
+// Nothing is heard yet: the desk's own setting (SCOPE 13.1).
 pub fn start() -> Words
     ensures { λ r. ⌜ r ≡ startWords ⌝ }
 {

@@ -38,6 +38,6 @@ handed-room q st x h w g = go (v .reads)
         read-room (dropIf (v .drops) (st .mode)) (pointerOf x) (bytesOf x) (drop-good (v .drops) (st .mode) g) (bytes-few q x h w)
     go false = within-none
 
--- "at most 8 for one packet", and 2,112 bytes of output are enough
+-- a packet finishes no more than eight blocks (SCOPE 10.4), and 2,112 bytes of output hold them (SCOPE 3.5)
 pub packet-room : (s : Setting) (st : State) (q : List ℕ) → length q ≡ packetLength → Good (st .mode) → Within (handed st (see s q))
 packet-room s st q h g = handed-room q st (see s q) h (shaped s q) g

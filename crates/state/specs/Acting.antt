@@ -1,4 +1,4 @@
--- What a packet does to the reader's state, which blocks it finishes, and whether it drops one.
+-- What a packet does to the reader's state (SCOPE 8, 9), which blocks it finishes, and whether it drops one (SCOPE 10.5).
 use mathlib.Core.Bool.{Bool}
 use mathlib.Core.List.{List, []}
 use Prim.Native.Nat.{ℕ}

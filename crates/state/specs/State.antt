@@ -1,4 +1,4 @@
--- The state as the reader holds it: the running block's bytes in a store of 2,047, all others zero.
+-- The state as the reader holds it: the running block's bytes in a store of 2,047, all others zero (SCOPE 10.1).
 use mathlib.Core.Bool.{Bool, true}
 use mathlib.Core.List.{List, [], _∷_, _++_}
 use Prim.Native.Nat.{ℕ, _-_, _%_, _^_, _<_}
@@ -30,9 +30,8 @@ readerOf st = record { page = st .page; index = st .index; run = runOf (st .mode
 abbrev pub freshState : State
 freshState = record { page = Shut; index = 15; mode = off }
 
--- ---- in range: "bytes past those held are always zero. A state that breaks this, or has n over 25, last over n or more bytes than
--- its size, is out of range." The representation adds: an index below 16, at most three nibbles, and no bits but those of the
--- nibbles got
+-- ---- in range (SCOPE 10.2): n is at most 25 and last at most n, no more bytes are held than the block has, and past them the store is
+-- zero. The representation adds: an index below 16, at most three nibbles of a header, and no bits but theirs
 
 unfoldable pub zeros : List ℕ → Bool
 zeros [] = true

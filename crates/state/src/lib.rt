@@ -1,4 +1,4 @@
-// The reader's state: what it keeps between packets, and when that is in range.
+// The reader's state: what it keeps between packets, and when that is in range (SCOPE 10).
 use pages::Page;
 use walk::Run;
 ghost use mathlib.Core.Path.{_≡_};

@@ -1,5 +1,5 @@
 -- The 42-byte packets that a PES packet carries: each record without its two leading bytes; or one packet that can't be decoded, where
--- the PES packet is refused.
+-- the PES packet is refused (SCOPE 6.12).
 use mathlib.Core.Bool.{Bool}
 use mathlib.Core.List.{List, [], _++_}
 use Prim.Native.Nat.{ℕ, zero, suc, _+_}

@@ -33,7 +33,7 @@ recordWith application reserved filling t =
     parts 8 headLength (laid (header application (size t)) 0)
     ++ map image (nibbles (checksumOf application reserved filling t) reserved filling t)
 
--- the record that is written: "Written fill and reserved bits are 0"
+-- the record that is written: with fill and reserved bits of 0 (SCOPE 12.10)
 abbrev pub recordOf : ℕ → Table → List ℕ
 recordOf application t = recordWith application 0 0 t
 

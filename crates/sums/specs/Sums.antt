@@ -10,9 +10,8 @@ unfoldable pub total : List ℕ → ℕ
 total [] = 0
 total (n ∷ ns) = n + total ns
 
--- 11.1.2: application_id, block_size and all control data but the checksum itself, "divided into nibbles", "expanded into 8 bit
--- bytes", "are summed (modulo 256) and the checksum is (0x100 − sum of bytes) modulo 256". Of a block's nibbles the first two
--- are the checksum's
+-- what is missing to a multiple of 256 when all nibbles are added up, those of application_id and block_size and those of the control data
+-- but for the checksum itself, which are a block's first two (11.1.2; SCOPE 12.5)
 unfoldable pub checksum : ℕ → List ℕ → ℕ
 checksum head nibbles = (256 - (total (parts 4 4 head) + total (drop 2 nibbles)) % 256) % 256
 

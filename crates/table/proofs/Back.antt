@@ -60,7 +60,7 @@ says-with application reserved filling t a f b h =
       body = body-back head (map image ns) ∙ nibbles-again (checksumOf application reserved filling t) reserved filling t;
     }
 
--- "read ones don't count": whatever the reserved bit and the fill, the same table is read
+-- whatever the reserved bit and the fill are, the same table is read (SCOPE 12.10)
 pub reads-any :
     (application reserved filling : ℕ) (t : Table) → application < 32 → fits t ≡ true → reserved < 2 → filling < 2 ^ fill t
     → readBlock application (recordWith application reserved filling t) ≡ accepted t

@@ -1,4 +1,4 @@
--- Document 01's cases G (its block), H and I, computed from the definitions. Assumes nothing.
+-- Cases G (its block), H and I of SCOPE 14.1, computed from the definitions. Assumes nothing.
 use mathlib.Core.Path.{_≡_, refl}
 use mathlib.Core.List.{[], _∷_, map}
 use Prim.Native.Nat.{ℕ}
@@ -14,7 +14,7 @@ use Rattle.forms.specs.Form.{spelled, listed, openingOf, form, wordsIn, descrip
 use Rattle.sums.specs.Block.{header}
 use Rattle.forms.specs.Writing.{formRules, writeRules}
 
--- TI, block_no 0, network 2, descriptor 5, "dut", page value 000888
+-- G's table: a TI with one subtitle, in Dutch (SCOPE 13.6)
 abbrev pub G : Table
 G =
     record {
@@ -40,22 +40,22 @@ I n =
       descriptors = replicate n (record { id = 5; words = replicate 30 0x647574 });
     }
 
--- "F application 1, size 30 → 02 A1 5E 15"
+-- F: the header of application 1 and size 30
 pub case-F : map image (parts 4 4 (laid (header 1 30) 0)) ≡ 0x02 ∷ 0xA1 ∷ 0x5E ∷ 0x15 ∷ []
 unfolding laid parts image withParity number
 case-F = refl
 
--- "G's block: 116 bits, fill 4, size 30"
+-- G: bits, fill and size of the block
 pub case-G : (bits G ≡ 116) × (fill G ≡ 4) × (size G ≡ 30)
 unfolding row width fields loops per
 case-G = (refl, refl, refl)
 
--- "H no descriptors: 58 bits, fill 6, size 16"
+-- H: the same of a table without descriptors
 pub case-H : (bits H ≡ 58) × (fill H ≡ 6) × (size H ≡ 16)
 unfolding row width fields loops per
 case-H = (refl, refl, refl)
 
--- "I eleven descriptors of 15 subtitles: 8,088 bits, size 2,022; twelve: 15"
+-- I: descriptors of 15 subtitles: bits and size of eleven, and that twelve are refused with 15
 pub case-I :
     (bits (I 11) ≡ 8088)
     × (size (I 11) ≡ 2022)

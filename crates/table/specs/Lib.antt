@@ -1,2 +1,2 @@
--- Reading Subtitle (TI) and Language (LI) blocks: EN 300 707, tables 15 and 17, with document 01, "The tables".
+-- Reading Subtitle (TI) and Language (LI) blocks: SCOPE 12, after EN 300 707, tables 15 and 17.
 pub mod Reading

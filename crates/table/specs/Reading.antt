@@ -1,4 +1,4 @@
--- Block reading: its rules in document 01's order, and the table that it gives.
+-- Block reading: its rules in the order of SCOPE 3.6, and the table that it gives.
 use mathlib.Core.List.{List, [], _∷_, _++_}
 use Prim.Native.Nat.{ℕ, _+_, _/_, _%_}
 use lib.Dec.{eqb, ltb, leb}
@@ -12,7 +12,7 @@ use Rattle.lengths.specs.Lengths.{lengthRules}
 use Rattle.sums.specs.Sums.{checksum, sound}
 use Rattle.sums.specs.Block.{headLength, headOf, nibblesOf}
 
--- 16, 13, 12, 13: the record as it is lent, by its length and its head
+-- 16, 13 for the record's length, 12 for the application, 13 for a size under 8: the record as it is lent, by its length and its head
 unfoldable pub frameRules : ℕ → ℕ → ℕ → List Rule
 frameRules application len head =
     rule (ltb application 32) 16 0
@@ -21,7 +21,7 @@ frameRules application len head =
     ∷ rule (leb 8 (head / 32)) 13 0
     ∷ []
 
--- 10 over the first 8 bytes, 12, 13: what can be said of a block before it is read whole
+-- 10 in its first eight bytes, 12 for kind and access, 13 for an odd size: what can be said of a block before it is read whole
 unfoldable pub frontRules : ℕ → List ℕ → List Rule
 frontRules blockSize ns =
     let n = whole 4 ns in
@@ -30,7 +30,7 @@ frontRules blockSize ns =
     ∷ rule (eqb (blockSize % 2) 0) 13 0
     ∷ []
 
--- 10 over the rest, 11
+-- 10 in any other byte, 11 for the sum
 unfoldable pub wholeRules : ℕ → List ℕ → List Rule
 wholeRules head ns =
     rule (eqb (sound ns) (length ns)) 10 (headLength + sound ns)

@@ -1,4 +1,5 @@
-// Block reading: the rules by which a Subtitle or Language block is taken, and the table that it gives.
+// Block reading: the rules by which a Subtitle or Language block is taken, and the table that it gives
+// (SCOPE 3.6, 12).
 ghost use mathlib.Core.Path.{_≡_};
 ghost use mathlib.Core.List.{map};
 ghost use Prim.Native.Nat.{_+_, _-_, _*_, _/_, _%_, _<_, _≤_};
@@ -103,7 +104,7 @@ fn judge_body(head: usize, body: &[u8]) -> Answer
     }
 }
 
-// 10 over the first 8 bytes, 12, 13: what can be said of a block before it is read whole.
+// 10 in its first eight bytes, 12, 13: what can be said of a block before it is read whole.
 fn judge_front(size: usize, body: &[u8]) -> Answer
     requires { ⌜ 8 ≤ length (now body) ⌝ }
     ensures { λ r. ⌜ r ≡ judged refused (frontRules size (map nib (now (body .entry)))) (Done 0) ⌝ }
@@ -125,7 +126,7 @@ fn judge_front(size: usize, body: &[u8]) -> Answer
     Answer::Done(0)
 }
 
-// 10 over the rest, 11.
+// 10 in any other byte, 11.
 fn judge_whole(head: usize, body: &[u8]) -> Answer
     requires { ⌜ 8 ≤ length (now body) ⌝ }
     ensures { λ r. ⌜ r ≡ judged refused (wholeRules head (map nib (now (body .entry)))) (Done 0) ⌝ }

@@ -1,4 +1,4 @@
--- The checksum put into its place.
+-- The checksum (SCOPE 12.5) put into its place.
 use mathlib.Core.List.{List, map}
 use Prim.Native.Nat.{ℕ, _/_, _%_}
 use lib.ListN.{take, drop, set}

@@ -1,4 +1,4 @@
-// Subtitle and Language tables to blocks.
+// Subtitle and Language tables to blocks (SCOPE 3.7, 12).
 ghost use mathlib.Core.Bool.{true};
 ghost use mathlib.Core.Path.{_≡_};
 ghost use mathlib.Core.List.{map, _∷_, []};

@@ -1,4 +1,4 @@
--- A data unit, "id, length, that many bytes", and the data field of a text unit: EN 300 472, tables 1, 2, 4 and 5.
+-- A data unit: its id, its length and so many bytes (SCOPE 6.4); and those of a text unit (SCOPE 6.5): EN 300 472, tables 1, 2, 4 and 5.
 use mathlib.Core.Bool.{Bool}
 use mathlib.Core.List.{List, [], _∷_, _++_}
 use Prim.Native.Nat.{ℕ, _+_}
@@ -14,7 +14,7 @@ use Rattle.units.specs.declared.DataUnit.{DataUnit}
 abbrev pub byteAt : List ℕ → ℕ → ℕ
 byteAt pes at = getD pes at 0
 
--- table 4: data_unit for stuffing
+-- table 4: the id of stuffing (SCOPE 6.7)
 abbrev pub stuffingId : ℕ → Bool
 stuffingId i = eqb i 0xFF
 
@@ -22,7 +22,7 @@ stuffingId i = eqb i 0xFF
 abbrev pub textLength : ℕ
 textLength = 0x2C
 
--- the framing byte as it stands: 27 turned
+-- the framing byte as it stands: 27 turned (SCOPE 6.6)
 abbrev pub framing : ℕ
 framing = 0xE4
 
@@ -30,7 +30,7 @@ framing = 0xE4
 abbrev pub nextUnit : List ℕ → ℕ → ℕ
 nextUnit pes at = at + 2 + byteAt pes (at + 1)
 
--- "6 (one byte left), 7, 6 (overrun)" of the unit at a place
+-- the unit at a place: 6 where one byte is left, 7 for its id, 6 where it runs over the end (SCOPE 3.4)
 unfoldable pub unitRules : List ℕ → ℕ → List Rule
 unitRules pes at =
     rule (leb (at + 2) (length pes)) 6 at
@@ -38,7 +38,7 @@ unitRules pes at =
     ∷ rule (leb (nextUnit pes at) (length pes)) 6 at
     ∷ []
 
--- "8, 9" of a text unit: "for 9 the line byte or else the framing byte"
+-- a text unit: 8 for its length, then 9 for the line byte or, where that is right, for the framing byte (SCOPE 3.1, 3.4)
 unfoldable pub textRules : List ℕ → ℕ → List Rule
 textRules pes at =
     rule (eqb (byteAt pes (at + 1)) textLength) 8 at

@@ -1,4 +1,4 @@
-// The data units of a PES packet of teletext, one at a time: EN 300 472, clauses 4.3 and 4.4. Every public
+// The data units of a PES packet of teletext, one at a time: SCOPE 6; EN 300 472, clauses 4.3 and 4.4. Every public
 // function takes any bytes and answers; nothing is kept between calls.
 //
 // The definitions are in specs/Units.antt. What a unit that is met tells is in proofs/Meets.antt. What an id and a line byte say alone

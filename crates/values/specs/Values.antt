@@ -45,7 +45,7 @@ numberOf Page w = hexPairOf w
 numberOf Stream w = decimalOf w
 numberOf Application w = decimalOf w
 
--- "set to magazine 1..8, page 0..255, stream 0..15, application 0..31"
+-- the least and the most that a field takes (SCOPE 8.1)
 abbrev pub leastOf : Field → ℕ
 leastOf Magazine = 1
 leastOf Page = 0

@@ -1,4 +1,4 @@
--- Within a packet: document 01, "Packets of the guide page", from "Within a packet's 40 bytes .." on.
+-- Within a packet: SCOPE 9.
 pub mod Mode
 pub mod Store
 pub mod Reading

@@ -10,9 +10,9 @@ use Rattle.blocks.specs.Block.{Block, sizeOf}
 
 -- how far reading is
 pub data Mode : Type 0 where
-  -- nothing is running, and the rest of the packet isn't read
+  -- nothing is running, and nothing more of the packet is read
   off : Mode
-  -- nothing is running: filler is skipped to the next start
+  -- nothing is running, and a start may come after filler
   scan : Mode
   -- a start came, and so many nibbles of its 16 bits
   heading : ℕ → ℕ → Mode
@@ -37,14 +37,14 @@ shifted v b = v / 16 + nib b * 4096
 abbrev pub full : ℕ → List ℕ → Bool
 full h held = leb (sizeOf h) (length held)
 
--- ---- from the pointed byte on: "filler is skipped to the next start or the end; another nibble, or a byte that can't be decoded,
--- ends the packet"
+-- ---- from the pointed byte on: filler is passed over up to a start or the end (SCOPE 9.9), and anything else ends the reading of the
+-- packet (SCOPE 9.10)
 
 -- past a start's fourth nibble a block of size 0 is finished at once
 abbrev pub headed : ℕ → ℕ → Mode
 headed g v = pick (ltb g 3) (heading (suc g) v) (pick (full v []) scan (body v []))
 
--- "If one of a start's four bytes can't be decoded, that block is dropped at once and the rest of the packet skipped"
+-- one byte more; a header byte that can't be decoded drops its block and ends the reading of the packet (SCOPE 9.11)
 unfoldable pub step : Mode → ℕ → Mode
 step off b = off
 step scan b = pick (filler b) scan (pick (eqb (nib b) 12) (heading 0 0) off)
@@ -80,10 +80,10 @@ unfoldable pub spoils : Mode → List ℕ → Bool
 spoils m [] = false
 spoils m (b ∷ bs) = either (spoiled m b) (spoils (step m b) bs)
 
--- ---- up to the pointed byte: "A running block takes bytes from 1. It must be finished by the pointed byte with only filler between
--- (nibble 3), else it is dropped". A block that is full stays until the pointed byte is reached.
+-- ---- up to the pointed byte: the running block takes its bytes, and is dropped unless it is complete by then and only filler follows it
+-- (SCOPE 9.5). A block that is full stays until the pointed byte is reached.
 
--- where a start is pointed at, a full block bears only filler; where none is, "bytes after a finished running block aren't read"
+-- where a start is pointed at, a full block bears only filler (SCOPE 9.5); where none is, what follows it isn't read (SCOPE 9.3)
 abbrev pub behind : Bool → ℕ → List ℕ → ℕ → Mode
 behind true h held b = pick (filler b) (body h held) off
 behind false h held b = body h held

@@ -8,7 +8,7 @@ use Rattle.laws.specs.Pick.{pick, both, either}
 use Rattle.blocks.specs.Block.{Block}
 use Rattle.walk.specs.Mode.{Mode, off, scan, running, isFull, ends, gives, spoils, carries, finished, unfinished}
 
--- what one packet can give: "1 (under 2,112 bytes of output)"
+-- the bytes of output that a reader must be lent for one packet (SCOPE 3.5)
 abbrev pub room : ℕ
 room = 2112
 
@@ -16,7 +16,7 @@ room = 2112
 abbrev pub dropIf : Bool → Mode → Mode
 dropIf t m = pick t off m
 
--- "p 0..12 puts the first block start at byte 1+3p": how many of the 39 bytes stand before the pointed byte
+-- how many of the 39 bytes stand before the pointed byte, which is byte 1 + 3 × p of the 40 (SCOPE 9.2)
 abbrev pub pointed : ℕ → ℕ
 pointed p = 3 * p
 
@@ -24,7 +24,8 @@ pointed p = 3 * p
 abbrev pub pointedBy : ℕ → ℕ
 pointedBy p = pick (leb p 12) (pointed p) (pick (eqb p 13) 39 40)
 
--- the mode after the 39 bytes of a packet with pointer p: 0..12 a start is pointed at, 13 none is; else the packet is skipped
+-- the mode after the 39 bytes of a packet with pointer p: up to 12 a start is pointed at (SCOPE 9.2), at 13 none is (SCOPE 9.3); otherwise
+-- the packet is skipped (SCOPE 9.4)
 abbrev pub readMode : Mode → ℕ → List ℕ → Mode
 readMode m p l =
     pick (leb p 12) (unfinished (ends scan (drop (pointed p) l))) (pick (eqb p 13) (unfinished (carries false m l)) off)

@@ -6,7 +6,7 @@ use Rattle.walk.specs.declared.Run.{Run}
 use Rattle.walk.specs.declared.Run.the-variants.{Idle, Head, Body}
 use Rattle.walk.specs.Mode.{Mode, off, scan, heading, body}
 
--- "a store of 2,047 bytes"
+-- as many bytes as a block can have (SCOPE 10.1)
 abbrev pub storeLength : ℕ
 storeLength = 2047
 

@@ -1,4 +1,4 @@
--- The words of a command line, one after the other: options with their values, `--`, names.
+-- The words of a command line, one after the other: options with their values, `--`, names (SCOPE 13.7).
 use mathlib.Core.Bool.{Bool, true, false}
 use mathlib.Core.List.{List}
 use Prim.Native.Nat.{ℕ}

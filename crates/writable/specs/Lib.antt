@@ -1,2 +1,2 @@
--- What can be written as a PES packet: document 01, "PES packets and their units", after EN 300 472.
+-- What can be written as a PES packet: SCOPE 6.10, after EN 300 472.
 pub mod Records

@@ -1,4 +1,4 @@
--- The rules of "a list of such records" that is to be written, and the length of the packet that holds it.
+-- The rules of a list of records that is to be written, and the length of the packet that holds it (SCOPE 6.10).
 use mathlib.Core.Bool.{Bool, true}
 use mathlib.Core.List.{List, [], _∷_}
 use Prim.Native.Nat.{ℕ, zero, suc, _+_, _*_, _/_, _%_}
@@ -13,7 +13,7 @@ use Rattle.ebu.specs.Texts.{ebuData, recordSize}
 abbrev pub unitCount : List ℕ → ℕ
 unitCount rs = length rs / recordSize
 
--- "the least N that holds them (N=1 for none)", where "a packet of N×184 bytes holds 4N−1 units"
+-- the smallest N that has room for them, 1 for none (SCOPE 6.10): there are 4 × N − 1 units in N × 184 bytes (SCOPE 6.8)
 abbrev pub packetSize : ℕ → ℕ
 packetSize u = u / 4 + 1
 
@@ -30,7 +30,7 @@ unfoldable pub recordsFit : ℕ → List ℕ → ℕ → Bool
 recordsFit zero rs at = true
 recordsFit (suc u) rs at = both (recordFits rs at) (recordsFit u rs (at + recordSize))
 
--- "16, 13, 15", each at offset 0; 1,423 units are what N = 356 holds
+-- 16, 13, 15, in the order of writers and each at offset 0 (SCOPE 3.7); 1,423 units are what N = 356 holds
 unfoldable pub writeRules : ℕ → List ℕ → List Rule
 writeRules d rs =
     rule (ebuData d) 16 0
