@@ -21,6 +21,7 @@ use Rattle.state.proofs.Ranging.{Sound, sound-after, state-held, reader-in-rang
 use Rattle.state.proofs.Sizing.{handed-sized}
 use Rattle.claims.specs.Carrying.{heardBlocks}
 use Rattle.claims.specs.Feeding.{Call, packetsOf, writtenOf, comesOut, droppedOf}
+use Rattle.claims.specs.Tells.{countOf}
 
 module _ (s : Setting) (r : Reader) (p old : List ℕ) (a : inRange s ≡ true) (b : readerInRange r ≡ true) (c : length p ≡ 42) (d : 2112 ≤ length old) where
   -- a packet of 42 bytes, with setting and state in range and room, is taken
@@ -32,6 +33,9 @@ module _ (s : Setting) (r : Reader) (p old : List ℕ) (a : inRange s ≡ true) 
 
   taken-out : feedOut s r p old ≡ handedBytes s (stateOf r) p ++ drop (length (handedBytes s (stateOf r) p)) old
   taken-out = rw (a, b, eq-eqb (length p) 42 c, le-leb 2112 (length old) d)
+
+  taken-counts : countOf (feedHeard s r p old) ≡ length (handed (stateOf r) (see s p))
+  taken-counts = rw (a, b, eq-eqb (length p) 42 c, le-leb 2112 (length old) d)
 
   taken-drops : droppedOf (feedHeard s r p old) ≡ dropped (stateOf r) (see s p)
   taken-drops = rw (a, b, eq-eqb (length p) 42 c, le-leb 2112 (length old) d)
@@ -58,6 +62,11 @@ module _ (s : Setting) (a : inRange s ≡ true) (st : State) (r : Sound st) (c :
       ∙ ap blocks (take-append-seam (handedBytes s (stateOf (readerOf st)) (c .packet)) _)
       ∙ ap (λ (x : State). blocks (handedBytes s x (c .packet))) held
       ∙ blocks-records (handed-sized st (see s (c .packet)) r)
+
+  pub call-counts : countOf (feedHeard s (readerOf st) (c .packet) (c .lent)) ≡ length (handed st (see s (c .packet)))
+  call-counts =
+      taken-counts s (readerOf st) (c .packet) (c .lent) a b l (c .enough)
+      ∙ ap (λ (x : State). length (handed x (see s (c .packet)))) held
 
   pub call-drops : droppedOf (feedHeard s (readerOf st) (c .packet) (c .lent)) ≡ dropped st (see s (c .packet))
   call-drops =

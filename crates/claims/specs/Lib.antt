@@ -5,3 +5,4 @@ pub mod Lists
 pub mod Tables
 pub mod Carries
 pub mod March
+pub mod Tells
