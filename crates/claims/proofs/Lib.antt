@@ -14,3 +14,5 @@ pub mod Demands
 pub mod Marked
 pub mod Wrong
 pub mod Rows
+pub mod Handing
+pub mod Calls

@@ -41,13 +41,13 @@ use Rattle.sums.specs.Block.{nibbles, checksumOf, recordWith}
 use Rattle.table.proofs.Cases.{G, H}
 use Rattle.claims.specs.Noise.{Flipped, Near, none, more, Aired, ended, sent as Aired·sent, nil, and}
 use Rattle.claims.specs.Carrying.{heardBlocks}
-use Rattle.claims.specs.Feeding.{Call, packetsOf, writtenOf, droppedOf, comesOut}
+use Rattle.claims.specs.Feeding.{Call, writtenOf, countOf, comesOut, droppedOf}
 use Rattle.claims.specs.Tables.{recordsOf, sent, tablesOf, received}
 use Rattle.claims.specs.Carries.{Carries}
 use Rattle.claims.specs.March
-use Rattle.claims.specs.Tells.{countOf, Tells}
+use Rattle.claims.specs.Tells.{Tells}
 use Rattle.claims.proofs.Demands.{exactly}
-use Rattle.claims.proofs.Fed.{call-counts, call-blocks, call-drops, fed-blocks}
+use Rattle.claims.proofs.Fed.{callFor, callsFor, packets-of-calls, call-counts, call-blocks, call-drops, fed-blocks}
 use Rattle.claims.proofs.March.{unreadable-junk}
 
 -- ---- ours
@@ -67,19 +67,6 @@ near-itself {d} (a ∷ l) = let e : flips a a ≤ d = omega (arith, flips-self 8
 aired-itself : {d : ℕ} {s : Setting} (ps : List (List ℕ)) → Aired (Flipped d) s ps ps
 aired-itself [] = ended
 aired-itself (p ∷ ps) = Aired·sent (near-itself p) (aired-itself ps)
-
--- a call for a packet
-abbrev callFor : List ℕ → Call
-callFor p = record { packet = p; lent = replicate 2112 0; enough = lit≤ tt }
-
-unfoldable callsFor : List (List ℕ) → List Call
-callsFor [] = []
-callsFor (p ∷ ps) = callFor p ∷ callsFor ps
-
-packets-of-calls : (ps : List (List ℕ)) → packetsOf (callsFor ps) ≡ ps
-unfolding packetsOf callsFor
-packets-of-calls [] = refl
-packets-of-calls (p ∷ ps) = ap (λ (l : List (List ℕ)). p ∷ l) (packets-of-calls ps)
 
 -- the packets of one table, in a page of one packet
 abbrev only : Table → List (List ℕ)

@@ -6,3 +6,4 @@ pub mod Tables
 pub mod Carries
 pub mod March
 pub mod Tells
+pub mod Calls

@@ -15,14 +15,8 @@ use Rattle.state.specs.Acting.{State}
 use Rattle.state.specs.State.{readerOf}
 use Rattle.state.proofs.Ranging.{Sound}
 use Rattle.reader.specs.declared.Heard.{Heard}
-use Rattle.reader.specs.declared.Heard.the-variants.{Took, Refused}
-use Rattle.claims.specs.Feeding.{Call, writtenOf, droppedOf}
+use Rattle.claims.specs.Feeding.{Call, writtenOf, countOf, droppedOf}
 use Rattle.claims.specs.March.{Unreadable}
-
--- how many blocks an answer reports
-abbrev pub countOf : Heard → ℕ
-countOf (Took blocks written dropped) = blocks
-countOf (Refused r) = 0
 
 -- of each call to a reader that calls leave, with a packet of 42 bytes and room
 pub record Tells (heard : Setting → Reader → List ℕ → List ℕ → Heard) (out : Setting → Reader → List ℕ → List ℕ → List ℕ) : Type 0 where
