@@ -71,7 +71,7 @@ reads :
 reads (read-block κs a x t post) = post
 
 -- of a call that is accepted, what it reports as written is its bytes
-its-bytes :
+pub its-bytes :
     (rules : List Rule) (bytes old : List ℕ) {x : Answer} {out : List ℕ} → x ≡ answered rules bytes old → out ≡ left rules bytes old
     → Every rules → length bytes ≤ length old → (x ≡ Done (length bytes)) × (reported x out ≡ bytes) × (accepted x out ≡ bytes ∷ [])
 its-bytes rules bytes old {x} {out} e f every enough =
@@ -89,7 +89,7 @@ its-bytes rules bytes old {x} {out} e f every enough =
 writable : (application : ℕ) (t : Table) → application < 32 → fits t ≡ true → Every (writeRules application (form t)) × (tableIn (form t) ≡ t)
 writable application t a f = accepted-writable application (recordOf application t) t (writes-back application t a f)
 
-tables-written :
+pub tables-written :
     (application : ℕ) → application < 32 → {ts : List Table} {xs : List Answer} {records : List ℕ} → Written application ts xs records
     → Each (λ t. fits t ≡ true) ts
     → (xs ≡ map (λ t. Done (length (recordOf application t))) ts) × (records ≡ recordsOf application ts)
@@ -104,10 +104,10 @@ tables-written application a (table {t = t} {old = old} enough call rest) (and f
 
 -- ---- their records are cut
 
-all-whole : (application : ℕ) {ts : List Table} → Each (λ t. fits t ≡ true) ts → whole (recordsOf application ts) ≡ true
+pub all-whole : (application : ℕ) {ts : List Table} → Each (λ t. fits t ≡ true) ts → whole (recordsOf application ts) ≡ true
 all-whole application {ts} f = ap whole (records-same application ts) ∙ whole-records (all-sized (all-fit application f))
 
-cut-holds :
+pub cut-holds :
     (s : Setting) (index k : ℕ) (records : List ℕ) → inRange s ≡ true → index < 16 → 1 ≤ k → k ≤ 25 → whole records ≡ true
     → Every (cutRules s index k records)
 cut-holds s index k records i low least most w =

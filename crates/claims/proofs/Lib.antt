@@ -16,3 +16,4 @@ pub mod Wrong
 pub mod Rows
 pub mod Handing
 pub mod Calls
+pub mod Happening
