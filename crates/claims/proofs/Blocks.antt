@@ -51,7 +51,7 @@ range s e =
 
 -- ---- every packet that arrives is 42 bytes long
 
-aired-long : {R : ℕ → ℕ → Type 0} {s : Setting} {ps qs : List (List ℕ)} → FortyTwo ps → Aired R s ps qs → FortyTwo qs
+pub aired-long : {R : ℕ → ℕ → Type 0} {s : Setting} {ps qs : List (List ℕ)} → FortyTwo ps → Aired R s ps qs → FortyTwo qs
 aired-long r ended = r
 aired-long (more h t) (sent n a) = more (sym (near-length n) ∙ h) (aired-long t a)
 aired-long r (between e a) = more (sym (near-length (e .near)) ∙ omega (arith, e .long)) (aired-long r a)

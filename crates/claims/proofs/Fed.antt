@@ -4,7 +4,8 @@ use mathlib.Core.Path.{_≡_, _∙_, refl, ap, ap₂}
 use mathlib.Core.Bool.{true}
 use mathlib.Core.List.{List, [], _∷_, _++_}
 use Prim.Native.Nat.{ℕ, _≤_}
-use lib.ListN.{length, take, drop}
+use lib.Dec.{lit≤}
+use lib.ListN.{length, replicate, take, drop}
 use lib.Seq.{take-append-seam}
 use borrow.Author.Tests.{le-leb, eq-eqb}
 use Rattle.blocks.specs.Block.{Block, blocks}
@@ -20,7 +21,20 @@ use Rattle.reader.specs.Feeding.{feedHeard, feedReader, feedOut, handedBytes}
 use Rattle.state.proofs.Ranging.{Sound, sound-after, state-held, reader-in-range}
 use Rattle.state.proofs.Sizing.{handed-sized}
 use Rattle.claims.specs.Carrying.{heardBlocks}
-use Rattle.claims.specs.Feeding.{Call, packetsOf, writtenOf, comesOut, droppedOf}
+use Rattle.claims.specs.Feeding.{Call, packetsOf, writtenOf, numberOf, countOf, comesOut, droppedOf}
+
+-- a call for a packet
+abbrev pub callFor : List ℕ → Call
+callFor p = record { packet = p; lent = replicate 2112 0; enough = lit≤ tt }
+
+unfoldable pub callsFor : List (List ℕ) → List Call
+callsFor [] = []
+callsFor (p ∷ ps) = callFor p ∷ callsFor ps
+
+pub packets-of-calls : (ps : List (List ℕ)) → packetsOf (callsFor ps) ≡ ps
+unfolding packetsOf callsFor
+packets-of-calls [] = refl
+packets-of-calls (p ∷ ps) = ap (λ (l : List (List ℕ)). p ∷ l) (packets-of-calls ps)
 
 module _ (s : Setting) (r : Reader) (p old : List ℕ) (a : inRange s ≡ true) (b : readerInRange r ≡ true) (c : length p ≡ 42) (d : 2112 ≤ length old) where
   -- a packet of 42 bytes, with setting and state in range and room, is taken
@@ -32,6 +46,12 @@ module _ (s : Setting) (r : Reader) (p old : List ℕ) (a : inRange s ≡ true) 
 
   taken-out : feedOut s r p old ≡ handedBytes s (stateOf r) p ++ drop (length (handedBytes s (stateOf r) p)) old
   taken-out = rw (a, b, eq-eqb (length p) 42 c, le-leb 2112 (length old) d)
+
+  taken-number : numberOf (feedHeard s r p old) ≡ 0
+  taken-number = rw (a, b, eq-eqb (length p) 42 c, le-leb 2112 (length old) d)
+
+  taken-counts : countOf (feedHeard s r p old) ≡ length (handed (stateOf r) (see s p))
+  taken-counts = rw (a, b, eq-eqb (length p) 42 c, le-leb 2112 (length old) d)
 
   taken-drops : droppedOf (feedHeard s r p old) ≡ dropped (stateOf r) (see s p)
   taken-drops = rw (a, b, eq-eqb (length p) 42 c, le-leb 2112 (length old) d)
@@ -58,6 +78,14 @@ module _ (s : Setting) (a : inRange s ≡ true) (st : State) (r : Sound st) (c :
       ∙ ap blocks (take-append-seam (handedBytes s (stateOf (readerOf st)) (c .packet)) _)
       ∙ ap (λ (x : State). blocks (handedBytes s x (c .packet))) held
       ∙ blocks-records (handed-sized st (see s (c .packet)) r)
+
+  pub call-taken : numberOf (feedHeard s (readerOf st) (c .packet) (c .lent)) ≡ 0
+  call-taken = taken-number s (readerOf st) (c .packet) (c .lent) a b l (c .enough)
+
+  pub call-counts : countOf (feedHeard s (readerOf st) (c .packet) (c .lent)) ≡ length (handed st (see s (c .packet)))
+  call-counts =
+      taken-counts s (readerOf st) (c .packet) (c .lent) a b l (c .enough)
+      ∙ ap (λ (x : State). length (handed x (see s (c .packet)))) held
 
   pub call-drops : droppedOf (feedHeard s (readerOf st) (c .packet) (c .lent)) ≡ dropped st (see s (c .packet))
   call-drops =

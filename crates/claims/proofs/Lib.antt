@@ -14,3 +14,6 @@ pub mod Demands
 pub mod Marked
 pub mod Wrong
 pub mod Rows
+pub mod Handing
+pub mod Calls
+pub mod Happening

@@ -1,9 +1,9 @@
 -- Laws of nearness and of what may be lost. Assumes nothing.
 use mathlib.Core.Path.{_≡_, refl, sym, ap, ap₂, subst}
-use mathlib.Core.List.{List, [], _∷_, _++_}
+use mathlib.Core.List.{List, [], _∷_, _++_, map}
 use Prim.Native.Nat.{ℕ, zero, suc}
 use lib.ListN.{length, take, drop}
-use Rattle.claims.specs.Noise.{Near, none, more, Came, over, kept, lost}
+use Rattle.claims.specs.Noise.{Near, none, more, Came, over, kept, lost, Each, nil, and}
 use Rattle.claims.specs.Lists.{Among, Paired}
 use Rattle.claims.specs.Lists
 
@@ -38,6 +38,29 @@ module _ {ℓ} {A B : Type ℓ} {L : Type 0} {R : A → B → Type 0} where
   came-append over n = n
   came-append (kept r k) n = kept r (came-append k n)
   came-append (lost x k) n = lost x (came-append k n)
+
+module _ {ℓ} {A : Type ℓ} where
+  pub each-first : {P : A → Type 0} {a : A} {l : List A} → Each P (a ∷ l) → P a
+  each-first (and p r) = p
+
+  pub each-split : {P : A → Type 0} (l : List A) {m : List A} → Each P (l ++ m) → Each P l × Each P m
+  each-split [] r = (nil, r)
+  each-split (a ∷ l) (and p r) = let s = each-split l r in (and p (s .0), s .1)
+
+  pub each-all : {P Q : A → Type 0} → ((a : A) → P a → Q a) → {l : List A} → Each P l → Each Q l
+  each-all f nil = nil
+  each-all f (and {a = a} p r) = and (f a p) (each-all f r)
+
+-- what is true of each that was sent is true of each that comes
+pub came-each : {A : Type 0} {L : Type 0} (P : A → Type 0) {l m : List A} → Came L _≡_ l m → Each P l → Each P m
+came-each P over nil = nil
+came-each P (kept e c) (and p r) = and (subst P e p) (came-each P c r)
+came-each P (lost x c) (and p r) = came-each P c r
+
+pub came-map : {A B : Type 0} {L : Type 0} (f : A → B) {l m : List A} → Came L _≡_ l m → Came L _≡_ (map f l) (map f m)
+came-map f over = over
+came-map f (kept e c) = kept (ap f e) (came-map f c)
+came-map f (lost x c) = lost x (came-map f c)
 
 -- where nothing may be lost, what comes is one to one with what was sent
 pub came-paired {ℓ} : {A B : Type ℓ} {L : Type 0} {R : A → B → Type 0} → (L → ⊥) → {l : List A} {m : List B} → Came L R l m → Paired R l m

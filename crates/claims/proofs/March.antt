@@ -72,7 +72,7 @@ after-unread :
 unfolding heardBlocks handed
 after-unread s st q e qs = rw (e, after-junk st junk refl) (same-blocks s qs both-idle)
 
-unreadable-junk : (s : Setting) (q : List ℕ) → Unreadable s q → see s q ≡ junk
+pub unreadable-junk : (s : Setting) (q : List ℕ) → Unreadable s q → see s q ≡ junk
 unfolding see seeY seeZero
 unreadable-junk s q (address e) = rw e
 unreadable-junk s q (zero a m y e) = rw (a, eq-eqb (nib (getD q 0 0) % 8) (s .magazine % 8) m, y, e)

@@ -69,11 +69,11 @@ pub all-fit : (application : ℕ) {ts : List Table} → Each (λ t. fits t ≡ t
 all-fit application nil = nil
 all-fit application (and {a = t} f r) = and (table-fits application t f) (all-fit application r)
 
-all-sized : {bs : List Block} → Each Fits bs → Sized bs
+pub all-sized : {bs : List Block} → Each Fits bs → Sized bs
 all-sized nil = Sizes.none
 all-sized (and f r) = Sizes.more (sym (f .size)) (all-sized r)
 
-records-same : (application : ℕ) (ts : List Table) → recordsOf application ts ≡ Block·recordsOf (map (tableBlock application) ts)
+pub records-same : (application : ℕ) (ts : List Table) → recordsOf application ts ≡ Block·recordsOf (map (tableBlock application) ts)
 unfolding recordsOf Block·recordsOf
 records-same application [] = refl
 records-same application (t ∷ ts) = ap₂ (λ (a b : List ℕ). a ++ b) (block-record application t) (records-same application ts)

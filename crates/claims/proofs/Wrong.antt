@@ -1,33 +1,54 @@
 -- Wrong programs that were tried against the third demand, and what shuts each out: our loader meets `Carries`, and a loader that
 -- hands out nothing (by refusing everything, or by a feed that is idle), one that always hands out the same table, and one that goes by the
--- first packet alone do not (SCOPE 4.4). Assumes nothing.
+-- first packet alone do not (SCOPE 4.4). Our feed meets `Tells`; one that counts blocks without looking, and one that never tells of a
+-- dropped block, do not. Assumes nothing.
 use mathlib.Core.Path.{_≡_, _∙_, refl, sym, ap, subst}
-use mathlib.Core.Bool.{true}
-use mathlib.Core.List.{List, [], _∷_}
+use mathlib.Core.Bool.{Bool, true, false}
+use mathlib.Core.List.{List, [], _∷_, _++_}
 use Prim.Native.Nat.{ℕ, _≤_}
 use native.Mathlib.Omega.{arith}
 use lib.Dec.{lit<, lit≤}
-use lib.ListN.{length, replicate, drop}
-use Rattle.octet.specs.Bits.{number, flips}
+use lib.ListN.{length, length-append, replicate, take, drop}
+use Rattle.laws.specs.Pick.{either}
+use Rattle.octet.specs.Bits.{bits, number, differing, flips}
 use Rattle.octet.specs.Image.{image, withParity}
+use Rattle.octet.specs.Decoding.{nib, nibbleFrom}
 use Rattle.noise.proofs.Laws.{flips-self}
-use Rattle.blocks.specs.Block.{blocksWithin}
+use Rattle.blocks.specs.Block.{Block, blocks, blocksWithin}
 use Rattle.fields.specs.Fields.{row, width, laid, parts, fitting}
 use Rattle.packet.specs.declared.Setting.{Setting}
 use Rattle.packet.specs.Setting.{inRange}
-use Rattle.packet.specs.Packet.{packetZero}
+use Rattle.packet.specs.Packet.{address, packetZero}
+use Rattle.packet.specs.Address.{decodes}
 use Rattle.pens.specs.Stream.{symbols, cellsOf, streamOf, grab, beforeStart}
 use Rattle.guide.specs.Cutting.{rows, pages, packets}
 use Rattle.guide.proofs.Cases.{desk}
+use Rattle.guide.proofs.Numbering.{FortyTwo, packets-forty}
+use Rattle.guide.proofs.Numbering
+use Rattle.headers.specs.declared.Page.the-variants.{Shut}
+use Rattle.headers.specs.Seen.{junk, other}
+use Rattle.pages.specs.Seen.{see}
+use Rattle.walk.specs.Mode.{running, heading}
+use Rattle.state.specs.declared.Reader.{Reader}
+use Rattle.state.specs.Acting.{State, act, handed, dropped}
+use Rattle.state.specs.State.{readerOf, freshState}
+use Rattle.state.proofs.Ranging.{Sound, sound-fresh, sound-after}
+use Rattle.reader.specs.declared.Heard.{Heard}
+use Rattle.reader.specs.Feeding.{feedHeard, feedOut}
 use Rattle.forms.specs.Tables.{Table, per, loops, fields, fits, entire}
 use Rattle.sums.specs.Sums.{total, checksum}
 use Rattle.sums.specs.Block.{nibbles, checksumOf, recordWith}
 use Rattle.table.proofs.Cases.{G, H}
 use Rattle.claims.specs.Noise.{Flipped, Near, none, more, Aired, ended, sent as Aired·sent, nil, and}
-use Rattle.claims.specs.Feeding.{Call, packetsOf}
-use Rattle.claims.specs.Tables.{recordsOf, sent, received}
+use Rattle.claims.specs.Carrying.{heardBlocks}
+use Rattle.claims.specs.Feeding.{Call, writtenOf, countOf, comesOut, droppedOf}
+use Rattle.claims.specs.Tables.{recordsOf, sent, tablesOf, received}
 use Rattle.claims.specs.Carries.{Carries}
+use Rattle.claims.specs.March
+use Rattle.claims.specs.Tells.{Tells}
 use Rattle.claims.proofs.Demands.{exactly}
+use Rattle.claims.proofs.Fed.{callFor, callsFor, packets-of-calls, call-counts, call-blocks, call-drops, fed-blocks}
+use Rattle.claims.proofs.March.{unreadable-junk}
 
 -- ---- ours
 
@@ -47,27 +68,17 @@ aired-itself : {d : ℕ} {s : Setting} (ps : List (List ℕ)) → Aired (Flipped
 aired-itself [] = ended
 aired-itself (p ∷ ps) = Aired·sent (near-itself p) (aired-itself ps)
 
--- a call for a packet
-abbrev callFor : List ℕ → Call
-callFor p = record { packet = p; lent = replicate 2112 0; enough = lit≤ tt }
-
-unfoldable callsFor : List (List ℕ) → List Call
-callsFor [] = []
-callsFor (p ∷ ps) = callFor p ∷ callsFor ps
-
-packets-of-calls : (ps : List (List ℕ)) → packetsOf (callsFor ps) ≡ ps
-unfolding packetsOf callsFor
-packets-of-calls [] = refl
-packets-of-calls (p ∷ ps) = ap (λ (l : List (List ℕ)). p ∷ l) (packets-of-calls ps)
-
 -- the packets of one table, in a page of one packet
 abbrev only : Table → List (List ℕ)
 only t = sent desk 0 1 (t ∷ [])
 
-given : (f : Setting → List Call → List Table) → Carries f → (t : Table) → fits t ≡ true → f desk (callsFor (only t)) ≡ t ∷ []
+desk-range : inRange desk ≡ true
 unfolding inRange
+desk-range = refl
+
+given : (f : Setting → List Call → List Table) → Carries f → (t : Table) → fits t ≡ true → f desk (callsFor (only t)) ≡ t ∷ []
 given f c t e =
-    c .exactly desk refl 0 1 (lit< tt) (lit≤ tt) (lit≤ tt) (t ∷ []) (and e nil) (callsFor (only t))
+    c .exactly desk desk-range 0 1 (lit< tt) (lit≤ tt) (lit≤ tt) (t ∷ []) (and e nil) (callsFor (only t))
     (subst (λ (ps : List (List ℕ)). Aired (Flipped 0) desk (only t) ps) (sym (packets-of-calls (only t))) (aired-itself (only t)))
 
 g-fits : fits G ≡ true
@@ -142,3 +153,94 @@ first-only-shut-out f same c =
     (same desk (callFor first) [] (callsFor (drop 1 (only H)))
     ∙ sym (ap (λ (ps : List (List ℕ)). f desk (callsFor ps)) (firsts .1))
     ∙ given f c H h-fits)
+
+-- ---- answers
+
+dropped-junk : (st : State) → dropped st junk ≡ running (st .mode)
+unfolding dropped
+dropped-junk st = go (running (st .mode))
+  where
+    go : (t : Bool) → either t false ≡ t
+    go true = refl
+    go false = refl
+
+-- ours counts the records that it writes, and says where a running block was dropped
+pub feed-tells : Tells feedHeard feedOut
+feed-tells =
+    record {
+      counts = λ s i st r c l. call-counts s i st r c l ∙ ap length (sym (call-blocks s i st r c l));
+      drops =
+          λ s i st r c l e u.
+          call-drops s i st r c l ∙ ap (dropped st) (unreadable-junk s (c .packet) u) ∙ dropped-junk st ∙ e;
+    }
+
+-- a packet rightly addressed to magazine 2
+away : List ℕ
+away = address 2 0 ++ replicate 40 0x20
+
+away-seen : see desk away ≡ other
+unfolding see away decodes nib nibbleFrom image withParity differing number bits
+away-seen = refl
+
+handed-away : (st : State) → handed st (see desk away) ≡ []
+unfolding handed
+handed-away st = ap (handed st) away-seen
+
+no-tables : (bs : List Block) → length bs ≡ 0 → tablesOf 1 bs ≡ []
+unfolding tablesOf
+no-tables [] e = refl
+no-tables (b ∷ bs) e = absurd (omega arith)
+
+-- one that writes what ours does, and whose count is made up: it is told without a look at the packet
+module _ (heard : Setting → Reader → List ℕ → List ℕ → Heard) (tells : Tells heard feedOut)
+    (alike : (s : Setting) (r : Reader) (p old : List ℕ) → writtenOf (heard s r p old) ≡ writtenOf (feedHeard s r p old))
+    (count : Setting → Reader → ℕ)
+    (made-up : (s : Setting) (r : Reader) (p old : List ℕ) → countOf (heard s r p old) ≡ count s r) where
+  -- the number of blocks that a packet gives is the one told
+  told : (st : State) → Sound st → (c : Call) → length (c .packet) ≡ 42 → count desk (readerOf st) ≡ length (handed st (see desk (c .packet)))
+  told st r c l =
+      sym (made-up desk (readerOf st) (c .packet) (c .lent))
+      ∙ tells .counts desk desk-range st r c l
+      ∙ ap (λ (n : ℕ). length (blocks (take n (feedOut desk (readerOf st) (c .packet) (c .lent))))) (alike desk (readerOf st) (c .packet) (c .lent))
+      ∙ ap length (call-blocks desk desk-range st r c l)
+
+  -- and so that of a packet that gives none
+  none-told : (st : State) → Sound st → (p : List ℕ) → length p ≡ 42 → length (handed st (see desk p)) ≡ 0
+  unfolding away
+  none-told st r p l = sym (told st r (callFor p) l) ∙ told st r (callFor away) refl ∙ ap length (handed-away st)
+
+  none-heard : (st : State) → Sound st → {ps : List (List ℕ)} → FortyTwo ps → length (heardBlocks desk st ps) ≡ 0
+  unfolding heardBlocks
+  none-heard st r Numbering.none = refl
+  none-heard st r (Numbering.more {p = p} l e) =
+      length-append (handed st (see desk p)) _
+      ∙ omega (arith, none-told st r p l, none-heard (act st (see desk p)) (sound-after desk st p r) e)
+
+  pub made-up-shut-out : ⊥
+  made-up-shut-out =
+      let bs = comesOut desk (readerOf freshState) (callsFor (only G)) in
+      let heard-none : length bs ≡ 0 =
+      ap length (fed-blocks desk desk-range freshState sound-fresh (callsFor (only G)) (subst FortyTwo (sym (packets-of-calls (only G))) forty))
+      ∙ ap (λ (ps : List (List ℕ)). length (heardBlocks desk freshState ps)) (packets-of-calls (only G))
+      ∙ none-heard freshState sound-fresh forty in
+      let z : _≡_ {A = ℕ} 0 1 =
+      sym (ap length (no-tables bs heard-none)) ∙ ap length (given received received-carries G g-fits) in
+      omega arith
+    where
+      forty : FortyTwo (only G)
+      forty = packets-forty desk 0 1 (recordsOf 1 (G ∷ []))
+
+-- one whose `dropped` is always false
+pub never-drops-shut-out :
+    (heard : Setting → Reader → List ℕ → List ℕ → Heard) (out : Setting → Reader → List ℕ → List ℕ → List ℕ)
+    → ((s : Setting) (r : Reader) (p old : List ℕ) → droppedOf (heard s r p old) ≡ false) → Tells heard out → ⊥
+unfolding decodes nib nibbleFrom image withParity differing number bits
+never-drops-shut-out heard out never tells =
+    let c = callFor (replicate 42 0x16) in
+    let st : State = record { page = Shut; index = 0; mode = heading 0 0 } in
+    let r : Sound st =
+    record { page = refl; index = omega arith; mode = record { got = omega arith; small = omega arith; only = refl } } in
+    let d = tells .drops desk desk-range st r c refl refl (March.address refl) in
+    let n = never desk (readerOf st) (c .packet) (c .lent) in
+    let z : _≡_ {A = ℕ} 0 1 = cc in
+    omega arith

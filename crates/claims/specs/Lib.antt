@@ -5,3 +5,5 @@ pub mod Lists
 pub mod Tables
 pub mod Carries
 pub mod March
+pub mod Tells
+pub mod Calls

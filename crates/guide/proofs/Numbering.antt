@@ -1,6 +1,6 @@
 -- The writer's packets by number: how many there are, that each is 42 bytes, which is packet y of page j, and where its bytes
 -- stand. Assumes nothing.
-use mathlib.Core.Path.{_≡_, _∙_, refl, sym, ap}
+use mathlib.Core.Path.{_≡_, _∙_, refl, sym, ap, ap₂}
 use mathlib.Core.List.{List, [], _∷_, _++_}
 use Prim.Native.Nat.{ℕ, zero, suc, _+_, _*_, _%_, _<_, _≤_}
 use native.Mathlib.Nat.{add-zero, zero-mul, suc-mul, le-of-suc-le-suc, not-suc-le-zero}
@@ -119,6 +119,20 @@ forty-append : {ps qs : List (List ℕ)} → FortyTwo ps → FortyTwo qs → For
 forty-append none b = b
 forty-append (more h a) b = more h (forty-append a b)
 
+pub forty-front : (a b : List (List ℕ)) → FortyTwo (a ++ b) → FortyTwo a
+forty-front [] b f = none
+forty-front (p ∷ a) b (more l f) = more l (forty-front a b f)
+
+pub forty-take : (n : ℕ) {ps : List (List ℕ)} → FortyTwo ps → FortyTwo (take n ps)
+forty-take zero r = none
+forty-take (suc n) none = none
+forty-take (suc n) (more h r) = more h (forty-take n r)
+
+pub forty-drop : (n : ℕ) {ps : List (List ℕ)} → FortyTwo ps → FortyTwo (drop n ps)
+forty-drop zero r = r
+forty-drop (suc n) none = none
+forty-drop (suc n) (more h r) = forty-drop n r
+
 rows-forty : (s : Setting) (w y : ℕ) (ss : List Symbol) → FortyTwo (rows s w y ss)
 unfolding rows
 rows-forty s zero y ss = none
@@ -145,6 +159,17 @@ joined-at (more {p = p} {ps = ps} e f) (suc i) h =
     let n : suc i * packetLength ≡ packetLength + i * packetLength = omega arith in
     rw (n, ← drop-drop (i * packetLength) packetLength (p ++ joined ps), drop-at p (joined ps) packetLength e)
     (joined-at f i (le-of-suc-le-suc h))
+
+-- the same bytes are the same packets
+pub joined-same : {ps qs : List (List ℕ)} → FortyTwo ps → FortyTwo qs → joined ps ≡ joined qs → ps ≡ qs
+unfolding joined
+joined-same none none e = refl
+joined-same none (more {p = q} {ps = qs} h r) e = absurd (omega (arith, simp length-append at (ap length e)))
+joined-same (more {p = p} {ps = ps} h r) none e = absurd (omega (arith, simp length-append at (ap length e)))
+joined-same (more {p = p} {ps = ps} h r) (more {p = q} {ps = qs} k t) e =
+    ap₂ (λ (x : List ℕ) (xs : List (List ℕ)). x ∷ xs)
+    (sym (take-at p (joined ps) packetLength h) ∙ ap (take packetLength) e ∙ take-at q (joined qs) packetLength k)
+    (joined-same r t (sym (drop-at p (joined ps) packetLength h) ∙ ap (drop packetLength) e ∙ drop-at q (joined qs) packetLength k))
 
 -- the bytes of a cut are its packets, 42 bytes each
 pub cut-at :

@@ -1,0 +1,195 @@
+-- The third demand, of the calls themselves: tables that fit go through `write_block` and `cut_pages`, the packets arrive with noise and
+-- go to a fresh reader by `feed` or `feed_all`, and each record that comes out goes to `read_block`. Whatever the contracts allow, all is
+-- accepted, and the forms that come out are those handed in: all of them where at most one bit of each byte is flipped, and some of them,
+-- in order and each at most once, where up to two are. One theorem over the number of flips, and its two corollaries. Assumes nothing.
+use mathlib.Core.Path.{_≡_, _∙_, refl, sym, ap, ap₂, subst, subst₂}
+use mathlib.Core.Bool.{true}
+use mathlib.Core.Logic.{_⊎_, inl, inr}
+use mathlib.Core.List.{List, [], _∷_, _++_, map, map-append}
+use Prim.Native.Nat.{ℕ, _≤_, _<_}
+use native.Mathlib.Omega.{arith}
+use lib.Dec.{leb}
+use lib.ListN.{length, drop}
+use lib.Seq.{take-append-seam}
+use borrow.Author.Tests.{le-leb}
+use Rattle.laws.specs.Pick.{both}
+use Rattle.answer.specs.declared.Answer.{Answer}
+use Rattle.answer.specs.declared.Answer.the-variants.{Done}
+use Rattle.answer.specs.Rules.{Rule, Every, none as Rules·none, more as Rules·more, First}
+use Rattle.answer.specs.Values.{refused}
+use Rattle.answer.specs.Writing.{answered, left}
+use Rattle.answer.proofs.Judging.{decided, passes, refuses, first-append}
+use Rattle.answer.proofs.Lent.{lent-accepted}
+use Rattle.blocks.specs.Block.{Block, recordOf as Block·recordOf, whole}
+use Rattle.blocks.proofs.Round.{whole-records}
+use Rattle.packet.specs.declared.Setting.{Setting}
+use Rattle.packet.specs.Setting.{inRange}
+use Rattle.guide.specs.Cutting.{packets, cutBytes, cutRules}
+use Rattle.guide.proofs.Numbering.{packets-forty, joined-same}
+use Rattle.state.specs.State.{readerOf, freshState}
+use Rattle.state.specs.declared.Reader.{Reader}
+use Rattle.state.proofs.Ranging.{sound-fresh}
+use Rattle.forms.specs.Tables.{Table, fits}
+use Rattle.forms.specs.Form.{form, tableIn}
+use Rattle.forms.specs.Writing.{writeRules}
+use Rattle.sums.specs.Block.{recordOf}
+use Rattle.table.specs.Reading.{Outcome, accepted as Reading·accepted, refused as Reading·refused, readRules, tableRead, readBlock}
+use Rattle.table.proofs.Back.{writes-back, accepted-writable}
+use Rattle.claims.specs.Noise.{Flipped, Aired, Came, Each, nil, and}
+use Rattle.claims.specs.Lists.{Among}
+use Rattle.claims.specs.Feeding.{packetsOf}
+use Rattle.claims.specs.Tables.{recordsOf, sent, taken, tablesOf}
+use Rattle.claims.specs.Calls.{Writes, write-block, Cuts, cut-pages, cut, Starts, fresh, Reads, read-block, reported, accepted, Written, no-table, table, ReadOut, no-block, block, Through, Delivers}
+use Rattle.claims.proofs.Losing.{each-first, each-split, each-all, came-each, came-map, came-exactly, came-among}
+use Rattle.claims.proofs.Blocks.{range, aired-long}
+use Rattle.claims.proofs.Tables.{all-fit, all-sized, records-same}
+use Rattle.claims.proofs.Demands.{carried}
+use Rattle.claims.proofs.Handing.{as-ones}
+
+-- ---- what each call says
+
+writes :
+    {application : ℕ} {f old out : List ℕ} {x : Answer} → Writes application f old x out
+    → (x ≡ answered (writeRules application f) (recordOf application (tableIn f)) old)
+    × (out ≡ left (writeRules application f) (recordOf application (tableIn f)) old)
+writes (write-block κs a x t post) = post
+
+cuts :
+    {s : Setting} {index k : ℕ} {records old out : List ℕ} {x : Answer} → Cuts s index k records old x out
+    → (x ≡ answered (cutRules s index k records) (cutBytes s index k records) old)
+    × (out ≡ left (cutRules s index k records) (cutBytes s index k records) old)
+cuts (cut-pages κs a x t post) = post
+cuts (cut κs a x t post) = post
+
+starts : {r : Reader} → Starts r → r ≡ readerOf freshState
+starts (fresh κs a x t post) = post
+
+reads :
+    {application : ℕ} {r old out : List ℕ} {x : Answer} → Reads application r old x out
+    → (x ≡ answered (readRules application r) (form (tableRead r)) old)
+    × (out ≡ left (readRules application r) (form (tableRead r)) old)
+reads (read-block κs a x t post) = post
+
+-- of a call that is accepted, what it reports as written is its bytes
+pub its-bytes :
+    (rules : List Rule) (bytes old : List ℕ) {x : Answer} {out : List ℕ} → x ≡ answered rules bytes old → out ≡ left rules bytes old
+    → Every rules → length bytes ≤ length old → (x ≡ Done (length bytes)) × (reported x out ≡ bytes) × (accepted x out ≡ bytes ∷ [])
+its-bytes rules bytes old {x} {out} e f every enough =
+    let p = lent-accepted rules bytes old every enough in
+    let a = e ∙ p .0 in
+    let o = f ∙ p .1 in (
+      a,
+      ap₂ reported a o ∙ take-append-seam bytes (drop (length bytes) old),
+      ap₂ accepted a o ∙ ap (λ (l : List ℕ). l ∷ []) (take-append-seam bytes (drop (length bytes) old)),
+    )
+
+-- ---- every table is written
+
+-- its form is one that writing takes, and stands for it
+writable : (application : ℕ) (t : Table) → application < 32 → fits t ≡ true → Every (writeRules application (form t)) × (tableIn (form t) ≡ t)
+writable application t a f = accepted-writable application (recordOf application t) t (writes-back application t a f)
+
+pub tables-written :
+    (application : ℕ) → application < 32 → {ts : List Table} {xs : List Answer} {records : List ℕ} → Written application ts xs records
+    → Each (λ t. fits t ≡ true) ts
+    → (xs ≡ map (λ t. Done (length (recordOf application t))) ts) × (records ≡ recordsOf application ts)
+unfolding recordsOf
+tables-written application a no-table nil = (refl, refl)
+tables-written application a (table {t = t} {old = old} enough call rest) (and f r) =
+    let w = writable application t a f in
+    let said = rw (w .1) at (writes call) in
+    let p = its-bytes (writeRules application (form t)) (recordOf application t) old (said .0) (said .1) (w .0) enough in
+    let q = tables-written application a rest r in
+    (ap₂ (λ (x : Answer) (xs : List Answer). x ∷ xs) (p .0) (q .0), ap₂ (λ (a b : List ℕ). a ++ b) (p .1) (q .1))
+
+-- ---- their records are cut
+
+pub all-whole : (application : ℕ) {ts : List Table} → Each (λ t. fits t ≡ true) ts → whole (recordsOf application ts) ≡ true
+all-whole application {ts} f = ap whole (records-same application ts) ∙ whole-records (all-sized (all-fit application f))
+
+pub cut-holds :
+    (s : Setting) (index k : ℕ) (records : List ℕ) → inRange s ≡ true → index < 16 → 1 ≤ k → k ≤ 25 → whole records ≡ true
+    → Every (cutRules s index k records)
+cut-holds s index k records i low least most w =
+    let h : both (inRange s) (both (leb index 15) (both (leb 1 k) (leb k 25))) ≡ true =
+    rw (i, le-leb index 15 (omega arith), le-leb 1 k least, le-leb k 25 most) in
+    Rules·more h (Rules·more w Rules·none)
+
+-- ---- what comes out is read
+
+module _ (application : ℕ) where
+  read-holds : (r : List ℕ) → Every (readRules application r) → readBlock application r ≡ Reading·accepted (tableRead r)
+  unfolding readBlock
+  read-holds r every = passes Reading·refused (Reading·accepted (tableRead r)) every
+
+  read-fails : (r : List ℕ) {q : Rule} → First q (readRules application r) → readBlock application r ≡ Reading·refused (q .number) (q .offset)
+  unfolding readBlock
+  read-fails r first = refuses Reading·refused (Reading·accepted (tableRead r)) first
+
+  -- a record, with room for the table's form where it is read as one
+  record-read :
+      (r : List ℕ) {old out : List ℕ} {x : Answer} → Reads application r old x out
+      → Each (λ t. length (form t) ≤ length old) (taken (readBlock application r)) → accepted x out ≡ map form (taken (readBlock application r))
+  record-read r {old} {out} {x} call enough = go (decided (readRules application r))
+    where
+      go :
+          Every (readRules application r) ⊎ ((q : Rule) × First q (readRules application r))
+          → accepted x out ≡ map form (taken (readBlock application r))
+      go (inl every) =
+          let e = read-holds r every in
+          let said = reads call in
+          its-bytes (readRules application r) (form (tableRead r)) old (said .0) (said .1) every (each-first (rw e at enough)) .2
+          ∙ sym (ap (λ (o : Outcome). map form (taken o)) e)
+      go (inr (q, first)) =
+          ap (λ (y : Answer). accepted y out) (reads call .0 ∙ refuses refused (Done (length (form (tableRead r)))) (first-append _ first))
+          ∙ sym (ap (λ (o : Outcome). map form (taken o)) (read-fails r first))
+
+  all-read :
+      (most : ℕ) {bs : List Block} {forms : List (List ℕ)} → ReadOut application most bs forms
+      → Each (λ t. length (form t) ≤ most) (tablesOf application bs) → forms ≡ map form (tablesOf application bs)
+  unfolding tablesOf
+  all-read most no-block short = refl
+  all-read most (block {b = b} {bs = bs} enough call rest) short =
+      let p = each-split (taken (readBlock application (Block·recordOf b))) short in
+      ap₂ (λ (a l : List (List ℕ)). a ++ l)
+      (record-read (Block·recordOf b) call (each-all (λ t h. omega arith) (p .0)))
+      (all-read most rest (p .1))
+      ∙ sym (map-append form (taken (readBlock application (Block·recordOf b))) (tablesOf application bs))
+
+-- ---- from end to end
+
+module _ (d : ℕ) (small : d ≤ 2) (s : Setting) (within : inRange s ≡ true) (index k : ℕ) (low : index < 16) (least : 1 ≤ k) (most : k ≤ 25)
+    (ts : List Table) (fit : Each (λ t. fits t ≡ true) ts) {forms : List (List ℕ)} (c : Through (Flipped d) s index k ts forms) where
+  pub calls-carried : Delivers (2 ≤ d) c
+  calls-carried =
+      let app = s .application in
+      let a = range s within .application in
+      let records = c .records in
+      let made = tables-written app a (c .written) fit in
+      let holds = cut-holds s index k records within low least most (ap whole (made .1) ∙ all-whole app fit) in
+      let said = cuts (c .cuts) in
+      let done = its-bytes (cutRules s index k records) (cutBytes s index k records) (c .lent) (said .0) (said .1) holds (c .enough) in
+      let same : c .sent ≡ sent s index k ts =
+      joined-same (c .long) (packets-forty s index k records) (c .whole ∙ done .1) ∙ ap (packets s index k) (made .1) in
+      let on = as-ones s within (c .fed) freshState sound-fresh (starts (c .starts)) (aired-long (c .long) (c .aired)) in
+      let aired : Aired (Flipped d) s (sent s index k ts) (packetsOf (on .calls)) =
+      subst₂ (λ (ps qs : List (List ℕ)). Aired (Flipped d) s ps qs) same (sym (on .packets)) (c .aired) in
+      let came : Came (2 ≤ d) _≡_ ts (tablesOf app (c .blocks)) =
+      subst (λ (bs : List Block). Came (2 ≤ d) _≡_ ts (tablesOf app bs)) (sym (on .gives))
+      (carried d small s within index k low least most ts fit (on .calls) aired) in
+      let out = all-read app (c .most) (c .read) (came-each (λ t. length (form t) ≤ c .most) came (c .short)) in
+      record {
+        written = made .0;
+        cut = done .0 ∙ ap (λ (l : List ℕ). Done (length l)) (sym (c .whole ∙ done .1));
+        packets = same;
+        taken = on .taken;
+        came = subst (λ (fs : List (List ℕ)). Came (2 ≤ d) _≡_ (map form ts) fs) (sym out) (came-map form came);
+      }
+
+  -- at most one flipped bit in each byte: exactly the forms handed in
+  pub calls-exactly : d ≤ 1 → forms ≡ map form ts
+  calls-exactly one = came-exactly (λ a b e. e) (λ x. omega arith) (calls-carried .came)
+
+  -- up to two: only forms that were handed in, in order, each at most once
+  pub calls-never-wrong : Among forms (map form ts)
+  calls-never-wrong = came-among (λ a b e. e) (calls-carried .came)

@@ -1,0 +1,142 @@
+-- The calls from end to end can be made, so what is said of them isn't empty: whatever tables fit and whatever arrives of their packets,
+-- there are outcomes that the contracts allow, one call after the other. Assumes nothing.
+use mathlib.Core.Path.{_≡_, _∙_, refl, sym, ap, subst}
+use mathlib.Core.Bool.{true}
+use mathlib.Core.List.{List, [], _∷_}
+use Prim.Native.Nat.{ℕ, _+_, _≤_, _<_}
+use native.Mathlib.Nat.{le-refl}
+use native.Mathlib.Omega.{arith}
+use lib.Dec.{lit≤}
+use lib.ListN.{length, replicate, length-replicate}
+use denote.Ref.{RefT}
+use Rattle.answer.specs.declared.Answer.{Answer}
+use Rattle.answer.specs.Writing.{answered, left}
+use Rattle.blocks.specs.Block.{Block, whole, recordOf as Block·recordOf}
+use Rattle.packet.specs.declared.Setting.{Setting}
+use Rattle.packet.specs.Setting.{inRange}
+use Rattle.guide.specs.Cutting.{packets, cutBytes, cutRules}
+use Rattle.guide.proofs.Numbering.{packets-forty}
+use Rattle.state.specs.declared.Reader.{Reader}
+use Rattle.state.specs.State.{readerOf, freshState}
+use Rattle.reader.specs.Feeding.{feedHeard, feedReader, feedOut}
+use Rattle.forms.specs.Tables.{Table, fits}
+use Rattle.forms.specs.Form.{form, tableIn}
+use Rattle.forms.specs.Writing.{writeRules}
+use Rattle.sums.specs.Block.{recordOf}
+use Rattle.table.specs.Reading.{readRules, tableRead}
+use Rattle.claims.specs.Noise.{Aired, Each, nil, and}
+use Rattle.claims.specs.Tables.{sent}
+use Rattle.claims.specs.Calls.{Writes, write-block, Cuts, cut-pages, Starts, fresh, Feeds, feed, Reads, read-block, Written, no-table, table, Fed, end, one, ReadOut, no-block, block, Through}
+use Rattle.claims.proofs.Losing.{each-all}
+use Rattle.claims.proofs.Blocks.{range}
+use Rattle.claims.proofs.Calls.{its-bytes, tables-written, all-whole, cut-holds}
+
+-- ---- each call
+
+-- a lent slice, somewhere
+abbrev lend : List ℕ → RefT (List ℕ)
+lend l = record { ptr = (0, 0); name = 0; now = l }
+
+module _ (application : ℕ) (l old : List ℕ) where
+  can-write :
+      Writes application l old (answered (writeRules application l) (recordOf application (tableIn l)) old)
+      (left (writeRules application l) (recordOf application (tableIn l)) old)
+  can-write = write-block ([], ([], tt)) (application, (lend l, (lend old, tt))) _ (application, (lend l, (lend _, tt))) (refl, refl)
+
+  can-read :
+      Reads application l old (answered (readRules application l) (form (tableRead l)) old)
+      (left (readRules application l) (form (tableRead l)) old)
+  can-read = read-block ([], ([], tt)) (application, (lend l, (lend old, tt))) _ (application, (lend l, (lend _, tt))) (refl, refl)
+
+can-cut :
+    (s : Setting) (index k : ℕ) (records old : List ℕ)
+    → Cuts s index k records old (answered (cutRules s index k records) (cutBytes s index k records) old)
+    (left (cutRules s index k records) (cutBytes s index k records) old)
+can-cut s index k records old =
+    cut-pages ([], ([], tt)) (s, (index, (k, (lend records, (lend old, tt))))) _ (s, (index, (k, (lend records, (lend _, tt))))) (refl, refl)
+
+can-start : Starts (readerOf freshState)
+can-start = fresh tt tt (readerOf freshState) tt refl
+
+can-feed :
+    (s : Setting) (r : Reader) (p old : List ℕ) → Feeds s r p old (feedHeard s r p old) (feedReader s r p old) (feedOut s r p old)
+can-feed s r p old =
+    feed ([], ([], tt)) (s, (r, (lend p, (lend old, tt))))
+    (record { heard = feedHeard s r p old; reader = feedReader s r p old })
+    (s, (r, (lend p, (lend (feedOut s r p old), tt))))
+    (refl, (refl, refl))
+
+-- ---- calls in a row
+
+can-write-all : (application : ℕ) (ts : List Table) → (xs : List Answer) × (records : List ℕ) × Written application ts xs records
+can-write-all application [] = ([], [], no-table)
+can-write-all application (t ∷ ts) =
+    let rest = can-write-all application ts in
+    (_, _, table (le-refl (length (recordOf application t))) (can-write application (form t) (recordOf application t)) (rest .2))
+
+can-feed-all : (s : Setting) (r : Reader) (qs : List (List ℕ)) → (numbers : List ℕ) × (bs : List Block) × Fed s r qs numbers bs
+can-feed-all s r [] = ([], [], end)
+can-feed-all s r (q ∷ qs) =
+    let old : List ℕ = replicate 2112 0 in
+    let rest = can-feed-all s (feedReader s r q old) qs in
+    (_, _, one (lit≤ tt) (can-feed s r q old) (rest .2))
+
+can-read-all : (application most : ℕ) (bs : List Block) → (forms : List (List ℕ)) × ReadOut application most bs forms
+can-read-all application most [] = ([], no-block)
+can-read-all application most (b ∷ bs) =
+    let old : List ℕ = replicate most 0 in
+    let enough : most ≤ length old = rw length-replicate (le-refl most) in
+    (_, block enough (can-read application (Block·recordOf b) old) (can-read-all application most bs .1))
+
+-- no form is longer than all of them
+all-short : (ts : List Table) → (most : ℕ) × Each (λ t. length (form t) ≤ most) ts
+all-short [] = (0, nil)
+all-short (t ∷ ts) =
+    let rest = all-short ts in
+    let most = length (form t) + rest .0 in
+    let h : length (form t) ≤ most = omega arith in
+    (most, and h (each-all (λ u h. omega arith) (rest .1)))
+
+-- ---- from end to end
+
+module _ (s : Setting) (within : inRange s ≡ true) (index k : ℕ) (low : index < 16) (least : 1 ≤ k) (most : k ≤ 25)
+    (ts : List Table) (fit : Each (λ t. fits t ≡ true) ts) where
+  pub calls-happen :
+      (R : ℕ → ℕ → Type 0) (arrived : List (List ℕ)) → Aired R s (sent s index k ts) arrived
+      → (forms : List (List ℕ)) × Through R s index k ts forms
+  calls-happen R arrived aired =
+      let app = s .application in
+      let made = can-write-all app ts in
+      let records = made .1 in
+      let e = tables-written app (range s within .application) (made .2) fit .1 in
+      let call = can-cut s index k records (cutBytes s index k records) in
+      let holds = cut-holds s index k records within low least most (ap whole e ∙ all-whole app fit) in
+      let done = its-bytes (cutRules s index k records) (cutBytes s index k records) (cutBytes s index k records) refl refl holds (le-refl _) in
+      let fed = can-feed-all s (readerOf freshState) arrived in
+      let short = all-short ts in
+      let read = can-read-all app (short .0) (fed .1) in (
+        read .0,
+        record {
+          answers = made .0;
+          records = records;
+          written = made .2;
+          lent = cutBytes s index k records;
+          left = _;
+          answer = _;
+          enough = le-refl _;
+          cuts = call;
+          sent = packets s index k records;
+          long = packets-forty s index k records;
+          whole = sym (done .1);
+          arrived = arrived;
+          aired = subst (λ (l : List ℕ). Aired R s (packets s index k l) arrived) (sym e) aired;
+          reader = readerOf freshState;
+          starts = can-start;
+          numbers = fed .0;
+          blocks = fed .1;
+          fed = fed .2;
+          most = short .0;
+          short = short .1;
+          read = read .1;
+        },
+      )

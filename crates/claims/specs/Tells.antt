@@ -1,0 +1,32 @@
+-- What the answer to one packet owes, of any feed: `heard` is what it answers and `out` the output that it leaves, each of a setting, a
+-- reader, a packet and the output lent.
+use mathlib.Core.Path.{_≡_}
+use mathlib.Core.Bool.{true}
+use mathlib.Core.List.{List}
+use Prim.Native.Nat.{ℕ}
+use lib.ListN.{length, take}
+use Rattle.blocks.specs.Block.{blocks}
+use Rattle.packet.specs.declared.Setting.{Setting}
+use Rattle.packet.specs.Setting.{inRange}
+use Rattle.packet.specs.Packet.{packetLength}
+use Rattle.walk.specs.Mode.{running}
+use Rattle.state.specs.declared.Reader.{Reader}
+use Rattle.state.specs.Acting.{State}
+use Rattle.state.specs.State.{readerOf}
+use Rattle.state.proofs.Ranging.{Sound}
+use Rattle.reader.specs.declared.Heard.{Heard}
+use Rattle.claims.specs.Feeding.{Call, writtenOf, countOf, droppedOf}
+use Rattle.claims.specs.March.{Unreadable}
+
+-- of each call to a reader that calls leave, with a packet of 42 bytes and room
+pub record Tells (heard : Setting → Reader → List ℕ → List ℕ → Heard) (out : Setting → Reader → List ℕ → List ℕ → List ℕ) : Type 0 where
+  -- it counts the records that the call writes
+  pub counts :
+      (s : Setting) → inRange s ≡ true → (st : State) → Sound st → (c : Call) → length (c .packet) ≡ packetLength
+      → countOf (heard s (readerOf st) (c .packet) (c .lent))
+      ≡ length (blocks (take (writtenOf (heard s (readerOf st) (c .packet) (c .lent))) (out s (readerOf st) (c .packet) (c .lent))))
+  -- it says so where a block is running and the packet can't be read
+  pub drops :
+      (s : Setting) → inRange s ≡ true → (st : State) → Sound st → (c : Call) → length (c .packet) ≡ packetLength
+      → running (st .mode) ≡ true → Unreadable s (c .packet)
+      → droppedOf (heard s (readerOf st) (c .packet) (c .lent)) ≡ true
