@@ -9,9 +9,9 @@ use lib.Seq.{drop-drop}
 use Rattle.laws.proofs.Lists.{part-of}
 use Rattle.state.specs.declared.Reader.{Reader}
 use Rattle.reader.specs.declared.Heard.{Heard}
-use Rattle.rows.specs.declared.HeardAll.{HeardAll}
+use Rattle.reader.specs.declared.many.HeardAll.{HeardAll}
 use Rattle.reader.specs.Feeding.{feedHeard, feedReader, feedOut}
-use Rattle.rows.specs.Feeding.{feedAllHeard, feedAllOut}
+use Rattle.reader.specs.Many.{feedAllHeard, feedAllOut}
 use Rattle.bench.specs.Feeding.{desk, start, added, eachCount, eachOut, blocksOf}
 
 -- the packet at a place of l, with what feed gives for it
@@ -44,7 +44,7 @@ pub ended-out : (left : ℕ) (r : Reader) (l out : List ℕ) → left ≡ 0 → 
 unfolding eachOut
 ended-out left r l out e = rw e
 
--- a row fed in one call, from the fresh reader on
+-- a list fed in one call, from the fresh reader on
 pub all-fed :
     (state : Reader) (l out after : List ℕ) (heard found : HeardAll)
     → state ≡ start

@@ -6,8 +6,8 @@ use Rattle.packet.specs.declared.Setting.{Setting}
 use Rattle.state.specs.declared.Reader.{Reader}
 use Rattle.reader.specs.declared.Heard.{Heard}
 use Rattle.reader.specs.declared.Heard.the-variants.{Took, Refused}
-use Rattle.rows.specs.declared.HeardAll.{HeardAll}
-use Rattle.rows.specs.declared.HeardAll.the-variants.{TookAll, RefusedAll}
+use Rattle.reader.specs.declared.many.HeardAll.{HeardAll}
+use Rattle.reader.specs.declared.many.HeardAll.the-variants.{TookAll, RefusedAll}
 use Rattle.state.specs.State.{readerOf, freshState}
 use Rattle.reader.specs.Feeding.{feedHeard, feedReader, feedOut}
 
@@ -38,7 +38,7 @@ unfoldable pub eachOut : ℕ → Reader → List ℕ → List ℕ → List ℕ
 eachOut zero r l out = out
 eachOut (suc n) r l out = eachOut n (feedReader desk r (take 42 l) out) (drop 42 l) (feedOut desk r (take 42 l) out)
 
--- how many blocks a row of packets gave
+-- how many blocks a list of packets gave
 abbrev pub blocksOf : HeardAll → ℕ
 blocksOf (TookAll packets blocks written dropped) = blocks
 blocksOf (RefusedAll r) = 0

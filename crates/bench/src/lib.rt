@@ -14,7 +14,7 @@ ghost use Rattle.octet.specs.Turning.{turned};
 ghost use Rattle.pes.specs.Reading.{readRules, recordsOf};
 ghost use Rattle.bench.specs.Mixing.{mixed};
 ghost use Rattle.bench.specs.Feeding.{desk, start, wrap, added, eachCount, eachOut, blocksOf};
-ghost use Rattle.rows.specs.Feeding.{feedAllHeard, feedAllOut};
+ghost use Rattle.reader.specs.Many.{feedAllHeard, feedAllOut};
 
 // Decodes each byte. What it gives hangs on every one, so that none can be left out.
 #[no_mangle]
@@ -24,7 +24,7 @@ pub extern "C" fn bench_decode(s: &[u8]) -> u8
     let mut mix = 0u8;
     let mut i = 0;
     while i < s.len() {
-        mix = mix ^ quick::decode(s[i]);
+        mix = mix ^ octet::quick::decode(s[i]);
         i += 1;
     }
     mix
@@ -38,7 +38,7 @@ pub extern "C" fn bench_turn(s: &[u8]) -> u8
     let mut mix = 0u8;
     let mut i = 0;
     while i < s.len() {
-        mix = mix ^ quick::turn(s[i]);
+        mix = mix ^ octet::quick::turn(s[i]);
         i += 1;
     }
     mix

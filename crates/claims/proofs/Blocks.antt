@@ -13,12 +13,12 @@ use borrow.Author.Tests.{leb-true}
 use Rattle.laws.proofs.Tests.{both-true}
 use Rattle.octet.specs.Decoding.{nib}
 use Rattle.octet.proofs.Laws.{nib-image}
-use Rattle.noise.proofs.Laws.{near}
+use Rattle.octet.proofs.Noise.{near}
 use Rattle.blocks.specs.Block.{Block, blocks}
 use Rattle.packet.specs.declared.Setting.{Setting}
 use Rattle.packet.specs.Setting.{inRange}
-use Rattle.guide.specs.Cutting.{packets}
-use Rattle.guide.proofs.Numbering.{FortyTwo, more, packets-forty}
+use Rattle.writer.specs.Cutting.{packets}
+use Rattle.writer.proofs.Numbering.{FortyTwo, more, packets-forty}
 use Rattle.state.specs.State.{readerOf, freshState}
 use Rattle.state.proofs.Ranging.{sound-fresh}
 use Rattle.claims.specs.Noise.{Flipped, Hears, Near, Aired, ended, sent, between, Came, Alike, Each, Fits}

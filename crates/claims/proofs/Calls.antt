@@ -24,8 +24,8 @@ use Rattle.blocks.specs.Block.{Block, recordOf as Block·recordOf, whole}
 use Rattle.blocks.proofs.Round.{whole-records}
 use Rattle.packet.specs.declared.Setting.{Setting}
 use Rattle.packet.specs.Setting.{inRange}
-use Rattle.guide.specs.Cutting.{packets, cutBytes, cutRules}
-use Rattle.guide.proofs.Numbering.{packets-forty, joined-same}
+use Rattle.writer.specs.Cutting.{packets, cutBytes, cutRules}
+use Rattle.writer.proofs.Numbering.{packets-forty, joined-same}
 use Rattle.state.specs.State.{readerOf, freshState}
 use Rattle.state.specs.declared.Reader.{Reader}
 use Rattle.state.proofs.Ranging.{sound-fresh}

@@ -15,17 +15,17 @@ use Rattle.octet.specs.Decoding.{undecodable}
 use Rattle.blocks.specs.Block.{Block}
 use Rattle.packet.specs.declared.Setting.{Setting}
 use Rattle.packet.specs.Packet.{packetZero}
-use Rattle.pens.specs.Stream.{Symbol, byteOf, perPacket, streamOf, grab, pointerOf}
-use Rattle.guide.specs.Cutting.{rowOf, rows, afterRows, pages, pagesFor}
-use Rattle.guide.proofs.Aligned.{Celled, stream-celled, after-celled, celled-aligned}
-use Rattle.guide.proofs.Counting.{covered}
-use Rattle.guide.proofs.Filling.{length-grab}
-use Rattle.headers.specs.declared.Page.the-variants.{Shut, Open}
+use Rattle.symbols.specs.Stream.{Symbol, byteOf, perPacket, streamOf, grab, pointerOf}
+use Rattle.writer.specs.Cutting.{dataPacket, dataPackets, afterPackets, pages, pagesFor}
+use Rattle.writer.proofs.Aligned.{Celled, stream-celled, after-celled, celled-aligned}
+use Rattle.writer.proofs.Counting.{covered}
+use Rattle.writer.proofs.Filling.{length-grab}
+use Rattle.pages.specs.declared.headers.Page.the-variants.{Shut, Open}
 use Rattle.walk.specs.Mode.{Mode, off, scan, gives}
-use Rattle.headers.specs.Seen.{Seen, junk, other, ours, row}
+use Rattle.pages.specs.Headers.{Seen, junk, other, ours, packetY}
 use Rattle.pages.specs.Seen.{see}
 use Rattle.state.specs.Acting.{State, act, handed}
-use Rattle.headers.specs.Judging.{incomplete, breaks}
+use Rattle.pages.specs.Judging.{incomplete, breaks}
 use Rattle.walk.specs.Reading.{dropIf, readMode, readBlocks}
 use Rattle.state.specs.State.{freshState}
 use Rattle.claims.specs.Noise.{Hears, Near, Elsewhere, Aired, ended, sent, between, Came, over, Alike, Each, Fits}
@@ -33,8 +33,8 @@ use Rattle.claims.specs.Carrying.{heardBlocks}
 use Rattle.claims.proofs.Losing.{lost-all, came-append}
 use Rattle.claims.proofs.Walking.{Plain, sentEnds, sentGives, Blocks}
 use Rattle.claims.proofs.Carrying.{Between, idle, gone}
-use Rattle.claims.proofs.Packet.{before-le, Heard, heard-row, lost-row}
-use Rattle.claims.proofs.Hearing.{elsewhere-heard, zero-heard, row-heard, RowHeard, read, skipped, unread}
+use Rattle.claims.proofs.Packet.{before-le, Heard, heard-packet, lost-packet}
+use Rattle.claims.proofs.Hearing.{elsewhere-heard, zero-heard, packet-heard, PacketHeard, read, skipped, unread}
 use Rattle.claims.proofs.Sending.{Sends, stream-sends, Grabbed, grabbed}
 
 -- ---- where the reader stands
@@ -88,23 +88,23 @@ act-ours {R} {L} k {m} index st small r = opened (rw (le-leb k 25 small)) refl (
     go (inr e) = rw (r .whole, le-ltb 25 k small, e, eq-eqb index index refl) (r .mode)
 
 -- packet last + 1 of an open page is read
-act-row :
+act-packet :
     (k last p : ℕ) (cs : List ℕ) (st : State) → st .page ≡ Open k last → suc last ≤ k
-    → act st (row (suc last) p cs) ≡ record { page = Open k (suc last); index = st .index; mode = readMode (st .mode) p cs }
+    → act st (packetY (suc last) p cs) ≡ record { page = Open k (suc last); index = st .index; mode = readMode (st .mode) p cs }
 unfolding act
-act-row k last p cs st e h = rw (e, eq-eqb (suc last) (last + 1) (omega arith), le-leb (suc last) k h)
+act-packet k last p cs st e h = rw (e, eq-eqb (suc last) (last + 1) (omega arith), le-leb (suc last) k h)
 
-handed-row :
+handed-packet :
     (k last p : ℕ) (cs : List ℕ) (st : State) → st .page ≡ Open k last → suc last ≤ k
-    → handed st (row (suc last) p cs) ≡ readBlocks (st .mode) p cs
+    → handed st (packetY (suc last) p cs) ≡ readBlocks (st .mode) p cs
 unfolding handed
-handed-row k last p cs st e h = rw (e, eq-eqb (suc last) (last + 1) (omega arith), le-leb (suc last) k h)
+handed-packet k last p cs st e h = rw (e, eq-eqb (suc last) (last + 1) (omega arith), le-leb (suc last) k h)
 
-act-shut : (y p : ℕ) (cs : List ℕ) (st : State) → st .page ≡ Shut → act st (row y p cs) ≡ st
+act-shut : (y p : ℕ) (cs : List ℕ) (st : State) → st .page ≡ Shut → act st (packetY y p cs) ≡ st
 unfolding act
 act-shut y p cs st e = rw e
 
-handed-shut : (y p : ℕ) (cs : List ℕ) (st : State) → st .page ≡ Shut → handed st (row y p cs) ≡ []
+handed-shut : (y p : ℕ) (cs : List ℕ) (st : State) → st .page ≡ Shut → handed st (packetY y p cs) ≡ []
 unfolding handed
 handed-shut y p cs st e = rw e
 
@@ -166,13 +166,13 @@ module _ (R : ℕ → ℕ → Type 0) (L : Type 0) (hears : Hears R L) (s : Sett
         go (inr w) = rw (w .0) (record { state = inside-junk st (w .1); blocks = rw handed-junk over })
 
     -- packet last + 1 with the next symbols of the stream
-    row-takes :
+    packet-takes :
         (m : Mode) (index last : ℕ) (ss : List Symbol) (st : State) {q : List ℕ} → suc last ≤ k → Celled ss
-        → Plain m (grab perPacket ss) → Inside R L k m index last st → Near R (rowOf s (suc last) ss) q
+        → Plain m (grab perPacket ss) → Inside R L k m index last st → Near R (dataPacket s (suc last) ss) q
         → Took R L (Inside R L k (sentEnds m (grab perPacket ss)) index (suc last)) (sentGives m (grab perPacket ss)) st (see s q)
-    row-takes m index last ss st {q} h celled plain r n =
+    packet-takes m index last ss st {q} h celled plain r n =
         let p : pointerOf (grab perPacket ss) < 16 = omega (arith, before-le (grab perPacket ss), length-grab perPacket ss) in
-        go r (row-heard R L hears s (suc last) (pointerOf (grab perPacket ss)) _ (omega arith) (omega arith) p n)
+        go r (packet-heard R L hears s (suc last) (pointerOf (grab perPacket ss)) _ (omega arith) (omega arith) p n)
       where
         sy : List Symbol
         sy = grab perPacket ss
@@ -183,7 +183,7 @@ module _ (R : ℕ → ℕ → Type 0) (L : Type 0) (hears : Hears R L) (s : Sett
         lost-it : L → see s q ≡ junk → Goal
         lost-it x e = rw e (record { state = inside-junk st x; blocks = rw handed-junk (lost-all x (sentGives m sy)) })
 
-        dropped : (p : ℕ) (cs : List ℕ) → L → st .page ≡ Shut → st .mode ≡ off → see s q ≡ row (suc last) p cs → Goal
+        dropped : (p : ℕ) (cs : List ℕ) → L → st .page ≡ Shut → st .mode ≡ off → see s q ≡ packetY (suc last) p cs → Goal
         dropped p cs x z o e =
             rw e
             (record {
@@ -193,21 +193,21 @@ module _ (R : ℕ → ℕ → Type 0) (L : Type 0) (hears : Hears R L) (s : Sett
 
         taken :
             (p : ℕ) (cs : List ℕ) → st .page ≡ Open k last → st .index ≡ index
-            → Heard R L m sy (readMode (st .mode) p cs) (readBlocks (st .mode) p cs) → see s q ≡ row (suc last) p cs → Goal
+            → Heard R L m sy (readMode (st .mode) p cs) (readBlocks (st .mode) p cs) → see s q ≡ packetY (suc last) p cs → Goal
         taken p cs z i t e =
             rw e
             (record {
-              state = rw (act-row k last p cs st z h) (opened refl i (t .mode));
-              blocks = rw (handed-row k last p cs st z h) (t .blocks);
+              state = rw (act-packet k last p cs st z h) (opened refl i (t .mode));
+              blocks = rw (handed-packet k last p cs st z h) (t .blocks);
             })
 
         go :
             Inside R L k m index last st
-            → RowHeard R L s (suc last) (pointerOf sy) (map byteOf sy) q → Goal
+            → PacketHeard R L s (suc last) (pointerOf sy) (map byteOf sy) q → Goal
         go (opened z i b) (read {cs} near e) =
             taken (pointerOf sy) cs z i
-            (heard-row R L hears m (st .mode) sy cs plain near b (length-grab perPacket ss) (celled-aligned celled)) e
-        go (opened z i b) (skipped {cs} x e) = taken undecodable cs z i (lost-row R L m (st .mode) sy cs x) e
+            (heard-packet R L hears m (st .mode) sy cs plain near b (length-grab perPacket ss) (celled-aligned celled)) e
+        go (opened z i b) (skipped {cs} x e) = taken undecodable cs z i (lost-packet R L m (st .mode) sy cs x) e
         go (opened z i b) (unread x e) = lost-it x e
         go (shut x z o) (read {cs} near e) = dropped (pointerOf sy) cs x z o e
         go (shut x z o) (skipped {cs} y e) = dropped undecodable cs x z o e
@@ -226,51 +226,51 @@ module _ (R : ℕ → ℕ → Type 0) (L : Type 0) (hears : Hears R L) (s : Sett
         st r a
 
     -- our next packet, one of the page's, and what follows it
-    row-then :
+    packet-then :
         (m : Mode) (index last : ℕ) (ss : List Symbol) (bs : List Block) {ps : List (List ℕ)} → suc last ≤ k → Celled ss
         → (g : Grabbed m perPacket ss bs)
         → ((st : State) (qs : List (List ℕ)) → Inside R L k (sentEnds m (grab perPacket ss)) index (suc last) st → Aired R s ps qs
         → Blocks R L (g .rest) (heardBlocks s st qs))
-        → (st : State) {qs : List (List ℕ)} → Inside R L k m index last st → Aired R s (rowOf s (suc last) ss ∷ ps) qs
+        → (st : State) {qs : List (List ℕ)} → Inside R L k m index last st → Aired R s (dataPacket s (suc last) ss ∷ ps) qs
         → Blocks R L bs (heardBlocks s st qs)
     unfolding heardBlocks
-    row-then m index last ss bs h celled g next st i a =
+    packet-then m index last ss bs h celled g next st i a =
         rw (g .gives)
         (strip (Inside R L k m index last) inside-junk (sentGives m (grab perPacket ss) ++ g .rest)
         (λ st q qs i n a.
-        let t = row-takes m index last ss st h celled (g .plain) i n in
+        let t = packet-takes m index last ss st h celled (g .plain) i n in
         came-append (t .blocks) (next (act st (see s q)) qs (t .state) a))
         st i a)
 
-    after-one : (w : ℕ) (ss : List Symbol) → afterRows (suc w) ss ≡ afterRows w (drop perPacket ss)
+    after-one : (w : ℕ) (ss : List Symbol) → afterPackets (suc w) ss ≡ afterPackets w (drop perPacket ss)
     after-one w ss = let e : suc w * 39 ≡ 39 + w * 39 = omega arith in rw (e, drop-drop)
 
     -- the w packets after packet `last` of a page, and then the pages after it, of which `next` speaks
-    rows-carried :
+    packets-carried :
         (w last index p : ℕ) (m : Mode) (ss : List Symbol) (bs : List Block) (st : State) (qs : List (List ℕ)) → last + w ≡ k → Celled ss
         → length ss ≤ w * perPacket + p * (k * perPacket) → Sends m ss bs
         → ((m : Mode) (ss : List Symbol) (bs : List Block) (st : State) (qs : List (List ℕ)) → Celled ss → length ss ≤ p * (k * perPacket)
         → Sends m ss bs → Ready R L m ((index + 1) % 16) st → Aired R s (pages s k p ((index + 1) % 16) ss) qs
         → Blocks R L bs (heardBlocks s st qs))
-        → Inside R L k m index last st → Aired R s (rows s w (suc last) ss ++ pages s k p ((index + 1) % 16) (afterRows w ss)) qs
+        → Inside R L k m index last st → Aired R s (dataPackets s w (suc last) ss ++ pages s k p ((index + 1) % 16) (afterPackets w ss)) qs
         → Blocks R L bs (heardBlocks s st qs)
-    unfolding rows
-    rows-carried zero last index p m ss bs st qs e celled fits r next inside a =
+    unfolding dataPackets
+    packets-carried zero last index p m ss bs st qs e celled fits r next inside a =
         let full : last ≡ k = omega arith in
         next m ss bs st qs celled (omega arith) r
         (next-ready k st (subst (λ (x : ℕ). Inside R L k m index x st) full inside)) a
-    rows-carried (suc w) last index p m ss bs st qs e celled fits r next inside a =
+    packets-carried (suc w) last index p m ss bs st qs e celled fits r next inside a =
         let g = grabbed m perPacket ss bs r in
         let within : suc last ≤ k = omega arith in
         let on : suc last + w ≡ k = omega arith in
         let left : length (drop perPacket ss) ≤ w * perPacket + p * (k * perPacket) = rw length-drop (omega arith) in
-        row-then m index last ss bs within celled g
+        packet-then m index last ss bs within celled g
         (λ st qs i a.
-        rows-carried w (suc last) index p (sentEnds m (grab perPacket ss)) (drop perPacket ss) (g .rest) st qs on
+        packets-carried w (suc last) index p (sentEnds m (grab perPacket ss)) (drop perPacket ss) (g .rest) st qs on
         (after-celled 1 celled) left (g .sends) next i
         (subst
         (λ (l : List Symbol).
-        Aired R s (rows s w (suc (suc last)) (drop perPacket ss) ++ pages s k p ((index + 1) % 16) l) qs)
+        Aired R s (dataPackets s w (suc (suc last)) (drop perPacket ss) ++ pages s k p ((index + 1) % 16) l) qs)
         (after-one w ss) a))
         st inside a
 
@@ -285,7 +285,7 @@ module _ (R : ℕ → ℕ → Type 0) (L : Type 0) (hears : Hears R L) (s : Sett
     pages-carried (suc p) index h m ss bs st qs celled fits r ready a =
         zero-then m index bs h
         (λ st qs i a.
-        rows-carried k 0 index p m ss bs st qs (omega arith) celled (omega (arith, suc-mul p (k * 39))) r
+        packets-carried k 0 index p m ss bs st qs (omega arith) celled (omega (arith, suc-mul p (k * 39))) r
         (pages-carried p ((index + 1) % 16) (omega arith)) i a)
         st ready a
 

@@ -14,8 +14,8 @@ use Rattle.octet.specs.Image.{image}
 use Rattle.octet.specs.Decoding.{nib, undecodable}
 use Rattle.octet.proofs.Laws.{nib-image}
 use Rattle.blocks.specs.Block.{Block}
-use Rattle.pens.specs.Stream.{Symbol, start, fill, bits, raw, byteOf, beforeStart}
-use Rattle.walk.specs.Mode.{Mode, off, scan, heading, body, full, step, emitted, ends, gives, behind, carry, carries, finished, unfinished}
+use Rattle.symbols.specs.Stream.{Symbol, start, fill, bits, raw, byteOf, beforeStart}
+use Rattle.walk.specs.Mode.{Mode, off, scan, heading, body, full, step, emitted, ends, gives, behind, carry, continues, finished, unfinished}
 use Rattle.claims.specs.Noise.{Hears, Near, none, more, over}
 use Rattle.claims.proofs.Losing.{near-snoc, lost-all}
 use Rattle.claims.proofs.Walking.{Fit, skips, opens, nibble, byte, Plain, sentEnds, sentGives, nib-sent, full-near, Blocks, same-block}
@@ -127,19 +127,19 @@ module _ (R : ℕ → ℕ → Type 0) (L : Type 0) (hears : Hears R L) (pointed 
   carry-follows c byte z f (gone x) = gone-on _ _ c x
 
   -- along bytes with no start among them
-  carries-from :
+  continues-from :
       {m k : Mode} (a : List Block) (ss : List Symbol) {cs : List ℕ} → Plain m ss → beforeStart ss ≡ length ss
-      → Near R (map byteOf ss) cs → Carried R L m a k → Carried R L (sentEnds m ss) (a ++ sentGives m ss) (carries pointed k cs)
-  unfolding ends gives carries
-  carries-from a [] t z none r = rw append-nil r
-  carries-from {m} a (s ∷ ss) t z (more {b = c} h n) r =
+      → Near R (map byteOf ss) cs → Carried R L m a k → Carried R L (sentEnds m ss) (a ++ sentGives m ss) (continues pointed k cs)
+  unfolding ends gives continues
+  continues-from a [] t z none r = rw append-nil r
+  continues-from {m} a (s ∷ ss) t z (more {b = c} h n) r =
       rw (← append-assoc a (emitted m (byteOf s)) (sentGives (step m (byteOf s)) ss))
-      (carries-from (a ++ emitted m (byteOf s)) ss (t .1) (no-start-after s ss z) n (carry-follows c (t .0) (no-start s ss z) h r))
+      (continues-from (a ++ emitted m (byteOf s)) ss (t .1) (no-start-after s ss z) n (carry-follows c (t .0) (no-start s ss z) h r))
 
-  pub carries-follows :
+  pub continues-follows :
       {m k : Mode} (ss : List Symbol) {cs : List ℕ} → Plain m ss → beforeStart ss ≡ length ss → Near R (map byteOf ss) cs
-      → Between R L m k → Carried R L (sentEnds m ss) (sentGives m ss) (carries pointed k cs)
-  carries-follows ss t z n r = carries-from [] ss t z n r
+      → Between R L m k → Carried R L (sentEnds m ss) (sentGives m ss) (continues pointed k cs)
+  continues-follows ss t z n r = continues-from [] ss t z n r
 
 -- what goes out, and what runs on, where no start was pointed at or the pointed byte is reached
 pub out-of : {R : ℕ → ℕ → Type 0} {L : Type 0} {m k : Mode} {a : List Block} → Carried R L m a k → Blocks R L a (finished k)

@@ -12,7 +12,7 @@ use Rattle.blocks.specs.Block.{Block, blocks}
 use Rattle.blocks.proofs.Round.{blocks-records}
 use Rattle.packet.specs.declared.Setting.{Setting}
 use Rattle.packet.specs.Setting.{inRange}
-use Rattle.guide.proofs.Numbering.{FortyTwo, more}
+use Rattle.writer.proofs.Numbering.{FortyTwo, more}
 use Rattle.state.specs.declared.Reader.{Reader}
 use Rattle.pages.specs.Seen.{see}
 use Rattle.state.specs.Acting.{State, act, handed, dropped}

@@ -1,4 +1,4 @@
--- Packets that are handed on as the calls allow, by `feed` or in rows by `feed_all`, give what a call of `feed` for each of them gives.
+-- Packets that are handed on as the calls allow, by `feed` or in dataPackets by `feed_all`, give what a call of `feed` for each of them gives.
 -- Assumes nothing.
 use mathlib.Core.Path.{_≡_, _∙_, refl, sym, ap, ap₂, subst}
 use mathlib.Core.Bool.{true}
@@ -14,8 +14,8 @@ use Rattle.blocks.specs.Sizes
 use Rattle.blocks.proofs.Round.{blocks-records}
 use Rattle.packet.specs.declared.Setting.{Setting}
 use Rattle.packet.specs.Setting.{inRange}
-use Rattle.guide.specs.Cutting.{joined}
-use Rattle.guide.proofs.Numbering.{FortyTwo, more, forty-front, forty-take, forty-drop}
+use Rattle.writer.specs.Cutting.{joined}
+use Rattle.writer.proofs.Numbering.{FortyTwo, more, forty-front, forty-take, forty-drop}
 use Rattle.walk.specs.Reading.{room}
 use Rattle.pages.specs.Seen.{see}
 use Rattle.state.specs.declared.Reader.{Reader}
@@ -25,14 +25,14 @@ use Rattle.state.proofs.Ranging.{Sound, sound-after}
 use Rattle.state.proofs.Sizing.{sized-append, handed-sized}
 use Rattle.reader.specs.declared.Heard.{Heard}
 use Rattle.reader.specs.Feeding.{feedHeard, feedReader, feedOut}
-use Rattle.rows.specs.declared.HeardAll.{HeardAll}
-use Rattle.rows.specs.Feeding.{feedAllHeard, feedAllReader, feedAllOut}
+use Rattle.reader.specs.declared.many.HeardAll.{HeardAll}
+use Rattle.reader.specs.Many.{feedAllHeard, feedAllReader, feedAllOut}
 use Rattle.claims.specs.Noise.{Each, nil, and}
 use Rattle.claims.specs.Carrying.{heardBlocks}
-use Rattle.claims.specs.Feeding.{Call, packetsOf, writtenOf, numberOf, comesOut, numberOfAll, packetsOfAll, writtenOfAll, leaves, rowOf, AsCalls}
-use Rattle.claims.specs.Calls.{Feeds, feed, FeedsAll, feed-all, Fed, end, one, row}
+use Rattle.claims.specs.Feeding.{Call, packetsOf, writtenOf, numberOf, comesOut, numberOfAll, packetsOfAll, writtenOfAll, leaves, inOne, AsCalls}
+use Rattle.claims.specs.Calls.{Feeds, feed, FeedsAll, feed-all, Fed, end, one, packetY}
 use Rattle.claims.proofs.Fed.{callsFor, packets-of-calls, call-reader, call-taken, fed-blocks}
-use Rattle.claims.proofs.Rows.{one-by-one}
+use Rattle.claims.proofs.Many.{one-by-one}
 
 -- ---- what the two calls say
 
@@ -48,8 +48,8 @@ feeds-all (feed-all κs a x t post) = (post .0, post .1 .0, post .1 .1)
 
 -- ---- calls of `feed` in a row
 
-row-joined : (cs : List Call) → rowOf cs ≡ joined (packetsOf cs)
-unfolding rowOf joined packetsOf
+row-joined : (cs : List Call) → inOne cs ≡ joined (packetsOf cs)
+unfolding inOne joined packetsOf
 row-joined [] = refl
 row-joined (c ∷ cs) = ap (λ (l : List ℕ). c .packet ++ l) (row-joined cs)
 
@@ -116,7 +116,7 @@ module _ (s : Setting) (i : inRange s ≡ true) where
       go : (front : List Call) × (back : List Call) × (callsFor ps ≡ front ++ back) × AsCalls s (readerOf st) old front back → Ones st old ps
       go (front, back, e, a) =
           let all : ps ≡ packetsOf (front ++ back) = sym (packets-of-calls ps) ∙ ap packetsOf e in
-          let bytes : joined ps ≡ rowOf (front ++ back) = ap joined all ∙ sym (row-joined (front ++ back)) in
+          let bytes : joined ps ≡ inOne (front ++ back) = ap joined all ∙ sym (row-joined (front ++ back)) in
           let whole : ps ≡ packetsOf front ++ packetsOf back = all ∙ packets-append front back in
           let fed : FortyTwo (packetsOf front) = forty-front (packetsOf front) (packetsOf back) (subst FortyTwo whole f) in
           let bs = comesOut s (readerOf st) front in
@@ -135,11 +135,11 @@ module _ (s : Setting) (i : inRange s ≡ true) where
           }
 
   -- with room, and a packet to take, it takes one: so calls that go on where the last one stopped come to an end
-  pub row-moves :
+  pub feed-all-moves :
       (st : State) → Sound st → {ps : List (List ℕ)} → FortyTwo ps → 1 ≤ length ps → {after : Reader} {old out : List ℕ} {h : HeardAll}
       → room ≤ length old → FeedsAll s (readerOf st) (joined ps) old h after out → 1 ≤ packetsOfAll h
   unfolding packetsOf comesOut recordsOf
-  row-moves st r {ps} f some {old = old} enough call =
+  feed-all-moves st r {ps} f some {old = old} enough call =
       let here = ones st r old f in
       let n = ap packetsOfAll (feeds-all call .0) ∙ here .packets in
       subst (λ (k : ℕ). 1 ≤ k) (sym n) (go (here .calls) (here .whole) (here .stops))
@@ -198,7 +198,7 @@ as-ones s i (one {old = old} enough call fed) st r e (more {p = q} l f) =
     then-ones (c ∷ []) (call-reader s i st r c l) refl (ap numberOf (said .0) ∙ call-taken s i st r c l)
     (ap₂ (λ (x : Heard) (o : List ℕ). blocks (take (writtenOf x) o)) (said .0) (said .2) ∙ sym (append-nil _))
     (as-ones s i fed (act st (see s q)) (sound-after s st q r) (said .1 ∙ call-reader s i st r c l) f)
-as-ones s i (row {old = old} {qs = qs} {h = h} n enough call fed) st r e f =
+as-ones s i (packetY {old = old} {qs = qs} {h = h} n enough call fed) st r e f =
     let said = rw e at (feeds-all call) in
     let here = ones s i st r old (forty-take n f) in
     let left = here .left in

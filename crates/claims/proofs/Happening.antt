@@ -14,8 +14,8 @@ use Rattle.answer.specs.Writing.{answered, left}
 use Rattle.blocks.specs.Block.{Block, whole, recordOf as Block·recordOf}
 use Rattle.packet.specs.declared.Setting.{Setting}
 use Rattle.packet.specs.Setting.{inRange}
-use Rattle.guide.specs.Cutting.{packets, cutBytes, cutRules}
-use Rattle.guide.proofs.Numbering.{packets-forty}
+use Rattle.writer.specs.Cutting.{packets, cutBytes, cutRules}
+use Rattle.writer.proofs.Numbering.{packets-forty}
 use Rattle.state.specs.declared.Reader.{Reader}
 use Rattle.state.specs.State.{readerOf, freshState}
 use Rattle.reader.specs.Feeding.{feedHeard, feedReader, feedOut}

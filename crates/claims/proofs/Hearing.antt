@@ -14,7 +14,7 @@ use Rattle.octet.specs.Decoding.{nib, undecodable}
 use Rattle.packet.specs.declared.Setting.{Setting}
 use Rattle.packet.specs.Packet.{address, packetZero, packetOf}
 use Rattle.packet.specs.Address.{decodes}
-use Rattle.headers.specs.Seen.{junk, other, ours, row, seeZero}
+use Rattle.pages.specs.Headers.{junk, other, ours, packetY, seeZero}
 use Rattle.pages.specs.Seen.{see, seeY}
 use Rattle.claims.specs.Noise.{Hears, Near, more, Each, nil, and, Elsewhere}
 use Rattle.claims.proofs.Losing.{near-drop}
@@ -168,27 +168,27 @@ module _ (s : Setting) (page : s .page < 256) (stream : s .stream < 16) (index n
 -- ---- packets 1 to 25
 
 -- what becomes of a packet y with pointer p and these bytes
-pub data RowHeard (R : ℕ → ℕ → Type 0) (L : Type 0) (s : Setting) (y p : ℕ) (bytes q : List ℕ) : Type 0 where
-  read : {cs : List ℕ} → Near R bytes cs → see s q ≡ row y p cs → RowHeard R L s y p bytes q
-  skipped : {cs : List ℕ} → L → see s q ≡ row y undecodable cs → RowHeard R L s y p bytes q
-  unread : L → see s q ≡ junk → RowHeard R L s y p bytes q
+pub data PacketHeard (R : ℕ → ℕ → Type 0) (L : Type 0) (s : Setting) (y p : ℕ) (bytes q : List ℕ) : Type 0 where
+  read : {cs : List ℕ} → Near R bytes cs → see s q ≡ packetY y p cs → PacketHeard R L s y p bytes q
+  skipped : {cs : List ℕ} → L → see s q ≡ packetY y undecodable cs → PacketHeard R L s y p bytes q
+  unread : L → see s q ≡ junk → PacketHeard R L s y p bytes q
 
-seeY-row : (s : Setting) (y : ℕ) (q : List ℕ) → 1 ≤ y → y ≤ 25 → seeY s y q ≡ row y (nib (getD q 2 0)) (drop 3 q)
+seeY-packet : (s : Setting) (y : ℕ) (q : List ℕ) → 1 ≤ y → y ≤ 25 → seeY s y q ≡ packetY y (nib (getD q 2 0)) (drop 3 q)
 unfolding seeY
-seeY-row s y q h k = rw (ne-eqb y 0 (λ e. omega arith), le-leb y 25 k)
+seeY-packet s y q h k = rw (ne-eqb y 0 (λ e. omega arith), le-leb y 25 k)
 
-pub row-heard :
+pub packet-heard :
     (R : ℕ → ℕ → Type 0) (L : Type 0) → Hears R L → (s : Setting) (y p : ℕ) (bytes : List ℕ) {q : List ℕ} → 1 ≤ y → y ≤ 25 → p < 16
-    → Near R (packetOf s y p bytes) q → RowHeard R L s y p bytes q
+    → Near R (packetOf s y p bytes) q → PacketHeard R L s y p bytes q
 unfolding packetOf
-row-heard R L hears s y p bytes {q} least most h near =
+packet-heard R L hears s y p bytes {q} least most h near =
     go (address-heard R L hears (s .magazine) y _ (omega arith) near) (pointer-heard (near-drop 2 near))
   where
     pointer-heard : {l : List ℕ} → Near R (image p ∷ bytes) l → (nib (getD l 0 0) ≡ p) ⊎ ((nib (getD l 0 0) ≡ undecodable) × L)
     pointer-heard (more {b = b} f n) = hears p b h f
 
-    seen : Reads (addressed (s .magazine) y) q → see s q ≡ row y (nib (getD q 2 0)) (drop 3 q)
-    seen a = see-ours s y (omega arith) a ∙ seeY-row s y q least most
+    seen : Reads (addressed (s .magazine) y) q → see s q ≡ packetY y (nib (getD q 2 0)) (drop 3 q)
+    seen a = see-ours s y (omega arith) a ∙ seeY-packet s y q least most
 
     at-two : nib (getD (drop 2 q) 0 0) ≡ nib (getD q 2 0)
     at-two = ap nib (getD-drop 2 q 0 0)
@@ -196,7 +196,7 @@ row-heard R L hears s y p bytes {q} least most h near =
     go :
         Reads (addressed (s .magazine) y) q ⊎ ((decodes 2 q ≡ false) × L)
         → (nib (getD (drop 2 q) 0 0) ≡ p) ⊎ ((nib (getD (drop 2 q) 0 0) ≡ undecodable) × L)
-        → RowHeard R L s y p bytes q
+        → PacketHeard R L s y p bytes q
     go (inr w) r = unread (w .1) (see-junk s q (w .0))
-    go (inl a) (inl e) = read (near-drop 3 near) (seen a ∙ ap (λ (x : ℕ). row y x (drop 3 q)) (sym at-two ∙ e))
-    go (inl a) (inr w) = skipped (w .1) (seen a ∙ ap (λ (x : ℕ). row y x (drop 3 q)) (sym at-two ∙ w .0))
+    go (inl a) (inl e) = read (near-drop 3 near) (seen a ∙ ap (λ (x : ℕ). packetY y x (drop 3 q)) (sym at-two ∙ e))
+    go (inl a) (inr w) = skipped (w .1) (seen a ∙ ap (λ (x : ℕ). packetY y x (drop 3 q)) (sym at-two ∙ w .0))

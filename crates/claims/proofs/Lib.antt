@@ -13,7 +13,7 @@ pub mod Blocks
 pub mod Demands
 pub mod Marked
 pub mod Wrong
-pub mod Rows
+pub mod Many
 pub mod Handing
 pub mod Calls
 pub mod Happening

@@ -11,13 +11,13 @@ use Rattle.octet.specs.Decoding.{nib}
 use Rattle.blocks.specs.Block.{Block}
 use Rattle.packet.specs.declared.Setting.{Setting}
 use Rattle.packet.specs.Setting.{inRange}
-use Rattle.guide.proofs.Numbering.{FortyTwo, more}
-use Rattle.headers.specs.declared.Page.the-variants.{Shut}
+use Rattle.writer.proofs.Numbering.{FortyTwo, more}
+use Rattle.pages.specs.declared.headers.Page.the-variants.{Shut}
 use Rattle.walk.specs.Mode.{off}
-use Rattle.headers.specs.Seen.{Seen, junk, other, foreign, ours, row, seeZero}
+use Rattle.pages.specs.Headers.{Seen, junk, other, foreign, ours, packetY, seeZero}
 use Rattle.pages.specs.Seen.{see, seeY}
 use Rattle.state.specs.Acting.{State, act, handed}
-use Rattle.headers.specs.Judging.{breaks}
+use Rattle.pages.specs.Judging.{breaks}
 use Rattle.walk.specs.Reading.{dropIf}
 use Rattle.state.specs.State.{readerOf, freshState}
 use Rattle.state.proofs.Ranging.{Sound, sound-fresh}
@@ -45,7 +45,7 @@ meets-after i j junk = both-idle
 meets-after i j other = both-idle
 meets-after i j foreign = both-idle
 meets-after i j (ours k n) = rw (dropped-off (breaks Shut i k n), dropped-off (breaks Shut j k n)) one
-meets-after i j (row y p l) = both-idle
+meets-after i j (packetY y p l) = both-idle
 
 idle-hands : (i j : ℕ) (x : Seen) → handed (idleAt i) x ≡ handed (idleAt j) x
 unfolding handed
@@ -53,7 +53,7 @@ idle-hands i j junk = refl
 idle-hands i j other = refl
 idle-hands i j foreign = refl
 idle-hands i j (ours k n) = refl
-idle-hands i j (row y p l) = refl
+idle-hands i j (packetY y p l) = refl
 
 same-blocks : (s : Setting) {st st′ : State} (qs : List (List ℕ)) → Meets st st′ → heardBlocks s st qs ≡ heardBlocks s st′ qs
 unfolding heardBlocks

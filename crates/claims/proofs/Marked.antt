@@ -6,9 +6,9 @@ use Rattle.answer.specs.Values.{refused}
 use Rattle.octet.specs.Bits.{number}
 use Rattle.octet.specs.Image.{image, withParity}
 use Rattle.octet.proofs.Cases.{CasesAtoE, cases-a-to-e, TheImages, the-images}
-use Rattle.guide.proofs.Cases.{CaseF, case-f, CaseG, recordG, case-g}
+use Rattle.writer.proofs.Cases.{CaseF, case-f, CaseG, recordG, case-g}
 use Rattle.pes_writer.proofs.Cases.{CaseJ, case-j, CaseK, case-k}
-use Rattle.fields.specs.Fields.{row, width, laid, parts}
+use Rattle.fields.specs.Fields.{alike, width, laid, parts}
 use Rattle.forms.specs.Tables.{per, loops, fields, bits, fill, size}
 use Rattle.sums.specs.Sums.{total, checksum}
 use Rattle.sums.specs.Block.{nibbles, checksumOf, recordOf, recordWith}
@@ -18,7 +18,7 @@ use Rattle.table.proofs.Cases.{G, H, I, case-G, case-H, case-I}
 
 -- G's record, as block writing makes it, is the one whose packets case G shows
 record-g : recordOf 1 G ≡ recordG
-unfolding recordWith laid parts row width fields loops per nibbles checksumOf checksum total image withParity number
+unfolding recordWith laid parts alike width fields loops per nibbles checksumOf checksum total image withParity number
 record-g = refl
 
 pub record Marked : Type 0 where

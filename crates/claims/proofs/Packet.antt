@@ -10,13 +10,13 @@ use lib.ListN.{length, take, drop, take-append-drop}
 use borrow.Author.Tests.{le-leb}
 use Rattle.laws.proofs.Maps.{map-take, map-drop}
 use Rattle.blocks.specs.Block.{Block}
-use Rattle.pens.specs.Stream.{Symbol, start, fill, bits, raw, byteOf, beforeStart, pointerOf}
-use Rattle.walk.specs.Mode.{Mode, scan, step, ends, gives, carries, finished, unfinished}
+use Rattle.symbols.specs.Stream.{Symbol, start, fill, bits, raw, byteOf, beforeStart, pointerOf}
+use Rattle.walk.specs.Mode.{Mode, scan, step, ends, gives, continues, finished, unfinished}
 use Rattle.walk.specs.Reading.{readMode, readBlocks}
 use Rattle.claims.specs.Noise.{Hears, Near}
 use Rattle.claims.proofs.Losing.{near-take, near-drop, lost-all, came-append}
 use Rattle.claims.proofs.Walking.{Fit, opens, Plain, sentEnds, sentGives, full-near, Sim, scans, heads, bodies, gone, Blocks, flow-follows}
-use Rattle.claims.proofs.Carrying.{Between, carries-follows, out-of, runs-on}
+use Rattle.claims.proofs.Carrying.{Between, continues-follows, out-of, runs-on}
 use Rattle.claims.proofs.Carrying
 
 -- ---- walks go on from one list to the next
@@ -100,16 +100,16 @@ pub record Heard (R : ℕ → ℕ → Type 0) (L : Type 0) (m : Mode) (ss : List
   pub blocks : Blocks R L (sentGives m ss) out
 
 -- a pointer that can't be decoded
-pub lost-row : (R : ℕ → ℕ → Type 0) (L : Type 0) (m k : Mode) (ss : List Symbol) (cs : List ℕ) → L → Heard R L m ss (readMode k 16 cs) (readBlocks k 16 cs)
-lost-row R L m k ss cs x = record { mode = Carrying.gone x; blocks = lost-all x (sentGives m ss) }
+pub lost-packet : (R : ℕ → ℕ → Type 0) (L : Type 0) (m k : Mode) (ss : List Symbol) (cs : List ℕ) → L → Heard R L m ss (readMode k 16 cs) (readBlocks k 16 cs)
+lost-packet R L m k ss cs x = record { mode = Carrying.gone x; blocks = lost-all x (sentGives m ss) }
 
 -- the running block along xs, where no start is, and the flow from ys on
 split-heard :
     (R : ℕ → ℕ → Type 0) (L : Type 0) → Hears R L → (m k : Mode) (xs ys : List Symbol) (cs es : List ℕ) → Plain m (xs ++ ys) → beforeStart xs ≡ length xs
     → sentEnds m xs ≡ scan → Near R (map byteOf xs) cs → Near R (map byteOf ys) es → Between R L m k
-    → Heard R L m (xs ++ ys) (unfinished (ends scan es)) (finished (carries true k cs) ++ gives scan es)
+    → Heard R L m (xs ++ ys) (unfinished (ends scan es)) (finished (continues true k cs) ++ gives scan es)
 split-heard R L hears m k xs ys cs es plain none-before e near-xs near-ys held =
-    let c = carries-follows R L hears true xs (plain-left m xs ys plain) none-before near-xs held in
+    let c = continues-follows R L hears true xs (plain-left m xs ys plain) none-before near-xs held in
     let f = flow-follows R L hears ys (subst (λ (x : Mode). Plain x ys) e (plain-right m xs ys plain)) near-ys scans in
     record {
       mode = rw (sentEnds-append m xs ys, e) (sim-between (f .mode));
@@ -123,25 +123,25 @@ module _ (R : ℕ → ℕ → Type 0) (L : Type 0) (hears : Hears R L) (m k : Mo
       beforeStart ss < length ss
       → Heard R L m ss
       (unfinished (ends scan (drop (beforeStart ss) cs)))
-      (finished (carries true k (take (beforeStart ss) cs)) ++ gives scan (drop (beforeStart ss) cs))
+      (finished (continues true k (take (beforeStart ss) cs)) ++ gives scan (drop (beforeStart ss) cs))
   to-start h =
       let n = beforeStart ss in
       subst
-      (λ (l : List Symbol). Heard R L m l (unfinished (ends scan (drop n cs))) (finished (carries true k (take n cs)) ++ gives scan (drop n cs)))
+      (λ (l : List Symbol). Heard R L m l (unfinished (ends scan (drop n cs))) (finished (continues true k (take n cs)) ++ gives scan (drop n cs)))
       (take-append-drop n ss)
       (split-heard R L hears m k (take n ss) (drop n ss) (take n cs) (drop n cs)
       (rw take-append-drop plain) (before-take ss) (at-start m ss plain h)
       (rw (map-take byteOf) (near-take n near)) (rw (map-drop byteOf) (near-drop n near)) held)
 
   -- with none
-  no-start : beforeStart ss ≡ length ss → Heard R L m ss (unfinished (carries false k cs)) (finished (carries false k cs))
+  no-start : beforeStart ss ≡ length ss → Heard R L m ss (unfinished (continues false k cs)) (finished (continues false k cs))
   no-start e =
-      let c = carries-follows R L hears false ss plain e near held in
+      let c = continues-follows R L hears false ss plain e near held in
       record { mode = runs-on c; blocks = out-of c }
 
-  pub heard-row :
+  pub heard-packet :
       length ss ≡ 39 → 3 * pointerOf ss ≡ beforeStart ss → Heard R L m ss (readMode k (pointerOf ss) cs) (readBlocks k (pointerOf ss) cs)
-  heard-row long aligned =
+  heard-packet long aligned =
       elim (decLt (beforeStart ss) (length ss)) [
         | yes h ↦
             let p : pointerOf ss ≤ 12 = omega arith in

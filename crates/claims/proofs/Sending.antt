@@ -13,7 +13,7 @@ use Rattle.laws.specs.Pick.{pick}
 use Rattle.octet.specs.Image.{image}
 use Rattle.octet.specs.Decoding.{undecodable}
 use Rattle.blocks.specs.Block.{Block, sizeOf}
-use Rattle.pens.specs.Stream.{Symbol, start, fill, bits, raw, byteOf, symbols, fillAfter, cell, cellsOf, streamOf, grab}
+use Rattle.symbols.specs.Stream.{Symbol, start, fill, bits, raw, byteOf, symbols, fillAfter, cell, cellsOf, streamOf, grab}
 use Rattle.walk.specs.Mode.{Mode, scan, heading, body, full, step, emitted, ends, gives}
 use Rattle.claims.specs.Noise.{Fits, Each, nil, and}
 use Rattle.claims.proofs.Walking.{Fit, skips, opens, nibble, byte, Plain, sentEnds, sentGives, step-fill, step-start, nib-sent}

@@ -10,46 +10,40 @@ use denote.Ref.{now}
 use Rattle.answer.proofs.refuse.Reads as answer·refuse
 use Rattle.octet.proofs.image.Reads as octet·image
 use Rattle.octet.proofs.decode.Reads as octet·decode
-use Rattle.faults.proofs.fault_place.Reads as octet·fault-place
+use Rattle.octet.proofs.faults.fault_place.Reads as octet·fault-place
 use Rattle.octet.proofs.turn.Reads as octet·turn
-use Rattle.quick.proofs.decode.Reads as quick·decode
-use Rattle.quick.proofs.turn.Reads as quick·turn
+use Rattle.octet.proofs.quick.decode.Reads as octet·quick-decode
+use Rattle.octet.proofs.quick.turn.Reads as octet·quick-turn
 use Rattle.fields.proofs.field_of.Reads as fields·field-of
-use Rattle.items.proofs.words_of.Reads as items·words-of
-use Rattle.values.proofs.set.Reads as values·set
-use Rattle.stages.proofs.start.Reads as wanted·start
+use Rattle.forms.proofs.items.words_of.Reads as forms·words-of
+use Rattle.wanted.proofs.stages.start.Reads as wanted·start
 use Rattle.wanted.proofs.next.Reads as wanted·next
 use Rattle.wanted.proofs.is_name.Reads as wanted·is-name
-use Rattle.stages.proofs.is_good.Reads as wanted·is-good
+use Rattle.wanted.proofs.stages.is_good.Reads as wanted·is-good
 use Rattle.units.proofs.unit_at.Reads as units·unit-at
-use Rattle.packing.proofs.pack.Reads as packing·pack
-use Rattle.marks.proofs.is_text.Reads as marks·is-text
-use Rattle.marks.proofs.line_fits.Reads as marks·line-fits
+use Rattle.units.proofs.marks.is_text.Reads as units·is-text
+use Rattle.units.proofs.marks.line_fits.Reads as units·line-fits
 use Rattle.pes.proofs.read.Reads as pes·read
-use Rattle.writable.proofs.judge_records.Reads as writable·judge-records
 use Rattle.pes_writer.proofs.write.Reads as pes-writer·write
 use Rattle.stripped.proofs.carry.Reads as stripped·carry
-use Rattle.loss.proofs.blank.Reads as stripped·blank
-use Rattle.ebu.proofs.is_ebu.Reads as ebu·is-ebu
-use Rattle.ebu.proofs.turn_run.Reads as ebu·turn-run
+use Rattle.stripped.proofs.loss.blank.Reads as stripped·blank
+use Rattle.pes.proofs.ebu.is_ebu.Reads as pes·is-ebu
+use Rattle.pes.proofs.ebu.turn_run.Reads as pes·turn-run
 use Rattle.blocks.proofs.record_at.Reads as blocks·record-at
 use Rattle.packet.proofs.is_in_range.Reads as packet·is-in-range
-use Rattle.zero.proofs.write_zero.Reads as zero·write-zero
-use Rattle.zero.proofs.write_address.Reads as zero·write-address
-use Rattle.pens.proofs.step.Reads as pens·step
-use Rattle.cells.proofs.first.Reads as cells·first
-use Rattle.cells.proofs.cells_of.Reads as cells·cells-of
-use Rattle.guide.proofs.cut.Reads as guide·cut
-use Rattle.guide.proofs.cut_pages.Reads as guide·cut-pages
+use Rattle.symbols.proofs.step.Reads as symbols·step
+use Rattle.symbols.proofs.cells.first.Reads as symbols·first
+use Rattle.symbols.proofs.cells.cells_of.Reads as symbols·cells-of
+use Rattle.writer.proofs.cut.Reads as writer·cut
+use Rattle.writer.proofs.cut_pages.Reads as writer·cut-pages
 use Rattle.walk.specs.declared.Ahead.{Ahead}
 use Rattle.walk.specs.declared.Ahead.the-variants.{Nothing, Broken, Cut, Whole}
-use Rattle.walk.specs.Places.{Found, nothing, broken, cut, whole}
+use Rattle.walk.specs.Places.{StartAhead, nothing, broken, cut, whole}
 use Rattle.walk.specs.Holding.{aheadIn, nextOf}
 use Rattle.walk.proofs.pointed.Reads as walk·pointed
-use Rattle.starts.proofs.find.Reads as starts·find
+use Rattle.walk.proofs.starts.find.Reads as walk·find
 use Rattle.walk.proofs.head_on.Reads as walk·head-on
-use Rattle.starts.proofs.falls.Reads as starts·falls
-use Rattle.headers.proofs.judge_zero.Reads as headers·judge-zero
+use Rattle.walk.proofs.starts.falls.Reads as walk·falls
 use Rattle.pages.proofs.judge.Reads as pages·judge
 use Rattle.packet.proofs.address.Reads as packet·address
 use Rattle.packet.proofs.passes_by.Reads as packet·passes-by
@@ -57,19 +51,17 @@ use Rattle.moves.proofs.copy.Reads as moves·copy
 use Rattle.moves.proofs.clear.Reads as moves·clear
 use Rattle.state.proofs.fresh.Reads as reader·fresh
 use Rattle.reader.proofs.feed.Reads as reader·feed
-use Rattle.rows.proofs.feed_all.Reads as reader·feed-all
-use Rattle.lengths.proofs.judge_lengths.Reads as lengths·judge-lengths
+use Rattle.reader.proofs.many.feed_all.Reads as reader·feed-all
 use Rattle.table.proofs.read_block.Reads as table·read-block
 use Rattle.forms.proofs.judge_form.Reads as forms·judge-form
-use Rattle.spelling.proofs.write_form.Reads as spelling·write-form
 use Rattle.sums.proofs.Summing.{one-sum}
 use Rattle.sums.proofs.checksum.Reads as sums·checksum
 use Rattle.sums.proofs.sound.Reads as sums·sound
 use Rattle.sums.proofs.sum_of.Reads as sums·sum-of
-use Rattle.items.proofs.known.Reads as items·known
-use Rattle.items.proofs.byte_at.Reads as items·byte-at
-use Rattle.items.proofs.word_at.Reads as items·word-at
-use Rattle.puts.proofs.put.Reads as puts·put
+use Rattle.forms.proofs.items.known.Reads as forms·known
+use Rattle.forms.proofs.items.byte_at.Reads as forms·byte-at
+use Rattle.forms.proofs.items.word_at.Reads as forms·word-at
+use Rattle.printing.proofs.puts.put.Reads as printing·put
 use Rattle.printing.proofs.put_number.Reads as printing·put-number
 use Rattle.printing.proofs.put_language.Reads as printing·put-language
 use Rattle.printing.proofs.put_page.Reads as printing·put-page
@@ -102,29 +94,22 @@ octet·turn-settled κs a x y s t p q = same p q
 pub units·unit-at-settled : (κs : _) (a : _) (x y : _) (s t : _) → units·unit-at.Post κs a x s → units·unit-at.Post κs a y t → x ≡ y
 units·unit-at-settled κs a x y s t p q = same p q
 
-pub packing·pack-settled : (κs : _) (a : _) (x y : _) (s t : _) → packing·pack.Post κs a x s → packing·pack.Post κs a y t → x ≡ y
-packing·pack-settled κs a x y s t p q = same p q
+pub units·is-text-settled : (κs : _) (a : _) (x y : _) (s t : _) → units·is-text.Post κs a x s → units·is-text.Post κs a y t → x ≡ y
+units·is-text-settled κs a x y s t p q = same p q
 
-pub marks·is-text-settled : (κs : _) (a : _) (x y : _) (s t : _) → marks·is-text.Post κs a x s → marks·is-text.Post κs a y t → x ≡ y
-marks·is-text-settled κs a x y s t p q = same p q
-
-pub marks·line-fits-settled : (κs : _) (a : _) (x y : _) (s t : _) → marks·line-fits.Post κs a x s → marks·line-fits.Post κs a y t → x ≡ y
-marks·line-fits-settled κs a x y s t p q = same p q
+pub units·line-fits-settled : (κs : _) (a : _) (x y : _) (s t : _) → units·line-fits.Post κs a x s → units·line-fits.Post κs a y t → x ≡ y
+units·line-fits-settled κs a x y s t p q = same p q
 
 pub pes·read-settled :
     (κs : _) (a : _) (x y : _) (s t : _) → pes·read.Post κs a x s → pes·read.Post κs a y t → (x ≡ y) × (now (s .1 .0) ≡ now (t .1 .0))
 pes·read-settled κs a x y s t p q = (same (p .0) (q .0), same (p .1) (q .1))
 
-pub ebu·is-ebu-settled : (κs : _) (a : _) (x y : _) (s t : _) → ebu·is-ebu.Post κs a x s → ebu·is-ebu.Post κs a y t → x ≡ y
-ebu·is-ebu-settled κs a x y s t p q = same p q
+pub pes·is-ebu-settled : (κs : _) (a : _) (x y : _) (s t : _) → pes·is-ebu.Post κs a x s → pes·is-ebu.Post κs a y t → x ≡ y
+pes·is-ebu-settled κs a x y s t p q = same p q
 
-pub ebu·turn-run-settled :
-    (κs : _) (a : _) (x y : _) (s t : _) → ebu·turn-run.Post κs a x s → ebu·turn-run.Post κs a y t → now (s .1 .1 .0) ≡ now (t .1 .1 .0)
-ebu·turn-run-settled κs a x y s t p q = same p q
-
-pub writable·judge-records-settled :
-    (κs : _) (a : _) (x y : _) (s t : _) → writable·judge-records.Post κs a x s → writable·judge-records.Post κs a y t → x ≡ y
-writable·judge-records-settled κs a x y s t p q = same p q
+pub pes·turn-run-settled :
+    (κs : _) (a : _) (x y : _) (s t : _) → pes·turn-run.Post κs a x s → pes·turn-run.Post κs a y t → now (s .1 .1 .0) ≡ now (t .1 .1 .0)
+pes·turn-run-settled κs a x y s t p q = same p q
 
 pub pes-writer·write-settled :
     (κs : _) (a : _) (x y : _) (s t : _) → pes-writer·write.Post κs a x s → pes-writer·write.Post κs a y t → (x ≡ y) × (now (s .1 .1 .0) ≡ now (t .1 .1 .0))
@@ -144,35 +129,27 @@ blocks·record-at-settled κs a x y s t p q = same p q
 pub packet·is-in-range-settled : (κs : _) (a : _) (x y : _) (s t : _) → packet·is-in-range.Post κs a x s → packet·is-in-range.Post κs a y t → x ≡ y
 packet·is-in-range-settled κs a x y s t p q = same p q
 
-pub zero·write-zero-settled :
-    (κs : _) (a : _) (x y : _) (s t : _) → zero·write-zero.Post κs a x s → zero·write-zero.Post κs a y t → now (s .1 .1 .1 .0) ≡ now (t .1 .1 .1 .0)
-zero·write-zero-settled κs a x y s t p q = same p q
+pub symbols·step-settled : (κs : _) (a : _) (x y : _) (s t : _) → symbols·step.Post κs a x s → symbols·step.Post κs a y t → x ≡ y
+symbols·step-settled κs a x y s t p q = same p q
 
-pub zero·write-address-settled :
-    (κs : _) (a : _) (x y : _) (s t : _) → zero·write-address.Post κs a x s → zero·write-address.Post κs a y t → now (s .1 .1 .0) ≡ now (t .1 .1 .0)
-zero·write-address-settled κs a x y s t p q = same p q
+pub symbols·first-settled : (κs : _) (a : _) (x y : _) (s t : _) → symbols·first.Post κs a x s → symbols·first.Post κs a y t → x ≡ y
+symbols·first-settled κs a x y s t p q = same p q
 
-pub pens·step-settled : (κs : _) (a : _) (x y : _) (s t : _) → pens·step.Post κs a x s → pens·step.Post κs a y t → x ≡ y
-pens·step-settled κs a x y s t p q = same p q
+pub symbols·cells-of-settled : (κs : _) (a : _) (x y : _) (s t : _) → symbols·cells-of.Post κs a x s → symbols·cells-of.Post κs a y t → x ≡ y
+symbols·cells-of-settled κs a x y s t p q = same p q
 
-pub cells·first-settled : (κs : _) (a : _) (x y : _) (s t : _) → cells·first.Post κs a x s → cells·first.Post κs a y t → x ≡ y
-cells·first-settled κs a x y s t p q = same p q
+pub writer·cut-settled :
+    (κs : _) (a : _) (x y : _) (s t : _) → writer·cut.Post κs a x s → writer·cut.Post κs a y t → (x ≡ y) × (now (s .1 .1 .1 .0) ≡ now (t .1 .1 .1 .0))
+writer·cut-settled κs a x y s t p q = (same (p .0) (q .0), same (p .1) (q .1))
 
-pub cells·cells-of-settled : (κs : _) (a : _) (x y : _) (s t : _) → cells·cells-of.Post κs a x s → cells·cells-of.Post κs a y t → x ≡ y
-cells·cells-of-settled κs a x y s t p q = same p q
-
-pub guide·cut-settled :
-    (κs : _) (a : _) (x y : _) (s t : _) → guide·cut.Post κs a x s → guide·cut.Post κs a y t → (x ≡ y) × (now (s .1 .1 .1 .0) ≡ now (t .1 .1 .1 .0))
-guide·cut-settled κs a x y s t p q = (same (p .0) (q .0), same (p .1) (q .1))
-
-pub guide·cut-pages-settled :
-    (κs : _) (a : _) (x y : _) (s t : _) → guide·cut-pages.Post κs a x s → guide·cut-pages.Post κs a y t → (x ≡ y) × (now (s .1 .1 .1 .1 .0) ≡ now (t .1 .1 .1 .1 .0))
-guide·cut-pages-settled κs a x y s t p q = (same (p .0) (q .0), same (p .1) (q .1))
+pub writer·cut-pages-settled :
+    (κs : _) (a : _) (x y : _) (s t : _) → writer·cut-pages.Post κs a x s → writer·cut-pages.Post κs a y t → (x ≡ y) × (now (s .1 .1 .1 .1 .0) ≡ now (t .1 .1 .1 .1 .0))
+writer·cut-pages-settled κs a x y s t p q = (same (p .0) (q .0), same (p .1) (q .1))
 
 -- ---- within the reader
 
 -- what stands ahead, from what is found: the place is where the rest begins
-abbrev back : List ℕ → Found → Ahead
+abbrev back : List ℕ → StartAhead → Ahead
 back s nothing = Nothing
 back s broken = Broken
 back s (cut g v) = Cut g v
@@ -185,7 +162,7 @@ back-ahead s (Cut g v) h = refl
 back-ahead s (Whole h n) k = let e : length s - length (drop n s) ≡ n = rw length-drop (omega arith) in rw e
 
 -- the same, where the place is told
-abbrev backAt : ℕ → Found → Ahead
+abbrev backAt : ℕ → StartAhead → Ahead
 backAt d nothing = Nothing
 backAt d broken = Broken
 backAt d (cut g v) = Cut g v
@@ -197,8 +174,8 @@ back-at s d Broken e = refl
 back-at s d (Cut g v) e = refl
 back-at s d (Whole h n) e = rw e
 
-pub starts·find-settled : (κs : _) (a : _) (x y : _) (s t : _) → starts·find.Post κs a x s → starts·find.Post κs a y t → x ≡ y
-starts·find-settled κs a x y s t p q =
+pub walk·find-settled : (κs : _) (a : _) (x y : _) (s t : _) → walk·find.Post κs a x s → walk·find.Post κs a y t → x ≡ y
+walk·find-settled κs a x y s t p q =
     sym (back-ahead (now (a .0)) x (p .1 .1)) ∙ ap (back (now (a .0))) (sym (p .0) ∙ q .0) ∙ back-ahead (now (a .0)) y (q .1 .1)
 
 pub walk·head-on-settled :
@@ -209,12 +186,8 @@ walk·head-on-settled κs a x y s t p q =
 pub walk·pointed-settled : (κs : _) (a : _) (x y : _) (s t : _) → walk·pointed.Post κs a x s → walk·pointed.Post κs a y t → x ≡ y
 walk·pointed-settled κs a x y s t p q = same p q
 
-pub starts·falls-settled : (κs : _) (a : _) (x y : _) (s t : _) → starts·falls.Post κs a x s → starts·falls.Post κs a y t → x ≡ y
-starts·falls-settled κs a x y s t p q = same p q
-
-pub headers·judge-zero-settled :
-    (κs : _) (a : _) (x y : _) (s t : _) → headers·judge-zero.Post κs a x s → headers·judge-zero.Post κs a y t → x ≡ y
-headers·judge-zero-settled κs a x y s t p q = same p q
+pub walk·falls-settled : (κs : _) (a : _) (x y : _) (s t : _) → walk·falls.Post κs a x s → walk·falls.Post κs a y t → x ≡ y
+walk·falls-settled κs a x y s t p q = same p q
 
 pub pages·judge-settled : (κs : _) (a : _) (x y : _) (s t : _) → pages·judge.Post κs a x s → pages·judge.Post κs a y t → x ≡ y
 pages·judge-settled κs a x y s t p q = same p q
@@ -248,9 +221,6 @@ pub reader·feed-all-settled :
     → (x .heard ≡ y .heard) × (x .reader ≡ y .reader) × (now (s .1 .1 .1 .0) ≡ now (t .1 .1 .1 .0))
 reader·feed-all-settled κs a x y s t p q = (same (p .0) (q .0), same (p .1 .0) (q .1 .0), same (p .1 .1) (q .1 .1))
 
-pub lengths·judge-lengths-settled : (κs : _) (a : _) (x y : _) (s t : _) → lengths·judge-lengths.Post κs a x s → lengths·judge-lengths.Post κs a y t → x ≡ y
-lengths·judge-lengths-settled κs a x y s t p q = same p q
-
 pub table·read-block-settled :
     (κs : _) (a : _) (x y : _) (s t : _) → table·read-block.Post κs a x s → table·read-block.Post κs a y t → (x ≡ y) × (now (s .1 .1 .0) ≡ now (t .1 .1 .0))
 table·read-block-settled κs a x y s t p q = (same (p .0) (q .0), same (p .1) (q .1))
@@ -267,18 +237,14 @@ sums·sound-settled κs a x y s t p q = same p q
 pub sums·sum-of-settled : (κs : _) (a : _) (x y : _) (s t : _) → sums·sum-of.Post κs a x s → sums·sum-of.Post κs a y t → x ≡ y
 sums·sum-of-settled κs a x y s t p q = one-sum _ _ _ x y (p .0) (p .1 .0) (p .1 .1) (q .0) (q .1 .0) (q .1 .1)
 
-pub spelling·write-form-settled :
-    (κs : _) (a : _) (x y : _) (s t : _) → spelling·write-form.Post κs a x s → spelling·write-form.Post κs a y t → now (s .1 .0) ≡ now (t .1 .0)
-spelling·write-form-settled κs a x y s t p q = same p q
+pub forms·known-settled : (κs : _) (a : _) (x y : _) (s t : _) → forms·known.Post κs a x s → forms·known.Post κs a y t → x ≡ y
+forms·known-settled κs a x y s t p q = same p q
 
-pub items·known-settled : (κs : _) (a : _) (x y : _) (s t : _) → items·known.Post κs a x s → items·known.Post κs a y t → x ≡ y
-items·known-settled κs a x y s t p q = same p q
+pub forms·byte-at-settled : (κs : _) (a : _) (x y : _) (s t : _) → forms·byte-at.Post κs a x s → forms·byte-at.Post κs a y t → x ≡ y
+forms·byte-at-settled κs a x y s t p q = same (p .0) (q .0)
 
-pub items·byte-at-settled : (κs : _) (a : _) (x y : _) (s t : _) → items·byte-at.Post κs a x s → items·byte-at.Post κs a y t → x ≡ y
-items·byte-at-settled κs a x y s t p q = same (p .0) (q .0)
-
-pub items·word-at-settled : (κs : _) (a : _) (x y : _) (s t : _) → items·word-at.Post κs a x s → items·word-at.Post κs a y t → x ≡ y
-items·word-at-settled κs a x y s t p q = same (p .0) (q .0)
+pub forms·word-at-settled : (κs : _) (a : _) (x y : _) (s t : _) → forms·word-at.Post κs a x s → forms·word-at.Post κs a y t → x ≡ y
+forms·word-at-settled κs a x y s t p q = same (p .0) (q .0)
 
 pub table-writer·write-block-settled :
     (κs : _) (a : _) (x y : _) (s t : _) → table-writer·write-block.Post κs a x s → table-writer·write-block.Post κs a y t → (x ≡ y) × (now (s .1 .1 .0) ≡ now (t .1 .1 .0))
@@ -293,9 +259,9 @@ firmware·guide-turn-settled κs a x y s t p q = same p q
 pub firmware·guide-unit-at-settled : (κs : _) (a : _) (x y : _) (s t : _) → firmware·guide-unit-at.Post κs a x s → firmware·guide-unit-at.Post κs a y t → x ≡ y
 firmware·guide-unit-at-settled κs a x y s t p q = same p q
 
-pub puts·put-settled :
-    (κs : _) (a : _) (x y : _) (s t : _) → puts·put.Post κs a x s → puts·put.Post κs a y t → (x ≡ y) × (now (s .1 .0) ≡ now (t .1 .0))
-puts·put-settled κs a x y s t p q = (same (p .0 .moved) (q .0 .moved), same (p .0 .stored) (q .0 .stored))
+pub printing·put-settled :
+    (κs : _) (a : _) (x y : _) (s t : _) → printing·put.Post κs a x s → printing·put.Post κs a y t → (x ≡ y) × (now (s .1 .0) ≡ now (t .1 .0))
+printing·put-settled κs a x y s t p q = (same (p .0 .moved) (q .0 .moved), same (p .0 .stored) (q .0 .stored))
 
 pub printing·put-number-settled :
     (κs : _) (a : _) (x y : _) (s t : _) → printing·put-number.Post κs a x s → printing·put-number.Post κs a y t → (x ≡ y) × (now (s .1 .1 .0) ≡ now (t .1 .1 .0))
@@ -317,20 +283,17 @@ pub listing·list-descriptors-settled :
     (κs : _) (a : _) (x y : _) (s t : _) → listing·list-descriptors.Post κs a x s → listing·list-descriptors.Post κs a y t → (x ≡ y) × (now (s .1 .0) ≡ now (t .1 .0))
 listing·list-descriptors-settled κs a x y s t p q = (same (p .0) (q .0), same (p .1) (q .1))
 
-pub quick·decode-settled : (κs : _) (a : _) (x y : _) (s t : _) → quick·decode.Post κs a x s → quick·decode.Post κs a y t → x ≡ y
-quick·decode-settled κs a x y s t p q = same p q
+pub octet·quick-decode-settled : (κs : _) (a : _) (x y : _) (s t : _) → octet·quick-decode.Post κs a x s → octet·quick-decode.Post κs a y t → x ≡ y
+octet·quick-decode-settled κs a x y s t p q = same p q
 
-pub quick·turn-settled : (κs : _) (a : _) (x y : _) (s t : _) → quick·turn.Post κs a x s → quick·turn.Post κs a y t → x ≡ y
-quick·turn-settled κs a x y s t p q = same p q
+pub octet·quick-turn-settled : (κs : _) (a : _) (x y : _) (s t : _) → octet·quick-turn.Post κs a x s → octet·quick-turn.Post κs a y t → x ≡ y
+octet·quick-turn-settled κs a x y s t p q = same p q
 
 pub fields·field-of-settled : (κs : _) (a : _) (x y : _) (s t : _) → fields·field-of.Post κs a x s → fields·field-of.Post κs a y t → x ≡ y
 fields·field-of-settled κs a x y s t p q = same (p .0) (q .0)
 
-pub items·words-of-settled : (κs : _) (a : _) (x y : _) (s t : _) → items·words-of.Post κs a x s → items·words-of.Post κs a y t → x ≡ y
-items·words-of-settled κs a x y s t p q = same (p .0) (q .0)
-
-pub values·set-settled : (κs : _) (a : _) (x y : _) (s t : _) → values·set.Post κs a x s → values·set.Post κs a y t → x ≡ y
-values·set-settled κs a x y s t p q = same p q
+pub forms·words-of-settled : (κs : _) (a : _) (x y : _) (s t : _) → forms·words-of.Post κs a x s → forms·words-of.Post κs a y t → x ≡ y
+forms·words-of-settled κs a x y s t p q = same (p .0) (q .0)
 
 pub wanted·start-settled : (κs : _) (a : _) (x y : _) (s t : _) → wanted·start.Post κs a x s → wanted·start.Post κs a y t → x ≡ y
 wanted·start-settled κs a x y s t p q = same p q

@@ -15,7 +15,7 @@ use Rattle.octet.specs.Image.{image}
 use Rattle.octet.specs.Decoding.{nib, undecodable}
 use Rattle.octet.proofs.Laws.{nib-image}
 use Rattle.blocks.specs.Block.{Block, sizeOf}
-use Rattle.pens.specs.Stream.{Symbol, start, fill, bits, raw, byteOf}
+use Rattle.symbols.specs.Stream.{Symbol, start, fill, bits, raw, byteOf}
 use Rattle.walk.specs.Mode.{Mode, off, scan, heading, body, full, step, emitted, ends, gives}
 use Rattle.claims.specs.Noise.{Hears, Near, none, more, Came, over, kept, Alike}
 use Rattle.claims.proofs.Losing.{near-length, near-snoc, lost-all, came-append}

@@ -13,20 +13,20 @@ use Rattle.laws.specs.Pick.{either}
 use Rattle.octet.specs.Bits.{bits, number, differing, flips}
 use Rattle.octet.specs.Image.{image, withParity}
 use Rattle.octet.specs.Decoding.{nib, nibbleFrom}
-use Rattle.noise.proofs.Laws.{flips-self}
+use Rattle.octet.proofs.Noise.{flips-self}
 use Rattle.blocks.specs.Block.{Block, blocks, blocksWithin}
-use Rattle.fields.specs.Fields.{row, width, laid, parts, fitting}
+use Rattle.fields.specs.Fields.{alike, width, laid, parts, fitting}
 use Rattle.packet.specs.declared.Setting.{Setting}
 use Rattle.packet.specs.Setting.{inRange}
 use Rattle.packet.specs.Packet.{address, packetZero}
 use Rattle.packet.specs.Address.{decodes}
-use Rattle.pens.specs.Stream.{symbols, cellsOf, streamOf, grab, beforeStart}
-use Rattle.guide.specs.Cutting.{rows, pages, packets}
-use Rattle.guide.proofs.Cases.{desk}
-use Rattle.guide.proofs.Numbering.{FortyTwo, packets-forty}
-use Rattle.guide.proofs.Numbering
-use Rattle.headers.specs.declared.Page.the-variants.{Shut}
-use Rattle.headers.specs.Seen.{junk, other}
+use Rattle.symbols.specs.Stream.{symbols, cellsOf, streamOf, grab, beforeStart}
+use Rattle.writer.specs.Cutting.{dataPackets, pages, packets}
+use Rattle.writer.proofs.Cases.{desk}
+use Rattle.writer.proofs.Numbering.{FortyTwo, packets-forty}
+use Rattle.writer.proofs.Numbering
+use Rattle.pages.specs.declared.headers.Page.the-variants.{Shut}
+use Rattle.pages.specs.Headers.{junk, other}
 use Rattle.pages.specs.Seen.{see}
 use Rattle.walk.specs.Mode.{running, heading}
 use Rattle.state.specs.declared.Reader.{Reader}
@@ -82,11 +82,11 @@ given f c t e =
     (subst (λ (ps : List (List ℕ)). Aired (Flipped 0) desk (only t) ps) (sym (packets-of-calls (only t))) (aired-itself (only t)))
 
 g-fits : fits G ≡ true
-unfolding fits entire fitting fields loops per row width
+unfolding fits entire fitting fields loops per alike width
 g-fits = refl
 
 h-fits : fits H ≡ true
-unfolding fits entire fitting fields loops per row width
+unfolding fits entire fitting fields loops per alike width
 h-fits = refl
 
 -- both begin with the same packet 0
@@ -100,7 +100,7 @@ unfolding
     recordWith
     laid
     parts
-    row
+    alike
     width
     fields
     loops
@@ -111,7 +111,7 @@ unfolding
     total
     packets
     pages
-    rows
+    dataPackets
     streamOf
     cellsOf
     symbols

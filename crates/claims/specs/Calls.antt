@@ -10,21 +10,21 @@ use Rattle.answer.specs.declared.Answer.{Answer}
 use Rattle.answer.specs.declared.Answer.the-variants.{Done, Refused}
 use Rattle.blocks.specs.Block.{Block, blocks as Block·blocks, recordOf as Block·recordOf}
 use Rattle.packet.specs.declared.Setting.{Setting}
-use Rattle.guide.specs.Cutting.{joined, cutBytes, usualPage}
-use Rattle.guide.proofs.Numbering.{FortyTwo}
+use Rattle.writer.specs.Cutting.{joined, cutBytes, usualPage}
+use Rattle.writer.proofs.Numbering.{FortyTwo}
 use Rattle.walk.specs.Reading.{room}
 use Rattle.state.specs.declared.Reader.{Reader}
 use Rattle.reader.specs.declared.Heard.{Heard}
-use Rattle.rows.specs.declared.HeardAll.{HeardAll}
+use Rattle.reader.specs.declared.many.HeardAll.{HeardAll}
 use Rattle.forms.specs.Tables.{Table}
 use Rattle.forms.specs.Form.{form}
 use Rattle.sums.specs.Block.{recordOf}
 use Rattle.table_writer.proofs.write_block.Reads as table-writer·write-block
-use Rattle.guide.proofs.cut.Reads as guide·cut
-use Rattle.guide.proofs.cut_pages.Reads as guide·cut-pages
+use Rattle.writer.proofs.cut.Reads as guide·cut
+use Rattle.writer.proofs.cut_pages.Reads as guide·cut-pages
 use Rattle.state.proofs.fresh.Reads as reader·fresh
 use Rattle.reader.proofs.feed.Reads as reader·feed
-use Rattle.rows.proofs.feed_all.Reads as reader·feed-all
+use Rattle.reader.proofs.many.feed_all.Reads as reader·feed-all
 use Rattle.table.proofs.read_block.Reads as table·read-block
 use Rattle.claims.specs.Noise.{Aired, Came, Each}
 use Rattle.claims.specs.Feeding.{writtenOf, numberOf, numberOfAll, packetsOfAll, writtenOfAll}
@@ -57,7 +57,7 @@ pub data Feeds : Setting → Reader → List ℕ → List ℕ → Heard → Read
       (κs : _) (a : _) (x : _) (t : _) → reader·feed.Post κs a x t
       → Feeds (a .0) (a .1 .0) (now (a .1 .1 .0)) (now (a .1 .1 .1 .0)) (x .heard) (x .reader) (now (t .1 .1 .1 .0))
 
--- the same for a row of packets
+-- the same for a list of packets
 pub data FeedsAll : Setting → Reader → List ℕ → List ℕ → HeardAll → Reader → List ℕ → Type 0 where
   feed-all :
       (κs : _) (a : _) (x : _) (t : _) → reader·feed-all.Post κs a x t
@@ -101,7 +101,7 @@ pub data Fed (s : Setting) : Reader → List (List ℕ) → List ℕ → List Bl
       → room ≤ length old → Feeds s r q old h after out → Fed s after qs numbers bs
       → Fed s r (q ∷ qs) (numberOf h ∷ numbers) (Block·blocks (take (writtenOf h) out) ++ bs)
   -- at most n of those that are left go to `feed_all` in a row; those that it doesn't take stay
-  row :
+  packetY :
       {r after : Reader} {old out : List ℕ} {qs : List (List ℕ)} {h : HeardAll} {numbers : List ℕ} {bs : List Block} (n : ℕ)
       → room ≤ length old → FeedsAll s r (joined (take n qs)) old h after out → Fed s after (drop (packetsOfAll h) qs) numbers bs
       → Fed s r qs (numberOfAll h ∷ numbers) (Block·blocks (take (writtenOfAll h) out) ++ bs)

@@ -1,4 +1,4 @@
--- What the third demand (SCOPE 15.3) asks of any loader, at no flips: a loader is what comes out of a row of calls, under a setting.
+-- What the third demand (SCOPE 15.3) asks of any loader, at no flips: a loader is what comes out of a list of calls, under a setting.
 use mathlib.Core.Path.{_≡_}
 use mathlib.Core.Bool.{true}
 use mathlib.Core.List.{List}

@@ -12,11 +12,11 @@ use Rattle.packet.specs.declared.Setting.{Setting}
 use Rattle.state.specs.declared.Reader.{Reader}
 use Rattle.reader.specs.declared.Heard.{Heard}
 use Rattle.reader.specs.declared.Heard.the-variants.{Took, Refused}
-use Rattle.rows.specs.declared.HeardAll.{HeardAll}
-use Rattle.rows.specs.declared.HeardAll.the-variants.{TookAll, RefusedAll}
+use Rattle.reader.specs.declared.many.HeardAll.{HeardAll}
+use Rattle.reader.specs.declared.many.HeardAll.the-variants.{TookAll, RefusedAll}
 use Rattle.walk.specs.Reading.{room}
 use Rattle.reader.specs.Feeding.{feedHeard, feedReader, feedOut}
-use Rattle.rows.specs.Feeding.{feedAllHeard, feedAllReader, feedAllOut}
+use Rattle.reader.specs.Many.{feedAllHeard, feedAllReader, feedAllOut}
 
 -- how many bytes an answer reports as written
 abbrev pub writtenOf : Heard → ℕ
@@ -39,7 +39,7 @@ pub record Call : Type 0 where
   pub lent : List ℕ
   pub enough : room ≤ length lent
 
--- the packets of a row of calls
+-- the packets of a list of calls
 unfoldable pub packetsOf : List Call → List (List ℕ)
 packetsOf [] = []
 packetsOf (c ∷ cs) = c .packet ∷ packetsOf cs
@@ -51,7 +51,7 @@ comesOut s r (c ∷ cs) =
     blocks (take (writtenOf (feedHeard s r (c .packet) (c .lent))) (feedOut s r (c .packet) (c .lent)))
     ++ comesOut s (feedReader s r (c .packet) (c .lent)) cs
 
--- ---- a row of packets in one call
+-- ---- a list of packets in one call
 
 -- the number of an answer for a row, how many packets it says were taken, and how many bytes it reports as written
 abbrev pub numberOfAll : HeardAll → ℕ
@@ -82,19 +82,19 @@ drops s r [] = false
 drops s r (c ∷ cs) =
     either (droppedOf (feedHeard s r (c .packet) (c .lent))) (drops s (feedReader s r (c .packet) (c .lent)) cs)
 
--- their packets as one row
-unfoldable pub rowOf : List Call → List ℕ
-rowOf [] = []
-rowOf (c ∷ cs) = c .packet ++ rowOf cs
+-- their packets as one list
+unfoldable pub inOne : List Call → List ℕ
+inOne [] = []
+inOne (c ∷ cs) = c .packet ++ inOne cs
 
--- the one call for a row of packets says, hands back and writes what a call for each of those in front does; those behind it leaves,
+-- the one call for a list of packets says, hands back and writes what a call for each of those in front does; those behind it leaves,
 -- and only where there is no room for one more
 pub record AsCalls (s : Setting) (r : Reader) (old : List ℕ) (front back : List Call) : Type 0 where
   pub heard :
-      feedAllHeard s r (rowOf (front ++ back)) old
+      feedAllHeard s r (inOne (front ++ back)) old
       ≡ TookAll (length front) (length (comesOut s r front)) (length (recordsOf (comesOut s r front))) (drops s r front)
-  pub reader : feedAllReader s r (rowOf (front ++ back)) old ≡ leaves s r front
+  pub reader : feedAllReader s r (inOne (front ++ back)) old ≡ leaves s r front
   pub out :
-      feedAllOut s r (rowOf (front ++ back)) old
+      feedAllOut s r (inOne (front ++ back)) old
       ≡ recordsOf (comesOut s r front) ++ drop (length (recordsOf (comesOut s r front))) old
   pub stops : (back ≡ []) ⊎ (length old < length (recordsOf (comesOut s r front)) + room)

@@ -3,7 +3,7 @@ use mathlib.Core.List.{List, [], _∷_, _++_}
 use Prim.Native.Nat.{ℕ}
 use Rattle.blocks.specs.Block.{Block, recordOf as Block·recordOf}
 use Rattle.packet.specs.declared.Setting.{Setting}
-use Rattle.guide.specs.Cutting.{packets}
+use Rattle.writer.specs.Cutting.{packets}
 use Rattle.state.specs.State.{freshState, readerOf}
 use Rattle.forms.specs.Tables.{Table}
 use Rattle.table.specs.Reading.{Outcome, accepted, refused, readBlock}

@@ -1,4 +1,4 @@
-// The tables of teletext captures, as lines. A capture is a row of 42-byte packets: standard input, or
+// The tables of teletext captures, as lines. A capture is a list of 42-byte packets: standard input, or
 // each file that is named. Every capture gets a fresh reader and its own list (SCOPE 10.7, 13).
 //
 // Words that the program is called with are heard twice: first all are judged, then the files are listed.

@@ -13,7 +13,7 @@ use lib.Pow as Pow
 use lib.Pow.{pow-add, pow-pos, shr-shr, split, high, low, mod-pow-add, mod-mod-pow}
 use Rattle.laws.specs.Pick.{both}
 use Rattle.laws.proofs.Tests.{both-true, both-assoc}
-use Rattle.fields.specs.Fields.{Field, row, width, laid, fitting, field, parts, whole}
+use Rattle.fields.specs.Fields.{Field, alike, width, laid, fitting, field, parts, whole}
 
 -- ---- fields of a number
 
@@ -30,7 +30,7 @@ pub field-first : (w n : ℕ) → field 0 w n ≡ n % 2 ^ w
 unfolding field
 field-first w n = ap (λ (x : ℕ). x % 2 ^ w) (div-one n)
 
--- two fields in a row are one
+-- two fields in a alike are one
 pub field-join : (at w v n : ℕ) → field at (v + w) n ≡ field (at + w) v n * 2 ^ w + field at w n
 unfolding field
 field-join at w v n = rw (← shr-shr) (mod-pow-add (n / 2 ^ at) v w)
@@ -45,7 +45,7 @@ field-in at v w n h =
     e : w - (at + v) + v + at ≡ w
     e = omega arith
 
--- ---- fields laid in a row
+-- ---- fields laid in a alike
 
 pub laid-first : (f : Field) (fs : List Field) (rest : ℕ) → laid (f ∷ fs) rest % 2 ^ f .0 ≡ f .1 % 2 ^ f .0
 unfolding laid
@@ -110,7 +110,7 @@ unfolding parts
 length-parts w zero n = refl
 length-parts w (suc k) n = ap suc (length-parts w k (n / 2 ^ w))
 
--- parts in a row, from where the first end
+-- parts in a alike, from where the first end
 pub parts-append : (w a b n : ℕ) → parts w (a + b) n ≡ parts w a n ++ parts w b (n / 2 ^ (a * w))
 unfolding parts
 parts-append w zero b n = rw (zero-add, zero-mul, div-one)
@@ -175,8 +175,8 @@ lay at w n fs rest e =
 -- a run of parts in the same way
 pub lay-parts :
     (w k n : ℕ) (fs : List Field) (rest : ℕ) → n / 2 ^ (k * w) ≡ laid fs rest
-    → n ≡ laid (row w (parts w k n) ++ fs) rest
-unfolding laid parts row
+    → n ≡ laid (alike w (parts w k n) ++ fs) rest
+unfolding laid parts alike
 lay-parts w zero n fs rest e = sym (div-one n) ∙ (rw zero-mul at e)
 lay-parts w (suc k) n fs rest e =
     let up : n / 2 ^ w / 2 ^ (k * w) ≡ laid fs rest = shr-shr n w (k * w) ∙ ap (λ (x : ℕ). n / 2 ^ x) (add-comm w (k * w) ∙ sym (suc-mul k w)) ∙ e in
@@ -184,18 +184,18 @@ lay-parts w (suc k) n fs rest e =
 
 -- parts of what is laid in parts are those, and the rest follows
 pub parts-laid :
-    (w : ℕ) (xs : List ℕ) (rest : ℕ) → fitting (row w xs) ≡ true
-    → parts w (length xs) (laid (row w xs) rest) ≡ xs
-unfolding parts fitting row
+    (w : ℕ) (xs : List ℕ) (rest : ℕ) → fitting (alike w xs) ≡ true
+    → parts w (length xs) (laid (alike w xs) rest) ≡ xs
+unfolding parts fitting alike
 parts-laid w [] rest h = refl
 parts-laid w (x ∷ xs) rest h =
-    let p = both-true (ltb x (2 ^ w)) (fitting (row w xs)) h in
-    let fs : List Field = row w xs in
+    let p = both-true (ltb x (2 ^ w)) (fitting (alike w xs)) h in
+    let fs : List Field = alike w xs in
     ap₂ (λ (y : ℕ) (ys : List ℕ). y ∷ ys) (laid-first (w, x) fs rest ∙ mod-eq-of-lt (ltb-true x (2 ^ w) (p .0)))
     (ap (parts w (length xs)) (laid-next (w, x) fs rest) ∙ parts-laid w xs rest (p .1))
 
-pub width-row : (w : ℕ) (xs : List ℕ) → width (row w xs) ≡ length xs * w
-unfolding width row
+pub width-row : (w : ℕ) (xs : List ℕ) → width (alike w xs) ≡ length xs * w
+unfolding width alike
 width-row w [] = sym (zero-mul w)
 width-row w (x ∷ xs) = rw (width-row w xs, suc-mul) (add-comm w (length xs * w))
 
@@ -206,7 +206,7 @@ unfolding fitting
 fitting-append [] gs = refl
 fitting-append (f ∷ fs) gs = rw (fitting-append fs gs) (both-assoc (ltb (f .1) (2 ^ f .0)) (fitting fs) (fitting gs))
 
-pub fitting-parts : (w k n : ℕ) → fitting (row w (parts w k n)) ≡ true
-unfolding fitting parts row
+pub fitting-parts : (w k n : ℕ) → fitting (alike w (parts w k n)) ≡ true
+unfolding fitting parts alike
 fitting-parts w zero n = refl
 fitting-parts w (suc k) n = rw (lt-ltb (n % 2 ^ w) (2 ^ w) (mod-lt n (pow-pos w))) (fitting-parts w k (n / 2 ^ w))

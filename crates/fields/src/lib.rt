@@ -12,7 +12,7 @@ ghost use Rattle.fields.specs.Compound.{compound};
 const WIDEST: usize = 24;
 
 // The bit reader: the lent bytes with the place that is read next.
-pub struct Reader<'a> {
+pub struct BitReader<'a> {
     pub src: &'a [u8],
     pub at: usize,
 }
@@ -25,21 +25,21 @@ pub fn field_of(src: &[u8], at: usize, w: usize) -> usize
 }
 
 // A reader of these bytes that stands at this place.
-pub fn begin<'a>(src: &'a [u8], at: usize) -> Reader<'a>
+pub fn begin<'a>(src: &'a [u8], at: usize) -> BitReader<'a>
     ensures { λ r. ⌜ (r .src ≡ src .entry) × (r .at ≡ at) ⌝ }
 {
-    Reader { src, at }
+    BitReader { src, at }
 }
 
 // The place where a reader stands.
-pub fn place<'a>(r: Reader<'a>) -> usize
+pub fn place<'a>(r: BitReader<'a>) -> usize
     ensures { λ n. ⌜ n ≡ r .entry .at ⌝ }
 {
     r.at
 }
 
 // The w bits from a reader's place on; at most 24 are taken.
-pub fn take<'a>(r: Reader<'a>, w: usize) -> usize
+pub fn take<'a>(r: BitReader<'a>, w: usize) -> usize
     ensures { λ n. ⌜ (n ≡ field (r .entry .at) (min w 24) (compound (now (r .entry .src)))) × (n < 2 ^ min w 24) ⌝ }
 {
     field_at(r.src, r.at, w)
@@ -73,7 +73,7 @@ fn nibble_at(s: &[u8], i: usize) -> usize
     ensures { λ r. ⌜ r ≡ getD (map nib (now (s .entry))) i 0 % 16 ⌝ }
 {
     if i < s.len() {
-        return (quick::decode(s[i]) % 16) as usize;
+        return (octet::quick::decode(s[i]) % 16) as usize;
     }
     0
 }

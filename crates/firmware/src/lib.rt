@@ -1,11 +1,13 @@
 // What the recorder's firmware, which is in C, calls: the functions that firmware/guide.h declares, and
 // nothing else (SCOPE 6.11). Each takes any value, keeps nothing between calls and touches no memory but
 // what its arguments name.
+mod packing;
+
 ghost use mathlib.Core.Path.{_≡_};
 ghost use Rattle.octet.specs.Decoding.{nib};
 ghost use Rattle.octet.specs.Turning.{turned};
 ghost use Rattle.units.specs.Units.{unitAt};
-ghost use Rattle.packing.specs.Values.{packed};
+ghost use Rattle.firmware.specs.Values.{packed};
 
 // The nibble that a protected byte decodes to, 0 to 15, or 16 where it can't be decoded.
 #[no_mangle]

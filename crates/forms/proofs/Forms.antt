@@ -11,7 +11,7 @@ use lib.ListN.{length, getD, take, drop, length-drop, take-append-drop}
 use lib.Seq.{drop-drop, drop-at, drop-cons, getD-drop}
 use Rattle.laws.specs.Pick.{both, either}
 use Rattle.laws.proofs.Tests.{both-true}
-use Rattle.fields.specs.Fields.{row, fitting, parts, whole}
+use Rattle.fields.specs.Fields.{alike, fitting, parts, whole}
 use Rattle.fields.proofs.Laid.{fitting-append, whole-parts, whole-first, whole-next, whole-lt}
 use Rattle.forms.specs.Tables.{Descriptor, Table, TI, LI, known, per, entries, loops, bits, entire, fits}
 use Rattle.forms.specs.Form.{spelled, listed, openingOf, form, wordsIn, descriptorsIn, tableIn}
@@ -20,11 +20,11 @@ use Rattle.forms.proofs.Measures.{per-pos, length-spelled, length-liste
 
 -- ---- the table out of its form
 
-words-back : (ws rest : List ℕ) → fitting (row 24 ws) ≡ true → wordsIn (length ws) (spelled ws ++ rest) ≡ ws
-unfolding wordsIn spelled fitting row parts
+words-back : (ws rest : List ℕ) → fitting (alike 24 ws) ≡ true → wordsIn (length ws) (spelled ws ++ rest) ≡ ws
+unfolding wordsIn spelled fitting alike parts
 words-back [] rest h = refl
 words-back (w ∷ ws) rest h =
-    let p = both-true (ltb w (2 ^ 24)) (fitting (row 24 ws)) h in
+    let p = both-true (ltb w (2 ^ 24)) (fitting (alike 24 ws)) h in
     let small : w < 2 ^ 24 = ltb-true w (2 ^ 24) (p .0) in
     ap₂ (λ (x : ℕ) (xs : List ℕ). x ∷ xs) (whole-parts 8 3 w ∙ mod-eq-of-lt small) (words-back ws rest (p .1))
 
@@ -40,8 +40,8 @@ descriptors-back kind (d ∷ ds) h k =
     let k₁ = both-true (ltb (d .id) (2 ^ 6)) _ k in
     let k₂ = both-true (ltb c (2 ^ 4)) _ (k₁ .1) in
     let k₃ =
-    both-true (fitting (row 24 (d .words))) (fitting (loops kind ds))
-    (sym (fitting-append (row 24 (d .words)) (loops kind ds)) ∙ k₂ .1) in
+    both-true (fitting (alike 24 (d .words))) (fitting (loops kind ds))
+    (sym (fitting-append (alike 24 (d .words)) (loops kind ds)) ∙ k₂ .1) in
     let count : per kind * c ≡ length (d .words) =
     entries-whole kind (d .words) (eqb-true (c * per kind) (length (d .words)) (e .0)) in
     let words : wordsIn (per kind * c) (spelled (d .words) ++ listed kind ds) ≡ d .words =
@@ -216,8 +216,8 @@ form-end kind left at whole f h inv =
     sym (add-zero at) ∙ subst (λ (k : ℕ). at + length (listed kind (descriptorsIn (per kind) k (drop at f))) ≡ whole) e inv
 
 -- words of three bytes always fit
-words-fit : (k : ℕ) (f : List ℕ) → fitting (row 24 (wordsIn k f)) ≡ true
-unfolding fitting row wordsIn
+words-fit : (k : ℕ) (f : List ℕ) → fitting (alike 24 (wordsIn k f)) ≡ true
+unfolding fitting alike wordsIn
 words-fit zero f = refl
 words-fit (suc k) f =
     rw (lt-ltb (whole 8 (getD f 2 0 ∷ getD f 1 0 ∷ getD f 0 0 ∷ [])) (2 ^ 24) (whole-lt 8 (getD f 2 0 ∷ getD f 1 0 ∷ getD f 0 0 ∷ [])))
@@ -235,7 +235,7 @@ fits-on kind left at id c words f h e₀ e₁ e₂ =
     let rest = loops kind (descriptorsIn (per kind) (left - 1) (drop (at + (2 + 3 * words)) f)) in
     rw (in-on (per kind) left at id c words f h e₀ e₁ e₂, entries-in kind c words (drop (at + 2) f) e₂)
     (ap (λ (b : Bool). both (ltb id 64) (both (ltb c 16) b))
-    (fitting-append (row 24 ws) rest ∙ ap (λ (b : Bool). both b (fitting rest)) (words-fit words (drop (at + 2) f))))
+    (fitting-append (alike 24 ws) rest ∙ ap (λ (b : Bool). both b (fitting rest)) (words-fit words (drop (at + 2) f))))
 
 pub fits-end :
     (kind left at : ℕ) (f : List ℕ) → left ≤ 0 → fitting (loops kind (descriptorsIn (per kind) left (drop at f))) ≡ true

@@ -2,3 +2,4 @@ pub mod Measures
 pub mod Sendable
 pub mod Forms
 pub mod Judging
+mod Words

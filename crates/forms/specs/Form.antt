@@ -5,7 +5,7 @@ use Prim.Native.Nat.{ℕ, zero, suc, _+_, _*_, _/_, _%_}
 use lib.ListN.{length, getD, drop}
 use Rattle.fields.specs.Fields.{whole}
 use Rattle.forms.specs.Tables.{Descriptor, Table, per, entries}
-pub use Rattle.items.specs.Words.{wordAt}
+pub use Rattle.forms.specs.Words.{wordAt}
 
 -- a word, high byte first
 unfoldable pub spelled : List ℕ → List ℕ

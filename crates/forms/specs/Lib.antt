@@ -3,3 +3,5 @@
 pub mod Tables
 pub mod Form
 pub mod Writing
+pub mod Kinds
+pub mod Words

@@ -5,9 +5,9 @@ use Prim.Native.Nat.{ℕ, _+_, _*_, _/_, _-_}
 use lib.Dec.{eqb}
 use lib.ListN.{length}
 use Rattle.laws.specs.Pick.{both}
-use Rattle.fields.specs.Fields.{Field, row, width, fitting}
-pub use Rattle.items.specs.Kinds.{TI, LI, known}
-unfoldable pub use Rattle.items.specs.Kinds.{per}
+use Rattle.fields.specs.Fields.{Field, alike, width, fitting}
+pub use Rattle.forms.specs.Kinds.{TI, LI, known}
+unfoldable pub use Rattle.forms.specs.Kinds.{per}
 
 -- a set of languages, or of languages with a page each: its descriptor_id, and its words of 24 bits: language, page, language,
 -- page .. in TI, languages in LI
@@ -30,7 +30,7 @@ entries kind words = length words / per kind
 unfoldable pub loops : ℕ → List Descriptor → List Field
 loops kind [] = []
 loops kind (d ∷ ds) =
-    (6, d .id) ∷ (4, entries kind (d .words)) ∷ row 24 (d .words) ++ loops kind ds
+    (6, d .id) ∷ (4, entries kind (d .words)) ∷ alike 24 (d .words) ++ loops kind ds
 
 -- tables 15 and 17 from checksum on (SCOPE 12.2, 12.3), with what isn't the table's own: checksum, control_block_size and
 -- reserved_for_future_use. CA_mode is 0: free to everyone (11.1.3; SCOPE 12.8)

@@ -1,5 +1,12 @@
 // A table as its form, the bytes that block writing and the list take: its parts, and whether it can be
 // written.
+pub mod items;
+
+pub use items::TI;
+pub use items::byte_at;
+pub use items::known;
+pub use items::word_at;
+pub use items::words_of;
 ghost use mathlib.Core.Bool.{true};
 ghost use mathlib.Core.Path.{_≡_};
 ghost use mathlib.Core.List.{_∷_, []};

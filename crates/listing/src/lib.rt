@@ -12,7 +12,7 @@ ghost use Rattle.printing.specs.Putting.{Put, reach};
 use answer::Answer;
 use answer::Refusal;
 use forms::OPENING;
-use items::TI;
+use forms::TI;
 
 // The lines of the table of this form, to the front of `out`.
 pub fn list_table(table: &[u8], out: &mut [u8]) -> Answer
@@ -89,9 +89,9 @@ fn put_lines(table: &[u8], head: bool, out: &mut [u8]) -> usize
 fn put_head(table: &[u8], out: &mut [u8]) -> usize
     ensures { λ r. ⌜ Put (now (out .entry)) 0 (headLines (tableIn (now (table .entry)))) (now (out .exit)) r × (r ≤ 100) ⌝ }
 {
-    let kind = items::byte_at(table, 0);
-    let block = items::byte_at(table, 2) + 256 * items::byte_at(table, 3);
-    let network = items::byte_at(table, 4);
+    let kind = forms::byte_at(table, 0);
+    let block = forms::byte_at(table, 2) + 256 * forms::byte_at(table, 3);
+    let network = forms::byte_at(table, 4);
     let a = put_kind(kind, out, 0);
     let b = printing::put_number(b"block=", block, out, a);
     printing::put_number(b"network=", network, out, b)
@@ -102,14 +102,14 @@ fn put_descriptors(table: &[u8], out: &mut [u8], q: usize) -> usize
     requires { ⌜ q ≤ 100 ⌝ }
     ensures { λ r. ⌜ Put (now (out .entry)) q (descriptorLinesOf (tableIn (now (table .entry)))) (now (out .exit)) r ⌝ }
 {
-    let kind = items::byte_at(table, 0);
-    let mut left = items::byte_at(table, 5);
+    let kind = forms::byte_at(table, 0);
+    let mut left = forms::byte_at(table, 5);
     let mut i = OPENING;
     let mut p = q;
     while 0 < left {
-        let entries = items::byte_at(table, i + 1);
+        let entries = forms::byte_at(table, i + 1);
         p = put_descriptor(table, kind, i, entries, out, p);
-        i += 2 + 3 * items::words_of(kind, entries);
+        i += 2 + 3 * forms::words_of(kind, entries);
         left -= 1;
     }
     p
@@ -131,7 +131,7 @@ fn put_descriptor(
         (now (out .exit)) r
         × (r ≤ q + 8000) ⌝ }
 {
-    let id = items::byte_at(table, i);
+    let id = forms::byte_at(table, i);
     let at = printing::put_number(b"descriptor=", id, out, q);
     put_entries(table, kind, i + 2, entries, out, at)
 }
@@ -143,7 +143,7 @@ fn put_entries(table: &[u8], kind: usize, from: usize, k: usize, out: &mut [u8],
         ⌜ Put (now (out .entry)) q (entryLines kind (wordsIn (per kind * k) (drop from (now (table .entry))))) (now (out .exit)) r
         × (r ≤ q + 28 * k) ⌝ }
 {
-    let step = 3 * items::words_of(kind, 1);
+    let step = 3 * forms::words_of(kind, 1);
     let mut left = k;
     let mut i = from;
     let mut p = q;
@@ -162,11 +162,11 @@ fn put_entry(table: &[u8], kind: usize, i: usize, out: &mut [u8], q: usize) -> u
         ⌜ Put (now (out .entry)) q (entryLines kind (wordsIn (per kind) (drop i (now (table .entry))))) (now (out .exit)) r
         × (r ≤ q + 28) ⌝ }
 {
-    let at = printing::put_language(items::word_at(table, i), out, q);
+    let at = printing::put_language(forms::word_at(table, i), out, q);
     if kind != TI {
         return at;
     }
-    printing::put_page(items::word_at(table, i + 3), out, at)
+    printing::put_page(forms::word_at(table, i + 3), out, at)
 }
 
 fn put_kind(kind: usize, out: &mut [u8], q: usize) -> usize
@@ -174,7 +174,7 @@ fn put_kind(kind: usize, out: &mut [u8], q: usize) -> usize
     ensures { λ r. ⌜ Put (now (out .entry)) q (kindLine kind) (now (out .exit)) r × (r ≤ q + 8) ⌝ }
 {
     if kind == TI {
-        return puts::put(b"kind=TI\n", out, q);
+        return printing::put(b"kind=TI\n", out, q);
     }
-    puts::put(b"kind=LI\n", out, q)
+    printing::put(b"kind=LI\n", out, q)
 }

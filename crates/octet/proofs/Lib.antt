@@ -1,3 +1,6 @@
 pub mod Cases
 pub mod Laws
 pub mod Lowest
+pub mod Noise
+pub mod Rows
+mod Eights

@@ -1,6 +1,8 @@
 -- One protected byte, SCOPE 5, after EN 300 706; and the turning, SCOPE 6.6.
+-- The parity checks of a protected byte: SCOPE 5.5, after EN 300 706.
 pub mod Bits
 pub mod Image
 pub mod Decoding
 pub mod Parity
 pub mod Turning
+pub mod Packing

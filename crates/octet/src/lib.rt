@@ -4,6 +4,9 @@
 // SCOPE 5: from the lowest up, the bits are P1 D1 P2 D2 P3 D3 P4 D4. The definitions are in specs/, the
 // laws that other crates cite in proofs/Laws.antt, and those of flipped bits in crate `noise`. The place
 // of a fault, by the parity checks, is crate `faults`.
+pub mod faults;
+pub mod quick;
+
 pub use faults::fault_place;
 ghost use mathlib.Core.Path.{_≡_};
 ghost use Rattle.octet.specs.Image.{image as Image·image};

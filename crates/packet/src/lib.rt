@@ -38,11 +38,11 @@ pub fn address(packet: &[u8]) -> usize
     if packet.len() < 2 {
         return 256;
     }
-    let one = quick::decode(packet[0]);
+    let one = octet::quick::decode(packet[0]);
     if one == 16 {
         return 256;
     }
-    let two = quick::decode(packet[1]);
+    let two = octet::quick::decode(packet[1]);
     if two == 16 {
         return 256;
     }

@@ -15,11 +15,11 @@ use Rattle.packet.specs.declared.Setting.{Setting}
 use Rattle.packet.specs.Packet.{packetLength}
 use Rattle.packet.specs.Address.{decodes, addressOf, elsewhere}
 use Rattle.packet.proofs.Addressed.{address-long}
-use Rattle.headers.specs.declared.Page.{Page}
-use Rattle.headers.specs.declared.Verdict.{Verdict}
-use Rattle.headers.specs.Judging.{rowVerdict, verdictOf}
-use Rattle.headers.specs.Seen.{Seen, junk, other, foreign, ours, row, seeZero, seenZero}
-use Rattle.headers.proofs.Seeing.{decodes-at}
+use Rattle.pages.specs.declared.headers.Page.{Page}
+use Rattle.pages.specs.declared.headers.Verdict.{Verdict}
+use Rattle.pages.specs.Judging.{verdictOfY, verdictOf}
+use Rattle.pages.specs.Headers.{Seen, junk, other, foreign, ours, packetY, seeZero, seenZero}
+use Rattle.pages.proofs.Seeing.{decodes-at}
 use Rattle.pages.specs.Seen.{seeY, see, seenAs}
 
 -- ---- any packet
@@ -84,9 +84,9 @@ module _ (s : Setting) (p : List ℕ) where
             let n : x / 8 ≡ 0 → ⊥ = λ r. omega arith in
             rw (eq-eqb _ _ long, le-leb _ _ h, eq-eqb _ _ q, ne-eqb _ _ n, lt-leb _ _ z)
 
-        pub as-row : (x / 8 ≡ 0 → ⊥) → x / 8 ≤ 25 → seenAs s x p ≡ row (x / 8) (nib (getD p 2 0)) (drop 3 p)
+        pub as-packet : (x / 8 ≡ 0 → ⊥) → x / 8 ≤ 25 → seenAs s x p ≡ packetY (x / 8) (nib (getD p 2 0)) (drop 3 p)
         unfolding seenAs seeY
-        as-row n z = rw (eq-eqb _ _ long, le-leb _ _ h, eq-eqb _ _ q, ne-eqb _ _ n, le-leb _ _ z)
+        as-packet n z = rw (eq-eqb _ _ long, le-leb _ _ h, eq-eqb _ _ q, ne-eqb _ _ n, le-leb _ _ z)
 
 -- ---- what is seen
 
@@ -96,7 +96,7 @@ Shaped q junk = Unit {0}
 Shaped q other = Unit {0}
 Shaped q foreign = Unit {0}
 Shaped q (ours index n) = index ≤ 15
-Shaped q (row y p l) = (p ≡ nib (getD q 2 0)) × (l ≡ drop 3 q)
+Shaped q (packetY y p l) = (p ≡ nib (getD q 2 0)) × (l ≡ drop 3 q)
 
 pub shaped : (s : Setting) (q : List ℕ) → Shaped q (see s q)
 unfolding see seeY seeZero
@@ -115,7 +115,7 @@ shaped s q =
         (pick e
         (pick f (ours (nib (getD (drop 2 q) 2 0)) (nib (getD (drop 2 q) 3 0) % 8 + 8 * (nib (getD (drop 2 q) 5 0) % 4))) foreign)
         junk)
-        (pick d (row (nib (getD q 0 0) / 8 + 2 * nib (getD q 1 0)) (nib (getD q 2 0)) (drop 3 q)) other))
+        (pick d (packetY (nib (getD q 0 0) / 8 + 2 * nib (getD q 1 0)) (nib (getD q 2 0)) (drop 3 q)) other))
         other)
         junk)
     go false b c d e p f = tt
@@ -132,8 +132,8 @@ module _ (page : Page) (index : ℕ) {x : Seen} where
   pub as-stays : x ≡ other → record { page = page; index = index; drops = false; reads = false } ≡ verdictOf page index x
   as-stays f = rw f
 
-  pub as-rowed : {r : Verdict} {y q : ℕ} {l : List ℕ} → r ≡ rowVerdict page index y → x ≡ row y q l → r ≡ verdictOf page index x
-  as-rowed e f = rw (e, f)
+  pub as-numbered : {r : Verdict} {y q : ℕ} {l : List ℕ} → r ≡ verdictOfY page index y → x ≡ packetY y q l → r ≡ verdictOf page index x
+  as-numbered e f = rw (e, f)
 
   pub as-same : {r : Verdict} {y : Seen} → r ≡ verdictOf page index y → x ≡ y → r ≡ verdictOf page index x
   as-same e f = rw (e, f)

@@ -7,11 +7,11 @@ use Rattle.laws.specs.Pick.{pick}
 use Rattle.octet.specs.Decoding.{nib}
 use Rattle.packet.specs.declared.Setting.{Setting}
 use Rattle.packet.specs.Address.{decodes}
-use Rattle.headers.specs.Seen.{Seen, junk, other, row, seeZero, inFull}
+use Rattle.pages.specs.Headers.{Seen, junk, other, packetY, seeZero, inFull}
 
 -- a packet of our magazine, by its number Y
 unfoldable pub seeY : Setting → ℕ → List ℕ → Seen
-seeY s y p = pick (eqb y 0) (seeZero s (drop 2 p)) (pick (leb y 25) (row y (nib (getD p 2 0)) (drop 3 p)) other)
+seeY s y p = pick (eqb y 0) (seeZero s (drop 2 p)) (pick (leb y 25) (packetY y (nib (getD p 2 0)) (drop 3 p)) other)
 
 unfoldable pub see : Setting → List ℕ → Seen
 see s p =

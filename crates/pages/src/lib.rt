@@ -1,12 +1,14 @@
 // What a packet is to the open page of ours and to our last index, by its bytes alone: the two as they are then, whether it drops the
 // running block, and whether its 39 bytes are read. Every rule of the reader that doesn't look into those bytes stands here, or in
 // `headers` where it is packet 0's.
+mod headers;
+
 pub use headers::Page;
 pub use headers::Verdict;
 use packet::Setting;
 ghost use mathlib.Core.Path.{_≡_};
 ghost use Prim.Native.Nat.{_≤_};
-ghost use Rattle.headers.specs.Judging.{wrongY, rowVerdict, verdictOf};
+ghost use Rattle.pages.specs.Judging.{wrongY, verdictOfY, verdictOf};
 ghost use Rattle.pages.specs.Seen.{seenAs};
 
 // A packet with this address. One that isn't 42 bytes long counts as one that can't be read.
@@ -45,13 +47,13 @@ pub fn judge(setting: Setting, page: Page, index: u8, address: usize, packet: &[
             reads: false,
         };
     }
-    row(page, index, y)
+    judge_y(page, index, y)
 }
 
 // Packet y of our magazine.
-fn row(page: Page, index: u8, y: u8) -> Verdict
+fn judge_y(page: Page, index: u8, y: u8) -> Verdict
     requires { ⌜ 1 ≤ y ⌝ }
-    ensures { λ r. ⌜ r ≡ rowVerdict page index y ⌝ }
+    ensures { λ r. ⌜ r ≡ verdictOfY page index y ⌝ }
 {
     match page {
         Page::Shut => Verdict {

@@ -1,3 +1,4 @@
 pub mod Filling
 pub mod Heading
 pub mod Walk
+pub mod Runs

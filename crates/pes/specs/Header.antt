@@ -7,7 +7,7 @@ use lib.Dec.{eqb, leb}
 use lib.ListN.{length}
 use Rattle.laws.specs.Pick.{both}
 use Rattle.answer.specs.Rules.{Rule, rule}
-use Rattle.ebu.specs.Texts.{ebuData}
+use Rattle.pes.specs.Texts.{ebuData}
 use Rattle.units.specs.Units.{byteAt}
 
 -- its first four bytes are 00 00 01 BD: packet_start_code_prefix, and the stream_id of private stream 1
@@ -17,8 +17,8 @@ startsRight pes =
     (both (eqb (byteAt pes 1) 0x00) (both (eqb (byteAt pes 2) 0x01) (eqb (byteAt pes 3) 0xBD)))
 
 -- PES_packet_length
-abbrev pub packetLength : List ℕ → ℕ
-packetLength pes = byteAt pes 4 * 256 + byteAt pes 5
+abbrev pub pesLength : List ℕ → ℕ
+pesLength pes = byteAt pes 4 * 256 + byteAt pes 5
 
 -- PES_packet_length of a packet of N times 184 bytes: the six up to its own end aren't counted
 abbrev pub lengthOf : ℕ → ℕ
@@ -38,7 +38,7 @@ flagsFit b = both (eqb (b / 64) 2) (eqb (b / 4 % 2) 1)
 unfoldable pub headerRules : List ℕ → List Rule
 headerRules pes =
     rule (both (leb 45 (length pes)) (startsRight pes)) 2 0
-    ∷ rule (both (lengthFits (packetLength pes)) (eqb (packetLength pes + 6) (length pes))) 3 4
+    ∷ rule (both (lengthFits (pesLength pes)) (eqb (pesLength pes + 6) (length pes))) 3 4
     ∷ rule (flagsFit (byteAt pes 6)) 4 6
     ∷ rule (eqb (byteAt pes 8) 0x24) 4 8
     ∷ rule (ebuData (byteAt pes 45)) 5 45

@@ -7,8 +7,8 @@ use lib.ListN.{length, take, drop}
 use Rattle.laws.specs.Pick.{pick}
 use Rattle.answer.specs.Rules.{Rule}
 use Rattle.octet.specs.Turning.{turned}
-pub use Rattle.ebu.specs.Texts.{recordSize}
-use Rattle.ebu.specs.Texts.{textBytes}
+pub use Rattle.pes.specs.Texts.{recordSize}
+use Rattle.pes.specs.Texts.{textBytes}
 use Rattle.units.specs.Units.{byteAt, stuffingId, nextUnit, rulesAt}
 use Rattle.pes.specs.Header.{headerRules}
 

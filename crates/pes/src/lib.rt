@@ -4,8 +4,12 @@
 // A record is what stands in a text unit, ready for a teletext reader: the unit's id, the line byte,
 // and the 42 bytes after the framing byte, each turned. The definitions are in specs/: Reading.antt has
 // the call's rules, in order, and its bytes.
+pub mod ebu;
+
 use answer::Answer;
 use answer::Refusal;
+pub use ebu::is_ebu;
+pub use ebu::turn_run;
 use units::DataUnit;
 ghost use mathlib.Core.Path.{_≡_};
 ghost use Prim.Native.Nat.{_+_, _*_, _≤_};

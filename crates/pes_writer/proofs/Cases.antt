@@ -10,7 +10,7 @@ use Rattle.answer.specs.Writing.{answered}
 use Rattle.octet.specs.Bits.{bits, number}
 use Rattle.octet.specs.Turning.{turned}
 use Rattle.units.specs.Units.{unitRules, textRules}
-use Rattle.pes.specs.Header.{headerRules, packetLength}
+use Rattle.pes.specs.Header.{headerRules, pesLength}
 use Rattle.pes.specs.Reading.{recordAt, placesFrom, places, unitsRules, readRules, recordsOf}
 use Rattle.pes_writer.specs.Writing.{recordsFit, writeRules, headerOf, unitOf, unitsOf, stuffingUnit, stuffingUnits, packetOf}
 
@@ -24,7 +24,7 @@ writeAnswer d rs = answered (writeRules d rs) (packetOf d rs) (replicate 1000 0)
 -- J: the smallest packet, its bytes, its length field and its units
 abbrev pub CaseJ : Type 0
 CaseJ =
-    (writeAnswer 0x10 [] ≡ Done 184) × (packetLength (packetOf 0x10 []) ≡ 178) × (length (places (packetOf 0x10 [])) ≡ 3)
+    (writeAnswer 0x10 [] ≡ Done 184) × (pesLength (packetOf 0x10 []) ≡ 178) × (length (places (packetOf 0x10 [])) ≡ 3)
 
 pub case-j : CaseJ
 unfolding writeRules recordsFit packetOf headerOf unitsOf stuffingUnit stuffingUnits places placesFrom

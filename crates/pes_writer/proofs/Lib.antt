@@ -4,3 +4,4 @@ pub mod Fills
 pub mod Given
 pub mod Making
 pub mod Statements
+pub mod Fits

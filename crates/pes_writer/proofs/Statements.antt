@@ -18,7 +18,7 @@ use Rattle.answer.proofs.Judging.{every-append}
 use Rattle.answer.proofs.Lent.{back-holds, lent-accepted}
 use Rattle.answer.proofs.Steps.{first-holds, others-hold}
 use Rattle.units.specs.Units.{byteAt}
-use Rattle.pes.specs.Header.{packetLength, lengthFits, headerRules}
+use Rattle.pes.specs.Header.{pesLength, lengthFits, headerRules}
 use Rattle.pes.specs.Reading.{firstUnit, places, unitsRules, readRules, recordsOf}
 use Rattle.pes_writer.specs.Writing.{unitCount, packetSize, recordsFit, writeRules, headerOf, unitsOf, stuffingUnits, packetOf}
 use Rattle.pes.proofs.Heading.{sized, sized-holds}
@@ -28,13 +28,13 @@ use Rattle.pes_writer.proofs.Back.{Bytes, Walked, back-units}
 
 -- ---- a written packet
 
-pub written-length : (d : ℕ) (rs : List ℕ) → packetLength (packetOf d rs) ≡ packetSize (unitCount rs) * 184 - 6
+pub written-length : (d : ℕ) (rs : List ℕ) → pesLength (packetOf d rs) ≡ packetSize (unitCount rs) * 184 - 6
 unfolding packetOf headerOf
 written-length d rs = omega arith
 
 length-lawful :
     (d : ℕ) (rs : List ℕ) → unitCount rs ≤ 1423
-    → both (lengthFits (packetLength (packetOf d rs))) (eqb (packetLength (packetOf d rs) + 6) (length (packetOf d rs))) ≡ true
+    → both (lengthFits (pesLength (packetOf d rs))) (eqb (pesLength (packetOf d rs) + 6) (length (packetOf d rs))) ≡ true
 length-lawful d rs f =
     rw (written-length d rs)
     (sized-holds (packetSize (unitCount rs)) (length (packetOf d rs)) (omega arith) (omega arith) (packet-length d rs))
@@ -89,7 +89,7 @@ reads-back d rs old e b h =
 -- N × 184 bytes with 4 × N − 1 units (SCOPE 6.8), for the smallest N that has room, 1 for none (SCOPE 6.10)
 pub record Shaped (d : ℕ) (rs : List ℕ) : Type 0 where
   pub bytes : length (packetOf d rs) ≡ packetSize (unitCount rs) * 184
-  pub field : packetLength (packetOf d rs) ≡ packetSize (unitCount rs) * 184 - 6
+  pub field : pesLength (packetOf d rs) ≡ packetSize (unitCount rs) * 184 - 6
   pub units : length (places (packetOf d rs)) ≡ 4 * packetSize (unitCount rs) - 1
   pub holds : unitCount rs ≤ 4 * packetSize (unitCount rs) - 1
   pub least : (n : ℕ) → 1 ≤ n → unitCount rs ≤ 4 * n - 1 → packetSize (unitCount rs) ≤ n
@@ -111,7 +111,7 @@ shaped d rs e b =
 pub reads-writable : (pes : List ℕ) → Every (readRules pes) → Every (writeRules (byteAt pes 45) (recordsOf pes))
 unfolding readRules unitsRules headerRules recordsOf places writeRules
 reads-writable pes e =
-    let s = sized (packetLength pes) (length pes) (first-holds (others-hold e)) in
+    let s = sized (pesLength pes) (length pes) (first-holds (others-hold e)) in
     let g = given (length pes) pes firstUnit (omega arith) (omega arith) (back-holds (headerRules pes) (unitsRules pes) e) in
     let l : length (recordsOf pes) ≡ 44 * g .count = g .long in
     let u : unitCount (recordsOf pes) ≡ g .count = omega arith in

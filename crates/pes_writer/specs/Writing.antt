@@ -4,10 +4,10 @@ use Prim.Native.Nat.{ℕ, zero, suc, _+_, _-_, _*_, _/_, _%_}
 use lib.ListN.{take, drop, replicate}
 use Rattle.octet.specs.Turning.{turned}
 use Rattle.units.specs.Units.{byteAt, textLength, framing}
-use Rattle.ebu.specs.Texts.{textBytes, recordSize}
+use Rattle.pes.specs.Texts.{textBytes, recordSize}
 use Rattle.pes.specs.Header.{lengthOf}
-pub use Rattle.writable.specs.Records.{unitCount, packetSize, packetBytes, recordFits}
-unfoldable pub use Rattle.writable.specs.Records.{recordsFit, writeRules}
+pub use Rattle.pes_writer.specs.Records.{unitCount, packetSize, packetBytes, recordFits}
+unfoldable pub use Rattle.pes_writer.specs.Records.{recordsFit, writeRules}
 
 -- the header, with 84 00 24 at byte 6 and FF from byte 9 up to its end (SCOPE 6.2), and the data_identifier behind it
 unfoldable pub headerOf : ℕ → ℕ → List ℕ

@@ -3,6 +3,8 @@
 //
 // The definitions are in specs/Writing.antt: the packet's bytes; the call's rules, in order, are crate
 // `writable`'s. What reading and writing owe each other is proofs/Statements.antt.
+mod writable;
+
 use answer::Answer;
 use answer::Refusal;
 ghost use mathlib.Core.Path.{_≡_};
@@ -101,7 +103,7 @@ fn put_unit(records: &[u8], at: usize, out: &mut [u8], to: usize)
     out[to + 1] = 0x2C;
     out[to + 2] = line;
     out[to + 3] = 0xE4;
-    ebu::turn_run(records, at + 2, out, to + 4);
+    pes::turn_run(records, at + 2, out, to + 4);
 }
 
 // Writes so many stuffing units.

@@ -6,8 +6,8 @@ use native.Mathlib.Omega.{arith}
 use lib.ListN.{length, take, drop, length-drop}
 use borrow.Author.Tests.{le-leb, lt-leb}
 use Rattle.laws.proofs.Lists.{part-rest}
-use Rattle.puts.specs.Putting.{Put, last, placed}
-use Rattle.puts.proofs.Puts.{put-as, put-at}
+use Rattle.printing.specs.Put.{Put, last, placed}
+use Rattle.printing.proofs.Putting.{put-as, put-at}
 use Rattle.printing.specs.Lines.{place, places, decimal}
 
 -- all five places and the line's end, from a place on

@@ -3,7 +3,7 @@ use mathlib.Core.List.{List, []}
 use Prim.Native.Nat.{ℕ}
 use lib.Dec.{leb}
 use Rattle.laws.specs.Pick.{pick}
-pub use Rattle.puts.specs.Putting.{Put}
+pub use Rattle.printing.specs.Put.{Put}
 
 -- no place that a list's lines take is further on: 255 descriptors of 255 entries take less
 abbrev pub reach : ℕ

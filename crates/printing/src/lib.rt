@@ -3,6 +3,9 @@
 //
 // Each call answers the place after what it puts, and that goes on where there is no room, so that one
 // walk both measures and writes. At a place past `REACH` nothing is put.
+pub mod puts;
+
+pub use puts::put;
 ghost use mathlib.Core.Path.{_≡_};
 ghost use mathlib.Core.List.{_∷_, [], _++_};
 ghost use Prim.Native.Nat.{_+_, _^_, _≤_, _<_};

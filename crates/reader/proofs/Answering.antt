@@ -1,4 +1,4 @@
--- The answers of the call for one packet, from those of the call for a row of packets: a row of one packet takes it where there is room,
+-- The answers of the call for one packet, from those of the call for a list of packets: a list of one packet takes it where there is room,
 -- and else takes none. Assumes nothing.
 use mathlib.Core.Path.{_≡_, refl, sym}
 use mathlib.Core.Bool.{Bool, true, false}
@@ -21,15 +21,15 @@ use Rattle.state.specs.declared.Reader.{Reader}
 use Rattle.state.specs.Acting.{State}
 use Rattle.state.specs.State.{stateOf, readerOf, readerInRange, Sixteen}
 use Rattle.state.proofs.Holding.{ready-kept}
-use Rattle.rows.specs.declared.HeardAll.{HeardAll}
-use Rattle.rows.specs.Feeding.{begun, ranOn, run, feedAllHeard, feedAllReader, feedAllOut}
-use Rattle.rows.proofs.Running.{run-full}
-use Rattle.rows.proofs.Answering.{handed-back}
+use Rattle.reader.specs.declared.many.HeardAll.{HeardAll}
+use Rattle.reader.specs.Many.{begun, ranOn, run, feedAllHeard, feedAllReader, feedAllOut}
+use Rattle.reader.proofs.Running.{run-full}
+use Rattle.reader.proofs.AnsweringMany.{handed-back}
 use Rattle.reader.specs.declared.Heard.{Heard}
 use Rattle.reader.specs.Feeding.{refusedHeard, feedHeard, feedReader, feedOut}
 use Rattle.reader.specs.Telling.{told}
 
--- ---- a row of one packet
+-- ---- a list of one packet
 
 module _ (s : Setting) (long : ℕ) (st : State) (p : List ℕ) where
   run-one : length p ≡ packetLength → room ≤ long → run s long (length p / packetLength) (begun st) p ≡ ranOn s (begun st) p
@@ -50,7 +50,7 @@ module _ (s : Setting) (r : Reader) (p old : List ℕ) where
   pub other-length : ¬ (length p ≡ packetLength) → Answers s r p old (refusedHeard 16 0) r old
   other-length n = rw (ne-eqb _ _ n, both-false, both-false) (refl, (refl, refl))
 
-  -- the reader that a row of no packets hands back is the one handed in
+  -- the reader that a list of no packets hands back is the one handed in
   same-reader :
       both (inRange s) (both (readerInRange r) true) ≡ true → Sixteen (r .run) → length (r .store) ≡ storeLength → r ≡ readerOf (stateOf r)
   same-reader e w k = handed-back refl refl (ready-kept s r true refl e w k)
@@ -74,7 +74,7 @@ module _ (s : Setting) (r : Reader) (p old : List ℕ) where
           rw (eq-eqb _ _ l, eq-eqb _ _ z, ← e, ← f, run-none s (length old) (stateOf r) p (leb-false _ _ (sym f)))
           (refl, (sym (same-reader (sym e) w k), refl))
 
-  -- the packet as a row of one
+  -- the packet as a list of one
   pub one :
       {h : HeardAll} {x : Heard} {after : Reader} {new : List ℕ} → length p ≡ packetLength → Sixteen (r .run) → length (r .store) ≡ storeLength
       → h ≡ feedAllHeard s r p old → x ≡ told h → after ≡ feedAllReader s r p old → new ≡ feedAllOut s r p old

@@ -1,2 +1,5 @@
 pub mod Answering
 pub mod Typed
+pub mod AnsweringMany
+pub mod Heeding
+pub mod Running

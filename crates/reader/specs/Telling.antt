@@ -1,8 +1,8 @@
--- What only a private call cites: what was heard of one packet, from what was heard of a row of one.
+-- What only a private call cites: what was heard of one packet, from what was heard of a list of one.
 use lib.Dec.{eqb}
 use Rattle.laws.specs.Pick.{pick}
-use Rattle.rows.specs.declared.HeardAll.{HeardAll}
-use Rattle.rows.specs.declared.HeardAll.the-variants.{TookAll, RefusedAll}
+use Rattle.reader.specs.declared.many.HeardAll.{HeardAll}
+use Rattle.reader.specs.declared.many.HeardAll.the-variants.{TookAll, RefusedAll}
 use Rattle.reader.specs.declared.Heard.{Heard}
 use Rattle.reader.specs.declared.Heard.the-variants.{Took, Refused}
 use Rattle.reader.specs.Feeding.{refusedHeard}

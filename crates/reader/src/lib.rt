@@ -1,10 +1,13 @@
-// The reader of the guide page, called packet by packet; `feed_all` takes a row of packets in one call
+// The reader of the guide page, called packet by packet; `feed_all` takes a list of packets in one call
 // (SCOPE 8 to 10).
+mod held;
+pub mod many;
+
 use answer::Refusal;
+pub use many::FedAll;
+pub use many::HeardAll;
+pub use many::feed_all;
 use packet::Setting;
-pub use rows::FedAll;
-pub use rows::HeardAll;
-pub use rows::feed_all;
 pub use state::Reader;
 pub use state::fresh;
 ghost use mathlib.Core.Path.{_≡_};
@@ -43,7 +46,7 @@ pub fn feed(setting: Setting, reader: Reader, packet: &[u8], out: &mut [u8]) -> 
             reader: reader,
         };
     }
-    let fed = rows::feed_all(setting, reader, packet, out);
+    let fed = many::feed_all(setting, reader, packet, out);
     let heard = fed.heard;
     let after = fed.reader;
     Fed {
@@ -52,7 +55,7 @@ pub fn feed(setting: Setting, reader: Reader, packet: &[u8], out: &mut [u8]) -> 
     }
 }
 
-// What one packet gave, from what a row of one gave: none is taken where there is no room.
+// What one packet gave, from what a list of one gave: none is taken where there is no room.
 fn told(heard: HeardAll) -> Heard
     ensures { λ r. ⌜ r ≡ Telling·told heard ⌝ }
 {

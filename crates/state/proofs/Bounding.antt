@@ -10,12 +10,12 @@ use Rattle.packet.specs.declared.Setting.{Setting}
 use Rattle.packet.specs.Packet.{packetLength}
 use Rattle.walk.specs.Reading.{dropIf, readBlocks}
 use Rattle.walk.specs.Holding.{Good}
-use Rattle.holding.proofs.Along.{drop-good}
-use Rattle.holding.proofs.Room.{Within, within-none, read-room}
+use Rattle.walk.proofs.Along.{drop-good}
+use Rattle.walk.proofs.Room.{Within, within-none, read-room}
 use Rattle.state.specs.Acting.{State, pointerOf, bytesOf, handed}
-use Rattle.headers.specs.declared.Verdict.{Verdict}
-use Rattle.headers.specs.Judging.{verdictOf}
-use Rattle.headers.specs.Seen.{Seen, junk, other, foreign, ours, row}
+use Rattle.pages.specs.declared.headers.Verdict.{Verdict}
+use Rattle.pages.specs.Judging.{verdictOf}
+use Rattle.pages.specs.Headers.{Seen, junk, other, foreign, ours, packetY}
 use Rattle.pages.specs.Seen.{see}
 use Rattle.pages.proofs.Judged.{Shaped, shaped}
 
@@ -24,7 +24,7 @@ bytes-few q junk h w = omega arith
 bytes-few q other h w = omega arith
 bytes-few q foreign h w = omega arith
 bytes-few q (ours index n) h w = omega arith
-bytes-few q (row y p l) h w = rw (w .1) (rw length-drop (omega arith))
+bytes-few q (packetY y p l) h w = rw (w .1) (rw length-drop (omega arith))
 
 handed-room : (q : List ℕ) (st : State) (x : Seen) → length q ≡ packetLength → Shaped q x → Good (st .mode) → Within (handed st x)
 unfolding handed

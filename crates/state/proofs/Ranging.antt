@@ -12,20 +12,20 @@ use borrow.Author.Tests.{le-leb}
 use Rattle.laws.specs.Pick.{pick}
 use Rattle.laws.proofs.Tests.{both-true}
 use Rattle.walk.specs.Holding.{Good}
-use Rattle.holding.proofs.Along.{drop-good, read-good}
+use Rattle.walk.proofs.Along.{drop-good, read-good}
 use Rattle.pages.proofs.Judged.{Shaped, shaped}
 use Rattle.blocks.specs.Block.{sizeOf}
 use Rattle.packet.specs.declared.Setting.{Setting}
-use Rattle.headers.specs.declared.Page.{Page}
-use Rattle.headers.specs.declared.Page.the-variants.{Shut, Open}
+use Rattle.pages.specs.declared.headers.Page.{Page}
+use Rattle.pages.specs.declared.headers.Page.the-variants.{Shut, Open}
 use Rattle.walk.specs.Mode.{Mode, off, scan, heading, body}
 use Rattle.walk.specs.Store.{storeLength, modeOf, runOf}
 use Rattle.state.specs.State.{stateOf, storeOf, readerOf, zeros, pageInRange, runInRange, heldBy, readerInRange, freshState}
 use Rattle.state.specs.Acting.{State, pointerOf, bytesOf, act}
-use Rattle.headers.specs.declared.Verdict.{Verdict}
-use Rattle.headers.specs.Judging.{verdictOf}
+use Rattle.pages.specs.declared.headers.Verdict.{Verdict}
+use Rattle.pages.specs.Judging.{verdictOf}
 use Rattle.walk.specs.Reading.{dropIf, readMode}
-use Rattle.headers.specs.Seen.{Seen, junk, other, foreign, ours, row}
+use Rattle.pages.specs.Headers.{Seen, junk, other, foreign, ours, packetY}
 use Rattle.pages.specs.Seen.{see}
 
 -- ---- the state
@@ -48,8 +48,8 @@ verdict-sound q page index (ours k n) w e i = (go (leb n 25) refl, w)
     go : (t : Bool) → leb n 25 ≡ t → pageInRange (pick t (Open n 0) Shut) ≡ true
     go true f = rw (f, le-leb 0 n (omega arith))
     go false f = refl
-verdict-sound q Shut index (row y p l) w e i = (refl, i)
-verdict-sound q (Open n last) index (row y p l) w e i = (go (leb y n) refl, i)
+verdict-sound q Shut index (packetY y p l) w e i = (refl, i)
+verdict-sound q (Open n last) index (packetY y p l) w e i = (go (leb y n) refl, i)
   where
     go : (t : Bool) → leb y n ≡ t → pageInRange (pick t (Open n y) (Open n last)) ≡ true
     go true f = rw (both-true (leb n 25) (leb last n) e .0, f)

@@ -11,13 +11,13 @@ use Rattle.laws.specs.Pick.{pick}
 use Rattle.octet.specs.Decoding.{nib, undecodable}
 use Rattle.blocks.specs.Block.{Block, sizeOf}
 use Rattle.blocks.specs.Sizes.{Sized, none, more}
-use Rattle.walk.specs.Mode.{Mode, off, scan, heading, body, shifted, full, step, emitted, gives, carries, finished}
+use Rattle.walk.specs.Mode.{Mode, off, scan, heading, body, shifted, full, step, emitted, gives, continues, finished}
 use Rattle.state.specs.Acting.{State, pointerOf, bytesOf, handed}
-use Rattle.headers.specs.declared.Verdict.{Verdict}
-use Rattle.headers.specs.Judging.{verdictOf}
+use Rattle.pages.specs.declared.headers.Verdict.{Verdict}
+use Rattle.pages.specs.Judging.{verdictOf}
 use Rattle.walk.specs.Reading.{dropIf, readBlocks}
-use Rattle.headers.specs.Seen.{Seen}
-use Rattle.holding.proofs.Along.{Along, good-along, drop-good, carries-along}
+use Rattle.pages.specs.Headers.{Seen}
+use Rattle.walk.proofs.Along.{Along, good-along, drop-good, continues-along}
 use Rattle.walk.specs.Holding.{Good}
 use Rattle.state.proofs.Ranging.{Sound}
 
@@ -90,11 +90,11 @@ read-sized m p l r = go (leb p 12) (eqb p 13)
   where
     go :
         (t u : Bool)
-        → Sized (pick t (finished (carries true m (take (3 * p) l)) ++ gives scan (drop (3 * p) l)) (pick u (finished (carries false m l)) []))
+        → Sized (pick t (finished (continues true m (take (3 * p) l)) ++ gives scan (drop (3 * p) l)) (pick u (finished (continues false m l)) []))
     go true u =
-        sized-append (finished-sized (carries true m (take (3 * p) l)) (carries-along true m (take (3 * p) l) (good-along m r)))
+        sized-append (finished-sized (continues true m (take (3 * p) l)) (continues-along true m (take (3 * p) l) (good-along m r)))
         (gives-sized scan (drop (3 * p) l) tt)
-    go false true = finished-sized (carries false m l) (carries-along false m l (good-along m r))
+    go false true = finished-sized (continues false m l) (continues-along false m l (good-along m r))
     go false false = none
 
 pub handed-sized : (st : State) (x : Seen) → Sound st → Sized (handed st x)

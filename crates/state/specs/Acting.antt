@@ -4,10 +4,10 @@ use mathlib.Core.List.{List, []}
 use Prim.Native.Nat.{ℕ}
 use Rattle.laws.specs.Pick.{pick, both, either}
 use Rattle.blocks.specs.Block.{Block}
-use Rattle.headers.specs.declared.Page.{Page}
-use Rattle.headers.specs.declared.Verdict.{Verdict}
-use Rattle.headers.specs.Seen.{Seen, junk, other, foreign, ours, row}
-use Rattle.headers.specs.Judging.{verdictOf}
+use Rattle.pages.specs.declared.headers.Page.{Page}
+use Rattle.pages.specs.declared.headers.Verdict.{Verdict}
+use Rattle.pages.specs.Headers.{Seen, junk, other, foreign, ours, packetY}
+use Rattle.pages.specs.Judging.{verdictOf}
 use Rattle.walk.specs.Mode.{Mode, running}
 use Rattle.walk.specs.Reading.{dropIf, readMode, readBlocks, readDrops}
 
@@ -39,14 +39,14 @@ pointerOf junk = 0
 pointerOf other = 0
 pointerOf foreign = 0
 pointerOf (ours index n) = 0
-pointerOf (row y p l) = p
+pointerOf (packetY y p l) = p
 
 abbrev pub bytesOf : Seen → List ℕ
 bytesOf junk = []
 bytesOf other = []
 bytesOf foreign = []
 bytesOf (ours index n) = []
-bytesOf (row y p l) = l
+bytesOf (packetY y p l) = l
 
 unfoldable pub act : State → Seen → State
 act st x = heeded (verdictOf (st .page) (st .index) x) (pointerOf x) (bytesOf x) st

@@ -6,8 +6,8 @@ use lib.Dec.{eqb, leb}
 use lib.ListN.{length, drop, replicate}
 use Rattle.laws.specs.Pick.{both}
 use Rattle.blocks.specs.Block.{sizeOf}
-use Rattle.headers.specs.declared.Page.{Page}
-use Rattle.headers.specs.declared.Page.the-variants.{Shut, Open}
+use Rattle.pages.specs.declared.headers.Page.{Page}
+use Rattle.pages.specs.declared.headers.Page.the-variants.{Shut, Open}
 use Rattle.walk.specs.declared.Run.{Run}
 use Rattle.walk.specs.declared.Run.the-variants.{Idle, Head, Body}
 use Rattle.state.specs.declared.Reader.{Reader}

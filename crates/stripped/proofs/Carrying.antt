@@ -23,7 +23,7 @@ use Rattle.pes.specs.Reading.{readRules, recordsOf}
 use Rattle.pes_writer.specs.Writing.{unitCount, writeRules}
 use Rattle.pes_writer.proofs.Making.{fits-packet}
 use Rattle.pes_writer.proofs.Statements.{reads-writable}
-use Rattle.loss.specs.Loss.{unreadable}
+use Rattle.stripped.specs.Loss.{unreadable}
 use Rattle.stripped.specs.Carried.{packetsOf, numberOf, carried, room, answerOf, recordsAfter, packetsAfter}
 use Rattle.stripped.specs.declared.Carried.{Carried as Carried·Carried}
 use Rattle.stripped.proofs.Stripping.{packets-length, packets-front}

@@ -9,10 +9,10 @@ use lib.Seq.{sets}
 use Rattle.laws.specs.Pick.{pick, both}
 use Rattle.answer.specs.Rules.{judged}
 use Rattle.answer.specs.Writing.{left}
-use Rattle.ebu.specs.Texts.{textBytes}
+use Rattle.pes.specs.Texts.{textBytes}
 use Rattle.pes.specs.Reading.{recordSize, readRules, recordsOf}
 use Rattle.pes_writer.specs.Writing.{unitCount}
-use Rattle.loss.specs.Loss.{unreadable}
+use Rattle.stripped.specs.Loss.{unreadable}
 use Rattle.stripped.specs.declared.Carried.{Carried as Carried·Carried}
 
 -- the packets of the u records from a place on

@@ -3,6 +3,8 @@
 // notices the loss. Every public call takes any bytes and answers.
 //
 // The definitions are in specs/Carried.antt.
+pub mod loss;
+
 use answer::Answer;
 use loss::PACKET;
 pub use loss::blank;

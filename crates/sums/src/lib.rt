@@ -23,16 +23,16 @@ pub fn sum_of(head: usize, body: &[u8]) -> usize
         }
         return checksum(head, body);
     }
-    if 15 < quick::decode(body[0]) {
+    if 15 < octet::quick::decode(body[0]) {
         return 256;
     }
-    if 15 < quick::decode(body[1]) {
+    if 15 < octet::quick::decode(body[1]) {
         return 256;
     }
     let mut sum = head_total(head);
     let mut i = 2;
     while i < body.len() {
-        let n = quick::decode(body[i]);
+        let n = octet::quick::decode(body[i]);
         if 15 < n {
             return 256;
         }
@@ -49,7 +49,7 @@ pub fn checksum(head: usize, body: &[u8]) -> usize
     let mut total = head_total(head);
     let mut i = 2;
     while i < body.len() {
-        total = (total + quick::decode(body[i]) as usize) % 256;
+        total = (total + octet::quick::decode(body[i]) as usize) % 256;
         i += 1;
     }
     (256 - total) % 256
@@ -61,7 +61,7 @@ pub fn sound(s: &[u8]) -> usize
 {
     let mut i = 0;
     while i < s.len() {
-        if 15 < quick::decode(s[i]) {
+        if 15 < octet::quick::decode(s[i]) {
             return i;
         }
         i += 1;

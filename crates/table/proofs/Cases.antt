@@ -8,7 +8,7 @@ use Rattle.answer.specs.Values.{refused}
 use Rattle.answer.specs.declared.Answer.the-variants.{Done}
 use Rattle.octet.specs.Bits.{number}
 use Rattle.octet.specs.Image.{image, withParity}
-use Rattle.fields.specs.Fields.{row, width, laid, fitting, parts, whole}
+use Rattle.fields.specs.Fields.{alike, width, laid, fitting, parts, whole}
 use Rattle.forms.specs.Tables.{Table, TI, per, loops, fields, bits, fill, size, entire, fits}
 use Rattle.forms.specs.Form.{spelled, listed, openingOf, form, wordsIn, descriptorsIn, tableIn}
 use Rattle.sums.specs.Block.{header}
@@ -47,12 +47,12 @@ case-F = refl
 
 -- G: bits, fill and size of the block
 pub case-G : (bits G ≡ 116) × (fill G ≡ 4) × (size G ≡ 30)
-unfolding row width fields loops per
+unfolding alike width fields loops per
 case-G = (refl, refl, refl)
 
 -- H: the same of a table without descriptors
 pub case-H : (bits H ≡ 58) × (fill H ≡ 6) × (size H ≡ 16)
-unfolding row width fields loops per
+unfolding alike width fields loops per
 case-H = (refl, refl, refl)
 
 -- I: descriptors of 15 subtitles: bits and size of eleven, and that twelve are refused with 15
@@ -61,5 +61,5 @@ pub case-I :
     × (size (I 11) ≡ 2022)
     × (judged refused (writeRules 1 (form (I 11))) (Done 0) ≡ Done 0)
     × (judged refused (writeRules 1 (form (I 12))) (Done 0) ≡ refused 15 0)
-unfolding row width laid fields loops per fits entire fitting form openingOf listed spelled tableIn descriptorsIn wordsIn whole formRules
+unfolding alike width laid fields loops per fits entire fitting form openingOf listed spelled tableIn descriptorsIn wordsIn whole formRules
 case-I = (refl, refl, refl, refl)

@@ -22,9 +22,9 @@ use Rattle.fields.proofs.Laid.{laid-lt, field-lt, length-parts, whole-lt, whole
 use Rattle.forms.specs.Tables.{Table, known, fields, bits, control, fill, size}
 use Rattle.sums.specs.Block.{header, headOf, nibblesOf, nibbles, checksumOf, Says}
 use Rattle.sums.specs.Sums.{checksum, sound}
-use Rattle.spelling.specs.Control.{tableOf}
+use Rattle.table.specs.Control.{tableOf}
 use Rattle.table.specs.Reading.{accepted, refused, frameRules, frontRules, wholeRules, readRules, tableRead, readBlock}
-use Rattle.lengths.specs.Lengths.{lengthRules}
+use Rattle.table.specs.Lengths.{lengthRules}
 use Rattle.forms.proofs.Sendable.{Sendable, sendable, sends}
 use Rattle.sums.proofs.Summing.{checksum-lt}
 use Rattle.sums.proofs.Nibbles.{sound-parts, parts-sound, sound-take, sum-apart}

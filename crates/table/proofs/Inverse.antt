@@ -9,13 +9,13 @@ use lib.Dec.{ltb, eqb}
 use lib.ListN.{length}
 use lib.Pow.{shr-shr}
 use Rattle.laws.proofs.Tests.{both-true}
-use Rattle.fields.specs.Fields.{Field, row, width, laid, fitting, field, parts}
+use Rattle.fields.specs.Fields.{Field, alike, width, laid, fitting, field, parts}
 use Rattle.fields.proofs.Laid.{lay, lay-parts, parts-laid, laid-append, laid-past, laid-drop, laid-at, laid-first, length-parts, width-row, fitting-append, fitting-parts, field-first, field-lt}
 use Rattle.forms.specs.Tables.{Descriptor, Table, known, per, entries, loops, fields, bits, control, entire}
-use Rattle.spelling.specs.Control.{descriptorsOf, tableOf}
+use Rattle.table.specs.Control.{descriptorsOf, tableOf}
 use Rattle.forms.proofs.Measures.{per-pos, width-loops, bits-of}
 use Rattle.forms.proofs.Sendable.{Sendable, entries-whole}
-use Rattle.spelling.proofs.Written.{length-descriptors}
+use Rattle.table.proofs.Written.{length-descriptors}
 
 -- ---- what is read, laid again
 
@@ -42,7 +42,7 @@ relaid-loops kind (suc k) n =
     ap (λ (x : ℕ). n / 2 ^ x) (width-loops kind d ds ∙ ap (λ (x : ℕ). 10 + 24 * x + width (loops kind ds)) (length-parts 24 words (n / 2 ^ 10)))
     ∙ sym (shr-shr n (10 + 24 * words) (width (loops kind ds))) in
     sym (div-one n) ∙ all
-    ∙ ap₂ (λ (c r : ℕ). laid ((6, field 0 6 n) ∷ (4, c) ∷ row 24 (parts 24 words (n / 2 ^ 10)) ++ loops kind ds) r)
+    ∙ ap₂ (λ (c r : ℕ). laid ((6, field 0 6 n) ∷ (4, c) ∷ alike 24 (parts 24 words (n / 2 ^ 10)) ++ loops kind ds) r)
     (sym (entries-read kind (field 6 4 n) (n / 2 ^ 10))) (sym last)
 
 -- the bits n are those of the table that they hold, with what isn't the table's own as it stands in n
@@ -104,7 +104,7 @@ fitting-read kind (suc k) n =
     rw (
       lt-ltb (field 0 6 n) 64 (field-lt 0 6 n),
       lt-ltb (entries kind ws) 16 small,
-      fitting-append (row 24 ws) (loops kind (descriptorsOf (per kind) k up)),
+      fitting-append (alike 24 ws) (loops kind (descriptorsOf (per kind) k up)),
       fitting-parts 24 (per kind * c) (n / 2 ^ 10),
     )
     (fitting-read kind k up)
@@ -136,25 +136,25 @@ unfolding descriptorsOf loops entire fitting
 reread-loops kind [] rest h k = refl
 reread-loops kind (d ∷ ds) rest h k =
     let c = entries kind (d .words) in
-    let front : List Field = (6, d .id) ∷ (4, c) ∷ row 24 (d .words) in
+    let front : List Field = (6, d .id) ∷ (4, c) ∷ alike 24 (d .words) in
     let n = laid (loops kind (d ∷ ds)) rest in
     let whole-d = both-true (eqb (c * per kind) (length (d .words))) (entire kind ds) h in
     let k₁ = both-true (ltb (d .id) (2 ^ 6)) _ k in
     let k₂ = both-true (ltb c (2 ^ 4)) _ (k₁ .1) in
-    let k₃ = both-true (fitting (row 24 (d .words))) (fitting (loops kind ds)) (sym (fitting-append (row 24 (d .words)) (loops kind ds)) ∙ k₂ .1) in
+    let k₃ = both-true (fitting (alike 24 (d .words))) (fitting (loops kind ds)) (sym (fitting-append (alike 24 (d .words)) (loops kind ds)) ∙ k₂ .1) in
     let e-id : field 0 6 n ≡ d .id = field-first 6 n ∙ laid-first (6, d .id) _ rest ∙ mod-eq-of-lt (ltb-true (d .id) (2 ^ 6) (k₁ .0)) in
     let e-c : field 6 4 n ≡ c = unfold width in (laid-at ((6, d .id) ∷ []) 4 c _ rest ∙ mod-eq-of-lt (ltb-true c (2 ^ 4) (k₂ .0))) in
     let e-words : per kind * field 6 4 n ≡ length (d .words) =
     ap (λ (x : ℕ). per kind * x) e-c ∙ entries-whole kind (d .words) (eqb-true (c * per kind) (length (d .words)) (whole-d .0)) in
-    let e-ten : n / 2 ^ 10 ≡ laid (row 24 (d .words)) (laid (loops kind ds) rest) =
-    unfold width in (laid-drop ((6, d .id) ∷ (4, c) ∷ []) _ rest ∙ laid-append (row 24 (d .words)) (loops kind ds) rest) in
+    let e-ten : n / 2 ^ 10 ≡ laid (alike 24 (d .words)) (laid (loops kind ds) rest) =
+    unfold width in (laid-drop ((6, d .id) ∷ (4, c) ∷ []) _ rest ∙ laid-append (alike 24 (d .words)) (loops kind ds) rest) in
     let e-list : parts 24 (per kind * field 6 4 n) (n / 2 ^ 10) ≡ d .words =
     ap₂ (parts 24) e-words e-ten ∙ parts-laid 24 (d .words) (laid (loops kind ds) rest) (k₃ .0) in
     let e-rest : n / 2 ^ (10 + 24 * (per kind * field 6 4 n)) ≡ laid (loops kind ds) rest =
     ap (λ (x : ℕ). n / 2 ^ (10 + 24 * x)) e-words ∙ sym (shr-shr n 10 (24 * length (d .words)))
     ∙ ap (λ (x : ℕ). x / 2 ^ (24 * length (d .words))) e-ten
-    ∙ ap (λ (x : ℕ). laid (row 24 (d .words)) (laid (loops kind ds) rest) / 2 ^ x) (mul-comm 24 (length (d .words)) ∙ sym (width-row 24 (d .words)))
-    ∙ laid-past (row 24 (d .words)) (laid (loops kind ds) rest) in
+    ∙ ap (λ (x : ℕ). laid (alike 24 (d .words)) (laid (loops kind ds) rest) / 2 ^ x) (mul-comm 24 (length (d .words)) ∙ sym (width-row 24 (d .words)))
+    ∙ laid-past (alike 24 (d .words)) (laid (loops kind ds) rest) in
     let one : _≡_ {A = Descriptor} (record { id = field 0 6 n; words = parts 24 (per kind * field 6 4 n) (n / 2 ^ 10) }) d =
     ap₂ (λ (i : ℕ) (ws : List ℕ). record { id = i; words = ws }) e-id e-list in
     ap₂ (λ (x : Descriptor) (xs : List Descriptor). x ∷ xs) one

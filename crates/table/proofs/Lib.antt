@@ -5,3 +5,6 @@ pub mod Back
 pub mod Noise
 pub mod Calls
 pub mod Cases
+pub mod Loops
+pub mod Fitting
+pub mod Written

@@ -7,8 +7,8 @@ use Rattle.laws.specs.Pick.{both}
 use Rattle.answer.specs.Rules.{Rule, rule, judged}
 use Rattle.fields.specs.Fields.{field, whole}
 use Rattle.forms.specs.Tables.{Table, known}
-use Rattle.spelling.specs.Control.{tableOf}
-use Rattle.lengths.specs.Lengths.{lengthRules}
+use Rattle.table.specs.Control.{tableOf}
+use Rattle.table.specs.Lengths.{lengthRules}
 use Rattle.sums.specs.Sums.{checksum, sound}
 use Rattle.sums.specs.Block.{headLength, headOf, nibblesOf}
 

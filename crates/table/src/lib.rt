@@ -1,5 +1,8 @@
 // Block reading: the rules by which a Subtitle or Language block is taken, and the table that it gives
 // (SCOPE 3.6, 12).
+mod lengths;
+mod spelling;
+
 ghost use mathlib.Core.Path.{_≡_};
 ghost use mathlib.Core.List.{map};
 ghost use Prim.Native.Nat.{_+_, _-_, _*_, _/_, _%_, _<_, _≤_};
@@ -13,7 +16,7 @@ ghost use Rattle.forms.specs.Form.{form};
 ghost use Rattle.fields.specs.Compound.{compound};
 ghost use Rattle.sums.specs.Block.{headOf};
 ghost use Rattle.table.specs.Reading.{frameRules, frontRules, wholeRules, bodyRules, readRules, tableRead};
-ghost use Rattle.spelling.specs.Control.{tableOf};
+ghost use Rattle.table.specs.Control.{tableOf};
 use answer::Answer;
 use blocks::HEAD;
 use spelling::KIND;
@@ -84,7 +87,7 @@ fn judge_frame(application: u8, rec: &[u8]) -> Answer
 fn head_of(rec: &[u8]) -> usize
     ensures { λ r. ⌜ (r ≡ headOf (now (rec .entry))) × (r < 65536) ⌝ }
 {
-    items::byte_at(rec, 0) + 256 * items::byte_at(rec, 1)
+    forms::byte_at(rec, 0) + 256 * forms::byte_at(rec, 1)
 }
 
 // The rules after those of the frame; where all hold, the bytes of the table's form.
@@ -114,7 +117,7 @@ fn judge_front(size: usize, body: &[u8]) -> Answer
         return answer::refuse(10, HEAD + good);
     }
     let kind = fields::field_of(body, KIND, 6);
-    if !items::known(kind) {
+    if !forms::known(kind) {
         return answer::refuse(12, 0);
     }
     if fields::field_of(body, ACCESS, 2) != 0 {

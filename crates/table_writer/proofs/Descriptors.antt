@@ -5,13 +5,13 @@ use mathlib.Core.List.{List, [], _∷_, _++_}
 use Prim.Native.Nat.{ℕ, _+_, _-_, _*_, _≤_, _<_}
 use native.Mathlib.Omega.{arith}
 use lib.ListN.{getD, drop}
-use Rattle.fields.specs.Fields.{Field, row, width, laid, fitting}
+use Rattle.fields.specs.Fields.{Field, alike, width, laid, fitting}
 use Rattle.forms.specs.Tables.{per, loops}
 use Rattle.forms.specs.Form.{wordsIn, descriptorsIn}
 use Rattle.table_writer.specs.declared.Pen.{Pen}
 use Rattle.table_writer.specs.Ink.{ready, inked, moved, Fine}
 use Rattle.table_writer.proofs.Inking.{room-first, room-on, on-moved, on-inked, on-fine, pressed-moved, pressed-inked, pressed-ready}
-use Rattle.table_writer.proofs.Rows.{heading, heading-laid, heading-width, loops-on, fits-now}
+use Rattle.table_writer.proofs.Looped.{heading, heading-laid, heading-width, loops-on, fits-now}
 
 module _
     (kind left i id c words : ℕ) (f : List ℕ) (h : 0 < left) (e₀ : id ≡ getD f i 0) (e₁ : c ≡ getD f (i + 1) 0)
@@ -21,7 +21,7 @@ module _
     all = loops kind (descriptorsIn (per kind) left (drop i f))
 
     words-laid : List Field
-    words-laid = row 24 (wordsIn words (drop (i + 2) f))
+    words-laid = alike 24 (wordsIn words (drop (i + 2) f))
 
     rest : List Field
     rest = loops kind (descriptorsIn (per kind) (left - 1) (drop (i + (2 + 3 * words)) f))
@@ -65,11 +65,11 @@ module _
         on-heading : moved q (words-laid ++ rest) ≡ moved p all
         on-heading = on-moved p (heading id c) (words-laid ++ rest) all split laid-heading
 
-        pub room-words : q .at + ready q (row 24 (wordsIn words (drop (i + 2) f))) ≤ room
+        pub room-words : q .at + ready q (alike 24 (wordsIn words (drop (i + 2) f))) ≤ room
         unfolding words-laid all
         room-words = room-first q words-laid rest room (room-on q p (words-laid ++ rest) all room on-heading enough)
 
-        module _ {r : Pen} (m′ : r ≡ moved q (row 24 (wordsIn words (drop (i + 2) f)))) where
+        module _ {r : Pen} (m′ : r ≡ moved q (alike 24 (wordsIn words (drop (i + 2) f)))) where
           pub fine-descriptor : Fine r
           unfolding words-laid
           fine-descriptor = on-fine q words-laid rest (words-laid ++ rest) refl m′
@@ -82,7 +82,7 @@ module _
 
           pub inked-descriptor :
               (out : List ℕ) {out₁ out₂ : List ℕ} → out₁ ≡ inked p ((10, c * 64 + id) ∷ []) out
-              → out₂ ≡ inked q (row 24 (wordsIn words (drop (i + 2) f))) out₁
+              → out₂ ≡ inked q (alike 24 (wordsIn words (drop (i + 2) f))) out₁
               → inked r (loops kind (descriptorsIn (per kind) (left - 1) (drop (i + (2 + 3 * words)) f))) out₂
               ≡ inked p (loops kind (descriptorsIn (per kind) left (drop i f))) out
           unfolding words-laid rest all

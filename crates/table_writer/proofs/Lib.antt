@@ -1,5 +1,5 @@
 pub mod Inking
-pub mod Rows
+pub mod Looped
 pub mod Descriptors
 pub mod Whole
 pub mod Sealing

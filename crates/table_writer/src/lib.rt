@@ -4,7 +4,7 @@ ghost use mathlib.Core.Path.{_≡_};
 ghost use mathlib.Core.List.{map, _∷_, []};
 ghost use Prim.Native.Nat.{_+_, _-_, _*_, _/_, _%_, _^_, _<_, _≤_};
 ghost use lib.ListN.{length, drop};
-ghost use Rattle.fields.specs.Fields.{row, laid, fitting};
+ghost use Rattle.fields.specs.Fields.{alike, laid, fitting};
 ghost use Rattle.forms.specs.Tables.{loops, size, fits, bits as Tables·bits};
 ghost use Rattle.forms.specs.Form.{wordsIn, tableIn};
 ghost use Rattle.sums.specs.Block.{nibbles, recordOf};
@@ -129,8 +129,8 @@ fn first_fields(table: &[u8], control: usize) -> usize
     requires { ⌜ (fits (tableIn (now table)) ≡ true) × (control < 1024) ⌝ }
     ensures { λ r. ⌜ (r ≡ laid (firstFields control (tableIn (now (table .entry)))) 0) × (r < 2 ^ 28) ⌝ }
 {
-    let kind = items::byte_at(table, 0);
-    let copyright = items::byte_at(table, 1);
+    let kind = forms::byte_at(table, 0);
+    let copyright = forms::byte_at(table, 1);
     ((copyright * 256 + kind) * 1024 + control) * 256
 }
 
@@ -139,9 +139,9 @@ fn second_fields(table: &[u8]) -> usize
     requires { ⌜ fits (tableIn (now table)) ≡ true ⌝ }
     ensures { λ r. ⌜ (r ≡ laid (secondFields (tableIn (now (table .entry)))) 0) × (r < 2 ^ 30) ⌝ }
 {
-    let block = items::byte_at(table, 2) + 256 * items::byte_at(table, 3);
-    let network = items::byte_at(table, 4);
-    let count = items::byte_at(table, 5);
+    let block = forms::byte_at(table, 2) + 256 * forms::byte_at(table, 3);
+    let network = forms::byte_at(table, 4);
+    let count = forms::byte_at(table, 5);
     (count * 256 + network) * 65536 + block
 }
 
@@ -155,14 +155,14 @@ fn put_descriptors(table: &[u8], pen: Pen, out: &mut [u8]) -> Pen
         × (now (out .exit)
         ≡ inked pen (loops (tableIn (now (table .entry)) .kind) (tableIn (now (table .entry)) .descriptors)) (now (out .entry))) ⌝ }
 {
-    let kind = items::byte_at(table, 0);
-    let mut left = items::byte_at(table, 5);
+    let kind = forms::byte_at(table, 0);
+    let mut left = forms::byte_at(table, 5);
     let mut p = pen;
     let mut i = OPENING;
     while 0 < left {
-        let id = items::byte_at(table, i);
-        let entries = items::byte_at(table, i + 1);
-        let words = items::words_of(kind, entries);
+        let id = forms::byte_at(table, i);
+        let entries = forms::byte_at(table, i + 1);
+        let words = forms::words_of(kind, entries);
         let q = put(p, HEADING, entries * 64 + id, out);
         p = put_words(table, i + 2, words, q, out);
         i += 2 + 3 * words;
@@ -175,16 +175,16 @@ fn put_descriptors(table: &[u8], pen: Pen, out: &mut [u8]) -> Pen
 fn put_words(table: &[u8], from: usize, k: usize, pen: Pen, out: &mut [u8]) -> Pen
     requires { ⌜ Fine pen
         × (from + 3 * k < 400000)
-        × (pen .at + ready pen (row 24 (wordsIn k (drop from (now table)))) ≤ length (now out)) ⌝ }
+        × (pen .at + ready pen (alike 24 (wordsIn k (drop from (now table)))) ≤ length (now out)) ⌝ }
     ensures { λ r.
-        ⌜ (r ≡ moved pen (row 24 (wordsIn k (drop from (now (table .entry))))))
-        × (now (out .exit) ≡ inked pen (row 24 (wordsIn k (drop from (now (table .entry))))) (now (out .entry))) ⌝ }
+        ⌜ (r ≡ moved pen (alike 24 (wordsIn k (drop from (now (table .entry))))))
+        × (now (out .exit) ≡ inked pen (alike 24 (wordsIn k (drop from (now (table .entry))))) (now (out .entry))) ⌝ }
 {
     let mut p = pen;
     let mut i = from;
     let mut left = k;
     while 0 < left {
-        p = put(p, WORD, items::word_at(table, i), out);
+        p = put(p, WORD, forms::word_at(table, i), out);
         i += 3;
         left -= 1;
     }

@@ -1,12 +1,12 @@
 // Runs cases of the guide page's packets: op 20 takes a setting and a fresh reader, op 21 feeds it one
 // packet, op 22 cuts records into packets.
 use answer::Answer;
-use cases::Found;
-use cases::Input;
-use lines::Line;
 use packet::Setting;
 use reader::Heard;
 use reader::Reader;
+use vectors::Input;
+use vectors::Line;
+use vectors::NextCase;
 
 // What op 20 leaves for the ops 21 that follow.
 struct Kept {
@@ -16,7 +16,7 @@ struct Kept {
 
 // A turn: what it found, and what it keeps.
 struct Turn {
-    found: Found,
+    found: NextCase,
     kept: Kept,
 }
 
@@ -37,10 +37,10 @@ fn main() {
         kept = turn.kept;
         let found = turn.found;
         match found {
-            Found::Whole(case) => {
+            NextCase::Whole(case) => {
                 input = case.rest;
             }
-            Found::Ended(_) => {
+            NextCase::Ended(_) => {
                 return;
             }
         }
@@ -68,19 +68,19 @@ fn step(
     text: &mut [u8; 131200],
 ) -> Turn {
     let read = vectors::fill(input, space);
-    let found = cases::next(read, space);
+    let found = vectors::next(read, space);
     match found {
-        Found::Whole(case) => {
-            let payload = cases::payload(case, space);
+        NextCase::Whole(case) => {
+            let payload = vectors::payload(case, space);
             let next = run(case.op, case.room, payload, kept, out, text);
             Turn {
                 found: found,
                 kept: next,
             }
         }
-        Found::Ended(left) => {
+        NextCase::Ended(left) => {
             if left > 0 {
-                lines::tell(Line::Short(left), &[], text);
+                vectors::tell(Line::Short(left), &[], text);
             }
             Turn {
                 found: found,
@@ -92,17 +92,17 @@ fn step(
 
 // A case: the call is lent as much output as it has room.
 fn run(op: u8, room: usize, payload: &[u8], kept: Kept, out: &mut [u8], text: &mut [u8]) -> Kept {
-    let lent = lent::lend(out, room);
+    let lent = vectors::lend(out, room);
     match op {
         20 => begin(op, payload, kept, lent, text),
         21 => feed(op, payload, kept, lent, text),
         22 => {
             let line = cut(op, payload, lent);
-            lines::tell(line, lent, text);
+            vectors::tell(line, lent, text);
             kept
         }
         _ => {
-            lines::tell(Line::Unknown(op), lent, text);
+            vectors::tell(Line::Unknown(op), lent, text);
             kept
         }
     }
@@ -111,14 +111,14 @@ fn run(op: u8, room: usize, payload: &[u8], kept: Kept, out: &mut [u8], text: &m
 // Op 20: magazine, page, stream, application.
 fn begin(op: u8, payload: &[u8], kept: Kept, out: &[u8], text: &mut [u8]) -> Kept {
     if payload.len() < 4 {
-        lines::tell(Line::Unknown(op), out, text);
+        vectors::tell(Line::Unknown(op), out, text);
         return kept;
     }
     let line = Line::Answered {
         op: op,
         answer: Answer::Done(0),
     };
-    lines::tell(line, out, text);
+    vectors::tell(line, out, text);
     fresh(payload[0], payload[1], payload[2], payload[3])
 }
 
@@ -127,7 +127,7 @@ fn feed(op: u8, payload: &[u8], kept: Kept, out: &mut [u8], text: &mut [u8]) -> 
     let setting = kept.setting;
     let fed = reader::feed(setting, kept.reader, payload, out);
     let heard = fed.heard;
-    lines::tell(told(op, heard), out, text);
+    vectors::tell(told(op, heard), out, text);
     let reader = fed.reader;
     Kept {
         setting: setting,
@@ -173,11 +173,11 @@ fn cut(op: u8, payload: &[u8], out: &mut [u8]) -> Line {
     if k == 0 {
         return Line::Answered {
             op: op,
-            answer: guide::cut(s, index, &payload[5..], out),
+            answer: writer::cut(s, index, &payload[5..], out),
         };
     }
     Line::Answered {
         op: op,
-        answer: guide::cut_pages(s, index, k, &payload[5..], out),
+        answer: writer::cut_pages(s, index, k, &payload[5..], out),
     }
 }

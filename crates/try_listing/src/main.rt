@@ -1,7 +1,7 @@
 // Runs cases of table forms: op 40 prints one as the desk's lines.
-use cases::Found;
-use cases::Input;
-use lines::Line;
+use vectors::Input;
+use vectors::Line;
+use vectors::NextCase;
 
 fn main() {
     let mut space = [0u8; 131200];
@@ -17,10 +17,10 @@ fn main() {
         turns -= 1;
         let found = step(input, &mut space, &mut out, &mut text);
         match found {
-            Found::Whole(case) => {
+            NextCase::Whole(case) => {
                 input = case.rest;
             }
-            Found::Ended(_) => {
+            NextCase::Ended(_) => {
                 return;
             }
         }
@@ -33,17 +33,17 @@ fn step(
     space: &mut [u8; 131200],
     out: &mut [u8; 65536],
     text: &mut [u8; 131200],
-) -> Found {
+) -> NextCase {
     let read = vectors::fill(input, space);
-    let found = cases::next(read, space);
+    let found = vectors::next(read, space);
     match found {
-        Found::Whole(case) => {
-            let payload = cases::payload(case, space);
+        NextCase::Whole(case) => {
+            let payload = vectors::payload(case, space);
             run(case.op, case.room, payload, out, text);
         }
-        Found::Ended(left) => {
+        NextCase::Ended(left) => {
             if left > 0 {
-                lines::tell(Line::Short(left), &[], text);
+                vectors::tell(Line::Short(left), &[], text);
             }
         }
     }
@@ -52,9 +52,9 @@ fn step(
 
 // A case: the call is lent as much output as it has room.
 fn run(op: u8, room: usize, payload: &[u8], out: &mut [u8], text: &mut [u8]) {
-    let lent = lent::lend(out, room);
+    let lent = vectors::lend(out, room);
     let line = call(op, payload, lent);
-    lines::tell(line, lent, text);
+    vectors::tell(line, lent, text);
 }
 
 // The call that op names, and what is told of it.

@@ -1,8 +1,8 @@
 // Runs cases of one byte: op 1 decodes it, 2 gives its image, 3 turns it, 4 finds its fault place.
 use answer::Answer;
-use cases::Found;
-use cases::Input;
-use lines::Line;
+use vectors::Input;
+use vectors::Line;
+use vectors::NextCase;
 
 fn main() {
     let mut space = [0u8; 131200];
@@ -17,10 +17,10 @@ fn main() {
         turns -= 1;
         let found = step(input, &mut space, &mut text);
         match found {
-            Found::Whole(case) => {
+            NextCase::Whole(case) => {
                 input = case.rest;
             }
-            Found::Ended(_) => {
+            NextCase::Ended(_) => {
                 return;
             }
         }
@@ -28,14 +28,14 @@ fn main() {
 }
 
 // One turn: the next case is read and run, or the end is told.
-fn step(input: Input, space: &mut [u8; 131200], text: &mut [u8; 131200]) -> Found {
+fn step(input: Input, space: &mut [u8; 131200], text: &mut [u8; 131200]) -> NextCase {
     let read = vectors::fill(input, space);
-    let found = cases::next(read, space);
+    let found = vectors::next(read, space);
     match found {
-        Found::Whole(case) => call(case.op, cases::payload(case, space), text),
-        Found::Ended(left) => {
+        NextCase::Whole(case) => call(case.op, vectors::payload(case, space), text),
+        NextCase::Ended(left) => {
             if left > 0 {
-                lines::tell(Line::Short(left), &[], text);
+                vectors::tell(Line::Short(left), &[], text);
             }
         }
     }
@@ -45,7 +45,7 @@ fn step(input: Input, space: &mut [u8; 131200], text: &mut [u8; 131200]) -> Foun
 // The call that op names. These calls give a byte, and are lent no output.
 fn call(op: u8, payload: &[u8], text: &mut [u8]) {
     if payload.len() < 1 {
-        lines::tell(Line::Unknown(op), &[], text);
+        vectors::tell(Line::Unknown(op), &[], text);
         return;
     }
     let b = payload[0];
@@ -55,7 +55,7 @@ fn call(op: u8, payload: &[u8], text: &mut [u8]) {
         3 => show(op, octet::turn(b), text),
         4 => show(op, octet::fault_place(b), text),
         _ => {
-            lines::tell(Line::Unknown(op), &[], text);
+            vectors::tell(Line::Unknown(op), &[], text);
         }
     }
 }
@@ -66,5 +66,5 @@ fn show(op: u8, b: u8, text: &mut [u8]) {
         op: op,
         answer: Answer::Done(1),
     };
-    lines::tell(line, &out, text);
+    vectors::tell(line, &out, text);
 }

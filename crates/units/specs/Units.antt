@@ -7,7 +7,7 @@ use lib.ListN.{length, getD}
 use Rattle.laws.specs.Pick.{pick, either}
 use Rattle.answer.specs.Rules.{Rule, rule, judged}
 use Rattle.answer.specs.Values.{refusal}
-pub use Rattle.marks.specs.Marks.{textId, lineFits}
+pub use Rattle.units.specs.Marks.{textId, lineFits}
 use Rattle.units.specs.declared.DataUnit.{DataUnit}
 
 -- the packet's byte at a place

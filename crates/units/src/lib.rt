@@ -3,7 +3,11 @@
 //
 // The definitions are in specs/Units.antt. What a unit that is met tells is in proofs/Meets.antt. What an id and a line byte say alone
 // is crate `marks`, the walk's answer as a number for C crate `packing`.
+pub mod marks;
+
 use answer::Refusal;
+pub use marks::is_text;
+pub use marks::line_fits;
 ghost use mathlib.Core.Path.{_≡_};
 ghost use Prim.Native.Nat.{_≤_};
 ghost use lib.ListN.{length};

@@ -4,12 +4,23 @@
 // A program lends all memory: 131,200 bytes for the input, of which a case takes up to 65,545, and
 // 65,536 for the output. In each turn it calls `fill` and `cases::next`, and for a case `cases::payload`,
 // `lent::lend` and the call that op names.
+pub mod cases;
+pub mod lent;
+pub mod lines;
+mod words;
+
+pub use cases::Input;
+pub use cases::NextCase;
+pub use cases::next;
+pub use cases::payload;
+pub use lent::lend;
+pub use lines::Line;
+pub use lines::tell;
 ghost use mathlib.Core.Path.{_≡_};
 ghost use Prim.Native.Nat.{_+_, _≤_};
 ghost use lib.ListN.{length};
-ghost use Rattle.cases.specs.Cases.{Within};
+ghost use Rattle.vectors.specs.Cases.{Within};
 use cases::HEAD;
-use cases::Input;
 use cases::MOST;
 use libc::STDIN_FILENO;
 

@@ -1,2 +1,9 @@
 pub mod Staying
 pub mod Heading
+pub mod Adding
+pub mod Along
+pub mod Keeping
+pub mod Room
+pub mod Storing
+pub mod Walking
+pub mod Stepping

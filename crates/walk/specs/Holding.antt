@@ -15,10 +15,10 @@ use Rattle.walk.specs.declared.Got.{Got}
 use Rattle.walk.specs.declared.Taken.{Taken}
 use Rattle.walk.specs.declared.Ahead.{Ahead}
 use Rattle.walk.specs.declared.Ahead.the-variants.{Nothing, Broken, Cut, Whole}
-use Rattle.walk.specs.Mode.{Mode, off, scan, heading, body, full, running, isFull, ends, gives, spoils, carries, finished, unfinished}
+use Rattle.walk.specs.Mode.{Mode, off, scan, heading, body, full, running, isFull, ends, gives, spoils, continues, finished, unfinished}
 use Rattle.walk.specs.Store.{storeLength, modeOf, runOf, heldOf}
 use Rattle.walk.specs.Reading.{dropIf, readMode, readBlocks, readDrops, room}
-use Rattle.walk.specs.Places.{Found, nothing, broken, cut, whole, fillers, zeroed}
+use Rattle.walk.specs.Places.{StartAhead, nothing, broken, cut, whole, fillers, zeroed}
 
 -- g nibbles have come, and v has their bits and no others
 pub record Bits (g v : ℕ) : Type 0 where
@@ -48,7 +48,7 @@ abbrev pub blockWith : ℕ → List ℕ → Block
 blockWith h l = record { head = h; raw = l }
 
 -- what an answer by places says stands ahead in s
-abbrev pub aheadIn : List ℕ → Ahead → Found
+abbrev pub aheadIn : List ℕ → Ahead → StartAhead
 aheadIn s Nothing = nothing
 aheadIn s Broken = broken
 aheadIn s (Cut got bits) = cut got bits
@@ -66,7 +66,7 @@ abbrev pub awaits : Mode → List ℕ → Mode
 awaits off l = off
 awaits scan l = off
 awaits (heading g v) l = heading g v
-awaits (body h held) l = pick (full h held) (carries true (body h held) l) (body h held)
+awaits (body h held) l = pick (full h held) (continues true (body h held) l) (body h held)
 
 -- a block runs
 abbrev pub runs : Run → Bool
@@ -82,9 +82,9 @@ stands (Body head held) l = both (leb (sizeOf head) held) (leb (length l) (fille
 
 -- from the mode m the running block has taken its bytes of l, which s ends with, and the rest of them begins at a place of s
 pub record TookIn (m : Mode) (l s : List ℕ) (r : Taken) (store : List ℕ) : Type 0 where
-  pub holds : Holds (carries false m l) (r .run) store
+  pub holds : Holds (continues false m l) (r .run) store
   pub within : r .next ≤ length s
-  pub rest : carries true m l ≡ awaits (carries false m l) (drop (r .next) s)
+  pub rest : continues true m l ≡ awaits (continues false m l) (drop (r .next) s)
 
 -- what stood at a is now at r: the mode m is held, these blocks have gone out, and a block was dropped if d says so
 pub record Went (m : Mode) (bs : List Block) (d : Bool) (a r : Got) (store old new : List ℕ) : Type 0 where
@@ -104,25 +104,25 @@ abbrev pub Finished : Mode → Got → Got → List ℕ → List ℕ → List �
 Finished m a r store old new = Went (unfinished m) (finished m) false a r store old new
 
 -- the bytes l stand before the pointed byte
-abbrev pub CarriedTo : Mode → List ℕ → Got → Got → List ℕ → List ℕ → List ℕ → Type 0
-CarriedTo m l = Went off (finished (carries true m l)) (both (running m) (not (isFull (carries true m l))))
+abbrev pub ContinuedTo : Mode → List ℕ → Got → Got → List ℕ → List ℕ → List ℕ → Type 0
+ContinuedTo m l = Went off (finished (continues true m l)) (both (running m) (not (isFull (continues true m l))))
 
 -- the bytes l are a packet's that points at no start
-abbrev pub CarriedOn : Mode → List ℕ → Got → Got → List ℕ → List ℕ → List ℕ → Type 0
-CarriedOn m l = Went (unfinished (carries false m l)) (finished (carries false m l)) (both (running m) (not (running (carries false m l))))
+abbrev pub ContinuedOn : Mode → List ℕ → Got → Got → List ℕ → List ℕ → List ℕ → Type 0
+ContinuedOn m l = Went (unfinished (continues false m l)) (finished (continues false m l)) (both (running m) (not (running (continues false m l))))
 
 -- the bytes l stand from the pointed byte on
 abbrev pub Flowed : List ℕ → Got → Got → List ℕ → List ℕ → List ℕ → Type 0
 Flowed l = Went (unfinished (ends scan l)) (gives scan l) (spoils scan l)
 
 -- there is room for what a packet can give
-pub record RowRoom (a : Got) (out : List ℕ) : Type 0 where
+pub record PacketRoom (a : Got) (out : List ℕ) : Type 0 where
   pub long : a .written + room ≤ length out
   pub few : 2 * a .blocks ≤ a .written
 
 -- the packet's pointer is p, and l the 39 bytes after it
-abbrev pub ReadRow : Mode → ℕ → List ℕ → Got → Got → List ℕ → List ℕ → List ℕ → Type 0
-ReadRow m p l = Went (readMode m p l) (readBlocks m p l) (readDrops m p l)
+abbrev pub ReadPacket : Mode → ℕ → List ℕ → Got → Got → List ℕ → List ℕ → List ℕ → Type 0
+ReadPacket m p l = Went (readMode m p l) (readBlocks m p l) (readDrops m p l)
 
 -- the running block is dropped where the test holds, and that is noted
 abbrev pub Lost : Bool → Mode → Got → Got → List ℕ → List ℕ → Type 0

@@ -97,9 +97,9 @@ carry pointed scan b = off
 carry pointed (heading g v) b = pick (eqb (nib b) undecodable) off (carriedHead g (shifted v b))
 carry pointed (body h held) b = pick (full h held) (behind pointed h held b) (body h (held ++ b ∷ []))
 
-unfoldable pub carries : Bool → Mode → List ℕ → Mode
-carries pointed m [] = m
-carries pointed m (b ∷ bs) = carries pointed (carry pointed m b) bs
+unfoldable pub continues : Bool → Mode → List ℕ → Mode
+continues pointed m [] = m
+continues pointed m (b ∷ bs) = continues pointed (carry pointed m b) bs
 
 -- a block is held whole
 abbrev pub isFull : Mode → Bool

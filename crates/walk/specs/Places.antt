@@ -15,23 +15,23 @@ fillers [] = 0
 fillers (b ∷ bs) = pick (filler b) (suc (fillers bs)) 0
 
 -- what stands ahead where nothing is running
-pub data Found : Type 0 where
+pub data StartAhead : Type 0 where
   -- no start: filler to the end, or another nibble
-  nothing : Found
+  nothing : StartAhead
   -- a start whose header has a byte that can't be decoded
-  broken : Found
+  broken : StartAhead
   -- a start, so many nibbles of its header, and the end
-  cut : ℕ → ℕ → Found
+  cut : ℕ → ℕ → StartAhead
   -- a start, its 16 bits, and the bytes after them
-  whole : ℕ → List ℕ → Found
+  whole : ℕ → List ℕ → StartAhead
 
 -- the k nibbles of a header that are still to come
-unfoldable pub heads : ℕ → ℕ → List ℕ → Found
+unfoldable pub heads : ℕ → ℕ → List ℕ → StartAhead
 heads zero v l = whole v l
 heads (suc k) v [] = cut (3 - k) v
 heads (suc k) v (b ∷ bs) = pick (eqb (nib b) undecodable) broken (heads k (shifted v b) bs)
 
-unfoldable pub found : List ℕ → Found
+unfoldable pub found : List ℕ → StartAhead
 found [] = nothing
 found (b ∷ bs) = pick (filler b) (found bs) (pick (eqb (nib b) 12) (heads 4 0 bs) nothing)
 

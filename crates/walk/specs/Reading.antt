@@ -6,7 +6,7 @@ use lib.Dec.{eqb, leb}
 use lib.ListN.{take, drop}
 use Rattle.laws.specs.Pick.{pick, both, either}
 use Rattle.blocks.specs.Block.{Block}
-use Rattle.walk.specs.Mode.{Mode, off, scan, running, isFull, ends, gives, spoils, carries, finished, unfinished}
+use Rattle.walk.specs.Mode.{Mode, off, scan, running, isFull, ends, gives, spoils, continues, finished, unfinished}
 
 -- the bytes of output that a reader must be lent for one packet (SCOPE 3.5)
 abbrev pub room : ℕ
@@ -28,17 +28,17 @@ pointedBy p = pick (leb p 12) (pointed p) (pick (eqb p 13) 39 40)
 -- the packet is skipped (SCOPE 9.4)
 abbrev pub readMode : Mode → ℕ → List ℕ → Mode
 readMode m p l =
-    pick (leb p 12) (unfinished (ends scan (drop (pointed p) l))) (pick (eqb p 13) (unfinished (carries false m l)) off)
+    pick (leb p 12) (unfinished (ends scan (drop (pointed p) l))) (pick (eqb p 13) (unfinished (continues false m l)) off)
 
 -- the blocks that they finish
 abbrev pub readBlocks : Mode → ℕ → List ℕ → List Block
 readBlocks m p l =
-    pick (leb p 12) (finished (carries true m (take (pointed p) l)) ++ gives scan (drop (pointed p) l))
-    (pick (eqb p 13) (finished (carries false m l)) [])
+    pick (leb p 12) (finished (continues true m (take (pointed p) l)) ++ gives scan (drop (pointed p) l))
+    (pick (eqb p 13) (finished (continues false m l)) [])
 
 -- whether they drop a block: the running one, or one whose header can't be decoded
 abbrev pub readDrops : Mode → ℕ → List ℕ → Bool
 readDrops m p l =
     pick (leb p 12)
-    (either (both (running m) (not (isFull (carries true m (take (pointed p) l))))) (spoils scan (drop (pointed p) l)))
-    (both (running m) (not (both (eqb p 13) (running (carries false m l)))))
+    (either (both (running m) (not (isFull (continues true m (take (pointed p) l))))) (spoils scan (drop (pointed p) l)))
+    (both (running m) (not (both (eqb p 13) (running (continues false m l)))))

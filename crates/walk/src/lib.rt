@@ -1,6 +1,10 @@
 // Within a packet: what its pointer says, and what a block's header says. Where a block starts in its bytes, and whether what stands before
 // the pointed byte may stand there, is crate `starts`; the running block's bytes are the reader's (crate `rows`), and the laws of the
 // running block in its store are crate `holding`.
+pub mod starts;
+
+pub use starts::falls;
+pub use starts::find;
 ghost use mathlib.Core.Path.{_≡_};
 ghost use Prim.Native.Nat.{_+_, _-_, _≤_};
 ghost use lib.ListN.{length, drop};
@@ -46,7 +50,7 @@ pub enum Ahead {
 pub fn pointed(b: u8) -> usize
     ensures { λ r. ⌜ r ≡ pointedBy (nib b) ⌝ }
 {
-    let p = quick::decode(b) as usize;
+    let p = octet::quick::decode(b) as usize;
     if p <= 12 {
         return 3 * p;
     }
@@ -69,7 +73,7 @@ pub fn head_on(s: &[u8], from: usize, got: u8, bits: u16) -> Ahead
         if i >= s.len() {
             return Ahead::Cut { got: g, bits: v };
         }
-        let n = quick::decode(s[i]);
+        let n = octet::quick::decode(s[i]);
         if n == 16 {
             return Ahead::Broken;
         }

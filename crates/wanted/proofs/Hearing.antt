@@ -7,14 +7,14 @@ use native.Mathlib.Omega.{arith}
 use lib.ListN.{length}
 use Rattle.laws.specs.Pick.{pick}
 use Rattle.packet.specs.declared.Setting.{Setting}
-use Rattle.values.specs.declared.Field.{Field}
-use Rattle.values.specs.declared.Outcome.{Outcome}
-use Rattle.values.specs.Values.{isIn, withField, numberOf, outcomeOf}
-use Rattle.stages.specs.declared.Stage.{Stage}
-use Rattle.stages.specs.declared.Stage.the-variants.{Options, Value, Names, AllNames, Bad}
+use Rattle.wanted.specs.declared.values.Field.{Field}
+use Rattle.wanted.specs.declared.values.Outcome.{Outcome}
+use Rattle.wanted.specs.Values.{isIn, withField, valueOf, outcomeOf}
+use Rattle.wanted.specs.declared.stages.Stage.{Stage}
+use Rattle.wanted.specs.declared.stages.Stage.the-variants.{Options, Value, Names, AllNames, Bad}
 use Rattle.wanted.specs.declared.Word.the-variants.{Name}
-use Rattle.stages.specs.declared.Words.{Words}
-use Rattle.stages.specs.Stages.{words}
+use Rattle.wanted.specs.declared.stages.Words.{Words}
+use Rattle.wanted.specs.Stages.{words}
 use Rattle.wanted.specs.Words.{wordOf, afterOptions, afterNames, setBy, heard}
 
 pub empty-name : (w : List ℕ) → length w ≡ 0 → Name ≡ wordOf w
@@ -48,7 +48,7 @@ module _ (s : Setting) (t : Stage) (w : List ℕ) where
   pub at-options : t ≡ Options → {n : Stage} → n ≡ afterOptions (wordOf w) → words s n ≡ heard s t w
   at-options here next = rw (here, next)
 
-  pub at-value : {f : Field} → t ≡ Value f → {ws : Words} → ws ≡ setBy s f (numberOf f w) → ws ≡ heard s t w
+  pub at-value : {f : Field} → t ≡ Value f → {ws : Words} → ws ≡ setBy s f (valueOf f w) → ws ≡ heard s t w
   at-value here next = rw (here, next)
 
   pub at-names : t ≡ Names → {n : Stage} → n ≡ afterNames (wordOf w) → words s n ≡ heard s t w

@@ -10,12 +10,12 @@ use Rattle.laws.specs.Pick.{pick}
 use Rattle.laws.proofs.Tests.{both-true}
 use Rattle.packet.specs.declared.Setting.{Setting}
 use Rattle.packet.specs.Setting.{inRange}
-use Rattle.values.specs.declared.Field.{Field}
-use Rattle.values.specs.declared.Field.the-variants.{Magazine, Page, Stream, Application}
-use Rattle.stages.specs.declared.Stage.{Stage}
-use Rattle.stages.specs.declared.Stage.the-variants.{Options, Value, Names, AllNames, Bad}
-use Rattle.values.specs.Values.{leastOf, mostOf, isIn, numberOf, withField}
-use Rattle.stages.specs.Stages.{words, startWords}
+use Rattle.wanted.specs.declared.values.Field.{Field}
+use Rattle.wanted.specs.declared.values.Field.the-variants.{Magazine, Page, Stream, Application}
+use Rattle.wanted.specs.declared.stages.Stage.{Stage}
+use Rattle.wanted.specs.declared.stages.Stage.the-variants.{Options, Value, Names, AllNames, Bad}
+use Rattle.wanted.specs.Values.{leastOf, mostOf, isIn, valueOf, withField}
+use Rattle.wanted.specs.Stages.{words, startWords}
 use Rattle.wanted.specs.Words.{setBy, heard}
 
 -- in range, field by field
@@ -58,7 +58,7 @@ set-within s f n w = go (isIn f n) refl
 -- one more word, and the setting stays in range
 pub heard-within : (s : Setting) (t : Stage) (word : List ℕ) → Within s → Within (heard s t word .setting)
 heard-within s Options word w = w
-heard-within s (Value f) word w = set-within s f (numberOf f word) w
+heard-within s (Value f) word w = set-within s f (valueOf f word) w
 heard-within s Names word w = w
 heard-within s AllNames word w = w
 heard-within s Bad word w = w

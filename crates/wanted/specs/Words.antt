@@ -6,15 +6,15 @@ use lib.Dec.{eqb}
 use lib.ListN.{length, getD}
 use Rattle.laws.specs.Pick.{pick}
 use Rattle.packet.specs.declared.Setting.{Setting}
-use Rattle.values.specs.declared.Field.{Field}
-use Rattle.values.specs.declared.Field.the-variants.{Magazine, Page, Stream, Application}
-use Rattle.stages.specs.declared.Stage.{Stage}
-use Rattle.stages.specs.declared.Stage.the-variants.{Options, Value, Names, AllNames, Bad}
+use Rattle.wanted.specs.declared.values.Field.{Field}
+use Rattle.wanted.specs.declared.values.Field.the-variants.{Magazine, Page, Stream, Application}
+use Rattle.wanted.specs.declared.stages.Stage.{Stage}
+use Rattle.wanted.specs.declared.stages.Stage.the-variants.{Options, Value, Names, AllNames, Bad}
 use Rattle.wanted.specs.declared.Word.{Word}
 use Rattle.wanted.specs.declared.Word.the-variants.{Option, Last, Name, Unknown}
-use Rattle.stages.specs.declared.Words.{Words}
-use Rattle.stages.specs.Stages.{words}
-use Rattle.values.specs.Values.{numberOf, isIn, withField}
+use Rattle.wanted.specs.declared.stages.Words.{Words}
+use Rattle.wanted.specs.Stages.{words}
+use Rattle.wanted.specs.Values.{valueOf, isIn, withField}
 
 -- the character of a `-`
 abbrev pub dash : ℕ
@@ -58,7 +58,7 @@ setBy s f n = pick (isIn f n) (words (withField s f n) Options) (words s Bad)
 -- one more word; once a word was bad, all is bad
 abbrev pub heard : Setting → Stage → List ℕ → Words
 heard s Options w = words s (afterOptions (wordOf w))
-heard s (Value f) w = setBy s f (numberOf f w)
+heard s (Value f) w = setBy s f (valueOf f w)
 heard s Names w = words s (afterNames (wordOf w))
 heard s AllNames w = words s AllNames
 heard s Bad w = words s Bad

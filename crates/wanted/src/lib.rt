@@ -1,6 +1,9 @@
 // The words that the desk is called with: options that set the magazine, the page, the stream and the
 // application, then names of files. One word is heard at a time. A program hears them all, and asks
 // is_good, before it reads or prints anything; then it goes through them again for the names.
+pub mod stages;
+mod values;
+
 use packet::Setting;
 pub use stages::Stage;
 pub use stages::Words;
@@ -9,7 +12,7 @@ pub use stages::start;
 use values::Field;
 ghost use mathlib.Core.Path.{_≡_};
 ghost use Rattle.wanted.specs.Words.{heard, setBy, takenAsName, wordOf, optionOf, looksLikeName, afterOptions, afterNames};
-ghost use Rattle.values.specs.Values.{numberOf};
+ghost use Rattle.wanted.specs.Values.{valueOf};
 
 // What a word looks like.
 enum Word {
@@ -124,7 +127,7 @@ fn option(letter: u8) -> Word
 
 // The field is set to the value that the word says.
 fn set(setting: Setting, field: Field, word: &[u8]) -> Words
-    ensures { λ r. ⌜ r ≡ setBy setting field (numberOf field (now (word .entry))) ⌝ }
+    ensures { λ r. ⌜ r ≡ setBy setting field (valueOf field (now (word .entry))) ⌝ }
 {
     let outcome = values::set(setting, field, word);
     let setting = outcome.setting;

@@ -1,4 +1,4 @@
--- `fields::begin` meets its contract: a walk of its MIR, by hand. A `Reader` is made of the slice and the place passed, in the result's local.
+-- `fields::begin` meets its contract: a walk of its MIR, by hand. A `BitReader` is made of the slice and the place passed, in the result's local.
 -- A `&[u8]` is Copy, so what it owns is had twice: once for src at exit, and once inside the result, beside the facts of at.
 -- Assumes nothing.
 use mathlib.Core.Path.{refl}
@@ -34,9 +34,9 @@ use denote.Triple.Spec.{Meets, tripleOf}
 use denote.Triple.Table.{entered}
 use denote.Triple.Walked.{says, Stays, stay-none, stay-none-slice, walkOf, goes-none, goes-none-slice, Walks, ends-at, walked, walk-meets}
 use denote.Exit.{yes}
-use Rattle.fields.specs.declared.Reader.{Reader}
-use Rattle.fields.proofs.Reader as T
-use Rattle.fields.proofs.Reader.Laws as T′
+use Rattle.fields.specs.declared.BitReader.{BitReader}
+use Rattle.fields.proofs.BitReader as T
+use Rattle.fields.proofs.BitReader.Laws as T′
 use Rattle.fields.proofs.begin.Key.{name as #fields·begin}
 use Rattle.fields.proofs.begin as begin
 use Rattle.fields.proofs.begin.Statement as stated
@@ -53,7 +53,7 @@ module _ {M : Type 1} (𝓤 : URA M) (H : Heap 𝓤) (A : Atoms 𝓤) (W : Given
   abbrev v : Val
   v = sliceVal (s .ptr) (length (s .now))
 
-  abbrev made : Reader
+  abbrev made : BitReader
   made = record { src = s; at = n }
 
   abbrev at : Vals begin.signature (κ, tt)

@@ -1,4 +1,4 @@
--- `fields::field_of` meets its contract: a walk of its MIR, by hand. A `Reader` that one call returns is held in a local and passed to the next. All that the proof knows of `begin` and of `take` is that each meets its contract.
+-- `fields::field_of` meets its contract: a walk of its MIR, by hand. A `BitReader` that one call returns is held in a local and passed to the next. All that the proof knows of `begin` and of `take` is that each meets its contract.
 -- The machine value that `begin` returns is stored and passed on as it is. In a local of a body MIR erases the lifetime of the struct's type, so the value is shown to have the type at `erased`: what the struct owns does not say the lifetime's name.
 -- Assumes nothing.
 use mathlib.Core.Path.{_≡_, refl, ap₂, _∙_}
@@ -39,9 +39,9 @@ use denote.Exit.{yes}
 use denote.Triple.Clauses.{ensured, lasts}
 use Rattle.fields.specs.Fields.{field}
 use Rattle.fields.specs.Compound.{compound}
-use Rattle.fields.specs.declared.Reader.{Reader}
-use Rattle.fields.proofs.Reader as T
-use Rattle.fields.proofs.Reader.Laws as T′
+use Rattle.fields.specs.declared.BitReader.{BitReader}
+use Rattle.fields.proofs.BitReader as T
+use Rattle.fields.proofs.BitReader.Laws as T′
 use Rattle.fields.proofs.begin as begin
 use Rattle.fields.proofs.begin.Symbol as begin-def
 use Rattle.fields.proofs.begin.Symbol.{name as #fields·begin}
@@ -80,7 +80,7 @@ module _ {M : Type 1} (𝓤 : URA M) (H : Heap 𝓤) (A : Atoms 𝓤) (W : Given
   Found x = (x ≡ field n (min w 24) (compound (now s))) × (x < 2 ^ min w 24)
 
   -- what `take` says of it, of a reader
-  abbrev Took : Reader → ℕ → Type 0
+  abbrev Took : BitReader → ℕ → Type 0
   Took r x = (x ≡ field (r .at) (min w 24) (compound (now (r .src)))) × (x < 2 ^ min w 24)
 
   -- the struct's type as a local of a body has it
@@ -111,19 +111,19 @@ module _ {M : Type 1} (𝓤 : URA M) (H : Heap 𝓤) (A : Atoms 𝓤) (W : Given
       move ! (2 ∷ []) $ drop ! $ nothing ! $ owned ! usize (Is usize) (uint-makes 𝓤 H A W w64) n _ (refl, ok) $ fjoin ! $ move ! (1 ∷ 0 ∷ []) $ fjoin ! $
       move ! (2 ∷ 0 ∷ []) $ use2 W (raw (Begin 𝓤 H A mem run .pre to-begin)) (qed W ((‵ (flft κ q) ⊛ ‵ ftrue) ∷ ‵ (owns (ShrSlice (named 0) κ u8 ∷ usize ∷ []) (s, (n, tt)) passed) ∷ []) ∵ join ! $ frame ! $ done !) $ frame ! $ done !
 
-  begin-said : (r : Reader) → ent 𝓤 (ensured 𝓤 H A begin.ended (begin.clauses 𝓤 H A mem run) (κ, tt) (s, (n, tt)) tt r) (fact 𝓤 ((r .src ≡ s) × (r .at ≡ n)))
+  begin-said : (r : BitReader) → ent 𝓤 (ensured 𝓤 H A begin.ended (begin.clauses 𝓤 H A mem run) (κ, tt) (s, (n, tt)) tt r) (fact 𝓤 ((r .src ≡ s) × (r .at ≡ n)))
   begin-said r = exE 𝓤 _ (λ ws. snd∗ 𝓤 (sem 𝓤 H A (lasts begin.ended (κ, tt) (s, (n, tt)) ws)) (fact 𝓤 ((r .src ≡ s) × (r .at ≡ n))))
 
   -- the call of `take`, at the struct r with the machine value u
-  abbrev to-take : Reader → Val → Take 𝓤 H A mem run .Ghost
+  abbrev to-take : BitReader → Val → Take 𝓤 H A mem run .Ghost
   to-take r u = (((κ, tt), (q, tt), tt, (r, (w, tt)), (u ∷ [], (vint w64 w ∷ [], tt))), tt)
 
-  goes-take : (r : Reader) (u : Val) → ent 𝓤 (⋆ 𝓤 H A (‵ (B (κ, tt) .own r (u ∷ [])) ∷ (‵ (flft κ q) ⊛ ‵ ftrue) ∷ [])) (Take 𝓤 H A mem run .pre (to-take r u))
+  goes-take : (r : BitReader) (u : Val) → ent 𝓤 (⋆ 𝓤 H A (‵ (B (κ, tt) .own r (u ∷ [])) ∷ (‵ (flft κ q) ⊛ ‵ ftrue) ∷ [])) (Take 𝓤 H A mem run .pre (to-take r u))
   goes-take r u =
       qed W (‵ (B (κ, tt) .own r (u ∷ [])) ∷ (‵ (flft κ q) ⊛ ‵ ftrue) ∷ []) ∵
       nothing ! $ owned ! usize (Is usize) (uint-makes 𝓤 H A W w64) w _ (refl, okw) $ fjoin ! $ move ! (1 ∷ 0 ∷ []) $ fjoin ! $ move ! (1 ∷ 0 ∷ []) $ join ! $ frame ! $ done !
 
-  take-said : (r : Reader) (x : ℕ) → ent 𝓤 (ensured 𝓤 H A take.ended (take.clauses 𝓤 H A mem run) (κ, tt) (r, (w, tt)) tt x) (fact 𝓤 (Took r x))
+  take-said : (r : BitReader) (x : ℕ) → ent 𝓤 (ensured 𝓤 H A take.ended (take.clauses 𝓤 H A mem run) (κ, tt) (r, (w, tt)) tt x) (fact 𝓤 (Took r x))
   take-said r x = exE 𝓤 _ (λ ws. snd∗ 𝓤 (sem 𝓤 H A (lasts take.ended (κ, tt) (r, (w, tt)) ws)) (fact 𝓤 (Took r x)))
 
   exits : (x : ℕ) (u : Val) → Found x → ent 𝓤 (⋆ 𝓤 H A (‵ (usize .own x (u ∷ [])) ∷ (‵ (flft κ q) ⊛ ‵ ftrue) ∷ ‵ Own ∷ [])) (Post u)
@@ -139,7 +139,7 @@ module _ {M : Type 1} (𝓤 : URA M) (H : Heap 𝓤) (A : Atoms 𝓤) (W : Given
         alloc1 ! (λ l₀. alloc1 ! (λ l₁. alloc1 ! (λ l₂. alloc1 ! (λ l₃. alloc1 ! (λ l₄. alloc0 ! $ params1 ! $ pass1 ! (init ! 6 refl (shr-slice-lawful 𝓤 H A W (named 0) κ u8 .typed s (v ∷ []) p .0)) $ pass1 ! (init ! 4 refl (tt, record { fits = ok })) $ pass1 ! (init ! 2 refl (tt, record { fits = okw })) $ pass0 ! $
         move ! (10 ∷ []) $ use1 W (raw (Begin 𝓤 H A mem run .pre to-begin) ⊛ ‵ Own) goes-begin $ split ! $
         calls-at ! fm (Begin 𝓤 H A mem run) known-begin to-begin (and-then ! (load ! (from ! (stop !)) (look ! 8 refl)) (and-then ! (load ! (from ! (stop !)) (look ! 6 refl)) (no-more !))) (λ u.
-        use1 W (later (some (λ (r : Reader). ((‵ (flft κ q) ⊛ ‵ ftrue) ⊛ ‵ (B (κ, tt) .own r (u ∷ []))) ⊛ raw (ensured 𝓤 H A begin.ended (begin.clauses 𝓤 H A mem run) (κ, tt) (s, (n, tt)) tt r)))) (id⊢ 𝓤 _) $ await ! tt $ pick ! (λ r.
+        use1 W (later (some (λ (r : BitReader). ((‵ (flft κ q) ⊛ ‵ ftrue) ⊛ ‵ (B (κ, tt) .own r (u ∷ []))) ⊛ raw (ensured 𝓤 H A begin.ended (begin.clauses 𝓤 H A mem run) (κ, tt) (s, (n, tt)) tt r)))) (id⊢ 𝓤 _) $ await ! tt $ pick ! (λ r.
         split ! $ move ! (1 ∷ []) $ use1 W (raw (fact 𝓤 ((r .src ≡ s) × (r .at ≡ n)))) (begin-said r) $ heard ! ((r .src ≡ s) × (r .at ≡ n)) (λ e. split ! $ move ! (1 ∷ []) $
         -- [what the struct owns; the token; what s owns; room for _4; …; _3; …; _2; …; _1; …; room for _0; …]
         peeks ! (B (κ, tt)) (Is (B (κ, tt))) (shows 𝓤 H A (B (κ, tt))) r (u ∷ []) (λ is.

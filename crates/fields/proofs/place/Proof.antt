@@ -32,9 +32,9 @@ use denote.Triple.Spec.{Meets, tripleOf}
 use denote.Triple.Table.{entered}
 use denote.Triple.Walked.{says, Stays, stay-none, walkOf, goes-none, Walks, ends-at, walked, walk-meets}
 use denote.Exit.{yes}
-use Rattle.fields.specs.declared.Reader.{Reader}
-use Rattle.fields.proofs.Reader as T
-use Rattle.fields.proofs.Reader.Laws as T′
+use Rattle.fields.specs.declared.BitReader.{BitReader}
+use Rattle.fields.proofs.BitReader as T
+use Rattle.fields.proofs.BitReader.Laws as T′
 use Rattle.fields.proofs.place.Key.{name as #fields·place}
 use Rattle.fields.proofs.place as place
 use Rattle.fields.proofs.place.Statement as stated
@@ -47,7 +47,7 @@ B κs = T.the-row (namedLft 1 0 tt κs)
 abbrev stayed : Stays (place.ended .signature .params) (place.ended .kept)
 stayed = (stay-none B yes, tt)
 
-module _ {M : Type 1} (𝓤 : URA M) (H : Heap 𝓤) (A : Atoms 𝓤) (W : Given 𝓤 H A) (mem : Memory → SProp 𝓤) (run : Routine → Fun 𝓤) (κ : Lft) (q : Share) (d : Reader) where
+module _ {M : Type 1} (𝓤 : URA M) (H : Heap 𝓤) (A : Atoms 𝓤) (W : Given 𝓤 H A) (mem : Memory → SProp 𝓤) (run : Routine → Fun 𝓤) (κ : Lft) (q : Share) (d : BitReader) where
   abbrev mach : Val
   mach = T′.lowered d
 

@@ -44,9 +44,9 @@ use denote.Exit.{yes}
 use denote.Triple.Clauses.{ensured, lasts}
 use Rattle.fields.specs.Fields.{field}
 use Rattle.fields.specs.Compound.{compound}
-use Rattle.fields.specs.declared.Reader.{Reader}
-use Rattle.fields.proofs.Reader as T
-use Rattle.fields.proofs.Reader.Laws as T′
+use Rattle.fields.specs.declared.BitReader.{BitReader}
+use Rattle.fields.proofs.BitReader as T
+use Rattle.fields.proofs.BitReader.Laws as T′
 use Rattle.fields.proofs.field_at as field-at
 use Rattle.fields.proofs.field_at.Symbol as field-at-def
 use Rattle.fields.proofs.field_at.Symbol.{name as #fields·field-at}
@@ -68,7 +68,7 @@ module _ {M : Type 1} (𝓤 : URA M) (H : Heap 𝓤) (A : Atoms 𝓤) (mem : Mem
   abbrev FieldAt : Contract 𝓤
   FieldAt = tripleOf 𝓤 H A field-at.signature (field-at.spec 𝓤 H A mem run)
 
-module _ {M : Type 1} (𝓤 : URA M) (H : Heap 𝓤) (A : Atoms 𝓤) (W : Given 𝓤 H A) (mem : Memory → SProp 𝓤) (run : Routine → Fun 𝓤) (κ : Lft) (q : Share) (d : Reader) (w : ℕ) (ok : w < 2 ^ 64) where
+module _ {M : Type 1} (𝓤 : URA M) (H : Heap 𝓤) (A : Atoms 𝓤) (W : Given 𝓤 H A) (mem : Memory → SProp 𝓤) (run : Routine → Fun 𝓤) (κ : Lft) (q : Share) (d : BitReader) (w : ℕ) (ok : w < 2 ^ 64) where
   abbrev mach : Val
   mach = T′.lowered d
 

@@ -1,7 +1,7 @@
 -- `firmware::guide_unit_at` meets its contract: it packs what the walk answers. Assumes nothing.
 use borrow.Author.Needs.{needs}
 use mathlib.Core.Path.{_∙_, ap}
-use Rattle.packing.specs.Values.{packed}
+use Rattle.firmware.specs.Values.{packed}
 use Rattle.firmware.proofs.guide_unit_at.Statement.{statement}
 use Rattle.firmware.proofs.guide_unit_at.Tie as tie
 

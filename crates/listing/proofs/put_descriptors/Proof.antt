@@ -10,7 +10,7 @@ use Rattle.forms.proofs.Measures.{words-counted}
 use Rattle.forms.specs.Form.{descriptorsIn, tableIn}
 use Rattle.forms.specs.Tables.{per}
 use Rattle.listing.specs.Lines.{descriptorLines, descriptorLinesOf}
-use Rattle.printing.proofs.Puts.{Left, left-start, left-on, left-end}
+use Rattle.printing.proofs.Printed.{Left, left-start, left-on, left-end}
 use Rattle.listing.proofs.Walk.{descriptors-on, descriptors-end}
 use Rattle.listing.proofs.put_descriptors.Statement.{statement}
 use Rattle.listing.proofs.put_descriptors.Tie as tie

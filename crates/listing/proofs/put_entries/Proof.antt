@@ -9,7 +9,7 @@ use denote.Ref.{now}
 use Rattle.forms.specs.Form.{wordsIn}
 use Rattle.forms.specs.Tables.{per}
 use Rattle.listing.specs.Lines.{entryLines}
-use Rattle.printing.proofs.Puts.{Left, left-start, left-on, left-end}
+use Rattle.printing.proofs.Printed.{Left, left-start, left-on, left-end}
 use Rattle.listing.proofs.Walk.{entries-on, entries-end}
 use Rattle.listing.proofs.put_entries.Statement.{statement}
 use Rattle.listing.proofs.put_entries.Tie as tie

@@ -3,8 +3,8 @@ use mathlib.Core.Path.{refl}
 use native.Mathlib.Omega.{arith}
 use denote.Ref.{now}
 use borrow.Author.Needs.{needs}
-use Rattle.headers.proofs.Judged.{as-lost}
-use Rattle.pages.proofs.Judged.{as-short, as-junk, as-other, as-zero, as-over, as-row, as-stays, as-rowed, as-same}
+use Rattle.pages.proofs.Headed.{as-lost}
+use Rattle.pages.proofs.Judged.{as-short, as-junk, as-other, as-zero, as-over, as-packet, as-stays, as-numbered, as-same}
 use Rattle.pages.proofs.judge.Statement.{statement}
 use Rattle.pages.proofs.judge.Tie as tie
 
@@ -44,14 +44,14 @@ returns-5 c =
     as-stays (a .page) (a .index)
     (as-over (a .setting) (now (a .packet)) (c .before .before .before .before .before .if1 .left) (c .before .before .before .before .if2 .left) (c .before .before .if3 .left) (c .if5 .taken))
 
-row-requires : tie.Need-row-requires
-row-requires c κs = omega arith
+judge-y-requires : tie.Need-judge-y-requires
+judge-y-requires c κs = omega arith
 
 returns-6 : tie.Need-returns-6
 returns-6 c =
     let a = c .before .before .before .before .before .before .before .before .args in
-    as-rowed (a .page) (a .index) (c .row .ensures)
-    (as-row (a .setting) (now (a .packet)) (c .before .before .before .before .before .before .if1 .left) (c .before .before .before .before .before .if2 .left) (c .before .before .before .if3 .left) (c .before .before .if4 .left) (c .before .if5 .left))
+    as-numbered (a .page) (a .index) (c .judge-y .ensures)
+    (as-packet (a .setting) (now (a .packet)) (c .before .before .before .before .before .before .if1 .left) (c .before .before .before .before .before .if2 .left) (c .before .before .before .if3 .left) (c .before .before .if4 .left) (c .before .if5 .left))
 
 pub judge-spec : {M : Type 1} → statement M
 judge-spec =
@@ -65,5 +65,5 @@ judge-spec =
     judge-zero-requires
     returns-4
     returns-5
-    row-requires
+    judge-y-requires
     returns-6)

@@ -10,7 +10,7 @@ use lib.Dec.{leb, eqb}
 use lib.ListN.{length}
 use Rattle.laws.specs.Pick.{both}
 use Rattle.units.specs.Units.{byteAt}
-use Rattle.pes.specs.Header.{startsRight, packetLength, lengthFits, flagsFit, headerRules}
+use Rattle.pes.specs.Header.{startsRight, pesLength, lengthFits, flagsFit, headerRules}
 use Rattle.pes.specs.Reading.{readRules}
 use Rattle.pes.proofs.Heading.{started, Sized, sized}
 use Rattle.pes.proofs.judge.Statement.{statement}
@@ -28,8 +28,8 @@ has-header c = started (c .before .before .before .args .pes .now) (first c)
 
 second :
     (c : tie.Else2)
-    → both (lengthFits (packetLength (c .before .before .before .before .before .before .before .args .pes .now)))
-    (eqb (packetLength (c .before .before .before .before .before .before .before .args .pes .now) + 6)
+    → both (lengthFits (pesLength (c .before .before .before .before .before .before .before .args .pes .now)))
+    (eqb (pesLength (c .before .before .before .before .before .before .before .args .pes .now) + 6)
     (length (c .before .before .before .before .before .before .before .args .pes .now)))
     ≡ true
 second c = sym (c .before .length-fits .ensures) ∙ not-false _ (c .if2 .left)
@@ -40,7 +40,7 @@ third c = sym (c .before .flags-fit .ensures) ∙ not-false _ (c .if3 .left)
 long : (c : tie.Else2) → Sized (length (c .before .before .before .before .before .before .before .args .pes .now))
 long c =
     let pes = c .before .before .before .before .before .before .before .args .pes .now in
-    sized (packetLength pes) (length pes) (second c)
+    sized (pesLength pes) (length pes) (second c)
 
 -- ---- the needs
 

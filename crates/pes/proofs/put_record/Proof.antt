@@ -4,7 +4,7 @@ use mathlib.Core.Path.{_∙_}
 use native.Mathlib.Numerals.{add-one, add-two}
 use native.Mathlib.Omega.{arith}
 use lib.ListN.{length-set}
-use Rattle.ebu.proofs.Runs.{text-fits}
+use Rattle.pes.proofs.Runs.{text-fits}
 use Rattle.pes.specs.Reading.{recordAt}
 use Rattle.pes.proofs.put_record.Statement.{statement}
 use Rattle.pes.proofs.put_record.Tie as tie

@@ -4,7 +4,7 @@ use mathlib.Core.Path.{_∙_}
 use native.Mathlib.Numerals.{add-one, add-two, add-three, add-four}
 use native.Mathlib.Omega.{arith}
 use lib.ListN.{length-set}
-use Rattle.ebu.proofs.Runs.{text-fits}
+use Rattle.pes.proofs.Runs.{text-fits}
 use Rattle.pes_writer.specs.Writing.{unitOf}
 use Rattle.pes_writer.proofs.put_unit.Statement.{statement}
 use Rattle.pes_writer.proofs.put_unit.Tie as tie

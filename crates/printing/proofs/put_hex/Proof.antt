@@ -1,7 +1,7 @@
 -- `printing::put_hex` meets its contract: two digits for each of three bytes and the line's end, put at once. Assumes nothing.
 use borrow.Author.Needs.{needs}
 use Rattle.forms.specs.Form.{spelled}
-use Rattle.puts.proofs.Puts.{put-at}
+use Rattle.printing.proofs.Putting.{put-at}
 use Rattle.printing.specs.Lines.{hexed}
 use Rattle.printing.proofs.put_hex.Statement.{statement}
 use Rattle.printing.proofs.put_hex.Tie as tie

@@ -2,7 +2,7 @@
 use borrow.Author.Needs.{needs}
 use mathlib.Core.List.{[], _∷_}
 use Rattle.printing.specs.Lines.{languageLine, languageName, languageOf}
-use Rattle.printing.proofs.Puts.{put-past, put-line}
+use Rattle.printing.proofs.Printed.{put-past, put-line}
 use Rattle.printing.proofs.put_language.Statement.{statement}
 use Rattle.printing.proofs.put_language.Tie as tie
 

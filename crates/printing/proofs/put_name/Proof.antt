@@ -3,7 +3,7 @@ use borrow.Author.Needs.{needs}
 use borrow.Author.Tests.{not-true, not-false}
 use mathlib.Core.Path.{_∙_, sym}
 use Rattle.forms.specs.Form.{spelled}
-use Rattle.puts.proofs.Puts.{put-at}
+use Rattle.printing.proofs.Putting.{put-at}
 use Rattle.printing.specs.Lines.{languageOf}
 use Rattle.printing.proofs.put_name.Statement.{statement}
 use Rattle.printing.proofs.put_name.Tie as tie

@@ -3,7 +3,7 @@ use borrow.Author.Needs.{needs}
 use mathlib.Core.List.{[], _∷_}
 use denote.Ref.{now}
 use Rattle.printing.specs.Lines.{numberLine, decimal}
-use Rattle.printing.proofs.Puts.{put-past, put-line}
+use Rattle.printing.proofs.Printed.{put-past, put-line}
 use Rattle.printing.proofs.put_number.Statement.{statement}
 use Rattle.printing.proofs.put_number.Tie as tie
 

@@ -3,7 +3,7 @@ use borrow.Author.Needs.{needs}
 use mathlib.Core.List.{[], _∷_}
 use Rattle.forms.specs.Form.{spelled}
 use Rattle.printing.specs.Lines.{pageLine, pageName, hexed}
-use Rattle.printing.proofs.Puts.{put-past, put-line}
+use Rattle.printing.proofs.Printed.{put-past, put-line}
 use Rattle.printing.proofs.put_page.Statement.{statement}
 use Rattle.printing.proofs.put_page.Tie as tie
 

@@ -1,4 +1,4 @@
--- `reader::feed` meets its contract: the packet's length, and then what the call for a row says of a row of one. Assumes nothing.
+-- `reader::feed` meets its contract: the packet's length, and then what the call for a list says of a list of one. Assumes nothing.
 use mathlib.Core.Path.{_≡_}
 use lib.ListN.{length}
 use denote.Ref.{now}

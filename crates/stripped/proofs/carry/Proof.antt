@@ -4,7 +4,7 @@ use mathlib.Core.Path.{_∙_, sym, ap}
 use native.Mathlib.Omega.{arith}
 use denote.Ref.{now}
 use lib.ListN.{length}
-use Rattle.loss.proofs.Blanking.{blank-fits}
+use Rattle.stripped.proofs.Blanking.{blank-fits}
 use Rattle.stripped.proofs.Carrying.{refused-carries, done-fits, done-carries, goes, records-go, packets-go, short-records, short-packets}
 use Rattle.stripped.proofs.carry.Statement.{statement}
 use Rattle.stripped.proofs.carry.Tie as tie

@@ -16,7 +16,7 @@ use Rattle.octet.specs.Decoding.{nib}
 use Rattle.fields.specs.Fields.{whole}
 use Rattle.forms.specs.Form.{form}
 use Rattle.sums.specs.Block.{headOf, nibblesOf}
-use Rattle.spelling.specs.Control.{tableOf}
+use Rattle.table.specs.Control.{tableOf}
 use Rattle.table.specs.Reading.{frameRules, bodyRules}
 use Rattle.table.proofs.Judging.{framed}
 use Rattle.table.proofs.judge.Statement.{statement}

@@ -8,7 +8,7 @@ use Rattle.answer.proofs.Steps.{ends, goes-on}
 use Rattle.octet.specs.Decoding.{nib}
 use Rattle.fields.specs.Fields.{whole}
 use Rattle.table.specs.Reading.{frontRules, wholeRules}
-use Rattle.lengths.specs.Lengths.{lengthRules}
+use Rattle.table.specs.Lengths.{lengthRules}
 use Rattle.table.proofs.judge_body.Statement.{statement}
 use Rattle.table.proofs.judge_body.Tie as tie
 

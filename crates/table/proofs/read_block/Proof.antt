@@ -13,7 +13,7 @@ use Rattle.octet.specs.Decoding.{nib}
 use Rattle.fields.specs.Fields.{whole}
 use Rattle.forms.specs.Form.{form}
 use Rattle.sums.specs.Block.{nibblesOf}
-use Rattle.spelling.specs.Control.{tableOf}
+use Rattle.table.specs.Control.{tableOf}
 use Rattle.table.specs.Reading.{readRules, tableRead}
 use Rattle.table.proofs.Judging.{long-enough}
 use Rattle.answer.specs.declared.Answer.the-variants.{Done}

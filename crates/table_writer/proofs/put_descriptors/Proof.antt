@@ -15,7 +15,7 @@ use Rattle.forms.specs.Form.{descriptorsIn, tableIn}
 use Rattle.forms.proofs.Measures.{words-counted}
 use Rattle.table_writer.specs.Ink.{inked, moved, Fine}
 use Rattle.table_writer.proofs.Inking.{room-on, none-left, none-inked}
-use Rattle.table_writer.proofs.Rows.{loops-end}
+use Rattle.table_writer.proofs.Looped.{loops-end}
 use Rattle.table_writer.proofs.Descriptors.{heading-lt, few-words, fit-on, room-heading, fine-heading, room-words, fine-descriptor, on-descriptor, inked-descriptor}
 use Rattle.table_writer.proofs.put_descriptors.Statement.{statement}
 use Rattle.table_writer.proofs.put_descriptors.Tie as tie

@@ -6,19 +6,19 @@ use mathlib.Core.List.{List, [], _∷_}
 use Prim.Native.Nat.{ℕ, _+_, _-_, _*_, _<_}
 use lib.ListN.{length, drop}
 use denote.Ref.{now}
-use Rattle.fields.specs.Fields.{Field, row}
+use Rattle.fields.specs.Fields.{Field, alike}
 use Rattle.forms.specs.Form.{wordsIn}
 use Rattle.table_writer.specs.Ink.{inked, moved, Fine}
 use Rattle.table_writer.proofs.Inking.{room-first, room-on, on-moved, on-inked, on-fine, none-left, none-inked}
-use Rattle.table_writer.proofs.Rows.{row-on, row-end}
+use Rattle.table_writer.proofs.Looped.{alike-on, alike-end}
 use Rattle.table_writer.proofs.put_words.Statement.{statement}
 use Rattle.table_writer.proofs.put_words.Tie as tie
 
 abbrev Inv-loop : tie.InvT-loop
 Inv-loop table from k out₀ p₀ i₀ left₀ out p i left =
     Fine p × (length out ≡ length out₀) × (i + 3 * left < 400000)
-    × (moved p (row 24 (wordsIn left (drop i table))) ≡ moved p₀ (row 24 (wordsIn k (drop from table))))
-    × (inked p (row 24 (wordsIn left (drop i table))) out ≡ inked p₀ (row 24 (wordsIn k (drop from table))) out₀)
+    × (moved p (alike 24 (wordsIn left (drop i table))) ≡ moved p₀ (alike 24 (wordsIn k (drop from table))))
+    × (inked p (alike 24 (wordsIn left (drop i table))) out ≡ inked p₀ (alike 24 (wordsIn k (drop from table))) out₀)
 
 abbrev μ-loop : tie.MeasureT-loop
 μ-loop table from k out₀ p₀ i₀ left₀ out p i left = left
@@ -35,10 +35,10 @@ put-requires c κs =
     let s = c .before .before .before .before .before .before in
     let f : List ℕ = now (s .args .table) in
     let w = c .before .word-at in
-    let rest : List Field = row 24 (wordsIn (l .left - 1) (drop (l .i + 3) f)) in
-    let now-left : List Field = row 24 (wordsIn (l .left) (drop (l .i) f)) in
-    let e = row-on (l .left) (l .i) (w .result) f (search needs) (w .ensures .0) in
-    let room = room-on (l .p) (s .args .pen) now-left (row 24 (wordsIn (s .args .k) (drop (s .args .from) f))) (length (now (s .args .out))) (l .inv .3) (s .pre .2) in (
+    let rest : List Field = alike 24 (wordsIn (l .left - 1) (drop (l .i + 3) f)) in
+    let now-left : List Field = alike 24 (wordsIn (l .left) (drop (l .i) f)) in
+    let e = alike-on (l .left) (l .i) (w .result) f (search needs) (w .ensures .0) in
+    let room = room-on (l .p) (s .args .pen) now-left (alike 24 (wordsIn (s .args .k) (drop (s .args .from) f))) (length (now (s .args .out))) (l .inv .3) (s .pre .2) in (
       l .inv .0,
       search needs,
       w .ensures .1,
@@ -61,9 +61,9 @@ loop-again c =
     let f : List ℕ = now (s .args .table) in
     let w = c .before .before .before .before .word-at in
     let d = c .before .before .put in
-    let rest : List Field = row 24 (wordsIn (l .left - 1) (drop (l .i + 3) f)) in
-    let now-left : List Field = row 24 (wordsIn (l .left) (drop (l .i) f)) in
-    let e = row-on (l .left) (l .i) (w .result) f (search needs) (w .ensures .0) in (
+    let rest : List Field = alike 24 (wordsIn (l .left - 1) (drop (l .i + 3) f)) in
+    let now-left : List Field = alike 24 (wordsIn (l .left) (drop (l .i) f)) in
+    let e = alike-on (l .left) (l .i) (w .result) f (search needs) (w .ensures .0) in (
       on-fine (l .p) ((24, w .result) ∷ []) rest now-left e (d .ensures .0),
       d .kept .1 .1 .1 .0 ∙ l .inv .1,
       search needs,
@@ -79,7 +79,7 @@ returns c =
     let l = c .before .loop in
     let s = c .before .before .before .before in
     let f : List ℕ = now (s .args .table) in
-    let e = row-end (l .left) (l .i) f (search needs) in (
+    let e = alike-end (l .left) (l .i) f (search needs) in (
       sym (none-left (l .p) (l .inv .0)) ∙ sym (ap (moved (l .p)) e) ∙ l .inv .3,
       sym (none-inked (l .p) (l .inv .0) (l .out)) ∙ sym (ap (λ (x : List Field). inked (l .p) x (l .out)) e) ∙ l .inv .4,
     )

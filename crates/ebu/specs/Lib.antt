@@ -1,2 +1,0 @@
--- EBU data of a PES packet: SCOPE 6.3 and 6.6, after EN 300 472.
-pub mod Texts

@@ -1,0 +1,71 @@
+-- `forms::items::word_at` meets its contract: three bytes, the high one first, or none. Assumes nothing.
+use borrow.Author.Needs.{needs}
+use mathlib.Core.Path.{_≡_, _∙_}
+use mathlib.Core.List.{List}
+use Prim.Native.Nat.{ℕ, _+_}
+use native.Mathlib.Omega.{arith}
+use lib.ListN.{getD}
+use denote.Ref.{now}
+use Rattle.forms.proofs.Words.{word-of, word-past}
+use Rattle.forms.proofs.items.word_at.Statement.{statement}
+use Rattle.forms.proofs.items.word_at.Tie as tie
+
+returns : tie.Need-returns
+returns c = (word-past (now (c .before .before .args .table)) (c .before .before .args .i) (c .if1 .taken), search needs)
+
+byte-at-requires : tie.Need-byte-at-requires
+byte-at-requires c κs = search needs
+
+add-byte-at : tie.Need-add-byte-at
+add-byte-at c = search needs
+
+byte-at-requires-2 : tie.Need-byte-at-requires-2
+byte-at-requires-2 c κs = search needs
+
+add-byte-at-2 : tie.Need-add-byte-at-2
+add-byte-at-2 c = search needs
+
+byte-at-requires-3 : tie.Need-byte-at-requires-3
+byte-at-requires-3 c κs = search needs
+
+mul-result : tie.Need-mul-result
+mul-result c = search needs
+
+add-result : tie.Need-add-result
+add-result c = search needs
+
+mul-result-2 : tie.Need-mul-result-2
+mul-result-2 c = search needs
+
+add-result-2 : tie.Need-add-result-2
+add-result-2 c = search needs
+
+returns-2 : tie.Need-returns-2
+returns-2 c =
+    let a = c .before .before .before .before .before .args in
+    let f : List ℕ = now (a .table) in
+    let x = c .before .before .byte-at in
+    let y = c .before .byte-at2 in
+    let z = c .byte-at3 in
+    let ex : x .result ≡ getD f (a .i) 0 = x .ensures .0 in
+    let ey : y .result ≡ getD f (a .i + 1) 0 = y .ensures .0 in
+    let ez : z .result ≡ getD f (a .i + 2) 0 = z .ensures .0 in (
+      word-of (x .result) (y .result) (z .result) (x .ensures .1) (y .ensures .1) (z .ensures .1) ∙ (rw (ex, ey, ez)),
+      omega (arith, x .ensures .1, y .ensures .1, z .ensures .1),
+    )
+
+pub word-at-spec : {M : Type 1} → statement M
+word-at-spec =
+    tie.close
+    (tie.spec
+    returns
+    byte-at-requires
+    add-byte-at
+    byte-at-requires-2
+    add-byte-at-2
+    byte-at-requires-3
+    mul-result
+    add-result
+    mul-result-2
+    add-result-2
+    returns-2)

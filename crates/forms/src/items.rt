@@ -1,0 +1,55 @@
+// What the bytes of a table's form say one by one: a byte, a word, whether the kind is one of ours, and how many words its entries have.
+ghost use mathlib.Core.Path.{_≡_};
+ghost use Prim.Native.Nat.{_*_, _%_, _^_, _<_, _≤_};
+ghost use lib.ListN.{getD};
+ghost use Rattle.forms.specs.Kinds.{per, known as Kinds·known};
+ghost use Rattle.forms.specs.Words.{wordAt};
+
+// 11.12.3: the datatype_id of a Subtitle and of a Language table.
+pub const TI: usize = 8;
+
+const LI: usize = 7;
+
+// TI or LI.
+pub fn known(kind: usize) -> bool
+    ensures { λ r. ⌜ r ≡ Kinds·known kind ⌝ }
+{
+    if kind == TI {
+        return true;
+    }
+    kind == LI
+}
+
+// The words that so many entries of a kind have. Only a byte's worth of entries counts.
+pub fn words_of(kind: usize, entries: usize) -> usize
+    ensures { λ r. ⌜ (r ≡ per kind * (entries % 256)) × (r ≤ 2 * (entries % 256)) ⌝ }
+{
+    let n = entries % 256;
+    if kind == TI {
+        return 2 * n;
+    }
+    n
+}
+
+// The word at a place of a form, high byte first. Past its end a form reads as zeros.
+pub fn word_at(table: &[u8], i: usize) -> usize
+    ensures { λ r. ⌜ (r ≡ wordAt (now (table .entry)) i) × (r < 2 ^ 24) ⌝ }
+{
+    if table.len() <= i {
+        return 0;
+    }
+    let high = byte_at(table, i);
+    let middle = byte_at(table, i + 1);
+    let low = byte_at(table, i + 2);
+    (high * 256 + middle) * 256 + low
+}
+
+// The byte i; 0 past the end.
+pub fn byte_at(s: &[u8], i: usize) -> usize
+    ensures { λ r. ⌜ (r ≡ getD (now (s .entry)) i 0) × (r < 256) ⌝ }
+{
+    if i < s.len() {
+        return s[i] as usize;
+    }
+    0
+}

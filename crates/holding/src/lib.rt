@@ -1,1 +1,0 @@
-// No code: laws of the running block in its store, which the crates that hold it cite.

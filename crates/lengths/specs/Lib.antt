@@ -1,2 +1,0 @@
--- How long a block is, and the table in it.
-pub mod Lengths

@@ -1,2 +1,0 @@
--- The output that the programs try_NAME lend.
-pub mod Lent

@@ -1,2 +1,0 @@
--- The laws behind the functions proofs.
-mod Ending

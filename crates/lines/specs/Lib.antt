@@ -1,2 +1,0 @@
--- What a line is.
-pub mod Ending

@@ -1,2 +1,0 @@
--- What goes out where packets are lost.
-pub mod Loss

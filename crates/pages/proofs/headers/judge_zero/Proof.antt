@@ -1,0 +1,147 @@
+-- `pages::headers::judge_zero` meets its contract: what its six bytes say decides. Assumes nothing.
+use mathlib.Core.Path.{_∙_, sym}
+use native.Mathlib.Omega.{arith}
+use denote.Ref.{now}
+use borrow.Author.Needs.{needs}
+use borrow.Author.Tests.{not-true, not-false}
+use Rattle.pages.proofs.Headed.{legible-long, legible-at, zero-junk, zero-foreign, zero-ours, as-lost, as-foreign, as-ours}
+use Rattle.pages.proofs.headers.judge_zero.Statement.{statement}
+use Rattle.pages.proofs.headers.judge_zero.Tie as tie
+
+readable-requires : tie.Need-readable-requires
+readable-requires c κs = search needs
+
+shut-requires : tie.Need-shut-requires
+shut-requires c κs = search needs
+
+returns : tie.Need-returns
+returns c =
+    let a = c .before .before .before .before .args in
+    as-lost (a .page) (a .last) (c .shut .ensures) (zero-junk (a .setting) (now (a .packet)) (sym (not-true _ (c .before .if1 .taken)) ∙ c .before .before .readable .ensures))
+
+shared-slice-read-decode : tie.Need-shared-slice-read-decode
+shared-slice-read-decode c =
+    let long = legible-long (now (c .before .before .before .before .args .packet)) (sym (not-false _ (c .before .if1 .left)) ∙ c .before .before .readable .ensures) in
+    search needs
+
+decode-requires : tie.Need-decode-requires
+decode-requires c κs = search needs
+
+shared-slice-read-decode-2 : tie.Need-shared-slice-read-decode-2
+shared-slice-read-decode-2 c =
+    let long = legible-long (now (c .before .before .before .before .before .before .args .packet)) (sym (not-false _ (c .before .before .before .if1 .left)) ∙ c .before .before .before .before .readable .ensures) in
+    search needs
+
+decode-requires-2 : tie.Need-decode-requires-2
+decode-requires-2 c κs = search needs
+
+mul-number : tie.Need-mul-number
+mul-number c =
+    let p = now (c .before .before .before .before .before .before .before .args .packet) in
+    let e = sym (not-false _ (c .before .before .before .before .if1 .left)) ∙ c .before .before .before .before .before .readable .ensures in
+    omega (arith, c .decode2 .ensures, c .before .before .decode .ensures, legible-at p 0 e (omega arith), legible-at p 1 e (omega arith))
+
+add-number : tie.Need-add-number
+add-number c =
+    let p = now (c .before .before .before .before .before .before .before .args .packet) in
+    let e = sym (not-false _ (c .before .before .before .before .if1 .left)) ∙ c .before .before .before .before .before .readable .ensures in
+    omega (arith, c .decode2 .ensures, c .before .before .decode .ensures, legible-at p 0 e (omega arith), legible-at p 1 e (omega arith))
+
+shared-slice-read-decode-3 : tie.Need-shared-slice-read-decode-3
+shared-slice-read-decode-3 c =
+    let long = legible-long (now (c .before .before .before .before .before .before .before .before .args .packet)) (sym (not-false _ (c .before .before .before .before .before .if1 .left)) ∙ c .before .before .before .before .before .before .readable .ensures) in
+    search needs
+
+decode-requires-3 : tie.Need-decode-requires-3
+decode-requires-3 c κs = search needs
+
+is-ours-requires : tie.Need-is-ours-requires
+is-ours-requires c κs = search needs
+
+is-incomplete-requires : tie.Need-is-incomplete-requires
+is-incomplete-requires c κs = search needs
+
+shut-requires-2 : tie.Need-shut-requires-2
+shut-requires-2 c κs = search needs
+
+returns-2 : tie.Need-returns-2
+returns-2 c =
+    let a = c .before .before .before .before .before .before .before .before .before .before .before .before .before .args in
+    let e = sym (not-false _ (c .before .before .before .before .before .before .before .before .before .before .if1 .left)) ∙ c .before .before .before .before .before .before .before .before .before .before .before .readable .ensures in
+    as-foreign (a .page) (a .last) (c .shut2 .ensures) (c .before .is-incomplete .ensures)
+    (zero-foreign (a .setting) (now (a .packet)) e (c .before .before .before .before .before .before .before .before .decode .ensures) (c .before .before .before .before .before .before .decode2 .ensures) (c .before .before .before .before .decode3 .ensures) (c .before .before .before .is-ours .ensures) (not-true _ (c .before .before .if2 .taken)))
+
+shared-slice-read-decode-4 : tie.Need-shared-slice-read-decode-4
+shared-slice-read-decode-4 c =
+    let long = legible-long (now (c .before .before .before .before .before .before .before .before .before .before .before .before .args .packet)) (sym (not-false _ (c .before .before .before .before .before .before .before .before .before .if1 .left)) ∙ c .before .before .before .before .before .before .before .before .before .before .readable .ensures) in
+    search needs
+
+decode-requires-4 : tie.Need-decode-requires-4
+decode-requires-4 c κs = search needs
+
+shared-slice-read-decode-5 : tie.Need-shared-slice-read-decode-5
+shared-slice-read-decode-5 c =
+    let long = legible-long (now (c .before .before .before .before .before .before .before .before .before .before .before .before .before .before .args .packet)) (sym (not-false _ (c .before .before .before .before .before .before .before .before .before .before .before .if1 .left)) ∙ c .before .before .before .before .before .before .before .before .before .before .before .before .readable .ensures) in
+    search needs
+
+decode-requires-5 : tie.Need-decode-requires-5
+decode-requires-5 c κs = search needs
+
+shared-slice-read-decode-6 : tie.Need-shared-slice-read-decode-6
+shared-slice-read-decode-6 c =
+    let long = legible-long (now (c .before .before .before .before .before .before .before .before .before .before .before .before .before .before .before .before .args .packet)) (sym (not-false _ (c .before .before .before .before .before .before .before .before .before .before .before .before .before .if1 .left)) ∙ c .before .before .before .before .before .before .before .before .before .before .before .before .before .before .readable .ensures) in
+    search needs
+
+decode-requires-6 : tie.Need-decode-requires-6
+decode-requires-6 c κs = search needs
+
+mul-n : tie.Need-mul-n
+mul-n c = search needs
+
+add-n : tie.Need-add-n
+add-n c = search needs
+
+page-of-requires : tie.Need-page-of-requires
+page-of-requires c κs = search needs
+
+is-break-requires : tie.Need-is-break-requires
+is-break-requires c κs = search needs
+
+returns-3 : tie.Need-returns-3
+returns-3 c =
+    let a = c .before .before .before .before .before .before .before .before .before .before .before .before .before .before .before .before .before .before .before .args in
+    let e = sym (not-false _ (c .before .before .before .before .before .before .before .before .before .before .before .before .before .before .before .before .if1 .left)) ∙ c .before .before .before .before .before .before .before .before .before .before .before .before .before .before .before .before .before .readable .ensures in
+    as-ours (a .page) (a .last) (c .is-break .ensures) (c .before .page-of .ensures)
+    (zero-ours (a .setting) (now (a .packet)) e (c .before .before .before .before .before .before .before .before .before .before .before .before .before .before .decode .ensures) (c .before .before .before .before .before .before .before .before .before .before .before .before .decode2 .ensures) (c .before .before .before .before .before .before .before .before .before .before .decode3 .ensures) (c .before .before .before .before .before .before .before .before .before .is-ours .ensures) (not-false _ (c .before .before .before .before .before .before .before .before .if2 .left))
+    (c .before .before .before .before .before .before .decode4 .ensures) (c .before .before .before .before .decode5 .ensures) (c .before .before .decode6 .ensures))
+
+pub judge-zero-spec : {M : Type 1} → statement M
+judge-zero-spec =
+    tie.close
+    (tie.spec
+    readable-requires
+    shut-requires
+    returns
+    shared-slice-read-decode
+    decode-requires
+    shared-slice-read-decode-2
+    decode-requires-2
+    mul-number
+    add-number
+    shared-slice-read-decode-3
+    decode-requires-3
+    is-ours-requires
+    is-incomplete-requires
+    shut-requires-2
+    returns-2
+    shared-slice-read-decode-4
+    decode-requires-4
+    shared-slice-read-decode-5
+    decode-requires-5
+    shared-slice-read-decode-6
+    decode-requires-6
+    mul-n
+    add-n
+    page-of-requires
+    is-break-requires
+    returns-3)

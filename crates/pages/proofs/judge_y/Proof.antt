@@ -1,0 +1,27 @@
+-- `pages::judge_y` meets its contract: no page is open, the packet is over n, or it is read. Assumes nothing.
+use borrow.Author.Needs.{needs}
+use borrow.Author.Tests.{le-leb, lt-leb}
+use Rattle.pages.proofs.judge_y.Statement.{statement}
+use Rattle.pages.proofs.judge_y.Tie as tie
+
+enum-told : tie.Need-enum-told
+enum-told c = search needs
+
+enum-known-page : tie.Need-enum-known-page
+enum-known-page c = search needs
+
+is-wrong-requires : tie.Need-is-wrong-requires
+is-wrong-requires c κs = search needs
+
+returns : tie.Need-returns
+returns c = rw (c .before .is-wrong .ensures, c .before .before .before .page .given .1, lt-leb _ _ (c .if1 .taken))
+
+returns-2 : tie.Need-returns-2
+returns-2 c = rw (c .enum-told .given .1)
+
+returns-3 : tie.Need-returns-3
+returns-3 c = rw (c .before .is-wrong .ensures, c .before .before .before .page .given .1, le-leb _ _ (c .if1 .left))
+
+pub judge-y-spec : {M : Type 1} → statement M
+judge-y-spec =
+    tie.close (tie.spec enum-told enum-known-page is-wrong-requires returns returns-2 returns-3)

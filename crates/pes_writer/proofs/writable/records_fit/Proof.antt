@@ -1,0 +1,76 @@
+-- `pes_writer::writable::records_fit` meets its contract. The loop's invariant: whether the records from here on fit is the whole answer. The measure
+-- is the number of records that are left. Assumes nothing.
+use borrow.Author.Needs.{needs}
+use borrow.Author.Tests.{not-true, not-false}
+use mathlib.Core.Path.{_≡_, _∙_, sym}
+use Prim.Native.Nat.{_+_, _*_, _≤_}
+use native.Mathlib.Omega.{arith}
+use lib.ListN.{length}
+use Rattle.pes_writer.specs.Records.{recordsFit}
+use Rattle.pes_writer.proofs.Fits.{fit-stops, fit-goes, fit-none}
+use Rattle.pes_writer.proofs.writable.records_fit.Statement.{statement}
+use Rattle.pes_writer.proofs.writable.records_fit.Tie as tie
+
+abbrev Inv-loop : tie.InvT-loop
+Inv-loop records units at₀ more₀ at more =
+    (at + 44 * more ≤ length records) × (recordsFit more records at ≡ recordsFit units records 0)
+
+abbrev μ-loop : tie.MeasureT-loop
+μ-loop records units at₀ more₀ at more = more
+
+loop-holds : tie.Need-loop-holds Inv-loop μ-loop
+loop-holds c = search needs
+
+shared-slice-read-record-fits : tie.Need-shared-slice-read-record-fits Inv-loop μ-loop
+shared-slice-read-record-fits c = search needs
+
+add-record-fits : tie.Need-add-record-fits Inv-loop μ-loop
+add-record-fits c = search needs
+
+shared-slice-read-record-fits-2 : tie.Need-shared-slice-read-record-fits-2 Inv-loop μ-loop
+shared-slice-read-record-fits-2 c = search needs
+
+record-fits-requires : tie.Need-record-fits-requires Inv-loop μ-loop
+record-fits-requires c κs = search needs
+
+returns : tie.Need-returns Inv-loop μ-loop
+returns c =
+    let l = c .before .before .before .before .before .loop in
+    let f = c .before .record-fits in
+    sym (fit-stops (l .more) _ (l .at) (search needs) (sym (f .ensures) ∙ not-true (f .result) (c .if1 .taken))) ∙ l .inv .1
+
+add-at : tie.Need-add-at Inv-loop μ-loop
+add-at c = search needs
+
+sub-more : tie.Need-sub-more Inv-loop μ-loop
+sub-more c = search needs
+
+loop-less : tie.Need-loop-less Inv-loop μ-loop
+loop-less c = search needs
+
+loop-again : tie.Need-loop-again Inv-loop μ-loop
+loop-again c =
+    let l = c .before .before .before .before .before .loop in
+    let f = c .before .record-fits in
+    (omega arith, sym (fit-goes (l .more) _ (l .at) (search needs) (sym (f .ensures) ∙ not-false (f .result) (c .if1 .left))) ∙ l .inv .1)
+
+returns-2 : tie.Need-returns-2 Inv-loop μ-loop
+returns-2 c = let l = c .before .loop in sym (fit-none (l .more) _ (l .at) (search needs)) ∙ l .inv .1
+
+pub records-fit-spec : {M : Type 1} → statement M
+records-fit-spec =
+    tie.close
+    (tie.spec
+    Inv-loop
+    μ-loop
+    loop-holds
+    shared-slice-read-record-fits
+    add-record-fits
+    shared-slice-read-record-fits-2
+    record-fits-requires
+    returns
+    add-at
+    sub-more
+    loop-less
+    loop-again
+    returns-2)

@@ -1,0 +1,114 @@
+-- Packets one after the other: one more is one step of the definition, and where there is no room for one, or none is left, it has
+-- ended. Assumes nothing.
+use mathlib.Core.Path.{_≡_, _∙_, refl, sym, ap}
+use mathlib.Core.Bool.{false}
+use mathlib.Core.List.{List}
+use Prim.Native.Nat.{ℕ, zero, suc, _+_, _-_, _*_, _/_, _≤_, _<_}
+use native.Mathlib.Nat.{zero-add}
+use native.Mathlib.Omega.{arith}
+use lib.ListN.{length, take, drop, length-append, length-drop}
+use lib.Seq.{sets, drop-drop, length-take-le}
+use borrow.Author.Tests.{le-leb, lt-leb}
+use Rattle.laws.proofs.Lists.{sets-append, part-of}
+use Rattle.blocks.specs.Block.{Block, recordsOf}
+use Rattle.packet.specs.declared.Setting.{Setting}
+use Rattle.packet.specs.Packet.{packetLength}
+use Rattle.reader.specs.declared.many.Going.{Going}
+use Rattle.reader.specs.declared.many.Taking.{Taking}
+use Rattle.pages.specs.Seen.{see}
+use Rattle.state.specs.Acting.{State, handed, dropped}
+use Rattle.walk.specs.Reading.{room}
+use Rattle.reader.specs.Many.{Ran, begun, ranOn, run}
+use Rattle.walk.specs.Holding.{Good, Kept}
+use Rattle.reader.specs.Stepped.{Acted, stateIn}
+use Rattle.reader.specs.Holding.{RanTo}
+use Rattle.walk.proofs.Keeping.{holds-mode}
+use Rattle.walk.proofs.Adding.{recordsOf-append}
+use Rattle.walk.proofs.Room.{two-each}
+use Rattle.state.proofs.Bounding.{packet-room}
+
+abbrev pub taking : Going → ℕ → Taking
+taking a count = record { going = a; packets = count }
+
+-- ---- what has come
+
+pub begins :
+    (a : Going) {store : List ℕ} (out : List ℕ) → Kept (a .got .run) store → a .got .blocks ≡ 0 → a .got .written ≡ 0
+    → a .got .dropped ≡ false → RanTo (begun (stateIn a store)) (taking a 0) store out out
+unfolding recordsOf
+begins a out k x y z =
+    record { packets = refl; page = refl; index = refl; holds = k; blocks = x; written = y; dropped = z; out = refl }
+
+module _ {b : Ran} {a : Going} {count : ℕ} {store old mid : List ℕ} (w : RanTo b (taking a count) store old mid) where
+  ran-state : stateIn a store ≡ b .state
+  ran-state = rw (w .page, w .index, holds-mode (b .state .mode) (w .holds))
+
+  -- one packet more
+  pub one-more :
+      (s : Setting) (p : List ℕ) {after : Going} {store′ new : List ℕ} → Acted (see s p) (stateIn a store) a after store′ mid new
+      → RanTo (ranOn s b p) (taking after (count + 1)) store′ old new
+  one-more s p {after} {store′} {new} x =
+      let y : Acted (see s p) (b .state) a after store′ mid new = rw ran-state at x in
+      let bs : List Block = handed (b .state) (see s p) in
+      record {
+        packets = rw (w .packets) (omega arith);
+        page = y .page;
+        index = y .index;
+        holds = y .went .holds;
+        blocks = y .went .blocks ∙ rw (w .blocks, length-append);
+        written = y .went .written ∙ rw (w .written, recordsOf-append, length-append);
+        dropped = y .went .dropped ∙ rw (w .dropped);
+        out =
+            y .went .out
+            ∙ rw (w .out, w .written, recordsOf-append) (ap (λ (k : ℕ). sets (sets old 0 (recordsOf (b .blocks))) k (recordsOf bs)) (sym (zero-add (length (recordsOf (b .blocks))))) ∙ sym (sets-append old 0 (recordsOf (b .blocks)) (recordsOf bs)));
+      }
+
+-- ---- what is left
+
+-- where there is no room for one packet more, however many are left
+pub run-full : (s : Setting) (long n : ℕ) (b : Ran) (l : List ℕ) → long < length (recordsOf (b .blocks)) + room → b ≡ run s long n b l
+unfolding run
+run-full s long zero b l h = refl
+run-full s long (suc n) b l h = rw (lt-leb _ _ h)
+
+module _ (s : Setting) (long : ℕ) (packets : List ℕ) (at : ℕ) (b : Ran) where
+  -- where there is room for one packet more
+  pub run-on :
+      at + 42 ≤ length packets → length (recordsOf (b .blocks)) + room ≤ long
+      → run s long ((length packets - (at + 42)) / packetLength) (ranOn s b (take (at + 42 - at) (drop at packets))) (drop (at + 42) packets)
+      ≡ run s long ((length packets - at) / packetLength) b (drop at packets)
+  unfolding run
+  run-on h r =
+      let e : (length packets - at) / packetLength ≡ suc ((length packets - (at + 42)) / packetLength) = omega arith in
+      rw (e, le-leb _ _ r, part-of at 42 packets, drop-drop)
+
+  -- where none is left
+  pub run-out : length packets ≤ at → b ≡ run s long ((length packets - at) / packetLength) b (drop at packets)
+  unfolding run
+  run-out h = let e : (length packets - at) / packetLength ≡ 0 = omega arith in rw e
+
+  -- one packet more, and what is left still comes to the same
+  pub further :
+      {whole : Ran} {a after : Going} {count : ℕ} {store store′ old mid new : List ℕ} → RanTo b (taking a count) store old mid
+      → at + 42 ≤ length packets → length (recordsOf (b .blocks)) + room ≤ long
+      → Acted (see s (take (at + 42 - at) (drop at packets))) (stateIn a store) a after store′ mid new
+      → run s long ((length packets - at) / packetLength) b (drop at packets) ≡ whole
+      → (b′ : Ran) × (RanTo b′ (taking after (count + 1)) store′ old new)
+      × (run s long ((length packets - (at + 42)) / packetLength) b′ (drop (at + 42) packets) ≡ whole)
+  further w h r x e = let p = take (at + 42 - at) (drop at packets) in (ranOn s b p, one-more w s p x, run-on h r ∙ e)
+
+-- ---- the room
+
+-- a packet's part of the list
+pub packet-length : (packets : List ℕ) (at : ℕ) → at + 42 ≤ length packets → length (take (at + 42 - at) (drop at packets)) ≡ packetLength
+packet-length packets at h = rw (part-of at 42 packets) (length-take-le 42 (drop at packets) (rw length-drop (omega arith)))
+
+-- one packet writes no more than the room, and two bytes a block at least
+pub still-room :
+    (s : Setting) (p : List ℕ) (st : State) {a after : Going} {store old new : List ℕ} → Good (st .mode) → length p ≡ packetLength
+    → Acted (see s p) st a after store old new → 2 * a .got .blocks ≤ a .got .written
+    → (after .got .written ≤ a .got .written + room) × (2 * after .got .blocks ≤ after .got .written)
+still-room s p st g l w f =
+    let r = packet-room s st p l g in
+    let t = two-each (handed st (see s p)) in
+    (omega (arith, w .went .written), omega (arith, w .went .written, w .went .blocks))

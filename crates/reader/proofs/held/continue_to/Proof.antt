@@ -1,0 +1,51 @@
+-- `reader::held::continue_to` meets its contract. Assumes nothing.
+use mathlib.Core.Path.{_∙_}
+use denote.Ref.{now}
+use borrow.Author.Needs.{needs}
+use Rattle.walk.proofs.Keeping.{holds-kept}
+use Rattle.walk.proofs.Adding.{continued-to}
+use Rattle.reader.proofs.held.continue_to.Statement.{statement}
+use Rattle.reader.proofs.held.continue_to.Tie as tie
+
+falls-requires : tie.Need-falls-requires
+falls-requires c κs = search needs
+
+drop-if-requires : tie.Need-drop-if-requires
+drop-if-requires c κs = search needs
+
+is-running-requires : tie.Need-is-running-requires
+is-running-requires c κs = search needs
+
+both-requires : tie.Need-both-requires
+both-requires c κs = search needs
+
+either-requires : tie.Need-either-requires
+either-requires c κs = search needs
+
+finish-requires : tie.Need-finish-requires
+finish-requires c κs =
+    let p = c .before .before .before .before .before .before .before .before .before .before .pre in
+    (holds-kept _ (c .before .before .before .before .before .drop-if .ensures), record { long = p .1 .long; few = p .1 .few })
+
+same-length : tie.Need-same-length
+same-length c = search needs
+
+returns : tie.Need-returns
+returns c m e t =
+    let a = c .before .before .before .before .before .before .before .before .before .before .before .before .before .args in
+    continued-to m (now (a .s)) (a .got) t (c .before .before .before .before .before .before .before .before .before .before .falls .ensures) (c .before .before .before .before .before .before .before .before .drop-if .ensures)
+    (c .before .before .before .before .before .either .ensures ∙ rw (c .before .before .before .before .before .before .both .ensures, c .before .before .before .before .before .before .before .is-running .ensures, e))
+    (c .before .before .finish .ensures)
+
+pub continue-to-spec : {M : Type 1} → statement M
+continue-to-spec =
+    tie.close
+    (tie.spec
+    falls-requires
+    drop-if-requires
+    is-running-requires
+    both-requires
+    either-requires
+    finish-requires
+    same-length
+    returns)

@@ -1,0 +1,54 @@
+-- `reader::held::emit` meets its contract: two stores, and the raw bytes behind them. Assumes nothing.
+use mathlib.Core.Path.{_∙_}
+use Prim.Native.Nat.{_%_, _/_}
+use native.Mathlib.Omega.{arith}
+use lib.ListN.{take, drop, length-set}
+use denote.Ref.{now}
+use borrow.Author.Needs.{needs}
+use Rattle.walk.proofs.Storing.{two-first}
+use Rattle.reader.proofs.held.emit.Statement.{statement}
+use Rattle.reader.proofs.held.emit.Tie as tie
+
+cast-out : tie.Need-cast-out
+cast-out c = search needs
+
+slice-write-out : tie.Need-slice-write-out
+slice-write-out c = search needs
+
+cast-out-2 : tie.Need-cast-out-2
+cast-out-2 c = search needs
+
+add-out : tie.Need-add-out
+add-out c = search needs
+
+slice-write-out-2 : tie.Need-slice-write-out-2
+slice-write-out-2 c = simp length-set (omega arith)
+
+add-copy : tie.Need-add-copy
+add-copy c = search needs
+
+copy-requires : tie.Need-copy-requires
+copy-requires c κs = search needs
+
+same-length : tie.Need-same-length
+same-length c = c .before .before .copy .kept .1 .1 .1 .0 ∙ simp length-set
+
+returns : tie.Need-returns
+returns c =
+    let a = c .before .before .before .before .before .before .args in
+    c .before .before .copy .ensures
+    ∙ two-first (now (a .out)) (take (a .size) (drop (a .from) (now (a .raw)))) (a .q) (a .head % 256) (a .head / 256)
+
+pub emit-spec : {M : Type 1} → statement M
+emit-spec =
+    tie.close
+    (tie.spec
+    cast-out
+    slice-write-out
+    cast-out-2
+    add-out
+    slice-write-out-2
+    add-copy
+    copy-requires
+    same-length
+    returns)

@@ -1,0 +1,79 @@
+-- `reader::held::finish` meets its contract. Assumes nothing.
+use native.Mathlib.Omega.{arith}
+use denote.Ref.{now}
+use borrow.Author.Needs.{needs}
+use Rattle.walk.proofs.Keeping.{kept-body, body-fits, body-size}
+use Rattle.walk.proofs.Adding.{stays-running, body-short, goes-out}
+use Rattle.reader.proofs.held.finish.Statement.{statement}
+use Rattle.reader.proofs.held.finish.Tie as tie
+
+enum-told : tie.Need-enum-told
+enum-told c = search needs
+
+enum-told-2 : tie.Need-enum-told-2
+enum-told-2 c = search needs
+
+enum-known-run : tie.Need-enum-known-run
+enum-known-run c = search needs
+
+cast-if1 : tie.Need-cast-if1
+cast-if1 c = search needs
+
+returns : tie.Need-returns
+returns c =
+    let a = c .before .before .before .before .before .args in
+    let k = c .before .before .before .before .before .pre .0 in
+    stays-running (a .got) (now (a .out)) k (body-short k (c .before .before .run .given .1) (c .if1 .taken))
+
+hand-out-requires : tie.Need-hand-out-requires
+hand-out-requires c κs =
+    let k = kept-body (c .before .before .before .before .before .before .before .pre .0) (c .before .before .before .before .run .given .1) in
+    (k, omega (arith, body-fits k, body-size k))
+
+add-t11 : tie.Need-add-t11
+add-t11 c = search needs
+
+add-t18 : tie.Need-add-t18
+add-t18 c = search needs
+
+add-t19 : tie.Need-add-t19
+add-t19 c =
+    let k = kept-body (c .before .before .before .before .before .before .before .before .before .before .pre .0) (c .before .before .before .before .before .before .before .run .given .1) in
+    omega (arith, body-fits k, body-size k, c .before .before .before .before .before .before .before .before .before .before .pre, c .before .before .before .before .before .before .before .before .before .before .good)
+
+returns-2 : tie.Need-returns-2
+returns-2 c =
+    let a = c .before .before .before .args in
+    stays-running (a .got) (now (a .out)) (c .before .before .before .pre .0) (rw (c .enum-told .given .1))
+
+returns-3 : tie.Need-returns-3
+returns-3 c =
+    let a = c .before .before .before .args in
+    stays-running (a .got) (now (a .out)) (c .before .before .before .pre .0) (rw (c .enum-told2 .given .1))
+
+same-length : tie.Need-same-length
+same-length c = search needs
+
+returns-4 : tie.Need-returns-4
+returns-4 c =
+    let a = c .before .before .before .before .before .before .before .before .before .before .args in
+    let o = c .before .before .hand-out .ensures in
+    goes-out (a .got) (now (a .out)) (c .before .before .before .before .before .before .before .before .before .before .pre .0) (c .before .before .before .before .before .before .before .run .given .1) (c .before .before .before .before .before .if1 .left) (o .0) (o .1)
+
+pub finish-spec : {M : Type 1} → statement M
+finish-spec =
+    tie.close
+    (tie.spec
+    enum-told
+    enum-told-2
+    enum-known-run
+    cast-if1
+    returns
+    hand-out-requires
+    add-t11
+    add-t18
+    add-t19
+    returns-2
+    returns-3
+    same-length
+    returns-4)

@@ -1,0 +1,211 @@
+-- `reader::held::flow` meets its contract: what comes of the bytes from the place on is what comes of all of them. Assumes nothing.
+use mathlib.Core.Path.{_≡_, _∙_, refl, ap}
+use mathlib.Core.List.{[]}
+use Prim.Native.Nat.{_+_, _-_, _*_, _≤_}
+use native.Mathlib.Omega.{arith}
+use lib.ListN.{length, drop, length-drop}
+use lib.Seq.{drop-drop}
+use denote.Ref.{now}
+use borrow.Author.Needs.{needs}
+use Rattle.laws.proofs.Lists.{part-rest}
+use Rattle.walk.specs.Places.{zeroed}
+use Rattle.walk.specs.Holding.{aheadIn}
+use Rattle.walk.proofs.Stepping.{next-from, next-within}
+use Rattle.walk.proofs.Keeping.{found-bits}
+use Rattle.walk.proofs.Adding.{place, Leads, from-place, flow-nothing, flow-broken, flow-cut, flow-held, flow-on}
+use Rattle.reader.proofs.held.flow.Statement.{statement}
+use Rattle.reader.proofs.held.flow.Tie as tie
+
+abbrev Inv-loop : tie.InvT-loop
+Inv-loop store₀ s out₀ dropped blocks₀ q₀ at₀ store out blocks q at =
+    (at ≤ length s) × (q ≤ q₀ + at) × (2 * blocks ≤ q) × (length out ≡ length out₀) × (store ≡ zeroed [])
+    × Leads s (place dropped blocks₀ q₀) out₀ (drop at s) (place dropped blocks q) out
+
+abbrev μ-loop : tie.MeasureT-loop
+μ-loop store₀ s out₀ dropped blocks₀ q₀ at₀ store out blocks q at = length s - at
+
+loop-holds : tie.Need-loop-holds Inv-loop μ-loop
+loop-holds c = (omega arith, omega arith, c .before .before .pre .1 .1, refl, c .before .before .pre .0, λ r store new w. w)
+
+find-requires : tie.Need-find-requires Inv-loop μ-loop
+find-requires c κs = search needs
+
+enum-told : tie.Need-enum-told Inv-loop μ-loop
+enum-told c = search needs
+
+so-far-requires : tie.Need-so-far-requires Inv-loop μ-loop
+so-far-requires c κs = search needs
+
+same-length : tie.Need-same-length Inv-loop μ-loop
+same-length c = search needs
+
+returns : tie.Need-returns Inv-loop μ-loop
+returns c =
+    let a = c .before .before .before .before .before .before .before .args in
+    let l = c .before .before .before .before .loop in
+    rw (c .so-far .ensures)
+    (from-place (a .got)
+    (l .inv .5 _ _ _
+    (flow-nothing (drop (l .at) (now (a .s))) (place (a .got .dropped) (l .blocks) (l .q)) (l .out)
+    (c .before .before .before .find .ensures .0 ∙ ap (aheadIn (now (a .s))) (c .before .enum-told .given .1))
+    (l .inv .4))))
+
+enum-told-2 : tie.Need-enum-told-2 Inv-loop μ-loop
+enum-told-2 c = search needs
+
+so-far-requires-2 : tie.Need-so-far-requires-2 Inv-loop μ-loop
+so-far-requires-2 c κs = search needs
+
+same-length-2 : tie.Need-same-length-2 Inv-loop μ-loop
+same-length-2 c = search needs
+
+returns-2 : tie.Need-returns-2 Inv-loop μ-loop
+returns-2 c =
+    let a = c .before .before .before .before .before .before .before .args in
+    let l = c .before .before .before .before .loop in
+    rw (c .so-far2 .ensures)
+    (from-place (a .got)
+    (l .inv .5 _ _ _
+    (flow-broken (drop (l .at) (now (a .s))) (place (a .got .dropped) (l .blocks) (l .q)) (l .out)
+    (c .before .before .before .find .ensures .0 ∙ ap (aheadIn (now (a .s))) (c .before .enum-told2 .given .1))
+    (l .inv .4))))
+
+enum-known-g : tie.Need-enum-known-g Inv-loop μ-loop
+enum-known-g c = search needs
+
+so-far-requires-3 : tie.Need-so-far-requires-3 Inv-loop μ-loop
+so-far-requires-3 c κs = search needs
+
+same-length-3 : tie.Need-same-length-3 Inv-loop μ-loop
+same-length-3 c = search needs
+
+returns-3 : tie.Need-returns-3 Inv-loop μ-loop
+returns-3 c =
+    let a = c .before .before .before .before .before .before .before .before .args in
+    let l = c .before .before .before .before .before .loop in
+    let x = c .before .before .before .before .find .ensures .0 ∙ ap (aheadIn (now (a .s))) (c .before .before .g .given .1) in
+    rw (c .so-far3 .ensures)
+    (from-place (a .got)
+    (l .inv .5 _ _ _
+    (flow-cut (drop (l .at) (now (a .s))) (place (a .got .dropped) (l .blocks) (l .q)) (l .out) x
+    (found-bits (drop (l .at) (now (a .s))) x)
+    (l .inv .4))))
+
+enum-known-head : tie.Need-enum-known-head Inv-loop μ-loop
+enum-known-head c = search needs
+
+cast-size : tie.Need-cast-size Inv-loop μ-loop
+cast-size c = search needs
+
+sub-there : tie.Need-sub-there Inv-loop μ-loop
+sub-there c = next-within (c .before .before .before .find .result) (c .before .head .given .1) (c .before .before .before .find .ensures .1 .1)
+
+copy-requires : tie.Need-copy-requires Inv-loop μ-loop
+copy-requires c κs = search needs
+
+so-far-requires-4 : tie.Need-so-far-requires-4 Inv-loop μ-loop
+so-far-requires-4 c κs = search needs
+
+same-length-4 : tie.Need-same-length-4 Inv-loop μ-loop
+same-length-4 c = search needs
+
+returns-4 : tie.Need-returns-4 Inv-loop μ-loop
+returns-4 c =
+    let a = c .before .before .before .before .before .before .before .before .before .before .before .args in
+    let l = c .before .before .before .before .before .before .before .before .loop in
+    let n = c .before .before .before .before .before .head .given .0 .1 .0 in
+    let x = c .before .before .before .before .before .before .before .find .ensures .0 ∙ ap (aheadIn (now (a .s))) (c .before .before .before .before .before .head .given .1) in
+    rw (c .so-far4 .ensures)
+    (from-place (a .got)
+    (l .inv .5 _ _ _
+    (flow-held (drop (l .at) (now (a .s))) (place (a .got .dropped) (l .blocks) (l .q)) (l .out) x
+    (length-drop n (now (a .s)))
+    (c .before .before .before .if1 .taken)
+    (omega arith)
+    (c .before .copy .ensures ∙ rw (l .inv .4, part-rest n (now (a .s)))))))
+
+emit-requires : tie.Need-emit-requires Inv-loop μ-loop
+emit-requires c κs =
+    let u = next-within (c .before .before .before .before .before .find .result) (c .before .before .before .head .given .1) (c .before .before .before .before .before .find .ensures .1 .1) in
+    let w = next-from (c .before .before .before .before .before .find .result) (c .before .before .before .before .before .before .loop .at + 5) (c .before .before .before .head .given .1) (c .before .before .before .before .before .find .ensures .1 .0) in
+    (omega arith, omega arith)
+
+add-blocks : tie.Need-add-blocks Inv-loop μ-loop
+add-blocks c = search needs
+
+add-q : tie.Need-add-q Inv-loop μ-loop
+add-q c =
+    let u = next-within (c .before .before .before .before .before .before .before .before .find .result) (c .before .before .before .before .before .before .head .given .1) (c .before .before .before .before .before .before .before .before .find .ensures .1 .1) in
+    let w = next-from (c .before .before .before .before .before .before .before .before .find .result) (c .before .before .before .before .before .before .before .before .before .loop .at + 5) (c .before .before .before .before .before .before .head .given .1) (c .before .before .before .before .before .before .before .before .find .ensures .1 .0) in
+    omega arith
+
+add-q-2 : tie.Need-add-q-2 Inv-loop μ-loop
+add-q-2 c =
+    let u = next-within (c .before .before .before .before .before .before .before .before .find .result) (c .before .before .before .before .before .before .head .given .1) (c .before .before .before .before .before .before .before .before .find .ensures .1 .1) in
+    let w = next-from (c .before .before .before .before .before .before .before .before .find .result) (c .before .before .before .before .before .before .before .before .before .loop .at + 5) (c .before .before .before .before .before .before .head .given .1) (c .before .before .before .before .before .before .before .before .find .ensures .1 .0) in
+    omega arith
+
+add-at : tie.Need-add-at Inv-loop μ-loop
+add-at c =
+    let u = next-within (c .before .before .before .before .before .before .before .before .find .result) (c .before .before .before .before .before .before .head .given .1) (c .before .before .before .before .before .before .before .before .find .ensures .1 .1) in
+    omega arith
+
+loop-less : tie.Need-loop-less Inv-loop μ-loop
+loop-less c =
+    let u = next-within (c .before .before .before .before .before .before .before .before .find .result) (c .before .before .before .before .before .before .head .given .1) (c .before .before .before .before .before .before .before .before .find .ensures .1 .1) in
+    let w = next-from (c .before .before .before .before .before .before .before .before .find .result) (c .before .before .before .before .before .before .before .before .before .loop .at + 5) (c .before .before .before .before .before .before .head .given .1) (c .before .before .before .before .before .before .before .before .find .ensures .1 .0) in
+    omega arith
+
+loop-again : tie.Need-loop-again Inv-loop μ-loop
+loop-again c =
+    let u = next-within (c .before .before .before .before .before .before .before .before .find .result) (c .before .before .before .before .before .before .head .given .1) (c .before .before .before .before .before .before .before .before .find .ensures .1 .1) in
+    let w = next-from (c .before .before .before .before .before .before .before .before .find .result) (c .before .before .before .before .before .before .before .before .before .loop .at + 5) (c .before .before .before .before .before .before .head .given .1) (c .before .before .before .before .before .before .before .before .find .ensures .1 .0) in
+    let a = c .before .before .before .before .before .before .before .before .before .before .before .before .args in
+    let l = c .before .before .before .before .before .before .before .before .before .loop in
+    let n = c .before .before .before .before .before .before .head .given .0 .1 .0 in
+    let x = c .before .before .before .before .before .before .before .before .find .ensures .0 ∙ ap (aheadIn (now (a .s))) (c .before .before .before .before .before .before .head .given .1) in (
+      omega arith,
+      omega arith,
+      omega arith,
+      c .before .before .emit .kept .1 .1 .1 .1 .0 ∙ l .inv .3,
+      l .inv .4,
+      λ r store new y. l .inv .5 r store new
+          (flow-on (drop (l .at) (now (a .s))) (place (a .got .dropped) (l .blocks) (l .q)) x (rw length-drop (omega arith))
+          (c .before .before .emit .ensures)
+          (rw drop-drop y)),
+    )
+
+pub flow-spec : {M : Type 1} → statement M
+flow-spec =
+    tie.close
+    (tie.spec
+    Inv-loop
+    μ-loop
+    loop-holds
+    find-requires
+    enum-told
+    so-far-requires
+    same-length
+    returns
+    enum-told-2
+    so-far-requires-2
+    same-length-2
+    returns-2
+    enum-known-g
+    so-far-requires-3
+    same-length-3
+    returns-3
+    enum-known-head
+    cast-size
+    sub-there
+    copy-requires
+    so-far-requires-4
+    same-length-4
+    returns-4
+    emit-requires
+    add-blocks
+    add-q
+    add-q-2
+    add-at
+    loop-less
+    loop-again)

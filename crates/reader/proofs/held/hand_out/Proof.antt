@@ -1,0 +1,26 @@
+-- `reader::held::hand_out` meets its contract: the record is of the bytes held, which are cleared then. Assumes nothing.
+use mathlib.Core.Path.{_∙_}
+use native.Mathlib.Omega.{arith}
+use borrow.Author.Needs.{needs}
+use Rattle.walk.proofs.Keeping.{body-fits, body-size, body-store, body-clear}
+use Rattle.reader.proofs.held.hand_out.Statement.{statement}
+use Rattle.reader.proofs.held.hand_out.Tie as tie
+
+emit-requires : tie.Need-emit-requires
+emit-requires c κs =
+    let k = c .before .before .before .before .pre .0 in
+    (omega (arith, body-fits k, body-size k, body-store k), omega arith)
+
+clear-requires : tie.Need-clear-requires
+clear-requires c κs = search needs
+
+same-length : tie.Need-same-length
+same-length c = search needs
+
+returns : tie.Need-returns
+returns c =
+    let k = c .before .before .before .before .before .before .before .before .before .pre .0 in
+    (c .clear .ensures ∙ body-clear k, c .before .before .before .before .emit .ensures)
+
+pub hand-out-spec : {M : Type 1} → statement M
+hand-out-spec = tie.close (tie.spec emit-requires clear-requires same-length returns)

@@ -1,0 +1,89 @@
+-- `reader::held::take_in` meets its contract: a header is read on, and then the block takes its bytes. Assumes nothing.
+use native.Mathlib.Omega.{arith}
+use denote.Ref.{now}
+use borrow.Author.Needs.{needs}
+use Rattle.walk.proofs.Staying.{continues-off}
+use Rattle.walk.proofs.Keeping.{kept-idle, kept-head, kept-body, begun-body, idle-took, head-nothing, head-broken, head-cut, head-whole}
+use Rattle.reader.proofs.held.take_in.Statement.{statement}
+use Rattle.reader.proofs.held.take_in.Tie as tie
+
+enum-told : tie.Need-enum-told
+enum-told c = search needs
+
+enum-known-run : tie.Need-enum-known-run
+enum-known-run c = search needs
+
+head-on-requires : tie.Need-head-on-requires
+head-on-requires c κs = search needs
+
+enum-told-2 : tie.Need-enum-told-2
+enum-told-2 c = search needs
+
+enum-told-3 : tie.Need-enum-told-3
+enum-told-3 c = search needs
+
+enum-known-g : tie.Need-enum-known-g
+enum-known-g c = search needs
+
+enum-known-head : tie.Need-enum-known-head
+enum-known-head c = search needs
+
+body-in-requires : tie.Need-body-in-requires
+body-in-requires c κs =
+    let k = c .before .before .before .before .before .before .before .before .before .pre in
+    let e = c .before .before .before .before .before .before .run .given .1 in
+    let b = c .before .before .before .before .head-on .ensures .1 .1 (omega arith) in
+    let y = c .before .before .head .given .1 in
+    (begun-body (omega arith) (kept-head k e), (rw y at b))
+
+enum-known-run-2 : tie.Need-enum-known-run-2
+enum-known-run-2 c = search needs
+
+body-in-requires-2 : tie.Need-body-in-requires-2
+body-in-requires-2 c κs = (kept-body (c .before .before .before .before .before .pre) (c .before .before .run2 .given .1), omega arith)
+
+returns : tie.Need-returns
+returns c =
+    let a = c .before .before .before .args in
+    let e = c .enum-told .given .1 in
+    idle-took (now (a .s)) (now (a .s))
+    (λ p. rw e (continues-off p (now (a .s))))
+    (kept-idle (c .before .before .before .pre) e)
+
+returns-2 : tie.Need-returns-2
+returns-2 c = head-nothing (now (c .before .before .before .before .before .before .before .args .s)) (c .before .before .head-on .result) (c .before .before .before .before .before .before .before .pre) (c .before .before .before .before .run .given .1) (c .before .before .head-on .ensures .0) (c .enum-told2 .given .1)
+
+returns-3 : tie.Need-returns-3
+returns-3 c = head-broken (now (c .before .before .before .before .before .before .before .args .s)) (c .before .before .head-on .result) (c .before .before .before .before .before .before .before .pre) (c .before .before .before .before .run .given .1) (c .before .before .head-on .ensures .0) (c .enum-told3 .given .1)
+
+returns-4 : tie.Need-returns-4
+returns-4 c = head-cut (now (c .before .before .before .before .before .before .before .before .args .s)) (c .before .before .before .head-on .result) (c .before .before .before .before .before .before .before .before .pre) (c .before .before .before .before .before .run .given .1) (c .before .before .before .head-on .ensures .0) (c .before .g .given .1)
+
+returns-5 : tie.Need-returns-5
+returns-5 c = head-whole (now (c .before .before .before .before .before .before .before .before .before .before .args .s)) (c .before .before .before .before .before .head-on .result) (c .before .before .before .before .before .before .before .before .before .before .pre) (c .before .before .before .before .before .before .before .run .given .1) (c .before .before .before .before .before .head-on .ensures .0) (c .before .before .before .head .given .1) (c .body-in .ensures)
+
+returns-6 : tie.Need-returns-6
+returns-6 c =
+    let e = c .before .before .before .run2 .given .1 in
+    rw e (c .body-in2 .ensures)
+
+pub take-in-spec : {M : Type 1} → statement M
+take-in-spec =
+    tie.close
+    (tie.spec
+    enum-told
+    enum-known-run
+    head-on-requires
+    enum-told-2
+    enum-told-3
+    enum-known-g
+    enum-known-head
+    body-in-requires
+    enum-known-run-2
+    body-in-requires-2
+    returns
+    returns-2
+    returns-3
+    returns-4
+    returns-5
+    returns-6)

@@ -1,0 +1,191 @@
+// The reader of the guide page for a list of packets: packets in, finished blocks out. A packet is lost
+// only where a byte can't be decoded, and then what was held is dropped: a missing table is fetched at
+// the next repeat.
+use answer::Refusal;
+use packet::Setting;
+use pages::Page;
+use pages::Verdict;
+use state::Reader;
+use walk::Got;
+use walk::Run;
+ghost use mathlib.Core.Path.{_≡_};
+ghost use mathlib.Core.Bool.{true, false};
+ghost use Prim.Native.Nat.{_/_, _%_, _≤_};
+ghost use lib.ListN.{length, getD, drop};
+ghost use Rattle.laws.specs.Pick.{both};
+ghost use Rattle.packet.specs.Setting.{inRange};
+ghost use Rattle.packet.specs.Packet.{packetLength};
+ghost use Rattle.octet.specs.Decoding.{nib};
+ghost use Rattle.walk.specs.Holding.{Kept, PacketRoom};
+ghost use Rattle.reader.specs.Stepped.{stateIn, Heeded};
+ghost use Rattle.state.specs.State.{readerInRange, Sixteen};
+ghost use Rattle.reader.specs.Many.{begun, run, feedAllHeard, feedAllReader, feedAllOut};
+ghost use Rattle.reader.specs.Holding.{started, RanTo};
+
+// What a list of packets gave: how many of them were taken, how many blocks they finished, as how many
+// bytes of records at the front of the output, and whether a block was dropped.
+pub enum HeardAll {
+    TookAll {
+        packets: usize,
+        blocks: usize,
+        written: usize,
+        dropped: bool,
+    },
+    RefusedAll(Refusal),
+}
+
+// A state with an array stands beside the enum.
+pub struct FedAll {
+    pub heard: HeardAll,
+    pub reader: Reader,
+}
+
+// What packets taken one after the other have come to.
+struct Going {
+    page: Page,
+    index: u8,
+    got: Got,
+}
+
+// The same, and how many packets.
+struct Taking {
+    going: Going,
+    packets: usize,
+}
+
+// A list of packets of 42 bytes, taken one after the other, while at least 2,112 bytes of the output are
+// left: the blocks that they finish stand as records at the front of the output, and the reader has gone
+// on. Refused with 16 where the setting or the state is out of range or the list isn't whole packets: the
+// output and the reader are then as they were. The state is tested once, and it is copied in and out once.
+pub fn feed_all(setting: Setting, reader: Reader, packets: &[u8], out: &mut [u8]) -> FedAll
+    ensures { λ r. ⌜ r .heard ≡ feedAllHeard setting reader (now (packets .entry)) (now (out .entry)) ⌝ }
+    ensures { λ r. ⌜ r .reader ≡ feedAllReader setting reader (now (packets .entry)) (now (out .entry)) ⌝ }
+    ensures { λ r. ⌜ now (out .exit) ≡ feedAllOut setting reader (now (packets .entry)) (now (out .entry)) ⌝ }
+{
+    let page = reader.page;
+    let run = reader.run;
+    let mut store = reader.store;
+    let whole = packets.len() % 42 == 0;
+    if !is_ready(setting, page, reader.index, run, &store, whole) {
+        return FedAll {
+            heard: HeardAll::RefusedAll(Refusal { no: 16, at: 0 }),
+            reader: reader,
+        };
+    }
+    let from = start(page, reader.index, run);
+    let t = take_all(setting, from, &mut store, packets, out);
+    let a = t.going;
+    let got = a.got;
+    let now_open = a.page;
+    let now_running = got.run;
+    FedAll {
+        heard: HeardAll::TookAll {
+            packets: t.packets,
+            blocks: got.blocks,
+            written: got.written,
+            dropped: got.dropped,
+        },
+        reader: Reader {
+            page: now_open,
+            index: a.index,
+            run: now_running,
+            store: store,
+        },
+    }
+}
+
+// Packets of 42 bytes one after the other, while there is room for what one can give.
+fn take_all(
+    setting: Setting,
+    from: Going,
+    store: &mut [u8; 2047],
+    packets: &[u8],
+    out: &mut [u8],
+) -> Taking
+    requires { ⌜ Kept (from .got .run) (now store) ⌝ }
+    requires { ⌜ length (now packets) % packetLength ≡ 0 ⌝ }
+    requires { ⌜ (from .got .blocks ≡ 0) × (from .got .written ≡ 0) × (from .got .dropped ≡ false) ⌝ }
+    ensures { λ r. ⌜ RanTo (run setting (length (now (out .entry))) (length (now (packets .entry)) / packetLength) (begun (stateIn from (now (store .entry)))) (now (packets .entry))) r (now (store .exit)) (now (out .entry)) (now (out .exit)) ⌝ }
+    ensures { λ r. ⌜ r .going .got .written ≤ length (now (out .entry)) ⌝ }
+{
+    let mut a = from;
+    let mut at = 0;
+    let mut count = 0;
+    while at < packets.len() {
+        let got = a.got;
+        let q = got.written;
+        if out.len() - q < 2112 {
+            return Taking {
+                going: a,
+                packets: count,
+            };
+        }
+        let next = at + 42;
+        count += 1;
+        let address = packet::address(&packets[at..next]);
+        if !packet::passes_by(setting, address) {
+            let page = a.page;
+            let v = pages::judge(setting, page, a.index, address, &packets[at..next]);
+            a = heed(v, a, store, &packets[at..next], out);
+        }
+        at = next;
+    }
+    Taking {
+        going: a,
+        packets: count,
+    }
+}
+
+// What the verdict says: the running block is dropped or not, and then the packet's bytes are read or not.
+fn heed(v: Verdict, a: Going, store: &mut [u8; 2047], packet: &[u8], out: &mut [u8]) -> Going
+    requires { ⌜ Kept (a .got .run) (now store) ⌝ }
+    requires { ⌜ length (now packet) ≡ packetLength ⌝ }
+    requires { ⌜ PacketRoom (a .got) (now out) ⌝ }
+    ensures { λ r. ⌜ Heeded v (nib (getD (now (packet .entry)) 2 0)) (drop 3 (now (packet .entry))) (stateIn a (now (store .entry))) a r (now (store .exit)) (now (out .entry)) (now (out .exit)) ⌝ }
+{
+    let was = a.got;
+    let page = v.page;
+    let got = crate::held::lose(v.drops, was, store);
+    if v.reads {
+        return Going {
+            page: page,
+            index: v.index,
+            got: crate::held::read(got, store, packet, out),
+        };
+    }
+    Going {
+        page: page,
+        index: v.index,
+        got: got,
+    }
+}
+
+// No packet has come yet.
+fn start(page: Page, index: u8, run: Run) -> Going
+    ensures { λ r. ⌜ r ≡ started page index run ⌝ }
+{
+    Going {
+        page: page,
+        index: index,
+        got: Got {
+            run: run,
+            blocks: 0,
+            written: 0,
+            dropped: false,
+        },
+    }
+}
+
+// Whether a call goes on: setting and state are in range, and what came is whole packets.
+fn is_ready(setting: Setting, page: Page, index: u8, run: Run, store: &[u8], whole: bool) -> bool
+    ensures { λ r. ⌜ r ≡ both (inRange setting) (both (readerInRange (record { page = page; index = index; run = run; store = now (store .entry) })) whole) ⌝ }
+    ensures { λ r. ⌜ (r ≡ true → Sixteen run) ⌝ }
+{
+    if !packet::is_in_range(setting) {
+        return false;
+    }
+    if !whole {
+        return false;
+    }
+    state::in_range(page, index, run, store)
+}

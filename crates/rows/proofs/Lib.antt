@@ -1,3 +1,0 @@
-pub mod Answering
-pub mod Heeding
-pub mod Running

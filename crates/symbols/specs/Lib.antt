@@ -1,0 +1,3 @@
+pub mod Stream
+pub mod Pen
+pub mod Cells

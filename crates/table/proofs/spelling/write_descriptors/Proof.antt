@@ -1,0 +1,113 @@
+-- `table::spelling::write_descriptors` meets its contract: what is left to be stored from here makes what was to be stored. The measure is
+-- the descriptors left. Assumes nothing.
+use borrow.Author.Needs.{needs}
+use mathlib.Core.Path.{_≡_, _∙_, refl}
+use Prim.Native.Nat.{_+_, _*_, _/_, _^_, _≤_}
+use native.Mathlib.Omega.{arith}
+use lib.ListN.{length}
+use lib.Seq.{sets}
+use denote.Ref.{now}
+use Rattle.forms.specs.Tables.{per}
+use Rattle.forms.specs.Form.{listed}
+use Rattle.fields.specs.Compound.{compound}
+use Rattle.table.specs.Control.{descriptorsOf, tableOf}
+use Rattle.table.proofs.Written.{descriptor-on, descriptors-end}
+use Rattle.table.proofs.spelling.write_descriptors.Statement.{statement}
+use Rattle.table.proofs.spelling.write_descriptors.Tie as tie
+
+abbrev Inv-loop : tie.InvT-loop
+Inv-loop body out₀ kind left₀ at₀ q₀ out left at q =
+    (length out ≡ length out₀) × (q + 92 * left ≤ 5802) × (at + 730 * left ≤ 46048)
+    × (sets out q (listed kind (descriptorsOf (per kind) left (compound body / 2 ^ at)))
+    ≡ sets out₀ 6 (listed (tableOf (compound body) .kind) (tableOf (compound body) .descriptors)))
+
+abbrev μ-loop : tie.MeasureT-loop
+μ-loop body out₀ kind left₀ at₀ q₀ out left at q = left
+
+field-of-requires : tie.Need-field-of-requires Inv-loop μ-loop
+field-of-requires c κs = search needs
+
+field-of-requires-2 : tie.Need-field-of-requires-2 Inv-loop μ-loop
+field-of-requires-2 c κs = search needs
+
+loop-holds : tie.Need-loop-holds Inv-loop μ-loop
+unfolding tableOf
+loop-holds c =
+    let e = c .before .field-of .ensures .0 in (
+      refl,
+      omega (arith, c .field-of2 .ensures .1),
+      omega (arith, c .field-of2 .ensures .1),
+      rw (e, c .field-of2 .ensures .0) refl,
+    )
+
+write-descriptor-requires : tie.Need-write-descriptor-requires Inv-loop μ-loop
+write-descriptor-requires c κs = search needs
+
+mul-at : tie.Need-mul-at Inv-loop μ-loop
+mul-at c = search needs
+
+add-at : tie.Need-add-at Inv-loop μ-loop
+add-at c = omega (arith, c .before .before .write-descriptor .ensures .1)
+
+add-at-2 : tie.Need-add-at-2 Inv-loop μ-loop
+add-at-2 c = search needs
+
+mul-q : tie.Need-mul-q Inv-loop μ-loop
+mul-q c = search needs
+
+add-q : tie.Need-add-q Inv-loop μ-loop
+add-q c = search needs
+
+add-q-2 : tie.Need-add-q-2 Inv-loop μ-loop
+add-q-2 c = search needs
+
+sub-left : tie.Need-sub-left Inv-loop μ-loop
+sub-left c = search needs
+
+loop-less : tie.Need-loop-less Inv-loop μ-loop
+loop-less c = search needs
+
+loop-again : tie.Need-loop-again Inv-loop μ-loop
+loop-again c =
+    let l = c .before .before .before .before .before .loop in
+    let a = c .before .before .before .before .before .before .before .before .before .before .args in
+    let d = c .before .before .write-descriptor in
+    let n = compound (now (a .body)) in
+    let kind = c .before .before .before .before .before .before .before .field-of .result in (
+      d .kept .1 .1 .1 .0 ∙ l .inv .0,
+      omega (arith, d .ensures .1, l .inv .1),
+      omega (arith, d .ensures .1, l .inv .2),
+      descriptor-on kind (l .left) n (l .at) (d .result) (search needs) (d .ensures .0) (l .q) (l .out) (d .last .1 .1 .1 .0) _
+          (d .ensures .2) (l .inv .3),
+    )
+
+same-length : tie.Need-same-length Inv-loop μ-loop
+same-length c = c .before .loop .inv .0
+
+returns : tie.Need-returns Inv-loop μ-loop
+returns c =
+    let l = c .before .loop in
+    descriptors-end (c .before .before .before .field-of .result) (l .left) (compound (now (c .before .before .before .before .before .before .args .body))) (l .at) (l .q)
+    (l .out) _ (search needs) (l .inv .3)
+
+pub write-descriptors-spec : {M : Type 1} → statement M
+write-descriptors-spec =
+    tie.close
+    (tie.spec
+    Inv-loop
+    μ-loop
+    field-of-requires
+    field-of-requires-2
+    loop-holds
+    write-descriptor-requires
+    mul-at
+    add-at
+    add-at-2
+    mul-q
+    add-q
+    add-q-2
+    sub-left
+    loop-less
+    loop-again
+    same-length
+    returns)

@@ -1,2 +1,0 @@
--- The value of an option.
-pub mod Values

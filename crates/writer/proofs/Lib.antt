@@ -1,0 +1,11 @@
+pub mod Aligned
+pub mod Counting
+pub mod Measuring
+pub mod Filling
+pub mod Laying
+pub mod Paging
+pub mod Answering
+pub mod Numbering
+pub mod Pointing
+pub mod Cases
+pub mod PacketZero

@@ -1,0 +1,23 @@
+-- `writer::takes` meets its contract: each `return` is by the tests that led there. Assumes nothing.
+use borrow.Author.Needs.{needs}
+use borrow.Author.Tests.{not-true, not-false, le-leb, lt-leb}
+use Rattle.writer.proofs.takes.Statement.{statement}
+use Rattle.writer.proofs.takes.Tie as tie
+
+is-in-range-requires : tie.Need-is-in-range-requires
+is-in-range-requires c κs = search needs
+
+returns : tie.Need-returns
+returns c = rw (← c .before .is-in-range .ensures, not-true (c .before .is-in-range .result) (c .if1 .taken))
+
+returns-2 : tie.Need-returns-2
+returns-2 c = rw (← c .before .before .is-in-range .ensures, not-false (c .before .before .is-in-range .result) (c .before .if1 .left), lt-leb (c .before .before .before .args .index) 15 (c .if2 .taken))
+
+returns-3 : tie.Need-returns-3
+returns-3 c = rw (← c .before .before .before .is-in-range .ensures, not-false (c .before .before .before .is-in-range .result) (c .before .before .if1 .left), le-leb (c .before .before .before .before .args .index) 15 (c .before .if2 .left), lt-leb 1 (c .before .before .before .before .args .k) (c .if3 .taken))
+
+returns-4 : tie.Need-returns-4
+returns-4 c = rw (← c .before .before .before .is-in-range .ensures, not-false (c .before .before .before .is-in-range .result) (c .before .before .if1 .left), le-leb (c .before .before .before .before .args .index) 15 (c .before .if2 .left), le-leb 1 (c .before .before .before .before .args .k) (c .if3 .left))
+
+pub takes-spec : {M : Type 1} → statement M
+takes-spec = tie.close (tie.spec is-in-range-requires returns returns-2 returns-3 returns-4)

@@ -1,0 +1,67 @@
+-- `writer::write_packet` meets its contract: the address, the pointer, though it is stored last, and the symbols are the packet's bytes. Assumes nothing.
+use borrow.Author.Needs.{needs}
+use mathlib.Core.Path.{_∙_}
+use native.Mathlib.Omega.{arith}
+use lib.ListN.{length-set}
+use Rattle.writer.proofs.PacketZero.{written}
+use Rattle.symbols.specs.Stream.{perPacket, grab}
+use Rattle.symbols.specs.Pen.{restOf}
+use Rattle.writer.proofs.Filling.{length-grab, before-le}
+use Rattle.writer.proofs.Laying.{packet-laid}
+use Rattle.writer.proofs.write_packet.Statement.{statement}
+use Rattle.writer.proofs.write_packet.Tie as tie
+
+write-address-requires : tie.Need-write-address-requires
+write-address-requires c κs = search needs
+
+add-write-symbols : tie.Need-add-write-symbols
+add-write-symbols c = search needs
+
+write-symbols-requires : tie.Need-write-symbols-requires
+write-symbols-requires c κs = search needs
+
+cast-image : tie.Need-cast-image
+cast-image c =
+    let w = c .before .before .before in
+    let a = w .before .before .before .before .before .before .before .before .args in
+    let ss = grab perPacket (restOf (a .records .now) (a .pen)) in
+    omega (arith, w .write-symbols .ensures .1 .0, before-le ss, length-grab perPacket (restOf (a .records .now) (a .pen)))
+
+image-requires : tie.Need-image-requires
+image-requires c κs = search needs
+
+add-out : tie.Need-add-out
+add-out c = search needs
+
+slice-write-out : tie.Need-slice-write-out
+slice-write-out c = search needs
+
+same-length : tie.Need-same-length
+same-length c =
+    simp length-set
+    (c .before .before .before .before .before .write-symbols .kept .1 .1 .0
+    ∙ c .before .before .before .before .before .before .before .before .before .write-address .kept .1 .1 .0)
+
+returns : tie.Need-returns
+returns c =
+    let w = c .before .before .before .before .before in
+    let v = w .before .before .before .before in
+    let a = v .before .before .before .before .args in (
+      packet-laid (a .s) (a .y) (restOf (a .records .now) (a .pen)) (a .out .now) (v .write-address .last .1 .1 .0) (w .write-symbols .last .1 .1 .0) (a .q) (w .write-symbols .result .before) (c .before .image .result) (written (a .out .now) _ _ (a .q) 2 (search needs) (v .write-address .ensures))
+          (w .write-symbols .ensures .0) (w .write-symbols .ensures .1 .0) (c .before .image .ensures),
+      w .write-symbols .ensures .1 .1,
+    )
+
+pub write-packet-spec : {M : Type 1} → statement M
+write-packet-spec =
+    tie.close
+    (tie.spec
+    write-address-requires
+    add-write-symbols
+    write-symbols-requires
+    cast-image
+    image-requires
+    add-out
+    slice-write-out
+    same-length
+    returns)
