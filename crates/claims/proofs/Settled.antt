@@ -49,7 +49,8 @@ use Rattle.packet.proofs.address.Reads as packet·address
 use Rattle.packet.proofs.passes_by.Reads as packet·passes-by
 use Rattle.moves.proofs.copy.Reads as moves·copy
 use Rattle.moves.proofs.clear.Reads as moves·clear
-use Rattle.state.proofs.fresh.Reads as reader·fresh
+use Rattle.state.proofs.fresh.Reads as state·fresh
+use Rattle.state.proofs.in_range.Reads as state·in-range
 use Rattle.reader.proofs.feed.Reads as reader·feed
 use Rattle.reader.proofs.many.feed_all.Reads as reader·feed-all
 use Rattle.table.proofs.read_block.Reads as table·read-block
@@ -208,8 +209,11 @@ moves·clear-settled κs a x y s t p q = same p q
 
 -- ---- the reader
 
-pub reader·fresh-settled : (κs : _) (a : _) (x y : _) (s t : _) → reader·fresh.Post κs a x s → reader·fresh.Post κs a y t → x ≡ y
-reader·fresh-settled κs a x y s t p q = same p q
+pub state·fresh-settled : (κs : _) (a : _) (x y : _) (s t : _) → state·fresh.Post κs a x s → state·fresh.Post κs a y t → x ≡ y
+state·fresh-settled κs a x y s t p q = same p q
+
+pub state·in-range-settled : (κs : _) (a : _) (x y : _) (s t : _) → state·in-range.Post κs a x s → state·in-range.Post κs a y t → x ≡ y
+state·in-range-settled κs a x y s t p q = same (p .0) (q .0)
 
 pub reader·feed-settled :
     (κs : _) (a : _) (x y : _) (s t : _) → reader·feed.Post κs a x s → reader·feed.Post κs a y t

@@ -1,5 +1,4 @@
--- One protected byte, SCOPE 5, after EN 300 706; and the turning, SCOPE 6.6.
--- The parity checks of a protected byte: SCOPE 5.5, after EN 300 706.
+-- One protected byte and its parity checks: SCOPE 5, after EN 300 706; and the turning: SCOPE 6.6.
 pub mod Bits
 pub mod Image
 pub mod Decoding

@@ -1,5 +1,4 @@
 -- Reading PES packets and their units: SCOPE 6, after EN 300 472.
--- EBU data of a PES packet: SCOPE 6.3 and 6.6, after EN 300 472.
 pub mod Header
 pub mod Reading
 pub mod Texts

@@ -1,8 +1,8 @@
 // 44-byte records to PES packets of teletext, the other way than crate `pes`: SCOPE 6; EN 300 472, clauses 4.2 to 4.4.
 // The call takes any bytes and answers; a refusal leaves the lent output as it was.
 //
-// The definitions are in specs/Writing.antt: the packet's bytes; the call's rules, in order, are crate
-// `writable`'s. What reading and writing owe each other is proofs/Statements.antt.
+// The definitions are in specs/Writing.antt: the packet's bytes; the call's rules, in order, are
+// specs/Records.antt's, and module `writable` judges by them. What reading and writing owe each other is proofs/Statements.antt.
 mod writable;
 
 use answer::Answer;

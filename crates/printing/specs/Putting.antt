@@ -1,4 +1,4 @@
--- Lines are put as `puts` puts bytes, up to a place that no list passes.
+-- Lines are put as `put` puts bytes, up to a place that no list passes.
 use mathlib.Core.List.{List, []}
 use Prim.Native.Nat.{ℕ}
 use lib.Dec.{leb}

@@ -1,4 +1,3 @@
--- What a PES packet becomes on its way to a reader.
--- What goes out where packets are lost.
+-- What a PES packet becomes on its way to a reader, and what goes out where one is lost: SCOPE 6.12.
 pub mod Carried
 pub mod Loss

@@ -22,7 +22,7 @@ use blocks::HEAD;
 use spelling::KIND;
 
 // Where those fields of tables 15 and 17 begin that aren't the table's own, in bits: checksum, CA_mode. The third,
-// control_block_size, is crate `lengths`'.
+// control_block_size, is module `lengths`'.
 const SUM: usize = 0;
 
 const ACCESS: usize = 24;

@@ -1,5 +1,5 @@
--- Reading by places, as the code goes: filler is passed by in one go, then a start's four bytes, then the block's bytes. Crate
--- `holding`, proofs/Walking, shows that it is the reading byte by byte of Mode. Only private calls cite these.
+-- Reading by places, as the code goes: filler is passed by in one go, then a start's four bytes, then the block's bytes. proofs/Walking
+-- shows that it is the reading byte by byte of Mode. Only private calls cite these.
 use mathlib.Core.List.{List, [], _∷_, _++_}
 use Prim.Native.Nat.{ℕ, zero, suc, _-_}
 use lib.Dec.{eqb}

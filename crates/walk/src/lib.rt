@@ -1,6 +1,6 @@
 // Within a packet: what its pointer says, and what a block's header says. Where a block starts in its bytes, and whether what stands before
-// the pointed byte may stand there, is crate `starts`; the running block's bytes are the reader's (crate `rows`), and the laws of the
-// running block in its store are crate `holding`.
+// the pointed byte may stand there, is module `starts`; the running block's bytes are the reader's (its module `held`), and the laws
+// of the running block in its store are proofs/Keeping and Adding.
 pub mod starts;
 
 pub use starts::falls;
