@@ -2,4 +2,5 @@
 -- EBU data of a PES packet: SCOPE 6.3 and 6.6, after EN 300 472.
 pub mod Header
 pub mod Reading
+pub mod Finding
 pub mod Texts

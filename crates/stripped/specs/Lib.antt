@@ -1,4 +1,4 @@
 -- What a PES packet becomes on its way to a reader.
 -- What goes out where packets are lost.
-pub mod Carried
+pub mod Stripped
 pub mod Loss
