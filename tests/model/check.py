@@ -79,13 +79,20 @@ def annex_l1():
 
 
 def lost_pes():
-    """Each refused or cut PES packet becomes one packet that can't be read."""
+    """Each loss becomes one packet that can't be read, and reading goes on at the next packet."""
     good, packet = pes.write(0x10, b"\x02\x07" + b"\x15" * 42), b"\x15" * 42
     bad = with_bytes(good, (49, 0x27))
-    assert unpes.run(b"") == (b"", "read=0 refused=0 numbers= left=0\n")
-    assert unpes.run(good + bad + good) == (packet + unpes.UNREADABLE + packet, "read=2 refused=1 numbers=9 left=0\n")
-    for tail in (b"\x00", good[:-1], good[:5], b"\x01" + good):
-        assert unpes.run(good + tail) == (packet + unpes.UNREADABLE, f"read=1 refused=0 numbers= left={len(tail)}\n")
+    gone = unpes.UNREADABLE
+    assert unpes.run(b"") == unpes.run() == (b"", "read=0 refused=0 numbers= left=0\n")
+    assert unpes.run(good + bad + good) == (packet + gone + packet, "read=2 refused=1 numbers=9 left=0\n")
+    for tail in (b"\x00", good[:-1], good[:5]):         # cut short
+        assert unpes.run(good + tail) == (packet + gone, f"read=1 refused=0 numbers= left={len(tail)}\n")
+    for between in (b"\x00", b"\x00\x00\x01", good[1:], pes.FRONT, pes.FRONT + b"\x00\xb3", bytes(70000)):
+        assert unpes.run(good + between + good) == (packet + gone + packet, f"read=2 refused=0 numbers= left={len(between)}\n")
+    for bit in range(6 * 8):                            # start code, stream id, length: any bit of them
+        flipped = with_bytes(good, (bit // 8, good[bit // 8] ^ 1 << bit % 8))
+        assert unpes.run(flipped + good) == (gone + packet, f"read=1 refused=0 numbers= left={len(good)}\n")
+    assert unpes.run(good, good[:7], good) == (packet + gone * 3 + packet, "read=2 refused=0 numbers= left=7\n")
 
 
 def subsequence(some, whole):

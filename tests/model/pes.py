@@ -11,6 +11,7 @@ UNIT = 2 + TEXT_LENGTH            # with id and length (SCOPE 6.4)
 RECORD = 44                       # id, line byte, 42 bytes turned (SCOPE 6.9)
 FRAMING = 0xE4                    # 27 turned
 MOST = 356                        # the greatest N
+LENGTHS = range(184, MOST * 184 + 1, 184)   # how long a packet may be
 
 
 def line_taken(line):
@@ -43,7 +44,7 @@ def read(pes, room=65536):
     """The records of a PES packet, 44 bytes each."""
     need(len(pes) >= HEADER and pes[:4] == FRONT, 2)
     length = int.from_bytes(pes[4:6], "big")
-    need(length in range(184 - 6, MOST * 184, 184) and length + 6 == len(pes), 3, 4)
+    need(length + 6 in LENGTHS and length + 6 == len(pes), 3, 4)
     need(pes[6] >> 6 == 0b10 and pes[6] & 0x04, 4, 6)      # '10', data_alignment_indicator
     need(pes[8] == 0x24, 4, 8)                             # PES_header_data_length
     need(identifier_taken(pes[HEADER]), 5, HEADER)

@@ -24,8 +24,10 @@ use Rattle.units.proofs.unit_at.Reads as units·unit-at
 use Rattle.units.proofs.marks.is_text.Reads as units·is-text
 use Rattle.units.proofs.marks.line_fits.Reads as units·line-fits
 use Rattle.pes.proofs.read.Reads as pes·read
+use Rattle.pes.proofs.judge.Reads as pes·judge
+use Rattle.pes.proofs.find.Reads as pes·find
 use Rattle.pes_writer.proofs.write.Reads as pes-writer·write
-use Rattle.stripped.proofs.carry.Reads as stripped·carry
+use Rattle.stripped.proofs.strip.Reads as stripped·strip
 use Rattle.stripped.proofs.loss.blank.Reads as stripped·blank
 use Rattle.pes.proofs.ebu.is_ebu.Reads as pes·is-ebu
 use Rattle.pes.proofs.ebu.turn_run.Reads as pes·turn-run
@@ -105,6 +107,12 @@ pub pes·read-settled :
     (κs : _) (a : _) (x y : _) (s t : _) → pes·read.Post κs a x s → pes·read.Post κs a y t → (x ≡ y) × (now (s .1 .0) ≡ now (t .1 .0))
 pes·read-settled κs a x y s t p q = (same (p .0) (q .0), same (p .1) (q .1))
 
+pub pes·judge-settled : (κs : _) (a : _) (x y : _) (s t : _) → pes·judge.Post κs a x s → pes·judge.Post κs a y t → x ≡ y
+pes·judge-settled κs a x y s t p q = same p q
+
+pub pes·find-settled : (κs : _) (a : _) (x y : _) (s t : _) → pes·find.Post κs a x s → pes·find.Post κs a y t → x ≡ y
+pes·find-settled κs a x y s t p q = same p q
+
 pub pes·is-ebu-settled : (κs : _) (a : _) (x y : _) (s t : _) → pes·is-ebu.Post κs a x s → pes·is-ebu.Post κs a y t → x ≡ y
 pes·is-ebu-settled κs a x y s t p q = same p q
 
@@ -116,10 +124,10 @@ pub pes-writer·write-settled :
     (κs : _) (a : _) (x y : _) (s t : _) → pes-writer·write.Post κs a x s → pes-writer·write.Post κs a y t → (x ≡ y) × (now (s .1 .1 .0) ≡ now (t .1 .1 .0))
 pes-writer·write-settled κs a x y s t p q = (same (p .0) (q .0), same (p .1) (q .1))
 
-pub stripped·carry-settled :
-    (κs : _) (a : _) (x y : _) (s t : _) → stripped·carry.Post κs a x s → stripped·carry.Post κs a y t
-    → (x ≡ y) × (now (s .1 .0) ≡ now (t .1 .0)) × (now (s .1 .1 .0) ≡ now (t .1 .1 .0))
-stripped·carry-settled κs a x y s t p q = (same (p .0) (q .0), same (p .1 .0) (q .1 .0), same (p .1 .1 .0) (q .1 .1 .0))
+pub stripped·strip-settled :
+    (κs : _) (a : _) (x y : _) (s t : _) → stripped·strip.Post κs a x s → stripped·strip.Post κs a y t
+    → (x ≡ y) × (now (s .1 .0) ≡ now (t .1 .0))
+stripped·strip-settled κs a x y s t p q = (same (p .0) (q .0), same (p .1 .0) (q .1 .0))
 
 pub stripped·blank-settled : (κs : _) (a : _) (x y : _) (s t : _) → stripped·blank.Post κs a x s → stripped·blank.Post κs a y t → now (s .0) ≡ now (t .0)
 stripped·blank-settled κs a x y s t p q = same p q

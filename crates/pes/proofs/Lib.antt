@@ -1,4 +1,5 @@
 pub mod Filling
+pub mod Finding
 pub mod Heading
 pub mod Walk
 pub mod Runs

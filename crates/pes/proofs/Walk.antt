@@ -18,7 +18,8 @@ use Rattle.answer.proofs.Judging.{passes, refuses}
 use Rattle.answer.proofs.Lent.{front-holds, back-holds}
 use Rattle.answer.proofs.Steps.{every-first, judged-append}
 use Rattle.units.specs.declared.DataUnit.{DataUnit}
-use Rattle.units.specs.Units.{nextUnit, rulesAt}
+use Rattle.laws.specs.Pick.{pick}
+use Rattle.units.specs.Units.{byteAt, stuffingId, nextUnit, rulesAt}
 use Rattle.units.proofs.Meets.{text-unit, Whole, Met}
 use Rattle.pes.specs.Reading.{recordAt, givenAt, placesFrom}
 
@@ -97,27 +98,41 @@ scan-step pes at n (DataUnit.Stuffing next) m =
 scan-step pes at n (DataUnit.Refused r) m =
     scan-first pes at n (m .0) ∙ refuses refused _ (m .1 .1) ∙ rw (m .1 .2)
 
--- ---- writing the records
+-- ---- what the units give
+
+-- what the units from a place on give, where a text unit gives g of its place, and stuffing nothing
+abbrev pub spread : (ℕ → List ℕ) → List ℕ → ℕ → List ℕ
+spread g pes at = flatMap (λ (a : ℕ). pick (stuffingId (byteAt pes a)) [] (g a)) (from pes at)
 
 -- the records of the units from a place on
 abbrev pub rest : List ℕ → ℕ → List ℕ
-rest pes at = flatMap (givenAt pes) (from pes at)
+rest pes at = spread (recordAt pes) pes at
 
 -- the units' rules from a place on
 abbrev pub lawful : List ℕ → ℕ → List Rule
 lawful pes at = flatMap (rulesAt pes) (from pes at)
 
+module _ (g : ℕ → List ℕ) (pes : List ℕ) (at : ℕ) where
+  pub spread-end : length pes ≤ at → spread g pes at ≡ []
+  unfolding flatMap
+  spread-end h = rw (from-end pes at h)
+
+  pub spread-text : (next : ℕ) → Whole pes at next false → spread g pes at ≡ g at ++ spread g pes next
+  unfolding flatMap
+  spread-text next w = rw (from-step pes at (w .within), w .after, w .kind)
+
+  pub spread-stuffing : (next : ℕ) → Whole pes at next true → spread g pes at ≡ spread g pes next
+  unfolding flatMap
+  spread-stuffing next w = rw (from-step pes at (w .within), w .after, w .kind)
+
 pub rest-end : (pes : List ℕ) (at : ℕ) → length pes ≤ at → rest pes at ≡ []
-unfolding flatMap
-rest-end pes at h = rw (from-end pes at h)
+rest-end pes at h = spread-end (recordAt pes) pes at h
 
 pub rest-text : (pes : List ℕ) (at next : ℕ) → Whole pes at next false → rest pes at ≡ recordAt pes at ++ rest pes next
-unfolding flatMap
-rest-text pes at next w = rw (from-step pes at (w .within), w .after, w .kind)
+rest-text pes at next w = spread-text (recordAt pes) pes at next w
 
 pub rest-stuffing : (pes : List ℕ) (at next : ℕ) → Whole pes at next true → rest pes at ≡ rest pes next
-unfolding flatMap
-rest-stuffing pes at next w = rw (from-step pes at (w .within), w .after, w .kind)
+rest-stuffing pes at next w = spread-stuffing (recordAt pes) pes at next w
 
 pub lawful-next : (pes : List ℕ) (at next : ℕ) (s : Bool) → Whole pes at next s → Every (lawful pes at) → Every (lawful pes next)
 unfolding flatMap

@@ -3,7 +3,7 @@
 //
 // A record is what stands in a text unit, ready for a teletext reader: the unit's id, the line byte,
 // and the 42 bytes after the framing byte, each turned. The definitions are in specs/: Reading.antt has
-// the call's rules, in order, and its bytes.
+// the call's rules, in order, and its bytes; Finding.antt says where a packet begins among any bytes.
 pub mod ebu;
 
 use answer::Answer;
@@ -14,23 +14,33 @@ use units::DataUnit;
 ghost use mathlib.Core.Path.{_≡_};
 ghost use Prim.Native.Nat.{_+_, _*_, _≤_};
 ghost use lib.Dec.{leb, eqb};
-ghost use lib.ListN.{length};
+ghost use lib.ListN.{length, drop};
 ghost use lib.Seq.{sets};
 ghost use Rattle.laws.specs.Pick.{both};
 ghost use Rattle.answer.specs.Rules.{judged, Every};
 ghost use Rattle.answer.specs.Values.{refused};
 ghost use Rattle.answer.specs.Writing.{answered, left};
+ghost use Rattle.pes.specs.Finding.{beginsPacket, firstIn};
 ghost use Rattle.pes.specs.Header.{startsRight, lengthFits, flagsFit};
 ghost use Rattle.pes.specs.Reading.{recordAt, unitsRules, readRules, recordsOf};
 
 // A record's bytes: a unit's id, its line byte, and the text.
-const RECORD: usize = 44;
+pub const RECORD: usize = 44;
 
 // Where the first unit stands: after the header and data_identifier.
-const FIRST: usize = 46;
+pub const FIRST: usize = 46;
 
 // A packet's length is a multiple of this, what one transport packet carries.
 const PART: usize = 184;
+
+// The bytes up to the end of PES_packet_length, which counts those after it.
+pub const HEAD: usize = 6;
+
+// Where a packet begins.
+pub enum Start {
+    At(usize),
+    Nowhere,
+}
 
 // The records of a PES packet's text units, 44 bytes each (SCOPE 6.9), into the front of `out`. Goes
 // along the packet twice, to judge it and to write, and holds nothing but its place.
@@ -51,7 +61,7 @@ pub fn read(pes: &[u8], out: &mut [u8]) -> Answer
 }
 
 // Judges a whole packet, writing nothing: its refusal, or how many bytes of records it gives.
-fn judge(pes: &[u8]) -> Answer
+pub fn judge(pes: &[u8]) -> Answer
     ensures { λ r. ⌜ r ≡ judged refused (readRules (now (pes .entry))) (Answer.Done (length (recordsOf (now (pes .entry))))) ⌝ }
 {
     if !starts(pes) {
@@ -70,6 +80,34 @@ fn judge(pes: &[u8]) -> Answer
         return Answer::Refused(Refusal { no: 5, at: 45 });
     }
     scan(pes)
+}
+
+// The first place from `from` on where a packet begins: 00 00 01 BD, and a length that reading takes. A
+// reader of a damaged capture goes on from there.
+pub fn find(bytes: &[u8], from: usize) -> Start
+    ensures { λ r. ⌜ r ≡ firstIn (drop from (now (bytes .entry))) from ⌝ }
+{
+    let mut at = from;
+    while at < bytes.len() {
+        if begins(&bytes[at..]) {
+            return Start::At(at);
+        }
+        at += 1;
+    }
+    Start::Nowhere
+}
+
+// Whether a packet begins at the front.
+fn begins(bytes: &[u8]) -> bool
+    ensures { λ r. ⌜ r ≡ beginsPacket (now (bytes .entry)) ⌝ }
+{
+    if bytes.len() < HEAD {
+        return false;
+    }
+    if !has_code(bytes) {
+        return false;
+    }
+    is_length(bytes[4], bytes[5])
 }
 
 // Judges the units from first to last: the first refusal, or how many bytes of records they give.
@@ -100,6 +138,14 @@ fn starts(pes: &[u8]) -> bool
     if pes.len() < 45 {
         return false;
     }
+    has_code(pes)
+}
+
+// Whether bytes begin 00 00 01 BD.
+fn has_code(pes: &[u8]) -> bool
+    requires { ⌜ 4 ≤ length (now pes) ⌝ }
+    ensures { λ r. ⌜ r ≡ startsRight (now (pes .entry)) ⌝ }
+{
     if pes[0] != 0x00 {
         return false;
     }
@@ -113,19 +159,26 @@ fn starts(pes: &[u8]) -> bool
 }
 
 // Whether PES_packet_length, by its two bytes, is that of some N times 184 bytes, and the packet is as
-// long as it says. Two bytes hold no N above 356.
+// long as it says.
 fn length_fits(high: u8, low: u8, whole: usize) -> bool
     ensures { λ r. ⌜ r ≡ both (lengthFits (high * 256 + low)) (eqb (high * 256 + low + 6) whole) ⌝ }
 {
+    if !is_length(high, low) {
+        return false;
+    }
+    (high as usize) * 256 + (low as usize) + HEAD == whole
+}
+
+// Whether PES_packet_length is N×184−6 with N from 1 to 356. Two bytes hold no N above 356.
+fn is_length(high: u8, low: u8) -> bool
+    ensures { λ r. ⌜ r ≡ lengthFits (high * 256 + low) ⌝ }
+{
     let size = (high as usize) * 256 + (low as usize);
-    let n = (size + 6) / PART;
+    let n = (size + HEAD) / PART;
     if n < 1 {
         return false;
     }
-    if size != n * PART - 6 {
-        return false;
-    }
-    size + 6 == whole
+    size == n * PART - HEAD
 }
 
 // Whether byte 6 has its leading bits 10 and the alignment bit.

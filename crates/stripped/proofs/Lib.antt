@@ -1,3 +1,3 @@
-pub mod Carrying
 pub mod Stripping
+pub mod Statements
 pub mod Blanking

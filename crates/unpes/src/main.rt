@@ -1,213 +1,160 @@
-// PES packets from standard input, one after the other, each as long as its own length field says, to the
-// 42-byte packets that they carry, on standard output, ready for the desk.
+// PES packets, one after the other, each as long as its own length field says, to the 42-byte packets that they
+// carry, on standard output, ready for the desk. They come from standard input, or from each file that is named.
 //
-// A refused PES packet is a loss that no reader could see: with the packets before and after it fitting,
-// the halves of two tables could join. So ONE packet that can't be decoded goes out for each, all 16 hex,
-// and a reader drops what it holds. Input that isn't at a packet's front, or is cut short, ends the run
-// after one such packet. The last line on standard error counts the packets read, those refused with
-// their numbers, and the bytes left over.
+// A refused PES packet is a loss that no reader could see: with the packets before and after it fitting, the halves of
+// two tables could join. So ONE packet that can't be decoded goes out for each, all 16 hex, and a reader drops what it
+// holds. So does one for each place where no packet begins, for a packet that is cut short, and between two files.
+// The last line on standard error counts the packets read, those refused with their numbers, and the bytes left over.
+//
+// A line on standard error that tells of a failure begins `unpes: `. Once standard output has failed, nothing more goes
+// out: a packet that is missing in the middle is what nobody could see.
+mod capture;
+
+use capture::Tally;
 use libc::STDERR_FILENO;
 use libc::STDIN_FILENO;
-use libc::STDOUT_FILENO;
-ghost use mathlib.Core.Path.{_≡_};
-ghost use Prim.Native.Nat.{_≤_};
-ghost use lib.ListN.{length};
-ghost use Rattle.unpes.specs.Next.{sizeIn};
+use wanted::Stage;
+use wanted::Words;
 
-// The bytes of a packet that goes out.
-const PACKET: usize = 42;
-
-// Up to PES_packet_length, which counts the bytes after it.
-const HEAD: usize = 6;
-
-// How many PES packets were read, and how many refused.
-struct Tally {
-    read: u64,
-    refused: u64,
-}
-
-// What standard input holds next.
-enum Next {
-    // A whole PES packet of so many bytes, in the lent space.
-    Packet(usize),
-    // So many bytes that are none, up to the end.
-    Rest(u64),
-}
-
-// Whether the run goes on, or ends with so many bytes left over.
-enum Went {
-    On(Tally),
-    Ended(u64),
+// Where the second hearing stands: the words so far, whether one of them was a name, and the counts.
+struct Heard {
+    words: Words,
+    named: bool,
+    tally: Tally,
 }
 
 fn main() {
-    let mut space = [0u8; 65541];
-    let mut records = [0u8; 65536];
-    let mut packets = [0u8; 65536];
+    let words = hear_all();
+    if !wanted::is_good(words) {
+        io::write_all(STDERR_FILENO, b"unpes: usage: unpes [--] [FILE ...]\n");
+        return;
+    }
     let mut seen = [0u8; 17];
-    let mut tally = Tally {
-        read: 0,
-        refused: 0,
+    let tally = unpack_all(&mut seen);
+    if tally.sound {
+        capture::say(tally, &seen);
+    }
+}
+
+// No option is taken, so the words begin where names do.
+fn start() -> Words {
+    let words = wanted::start();
+    let setting = words.setting;
+    Words {
+        setting,
+        stage: Stage::Names,
+    }
+}
+
+fn hear_all() -> Words {
+    let count = os::arg_count();
+    let mut words = start();
+    let mut i = 1;
+    while i < count {
+        words = hear(words, i);
+        i += 1;
+    }
+    words
+}
+
+fn hear(words: Words, i: usize) -> Words {
+    let mut word = io::buffer();
+    let n = argument(i, &mut word);
+    wanted::next(words, front(&word, n))
+}
+
+// Puts an argument at the start of a buffer. One that is too long for it is its first bytes, which no
+// file's name is.
+fn argument(i: usize, word: &mut [u8]) -> usize {
+    let n = os::arg(i, word);
+    if os::errno() == libc::ENAMETOOLONG {
+        return word.len();
+    }
+    n
+}
+
+// Goes through each file that is named, or standard input where none is.
+fn unpack_all(seen: &mut [u8; 17]) -> Tally {
+    let count = os::arg_count();
+    let mut heard = Heard {
+        words: start(),
+        named: false,
+        tally: capture::none(),
     };
-    let mut turns = u64::MAX;
-    while turns > 0 {
-        turns -= 1;
-        let went = step(tally, &mut space, &mut records, &mut packets, &mut seen);
-        match went {
-            Went::On(t) => {
-                tally = t;
-            }
-            Went::Ended(left) => {
-                say(tally, &seen, left);
-                return;
-            }
-        }
+    let mut i = 1;
+    while i < count {
+        heard = visit(heard, i, seen);
+        i += 1;
     }
+    let tally = heard.tally;
+    if heard.named {
+        return tally;
+    }
+    capture::unpack(STDIN_FILENO, b"standard input", tally, seen)
 }
 
-// One turn: the next PES packet is read, and what it carries goes out.
-fn step(
-    tally: Tally,
-    space: &mut [u8],
-    records: &mut [u8],
-    packets: &mut [u8],
-    seen: &mut [u8],
-) -> Went
-    requires { ⌜ (65541 ≤ length (now space)) × (65536 ≤ length (now records)) × (65536 ≤ length (now packets)) ⌝ }
-{
-    match fetch(space) {
-        Next::Packet(size) => {
-            let c = stripped::carry(&space[..size], records, packets);
-            let n = c.bytes;
-            io::write_all(STDOUT_FILENO, &packets[..n]);
-            Went::On(counted(tally, c.no, seen))
-        }
-        Next::Rest(left) => {
-            if 0 < left {
-                stripped::blank(packets);
-                io::write_all(STDOUT_FILENO, &packets[..PACKET]);
-            }
-            Went::Ended(left)
-        }
-    }
-}
-
-// Reads the next PES packet into the space, which holds the longest.
-fn fetch(space: &mut [u8]) -> Next
-    requires { ⌜ 65541 ≤ length (now space) ⌝ }
-    ensures { λ r. ⌜ sizeIn r ≤ length (now (space .exit)) ⌝ }
-{
-    let got = io::read_full(STDIN_FILENO, &mut space[..HEAD]);
-    if got < HEAD {
-        return Next::Rest(got as u64);
-    }
-    if !at_front(space) {
-        return Next::Rest(rest(space));
-    }
-    let size = HEAD + wide(space[4]) * 256 + wide(space[5]);
-    let more = io::read_full(STDIN_FILENO, &mut space[HEAD..size]);
-    if more < size - HEAD {
-        return Next::Rest((HEAD + more) as u64);
-    }
-    Next::Packet(size)
-}
-
-// Whether the space begins 00 00 01 BD.
-fn at_front(space: &[u8]) -> bool
-    requires { ⌜ 4 ≤ length (now space) ⌝ }
-{
-    if space[0] != 0x00 {
-        return false;
-    }
-    if space[1] != 0x00 {
-        return false;
-    }
-    if space[2] != 0x01 {
-        return false;
-    }
-    space[3] == 0xBD
-}
-
-// How many bytes are left to the end of the input, HEAD that were read with them.
-fn rest(space: &mut [u8]) -> u64 {
-    let mut left = HEAD as u64;
-    let mut turns = u64::MAX;
-    while turns > 0 {
-        turns -= 1;
-        let got = io::read_full(STDIN_FILENO, space);
-        if got == 0 {
-            return left;
-        }
-        left = plus(left, got as u64);
-    }
-    left
-}
-
-// Counts a PES packet by its number, and marks the number.
-fn counted(tally: Tally, no: u8, seen: &mut [u8]) -> Tally {
-    if no == 0 {
-        return Tally {
-            read: plus(tally.read, 1),
-            refused: tally.refused,
+// Hears a word again, and goes through the file where it is a name.
+fn visit(heard: Heard, i: usize, seen: &mut [u8; 17]) -> Heard {
+    let mut word = io::buffer();
+    let n = argument(i, &mut word);
+    let before = heard.words;
+    let tally = heard.tally;
+    let words = wanted::next(before, front(&word, n));
+    if !wanted::is_name(before, front(&word, n)) {
+        return Heard {
+            words,
+            named: heard.named,
+            tally,
         };
     }
-    mark(no, seen);
-    Tally {
-        read: tally.read,
-        refused: plus(tally.refused, 1),
+    let tally = unpack_file(&mut word, n, tally, seen);
+    Heard {
+        words,
+        named: true,
+        tally,
     }
 }
 
-fn mark(no: u8, seen: &mut [u8]) {
-    let i = no as usize;
-    if i < seen.len() {
-        seen[i] = 1;
+// Goes through the file of a name, unless standard output failed before.
+fn unpack_file(word: &mut [u8; 4096], n: usize, tally: Tally, seen: &mut [u8; 17]) -> Tally {
+    if !tally.sound {
+        return tally;
     }
-}
-
-// The sum, or the greatest number where it is more.
-fn plus(a: u64, b: u64) -> u64 {
-    if u64::MAX - a < b {
-        return u64::MAX;
+    let fd = os::open_read(front(word, n));
+    plain(word);
+    if fd < 0 {
+        capture::tell(front(word, n));
+        return tally;
     }
-    a + b
+    let tally = capture::unpack(fd, front(word, n), tally, seen);
+    libc::close(fd);
+    tally
 }
 
-fn wide(b: u8) -> usize
-    ensures { λ r. ⌜ (r ≡ b) × (r ≤ 255) ⌝ }
-{
-    b as usize
-}
-
-// Writes the last line.
-fn say(tally: Tally, seen: &[u8], left: u64) {
-    io::write_all(STDERR_FILENO, b"read=");
-    io::print_decimal(STDERR_FILENO, tally.read);
-    io::write_all(STDERR_FILENO, b" refused=");
-    io::print_decimal(STDERR_FILENO, tally.refused);
-    io::write_all(STDERR_FILENO, b" numbers=");
-    say_numbers(seen);
-    io::write_all(STDERR_FILENO, b" left=");
-    io::print_decimal(STDERR_FILENO, left);
-    io::write_all(STDERR_FILENO, b"\n");
-}
-
-// The numbers that are marked, with commas between.
-fn say_numbers(seen: &[u8]) {
+// A name as it is told: it can't imitate a line.
+fn plain(name: &mut [u8]) {
     let mut i = 0;
-    let mut first = true;
-    while i < seen.len() {
-        if seen[i] != 0 {
-            say_number(i as u64, first);
-            first = false;
-        }
+    while i < name.len() {
+        name[i] = printed(name[i]);
         i += 1;
     }
 }
 
-fn say_number(number: u64, first: bool) {
-    if !first {
-        io::write_all(STDERR_FILENO, b",");
+// A byte that isn't printed is `?`.
+fn printed(b: u8) -> u8 {
+    if b < 0x20 {
+        return b'?';
     }
-    io::print_decimal(STDERR_FILENO, number);
+    if b == 0x7F {
+        return b'?';
+    }
+    b
+}
+
+// The first n bytes; nothing where there are fewer.
+fn front(s: &[u8], n: usize) -> &[u8] {
+    if s.len() < n {
+        return &s[0..0];
+    }
+    &s[0..n]
 }

@@ -1,45 +1,28 @@
--- `pes::length_fits` meets its contract, by its tests; N is at most 356 since two bytes hold at most 65,535. Assumes nothing.
+-- `pes::length_fits` meets its contract, by its two tests. Assumes nothing.
 use borrow.Author.Needs.{needs}
-use borrow.Author.Tests.{le-leb, lt-leb, eq-eqb, ne-eqb}
-use Prim.Native.Nat.{_+_, _*_, _/_}
-use native.Mathlib.Omega.{arith}
+use borrow.Author.Tests.{not-true, not-false}
+use mathlib.Core.Path.{_∙_, sym}
 use Rattle.pes.proofs.length_fits.Statement.{statement}
 use Rattle.pes.proofs.length_fits.Tie as tie
 
-mul-size : tie.Need-mul-size
-mul-size c = search needs
-
-add-size : tie.Need-add-size
-add-size c = search needs
-
-add-n : tie.Need-add-n
-add-n c = search needs
+is-length-requires : tie.Need-is-length-requires
+is-length-requires c κs = search needs
 
 returns : tie.Need-returns
-returns c = rw (lt-leb _ _ (c .if1 .taken))
+returns c = rw (← (c .before .is-length .ensures), not-true (c .before .is-length .result) (c .if1 .taken))
 
-mul-if2 : tie.Need-mul-if2
-mul-if2 c = search needs
-
-sub-if2 : tie.Need-sub-if2
-sub-if2 c = search needs
-
-returns-2 : tie.Need-returns-2
-returns-2 c =
-    let a = c .before .before .args in
-    let n = (a .high * 256 + a .low + 6) / 184 in
-    rw (le-leb 1 n (c .before .if1 .left), le-leb n 356 (omega arith), ne-eqb _ _ (c .if2 .taken))
+mul-result : tie.Need-mul-result
+mul-result c = search needs
 
 add-result : tie.Need-add-result
 add-result c = search needs
 
-returns-3 : tie.Need-returns-3
-returns-3 c =
-    let a = c .before .before .args in
-    let n = (a .high * 256 + a .low + 6) / 184 in
-    rw (le-leb 1 n (c .before .if1 .left), le-leb n 356 (omega arith), eq-eqb _ _ (c .if2 .left))
+add-result-2 : tie.Need-add-result-2
+add-result-2 c = search needs
+
+returns-2 : tie.Need-returns-2
+returns-2 c = rw (← (c .before .is-length .ensures), not-false (c .before .is-length .result) (c .if1 .left))
 
 pub length-fits-spec : {M : Type 1} → statement M
 length-fits-spec =
-    tie.close
-    (tie.spec mul-size add-size add-n returns mul-if2 sub-if2 returns-2 add-result returns-3)
+    tie.close (tie.spec is-length-requires returns mul-result add-result add-result-2 returns-2)

@@ -7,19 +7,21 @@ use native.Mathlib.Omega.{arith}
 use lib.ListN.{length}
 use denote.Ref.{now}
 use Rattle.units.proofs.Meets.{Whole, met-by, whole-moves, text-next, text-unit}
-use Rattle.pes.proofs.Walk.{lawful-met}
+use Rattle.pes.specs.Reading.{recordAt, places, recordsOf}
+use Rattle.pes.proofs.Walk.{record-length, lawful-met}
 use Rattle.pes.proofs.Filling.{Filled, filled-start, filled-end, filled-stuffing, filled-room, filled-text}
 use Rattle.pes.proofs.put_records.Statement.{statement}
 use Rattle.pes.proofs.put_records.Tie as tie
 
 abbrev Inv-loop : tie.InvT-loop
-Inv-loop pes out₀ at₀ to₀ out at to = Filled pes out₀ at to out
+Inv-loop pes out₀ at₀ to₀ out at to = Filled (recordAt pes) pes out₀ at to out
 
 abbrev μ-loop : tie.MeasureT-loop
 μ-loop pes out₀ at₀ to₀ out at to = length pes - at
 
 loop-holds : tie.Need-loop-holds Inv-loop μ-loop
-loop-holds c = let s = c .before .before in filled-start _ _ (s .pre .0) (s .pre .1)
+unfolding recordsOf places
+loop-holds c = let s = c .before .before in filled-start _ _ _ (s .pre .0) (s .pre .1)
 
 unit-at-requires : tie.Need-unit-at-requires Inv-loop μ-loop
 unit-at-requires c κs = search needs
@@ -31,9 +33,10 @@ same-length : tie.Need-same-length Inv-loop μ-loop
 same-length c = c .before .before .before .loop .inv .long
 
 returns : tie.Need-returns Inv-loop μ-loop
+unfolding recordsOf places
 returns c =
     let l = c .before .before .before .loop in
-    filled-end _ _ _ _ _ (l .inv) (met-by _ _ (c .before .before .unit-at .ensures) (c .enum-told .given .1))
+    filled-end _ _ _ _ _ _ (l .inv) (met-by _ _ (c .before .before .unit-at .ensures) (c .enum-told .given .1))
 
 enum-known-next : tie.Need-enum-known-next Inv-loop μ-loop
 enum-known-next c = search needs
@@ -48,13 +51,13 @@ put-record-requires : tie.Need-put-record-requires Inv-loop μ-loop
 put-record-requires c κs =
     let t = text (c .before) in
     let u = text-unit _ _ (t .kind) (t .every) in
-    let r = filled-room _ _ _ _ _ (c .before .before .before .before .before .loop .inv) _ t in
+    let r = filled-room _ _ _ _ _ _ (c .before .before .before .before .before .loop .inv) 44 (record-length _ _) _ t in
     (u .ends, omega arith)
 
 add-to : tie.Need-add-to Inv-loop μ-loop
 add-to c =
     let d = c .before .before .before .before in
-    omega (arith, filled-room _ _ _ _ _ (d .before .before .before .before .loop .inv) _ (text d), d .before .before .before .before .loop .inv .long)
+    omega (arith, filled-room _ _ _ _ _ _ (d .before .before .before .before .loop .inv) 44 (record-length _ _) _ (text d), d .before .before .before .before .loop .inv .long)
 
 loop-less : tie.Need-loop-less Inv-loop μ-loop
 loop-less c = let t = text (c .before .before .before .before) in omega (arith, t, text-next _ _ _ t)
@@ -62,7 +65,7 @@ loop-less c = let t = text (c .before .before .before .before) in omega (arith, 
 loop-again : tie.Need-loop-again Inv-loop μ-loop
 loop-again c =
     let l = c .before .before .before .before .before .before .before .before .loop in
-    filled-text _ _ _ _ _ (l .inv) _ _ (text (c .before .before .before .before)) (c .before .before .put-record .kept .1 .1 .0) (c .before .before .put-record .ensures)
+    filled-text _ _ _ _ _ _ (l .inv) 44 (record-length _ _) _ _ (text (c .before .before .before .before)) (c .before .before .put-record .kept .1 .1 .0) (c .before .before .put-record .ensures)
 
 enum-known-next-2 : tie.Need-enum-known-next-2 Inv-loop μ-loop
 enum-known-next-2 c = search needs
@@ -77,7 +80,7 @@ loop-less-2 : tie.Need-loop-less-2 Inv-loop μ-loop
 loop-less-2 c = omega (arith, stuffing c, whole-moves _ _ _ _ (stuffing c))
 
 loop-again-2 : tie.Need-loop-again-2 Inv-loop μ-loop
-loop-again-2 c = filled-stuffing _ _ _ _ _ (c .before .before .before .before .loop .inv) _ (stuffing c)
+loop-again-2 c = filled-stuffing _ _ _ _ _ _ (c .before .before .before .before .loop .inv) _ (stuffing c)
 
 enum-told-2 : tie.Need-enum-told-2 Inv-loop μ-loop
 enum-told-2 c = search needs

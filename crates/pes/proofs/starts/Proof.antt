@@ -1,61 +1,17 @@
--- `pes::starts` meets its contract, by its five tests. Assumes nothing.
+-- `pes::starts` meets its contract: its length, and what stands at the front. Assumes nothing.
 use borrow.Author.Needs.{needs}
-use borrow.Author.Tests.{le-leb, lt-leb, eq-eqb, ne-eqb}
+use borrow.Author.Tests.{le-leb, lt-leb}
 use Rattle.pes.proofs.starts.Statement.{statement}
 use Rattle.pes.proofs.starts.Tie as tie
 
 returns : tie.Need-returns
 returns c = rw (lt-leb _ _ (c .if1 .taken))
 
-shared-slice-read-if2 : tie.Need-shared-slice-read-if2
-shared-slice-read-if2 c = search needs
+has-code-requires : tie.Need-has-code-requires
+has-code-requires c κs = search needs
 
 returns-2 : tie.Need-returns-2
-returns-2 c = rw (le-leb _ _ (c .before .before .if1 .left), ne-eqb _ _ (c .if2 .taken))
-
-shared-slice-read-if3 : tie.Need-shared-slice-read-if3
-shared-slice-read-if3 c = search needs
-
-returns-3 : tie.Need-returns-3
-returns-3 c =
-    rw (le-leb _ _ (c .before .before .before .before .if1 .left), eq-eqb _ _ (c .before .before .if2 .left), ne-eqb _ _ (c .if3 .taken))
-
-shared-slice-read-if4 : tie.Need-shared-slice-read-if4
-shared-slice-read-if4 c = search needs
-
-returns-4 : tie.Need-returns-4
-returns-4 c =
-    let d = c .before .before in
-    rw (
-      le-leb _ _ (d .before .before .before .before .if1 .left),
-      eq-eqb _ _ (d .before .before .if2 .left),
-      eq-eqb _ _ (d .if3 .left),
-      ne-eqb _ _ (c .if4 .taken),
-    )
-
-shared-slice-read-result : tie.Need-shared-slice-read-result
-shared-slice-read-result c = search needs
-
-returns-5 : tie.Need-returns-5
-returns-5 c =
-    let d = c .before .before .before in
-    rw (
-      le-leb _ _ (d .before .before .before .before .if1 .left),
-      eq-eqb _ _ (d .before .before .if2 .left),
-      eq-eqb _ _ (d .if3 .left),
-      eq-eqb _ _ (c .before .if4 .left),
-    )
+returns-2 c = rw (le-leb _ _ (c .before .if1 .left)) (c .has-code .ensures)
 
 pub starts-spec : {M : Type 1} → statement M
-starts-spec =
-    tie.close
-    (tie.spec
-    returns
-    shared-slice-read-if2
-    returns-2
-    shared-slice-read-if3
-    returns-3
-    shared-slice-read-if4
-    returns-4
-    shared-slice-read-result
-    returns-5)
+starts-spec = tie.close (tie.spec returns has-code-requires returns-2)

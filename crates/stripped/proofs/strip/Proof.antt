@@ -1,84 +1,110 @@
--- `stripped::strip` meets its contract. The loop's invariant: the packets of the records from here on, stored now, give the whole. The
--- measure is the number of records that are left. Assumes nothing.
+-- `stripped::strip` meets its contract: by what judging answers, then by its test of the room. Assumes nothing.
 use borrow.Author.Needs.{needs}
-use mathlib.Core.Path.{_≡_, _∙_, sym, ap}
-use Prim.Native.Nat.{_+_, _-_, _*_, _≤_}
+use mathlib.Core.Path.{_∙_, refl, sym, ap}
 use native.Mathlib.Omega.{arith}
 use denote.Ref.{now}
-use lib.ListN.{length, take, drop}
-use lib.Seq.{sets}
-use Rattle.laws.proofs.Stores.{sets-next}
-use Rattle.stripped.specs.Carried.{packetsOf}
-use Rattle.stripped.proofs.Stripping.{packets-more, packets-none, packet-length}
+use Rattle.stripped.specs.Loss.{unreadable}
+use Rattle.stripped.proofs.Blanking.{blank-fits}
+use Rattle.stripped.specs.declared.Stripped.the-variants.{Packets}
+use Rattle.stripped.proofs.Stripping.{Refuses, reading-refuses, Takes, reading-takes, goes, short, after, stands}
 use Rattle.stripped.proofs.strip.Statement.{statement}
 use Rattle.stripped.proofs.strip.Tie as tie
 
-abbrev Inv-loop : tie.InvT-loop
-Inv-loop records count packets₀ at₀ to₀ more₀ packets at to more =
-    (at + 44 * more ≤ length records)
-    × (length packets ≡ length packets₀)
-    × (to + 42 * more ≤ length packets)
-    × (sets packets to (packetsOf more records at) ≡ sets packets₀ 0 (packetsOf count records 0))
+judge-requires : tie.Need-judge-requires
+judge-requires c κs = search needs
 
-abbrev μ-loop : tie.MeasureT-loop
-μ-loop records count packets₀ at₀ to₀ more₀ packets at to more = more
+enum-known-r : tie.Need-enum-known-r
+enum-known-r c = search needs
 
-loop-holds : tie.Need-loop-holds Inv-loop μ-loop
-loop-holds c = search needs
+-- what a refusal of judging tells, and what it tells that judging takes the packet
+refuses :
+    (c : tie.After-r)
+    → Refuses (now (c .before .before .before .before .before .args .pes)) (now (c .before .before .before .before .before .args .packets)) (c .r .given .0 .0)
+refuses c = reading-refuses _ _ _ (sym (c .before .before .judge .ensures) ∙ c .r .given .1)
 
-add-copy : tie.Need-add-copy Inv-loop μ-loop
-add-copy c = search needs
+takes :
+    (c : tie.After-records)
+    → Takes (now (c .before .before .before .before .before .args .pes)) (now (c .before .before .before .before .before .args .packets)) (c .records .given .0 .0)
+takes c = reading-takes _ _ _ (sym (c .before .before .judge .ensures) ∙ c .records .given .1)
 
-copy-requires : tie.Need-copy-requires Inv-loop μ-loop
-copy-requires c κs = search needs
+returns : tie.Need-returns
+returns c =
+    let a = c .before .before .before .before .before .before .before .args in
+    let r = refuses (c .before .before) in
+    let g = short (now (a .pes)) (now (a .packets)) (rw (r .blank) (c .if1 .taken)) in
+    (g, (after _ _ _ g, search needs))
 
-add-at : tie.Need-add-at Inv-loop μ-loop
-add-at c = search needs
+blank-requires : tie.Need-blank-requires
+blank-requires c κs = search needs
 
-add-to : tie.Need-add-to Inv-loop μ-loop
-add-to c = search needs
+enum-known-records : tie.Need-enum-known-records
+enum-known-records c = search needs
 
-sub-more : tie.Need-sub-more Inv-loop μ-loop
-sub-more c = search needs
+mul-need : tie.Need-mul-need
+mul-need c = search needs
 
-loop-less : tie.Need-loop-less Inv-loop μ-loop
-loop-less c = search needs
+returns-2 : tie.Need-returns-2
+returns-2 c =
+    let a = c .before .before .before .before .before .before .before .args in
+    let t = takes (c .before .before) in
+    let g = short (now (a .pes)) (now (a .packets)) (rw (t .whole) (omega (arith, t .need, c .if2 .taken))) in
+    (g, (after _ _ _ g, search needs))
 
-loop-again : tie.Need-loop-again Inv-loop μ-loop
-loop-again c =
-    let l = c .before .before .before .before .before .loop in
-    let rs = now (c .before .before .before .before .before .before .before .before .args .records) in
-    let p = c .before .before .copy in
-    let k = p .kept .1 .1 .1 .0 in (
-      omega arith,
-      k ∙ l .inv .1,
-      rw k (omega arith),
-      sets-next (l .packets) (p .last .1 .1 .1 .0) (l .to) 42 (take 42 (drop (l .at + 2) rs)) (packetsOf (l .more - 1) rs (l .at + 44)) _
-          (packets-more (l .more) rs (l .at) (search needs)) (packet-length rs (l .at + 2) (omega arith)) (p .ensures) ∙ l .inv .3,
-    )
+put-packets-requires : tie.Need-put-packets-requires
+put-packets-requires c κs =
+    let t = takes (c .before .before .before) in
+    (t .rules, omega (arith, t .need, c .before .if2 .left))
 
-same-length : tie.Need-same-length Inv-loop μ-loop
+same-length : tie.Need-same-length
 same-length c = search needs
 
-returns : tie.Need-returns Inv-loop μ-loop
-returns c =
-    let l = c .before .loop in
-    let rs = now (c .before .before .before .before .args .records) in
-    sym (ap (sets (l .packets) (l .to)) (packets-none (l .more) rs (l .at) (search needs))) ∙ l .inv .3
+returns-3 : tie.Need-returns-3
+returns-3 c =
+    let b = c .before .before in
+    let d = b .before .before in
+    let a = d .before .before .before .before .before .before .before .args in
+    let r = refuses (d .before .before) in
+    let g = goes (now (a .pes)) (now (a .packets)) _ (rw (r .blank) (d .if1 .left)) (r .is-lost) in (
+      g,
+      (
+        b .blank .ensures ∙ blank-fits (now (a .packets)) (d .if1 .left)
+            ∙ stands (now (a .pes)) (now (a .packets)) unreadable 42 (r .blank) refl (d .if1 .left) ∙ after _ _ _ g,
+        omega (arith, d .if1 .left, b .blank .kept .0),
+      ),
+    )
+
+same-length-2 : tie.Need-same-length-2
+same-length-2 c = search needs
+
+returns-4 : tie.Need-returns-4
+returns-4 c =
+    let b = c .before .before in
+    let d = b .before .before in
+    let a = d .before .before .before .before .before .before .before .args in
+    let t = takes (d .before .before) in
+    let g =
+    ap Packets (t .need)
+    ∙ goes (now (a .pes)) (now (a .packets)) _ (rw (t .whole) (omega (arith, t .need, d .if2 .left))) (t .is-whole) in (
+      g,
+      (
+        b .put-packets .ensures ∙ stands (now (a .pes)) (now (a .packets)) _ _ (t .whole) (t .need) (d .if2 .left) ∙ after _ _ _ g,
+        omega (arith, d .if2 .left, b .put-packets .kept .1 .0),
+      ),
+    )
 
 pub strip-spec : {M : Type 1} → statement M
 strip-spec =
     tie.close
     (tie.spec
-    Inv-loop
-    μ-loop
-    loop-holds
-    add-copy
-    copy-requires
-    add-at
-    add-to
-    sub-more
-    loop-less
-    loop-again
+    judge-requires
+    enum-known-r
+    returns
+    blank-requires
+    enum-known-records
+    mul-need
+    returns-2
+    put-packets-requires
     same-length
-    returns)
+    returns-3
+    same-length-2
+    returns-4)

@@ -1,15 +1,15 @@
--- `unpes::say_numbers` is safe and ends. The measure is what is left of the marks. Assumes nothing.
+-- `unpes::capture::say_numbers` is safe and ends. The measure is what is left of the marks. Assumes nothing.
 use borrow.Author.Needs.{needs}
 use Prim.Native.Nat.{_-_, _≤_}
 use lib.ListN.{length}
-use Rattle.unpes.proofs.say_numbers.Statement.{statement}
-use Rattle.unpes.proofs.say_numbers.Tie as tie
+use Rattle.unpes.proofs.capture.say_numbers.Statement.{statement}
+use Rattle.unpes.proofs.capture.say_numbers.Tie as tie
 
 abbrev Inv-loop : tie.InvT-loop
-Inv-loop seen i₀ first₀ i first = i ≤ length seen
+Inv-loop seen i₀ is-first₀ i is-first = i ≤ length seen
 
 abbrev μ-loop : tie.MeasureT-loop
-μ-loop seen i₀ first₀ i first = length seen - i
+μ-loop seen i₀ is-first₀ i is-first = length seen - i
 
 loop-holds : tie.Need-loop-holds Inv-loop μ-loop
 loop-holds c = search needs
@@ -20,6 +20,9 @@ shared-slice-read-if1 c = search needs
 say-number-requires : tie.Need-say-number-requires Inv-loop μ-loop
 say-number-requires c κs = search needs
 
+returns : tie.Need-returns Inv-loop μ-loop
+returns c = search needs
+
 add-i : tie.Need-add-i Inv-loop μ-loop
 add-i c = search needs
 
@@ -29,8 +32,8 @@ loop-less c = search needs
 loop-again : tie.Need-loop-again Inv-loop μ-loop
 loop-again c = search needs
 
-returns : tie.Need-returns Inv-loop μ-loop
-returns c = search needs
+returns-2 : tie.Need-returns-2 Inv-loop μ-loop
+returns-2 c = search needs
 
 pub say-numbers-spec : {M : Type 1} → statement M
 say-numbers-spec =
@@ -41,7 +44,8 @@ say-numbers-spec =
     loop-holds
     shared-slice-read-if1
     say-number-requires
+    returns
     add-i
     loop-less
     loop-again
-    returns)
+    returns-2)

@@ -1,0 +1,77 @@
+-- `pes::find` meets its contract. The loop's invariant: the first place from here on is the first from the start on. The measure is
+-- what is left of the bytes. Assumes nothing.
+use borrow.Author.Needs.{needs}
+use mathlib.Core.Path.{_≡_, _∙_, refl, sym, ap}
+use mathlib.Core.Bool.{Bool, true, false}
+use Prim.Native.Nat.{_-_}
+use native.Mathlib.Omega.{arith}
+use lib.ListN.{length, drop}
+use denote.Ref.{now}
+use Rattle.laws.proofs.Lists.{part-rest}
+use Rattle.pes.specs.Finding.{beginsPacket, firstIn}
+use Rattle.pes.proofs.Finding.{first-here, first-later, first-none}
+use Rattle.pes.proofs.find.Statement.{statement}
+use Rattle.pes.proofs.find.Tie as tie
+
+abbrev Inv-loop : tie.InvT-loop
+Inv-loop bytes from at₀ at = firstIn (drop at bytes) at ≡ firstIn (drop from bytes) from
+
+abbrev μ-loop : tie.MeasureT-loop
+μ-loop bytes from at₀ at = length bytes - at
+
+loop-holds : tie.Need-loop-holds Inv-loop μ-loop
+loop-holds c = refl
+
+sub-begins : tie.Need-sub-begins Inv-loop μ-loop
+sub-begins c = search needs
+
+part-begins-start : tie.Need-part-begins-start Inv-loop μ-loop
+part-begins-start c = search needs
+
+part-begins-end : tie.Need-part-begins-end Inv-loop μ-loop
+part-begins-end c = search needs
+
+begins-requires : tie.Need-begins-requires Inv-loop μ-loop
+begins-requires c κs = search needs
+
+returns : tie.Need-returns Inv-loop μ-loop
+returns c =
+    let l = c .before .before .before .before in
+    let s = now (l .before .before .args .bytes) in
+    let e = sym (ap beginsPacket (part-rest (l .loop .at) s)) ∙ sym (c .before .begins .ensures) ∙ c .if1 .taken in
+    sym (first-here s (l .loop .at) (search needs) e) ∙ l .loop .inv
+
+add-at : tie.Need-add-at Inv-loop μ-loop
+add-at c = search needs
+
+loop-less : tie.Need-loop-less Inv-loop μ-loop
+loop-less c = search needs
+
+loop-again : tie.Need-loop-again Inv-loop μ-loop
+loop-again c =
+    let l = c .before .before .before .before in
+    let s = now (l .before .before .args .bytes) in
+    let e = sym (ap beginsPacket (part-rest (l .loop .at) s)) ∙ sym (c .before .begins .ensures) ∙ c .if1 .left in
+    sym (first-later s (l .loop .at) (search needs) e) ∙ l .loop .inv
+
+returns-2 : tie.Need-returns-2 Inv-loop μ-loop
+returns-2 c =
+    let l = c .before in
+    sym (first-none (now (l .before .before .args .bytes)) (l .loop .at) (search needs)) ∙ l .loop .inv
+
+pub find-spec : {M : Type 1} → statement M
+find-spec =
+    tie.close
+    (tie.spec
+    Inv-loop
+    μ-loop
+    loop-holds
+    sub-begins
+    part-begins-start
+    part-begins-end
+    begins-requires
+    returns
+    add-at
+    loop-less
+    loop-again
+    returns-2)

@@ -1,0 +1,18 @@
+-- Where a PES packet begins among bytes that may be anything.
+use mathlib.Core.Bool.{Bool}
+use mathlib.Core.List.{List, [], _∷_}
+use Prim.Native.Nat.{ℕ, suc}
+use lib.Dec.{leb}
+use lib.ListN.{length}
+use Rattle.laws.specs.Pick.{pick, both}
+use Rattle.pes.specs.Header.{startsRight, pesLength, lengthFits}
+use Rattle.pes.specs.declared.Start.{Start}
+
+-- bytes begin as a packet does: "00 00 01 BD", then a PES_packet_length that reading takes
+abbrev pub beginsPacket : List ℕ → Bool
+beginsPacket bytes = both (leb 6 (length bytes)) (both (startsRight bytes) (lengthFits (pesLength bytes)))
+
+-- the first place where a packet begins, of bytes whose first stands at the place `at`
+unfoldable pub firstIn : List ℕ → ℕ → Start
+firstIn [] at = Start.Nowhere
+firstIn (b ∷ bs) at = pick (beginsPacket (b ∷ bs)) (Start.At at) (firstIn bs (suc at))

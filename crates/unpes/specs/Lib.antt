@@ -1,2 +1,0 @@
--- What the lent space holds.
-pub mod Next
