@@ -10,11 +10,13 @@ use denote.Ref.{now}
 use Rattle.answer.proofs.refuse.Reads as answer·refuse
 use Rattle.octet.proofs.image.Reads as octet·image
 use Rattle.octet.proofs.decode.Reads as octet·decode
+use Rattle.octet.proofs.decodings.Reads as octet·decodings
 use Rattle.octet.proofs.faults.fault_place.Reads as octet·fault-place
 use Rattle.octet.proofs.turn.Reads as octet·turn
 use Rattle.octet.proofs.quick.decode.Reads as octet·quick-decode
 use Rattle.octet.proofs.quick.turn.Reads as octet·quick-turn
 use Rattle.fields.proofs.field_of.Reads as fields·field-of
+use Rattle.fields.proofs.opening_of.Reads as fields·opening-of
 use Rattle.forms.proofs.items.words_of.Reads as forms·words-of
 use Rattle.wanted.proofs.stages.start.Reads as wanted·start
 use Rattle.wanted.proofs.next.Reads as wanted·next
@@ -87,6 +89,9 @@ octet·image-settled κs a x y s t p q = same p q
 
 pub octet·decode-settled : (κs : _) (a : _) (x y : _) (s t : _) → octet·decode.Post κs a x s → octet·decode.Post κs a y t → x ≡ y
 octet·decode-settled κs a x y s t p q = same p q
+
+pub octet·decodings-settled : (κs : _) (a : _) (x y : _) (s t : _) → octet·decodings.Post κs a x s → octet·decodings.Post κs a y t → x ≡ y
+octet·decodings-settled κs a x y s t p q = same p q
 
 pub octet·fault-place-settled : (κs : _) (a : _) (x y : _) (s t : _) → octet·fault-place.Post κs a x s → octet·fault-place.Post κs a y t → x ≡ y
 octet·fault-place-settled κs a x y s t p q = same p q
@@ -303,6 +308,9 @@ octet·quick-turn-settled κs a x y s t p q = same p q
 
 pub fields·field-of-settled : (κs : _) (a : _) (x y : _) (s t : _) → fields·field-of.Post κs a x s → fields·field-of.Post κs a y t → x ≡ y
 fields·field-of-settled κs a x y s t p q = same (p .0) (q .0)
+
+pub fields·opening-of-settled : (κs : _) (a : _) (x y : _) (s t : _) → fields·opening-of.Post κs a x s → fields·opening-of.Post κs a y t → x ≡ y
+fields·opening-of-settled κs a x y s t p q = same p q
 
 pub forms·words-of-settled : (κs : _) (a : _) (x y : _) (s t : _) → forms·words-of.Post κs a x s → forms·words-of.Post κs a y t → x ≡ y
 forms·words-of-settled κs a x y s t p q = same (p .0) (q .0)

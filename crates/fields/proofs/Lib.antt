@@ -1,2 +1,4 @@
 pub mod Laid
 pub mod Bits
+mod Landing
+mod Moves

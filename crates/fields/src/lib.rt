@@ -2,19 +2,87 @@
 // and the laws that other crates cite in proofs/Laid.antt.
 ghost use mathlib.Core.Path.{_≡_};
 ghost use mathlib.Core.List.{map};
-ghost use Prim.Native.Nat.{_%_, _^_, _<_, min};
+ghost use Prim.Native.Nat.{_+_, _-_, _%_, _^_, _<_, min};
 ghost use lib.ListN.{getD};
 ghost use Rattle.octet.specs.Decoding.{nib};
 ghost use Rattle.fields.specs.Fields.{field};
 ghost use Rattle.fields.specs.Compound.{compound};
+ghost use Rattle.fields.specs.Opening.{narrowed, openingIn};
 
 // The widest field, a language or a page.
 const WIDEST: usize = 24;
 
+// The last place that a number holds. No lent byte is there.
+const LAST: usize = 18446744073709551615;
+
 // The bit reader: the lent bytes with the place that is read next.
-pub struct BitReader<'a> {
+struct BitReader<'a> {
     pub src: &'a [u8],
     pub at: usize,
+}
+
+// The fields of tables 15 and 17 up to the loops.
+pub struct Opening {
+    pub checksum: u8,
+    pub control: u16,
+    pub kind: u8,
+    pub access: u8,
+    pub copyright: u8,
+    pub block: u16,
+    pub network: u8,
+    pub count: u8,
+}
+
+// Their widths in bits, in the order in which they stand.
+const CHECKSUM: usize = 8;
+
+const CONTROL: usize = 10;
+
+const KIND: usize = 6;
+
+const ACCESS: usize = 2;
+
+const COPYRIGHT: usize = 1;
+
+const RESERVED: usize = 1;
+
+const BLOCK: usize = 16;
+
+const NETWORK: usize = 8;
+
+const COUNT: usize = 6;
+
+// What lent bytes open with, by one reader that moves from field to field.
+pub fn opening_of(src: &[u8]) -> Opening
+    ensures { λ r. ⌜ r ≡ openingIn (compound (now (src .entry))) ⌝ }
+{
+    let mut r = begin(src, 0);
+    let checksum = take(r, CHECKSUM);
+    r = step(r, CHECKSUM);
+    let control = take(r, CONTROL);
+    r = step(r, CONTROL);
+    let kind = take(r, KIND);
+    r = step(r, KIND);
+    let access = take(r, ACCESS);
+    r = step(r, ACCESS);
+    let copyright = take(r, COPYRIGHT);
+    r = step(r, COPYRIGHT);
+    r = step(r, RESERVED);
+    let block = take(r, BLOCK);
+    r = step(r, BLOCK);
+    let network = take(r, NETWORK);
+    r = step(r, NETWORK);
+    let count = take(r, COUNT);
+    opened(
+        checksum,
+        control,
+        kind,
+        access,
+        copyright,
+        block,
+        network,
+        count,
+    )
 }
 
 // The w bits of lent bytes from the place `at` on, by a reader that stands there.
@@ -25,24 +93,59 @@ pub fn field_of(src: &[u8], at: usize, w: usize) -> usize
 }
 
 // A reader of these bytes that stands at this place.
-pub fn begin<'a>(src: &'a [u8], at: usize) -> BitReader<'a>
+fn begin<'a>(src: &'a [u8], at: usize) -> BitReader<'a>
     ensures { λ r. ⌜ (r .src ≡ src .entry) × (r .at ≡ at) ⌝ }
 {
     BitReader { src, at }
 }
 
-// The place where a reader stands.
-pub fn place<'a>(r: BitReader<'a>) -> usize
-    ensures { λ n. ⌜ n ≡ r .entry .at ⌝ }
-{
-    r.at
-}
-
 // The w bits from a reader's place on; at most 24 are taken.
-pub fn take<'a>(r: BitReader<'a>, w: usize) -> usize
+fn take<'a>(r: BitReader<'a>, w: usize) -> usize
     ensures { λ n. ⌜ (n ≡ field (r .entry .at) (min w 24) (compound (now (r .entry .src)))) × (n < 2 ^ min w 24) ⌝ }
 {
     field_at(r.src, r.at, w)
+}
+
+// The reader w bits further on.
+fn step<'a>(r: BitReader<'a>, w: usize) -> BitReader<'a>
+    ensures { λ q. ⌜ (q .src ≡ r .entry .src) × (q .at ≡ min (r .entry .at + w) (2 ^ 64 - 1)) ⌝ }
+{
+    BitReader {
+        src: r.src,
+        at: further(r.at, w),
+    }
+}
+
+// The fields that were taken, each as far as its type goes.
+fn opened(
+    checksum: usize,
+    control: usize,
+    kind: usize,
+    access: usize,
+    copyright: usize,
+    block: usize,
+    network: usize,
+    count: usize,
+) -> Opening
+    ensures { λ r. ⌜ r ≡ narrowed checksum control kind access copyright block network count ⌝ }
+{
+    Opening {
+        checksum: (checksum % 256) as u8,
+        control: (control % 65536) as u16,
+        kind: (kind % 256) as u8,
+        access: (access % 256) as u8,
+        copyright: (copyright % 256) as u8,
+        block: (block % 65536) as u16,
+        network: (network % 256) as u8,
+        count: (count % 256) as u8,
+    }
+}
+
+// The place w bits further on; the last one where there is none so far.
+fn further(at: usize, w: usize) -> usize
+    ensures { λ r. ⌜ r ≡ min (at + w) (2 ^ 64 - 1) ⌝ }
+{
+    if LAST - at < w { LAST } else { at + w }
 }
 
 // The w bits from the place `at` on; at most 24 are taken.

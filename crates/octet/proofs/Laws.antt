@@ -2,10 +2,13 @@
 -- hands out at each. The laws of flipped bits and of the fault place stand in Noise. Assumes nothing.
 use mathlib.Core.Path.{_≡_}
 use mathlib.Core.Bool.{Bool, true, false}
+use mathlib.Core.List.{List}
 use Prim.Native.Nat.{ℕ, zero, suc, _+_, _%_, _<_, _≤_}
 use native.Mathlib.Omega.{arith}
 use lib.Dec.{eqb, ltb, leb, eqb→eq, ltb→lt}
-use Rattle.laws.proofs.Whole.{all-at}
+use lib.ListN.{getD}
+use Rattle.laws.specs.Range.{tabulate}
+use Rattle.laws.proofs.Whole.{all-at, tabulate-at}
 use Rattle.octet.specs.Bits.{bits, number, differing, flips}
 use Rattle.octet.specs.Image.{image, withParity}
 use Rattle.octet.specs.Decoding.{nib, nibbleFrom}
@@ -46,3 +49,7 @@ turned-byte b = rw turned-mod (ltb→lt _ 256 (all-at (λ (x : ℕ). ltb (turned
 pub image-byte : (n : ℕ) → image n < 256
 unfolding image withParity number
 image-byte n = rw image-mod (ltb→lt _ 256 (all-at (λ (x : ℕ). ltb (image x) 256) 16 tt (n % 16) (omega arith)))
+
+-- an entry of the table is what its byte decodes to
+pub entry-at : (table : List ℕ) → table ≡ tabulate nib 0 256 → (b : ℕ) → b < 256 → getD table b 0 ≡ nib b
+entry-at table e b h = rw e (tabulate-at nib 256 b h)

@@ -10,6 +10,7 @@ pub mod quick;
 
 pub use faults::fault_place;
 ghost use mathlib.Core.Path.{_≡_};
+ghost use Rattle.laws.specs.Range.{tabulate};
 ghost use Rattle.octet.specs.Image.{image as Image·image};
 ghost use Rattle.octet.specs.Decoding.{nib};
 ghost use Rattle.octet.specs.Turning.{turned};
@@ -559,6 +560,14 @@ pub fn image(n: u8) -> u8
     ensures { λ r. ⌜ r ≡ Image·image n ⌝ }
 {
     CODE[(n % 16) as usize]
+}
+
+// The table itself: what each byte decodes to. A loop over many bytes takes it before it starts, so that
+// it is laid out once, and then a byte is one load.
+pub fn decodings() -> [u8; 256]
+    ensures { λ r. ⌜ r ≡ tabulate nib 0 256 ⌝ }
+{
+    DECODE
 }
 
 // The nibble that b stands for, 0 to 15: b is its image or one bit away from it. 16 where b can't be

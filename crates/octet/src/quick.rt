@@ -1,6 +1,6 @@
-// Decoding and turning for loops: the same answers as `octet`'s, by the same tables, eight entries to a
-// number. An array constant is laid out in memory anew at each use; a `match` on numbers becomes one
-// load.
+// Decoding and turning of single bytes: the same answers as `octet`'s, by the same tables, eight entries
+// to a number. An array constant is laid out in memory anew at each use; a `match` on numbers becomes one
+// load. A loop over many bytes takes the table itself, `octet::decodings`.
 ghost use mathlib.Core.Path.{_≡_};
 ghost use Prim.Native.Nat.{_*_, _<_};
 ghost use Rattle.octet.specs.Decoding.{nib};

@@ -29,10 +29,11 @@ pub fn sum_of(head: usize, body: &[u8]) -> usize
     if 15 < octet::quick::decode(body[1]) {
         return 256;
     }
+    let table = octet::decodings();
     let mut sum = head_total(head);
     let mut i = 2;
     while i < body.len() {
-        let n = octet::quick::decode(body[i]);
+        let n = table[body[i] as usize];
         if 15 < n {
             return 256;
         }
@@ -46,10 +47,11 @@ pub fn sum_of(head: usize, body: &[u8]) -> usize
 pub fn checksum(head: usize, body: &[u8]) -> usize
     ensures { λ r. ⌜ r ≡ checksumOf head (map nib (now (body .entry))) ⌝ }
 {
+    let table = octet::decodings();
     let mut total = head_total(head);
     let mut i = 2;
     while i < body.len() {
-        total = (total + octet::quick::decode(body[i]) as usize) % 256;
+        total = (total + table[body[i] as usize] as usize) % 256;
         i += 1;
     }
     (256 - total) % 256
@@ -59,9 +61,10 @@ pub fn checksum(head: usize, body: &[u8]) -> usize
 pub fn sound(s: &[u8]) -> usize
     ensures { λ r. ⌜ r ≡ soundOf (map nib (now (s .entry))) ⌝ }
 {
+    let table = octet::decodings();
     let mut i = 0;
     while i < s.len() {
-        if 15 < octet::quick::decode(s[i]) {
+        if 15 < table[s[i] as usize] {
             return i;
         }
         i += 1;

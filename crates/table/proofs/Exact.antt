@@ -58,7 +58,7 @@ record Taken (application : ℕ) (r : List ℕ) (n : ℕ) : Type 0 where
   size-said : headOf r / 32 ≡ size (tableOf n)
 
 taken : (application : ℕ) (r : List ℕ) → Every (readRules application r) → Taken application r (whole 4 (nibblesOf r))
-unfolding frameRules frontRules wholeRules lengthRules
+unfolding frameRules frontRules wholeRules lengthRules tableOf
 taken application r e₀ =
     let e₁ = others-hold e₀ in
     let e₂ = others-hold e₁ in
@@ -206,7 +206,7 @@ module _ (application : ℕ) (r : List ℕ) (t : Table) (s : Says application r 
 -- ---- and so every rule holds
 
 every : (application : ℕ) (r : List ℕ) → Taken application r (whole 4 (nibblesOf r)) → Every (readRules application r)
-unfolding frameRules frontRules wholeRules lengthRules
+unfolding frameRules frontRules wholeRules lengthRules tableOf
 every application r k =
     let ns = nibblesOf r in
     let n = whole 4 ns in

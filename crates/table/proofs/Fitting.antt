@@ -5,22 +5,22 @@ use borrow.Author.Tests.{eq-eqb, ne-eqb}
 use Rattle.answer.specs.Rules.{judged}
 use Rattle.answer.specs.declared.Answer.{Answer}
 use Rattle.answer.specs.Values.{refused}
-use Rattle.fields.specs.Fields.{field}
+use Rattle.fields.specs.declared.Opening.{Opening}
 use Rattle.forms.specs.Tables.{control, size}
-use Rattle.table.specs.Control.{tableOf}
+use Rattle.table.specs.Control.{tableBy}
 use Rattle.table.specs.Lengths.{lengthRules}
 
-module _ (blockSize n : ℕ) (a : Answer) where
+module _ (blockSize : ℕ) (o : Opening) (n : ℕ) (a : Answer) where
   pub lengths-14 :
-      (field 8 10 n ≡ control (tableOf n) → ⊥) → judged refused (lengthRules blockSize n) a ≡ refused 14 0
+      (o .control ≡ control (tableBy o n) → ⊥) → judged refused (lengthRules blockSize o n) a ≡ refused 14 0
   unfolding lengthRules
-  lengths-14 h = rw (ne-eqb (field 8 10 n) (control (tableOf n)) h)
+  lengths-14 h = rw (ne-eqb (o .control) (control (tableBy o n)) h)
 
-  module _ (h₁ : field 8 10 n ≡ control (tableOf n)) where
-    pub lengths-14′ : (blockSize ≡ size (tableOf n) → ⊥) → judged refused (lengthRules blockSize n) a ≡ refused 14 0
+  module _ (h₁ : o .control ≡ control (tableBy o n)) where
+    pub lengths-14′ : (blockSize ≡ size (tableBy o n) → ⊥) → judged refused (lengthRules blockSize o n) a ≡ refused 14 0
     unfolding lengthRules
-    lengths-14′ h = rw (eq-eqb (field 8 10 n) (control (tableOf n)) h₁, ne-eqb blockSize (size (tableOf n)) h)
+    lengths-14′ h = rw (eq-eqb (o .control) (control (tableBy o n)) h₁, ne-eqb blockSize (size (tableBy o n)) h)
 
-    pub lengths-done : blockSize ≡ size (tableOf n) → judged refused (lengthRules blockSize n) a ≡ a
+    pub lengths-done : blockSize ≡ size (tableBy o n) → judged refused (lengthRules blockSize o n) a ≡ a
     unfolding lengthRules
-    lengths-done h = rw (eq-eqb (field 8 10 n) (control (tableOf n)) h₁, eq-eqb blockSize (size (tableOf n)) h)
+    lengths-done h = rw (eq-eqb (o .control) (control (tableBy o n)) h₁, eq-eqb blockSize (size (tableBy o n)) h)

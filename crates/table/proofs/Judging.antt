@@ -1,21 +1,22 @@
 -- How the rules of block reading decide, a lemma for each way that the code goes. Assumes nothing.
-use mathlib.Core.Path.{_≡_}
+use mathlib.Core.Path.{_≡_, _∙_, refl, sym, ap}
 use mathlib.Core.Bool.{true, false}
-use mathlib.Core.List.{List}
-use Prim.Native.Nat.{ℕ, _+_, _-_, _/_, _%_, _≤_, _<_}
-use native.Mathlib.Omega.{arith}
+use mathlib.Core.List.{List, [], _∷_, _++_, append-assoc}
+use Prim.Native.Nat.{ℕ, _+_, _/_, _%_, _≤_, _<_}
 use borrow.Author.Tests.{lt-ltb, le-ltb, le-leb, lt-leb, eq-eqb, ne-eqb, eqb-true, leb-true}
 use lib.ListN.{length, take}
-use Rattle.answer.specs.Rules.{judged}
+use Rattle.answer.specs.Rules.{Rule, judged}
+use Rattle.answer.specs.declared.Refusal.{Refusal}
 use Rattle.answer.specs.declared.Answer.{Answer}
-use Rattle.answer.specs.declared.Answer.the-variants.{Done}
+use Rattle.answer.specs.declared.Answer.the-variants.{Done, Refused}
 use Rattle.answer.specs.Values.{refused}
-use Rattle.answer.proofs.Steps.{done-every, first-holds, others-hold}
+use Rattle.answer.specs.Writing.{room, answered, left}
+use Rattle.answer.proofs.Lent.{lent-refused}
+use Rattle.answer.proofs.Steps.{ends, goes-on, done-every, first-holds, others-hold}
 use Rattle.fields.specs.Fields.{field, whole}
 use Rattle.forms.specs.Tables.{known}
-use Rattle.sums.specs.Block.{headOf}
 use Rattle.sums.specs.Sums.{checksum, sound}
-use Rattle.table.specs.Reading.{frameRules, frontRules, wholeRules, readRules}
+use Rattle.table.specs.Reading.{frameRules, frontRules, wholeRules}
 
 -- ---- the frame
 
@@ -55,14 +56,6 @@ framed application len head n m e =
       eqb-true len (2 + head / 32) (first-holds (others-hold all)),
       leb-true 8 (head / 32) (first-holds (others-hold (others-hold (others-hold all)))),
     )
-
-pub long-enough :
-    (application : ℕ) (r : List ℕ) (n m : ℕ) → judged refused (readRules application r) (Done n) ≡ Done m → 2 ≤ length r
-unfolding frameRules
-long-enough application r n m e =
-    let h : length r ≡ 2 + headOf r / 32 =
-    eqb-true (length r) (2 + headOf r / 32) (first-holds (others-hold (done-every (readRules application r) n m e))) in
-    omega arith
 
 -- ---- the front, with what it is judged by: how many of the first 8 bytes decode, the kind, the access
 
@@ -110,3 +103,14 @@ module _ (head : ℕ) (ns : List ℕ) (a : Answer) where
     pub whole-done : field 0 8 (whole 4 ns) ≡ checksum head ns → judged refused (wholeRules head ns) a ≡ a
     unfolding wholeRules
     whole-done h = rw (eq-eqb (sound ns) (length ns) h₁, eq-eqb (field 0 8 (whole 4 ns)) (checksum head ns) h)
+
+-- ---- the frame, then what follows it
+
+module _ (rs qs : List Rule) (bytes old : List ℕ) (n : ℕ) {first : Answer} (judges : first ≡ judged refused rs (Done n)) where
+  pub frame-refused : {w : Refusal} → first ≡ Refused w → (Refused w ≡ answered (rs ++ qs) bytes old) × (old ≡ left (rs ++ qs) bytes old)
+  frame-refused e = lent-refused (rs ++ qs) bytes old n (ends rs qs n judges (Done n) e) refl
+
+  pub frame-taken : {m : ℕ} → first ≡ Done m → answered qs bytes old ≡ answered (rs ++ qs) bytes old
+  frame-taken e =
+      goes-on rs (qs ++ room bytes old ∷ []) n judges (Done (length bytes)) e
+      ∙ ap (λ (l : List Rule). judged refused l (Done (length bytes))) (sym (append-assoc rs qs (room bytes old ∷ [])))

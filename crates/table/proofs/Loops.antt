@@ -7,11 +7,12 @@ use native.Mathlib.Omega.{arith}
 use lib.ListN.{length}
 use lib.Pow.{shr-shr}
 use Rattle.fields.specs.Fields.{width, field}
+use Rattle.fields.specs.declared.Opening.{Opening}
 use Rattle.fields.proofs.Laid.{length-parts, field-past}
 use Rattle.forms.specs.Tables.{per, loops, bits}
-use Rattle.forms.specs.Form.{listed, form}
+use Rattle.forms.specs.Form.{form}
 use Rattle.forms.proofs.Measures.{width-loops, bits-of, length-form, eights}
-use Rattle.table.specs.Control.{descriptorsOf, tableOf}
+use Rattle.table.specs.Control.{descriptorsOf, tableBy}
 use Rattle.table.proofs.Written.{length-descriptors}
 
 -- one descriptor on, at the place `at` of the bits n
@@ -44,12 +45,13 @@ walk-end kind left n at whole h inv =
     sym (add-zero at)
     ∙ subst (λ (k : ℕ). at + width (loops kind (descriptorsOf (per kind) k (n / 2 ^ at))) ≡ whole) e inv
 
--- the form's bytes by the table's bits
-pub form-need :
-    (n b k : ℕ) → b ≡ bits (tableOf n) → k ≡ field 52 6 n → 6 + (b - 58 + 6 * k) / 8 ≡ length (form (tableOf n))
-form-need n b k e₁ e₂ =
-    let kind = field 18 6 n in
-    let ds = descriptorsOf (per kind) (field 52 6 n) (n / 2 ^ 58) in
-    let f₁ : bits (tableOf n) ≡ 58 + width (loops kind ds) = unfold tableOf in bits-of (tableOf n) in
-    let f₂ : length (form (tableOf n)) ≡ 6 + length (listed kind ds) = unfold tableOf in length-form (tableOf n) in
-    omega (arith, eights kind ds, length-descriptors (per kind) (field 52 6 n) (n / 2 ^ 58))
+-- what is measured are the table's bits, and the form's bytes go by them
+module _ (o : Opening) (n b : ℕ) where
+  pub measured :
+      b ≡ 58 + width (loops (o .kind) (descriptorsOf (per (o .kind)) (o .count) (n / 2 ^ 58))) → b ≡ bits (tableBy o n)
+  measured e = e ∙ sym (bits-of (tableBy o n))
+
+  pub form-need : b ≡ bits (tableBy o n) → 6 + (b - 58 + 6 * o .count) / 8 ≡ length (form (tableBy o n))
+  form-need e =
+      let ds = tableBy o n .descriptors in
+      omega (arith, bits-of (tableBy o n), length-form (tableBy o n), eights (o .kind) ds, length-descriptors (per (o .kind)) (o .count) (n / 2 ^ 58))

@@ -10,9 +10,10 @@ use lib.Pow.{shr-shr}
 use lib.Seq.{sets}
 use Rattle.laws.proofs.Lists.{sets-append}
 use Rattle.fields.specs.Fields.{field, parts}
+use Rattle.fields.specs.declared.Opening.{Opening}
 use Rattle.forms.specs.Tables.{Table, per}
 use Rattle.forms.specs.Form.{spelled, listed, openingOf, form}
-use Rattle.table.specs.Control.{descriptorsOf, tableOf}
+use Rattle.table.specs.Control.{descriptorsOf, tableBy}
 use Rattle.fields.proofs.Laid.{field-past, length-parts}
 use Rattle.forms.proofs.Measures.{length-spelled, per-pos}
 
@@ -52,21 +53,10 @@ length-descriptors each (suc k) n = ap suc (length-descriptors each k _)
 
 -- the six bytes that open a form
 pub opened :
-    (n k c b w d : ℕ) → k ≡ field 18 6 n → c ≡ field 26 1 n → b ≡ field 28 16 n → w ≡ field 44 8 n → d ≡ field 52 6 n → k < 256
-    → c < 256
-    → b < 65536
-    → w < 256
-    → d < 256
-    → k % 256 ∷ c % 256 ∷ b % 256 ∷ b / 256 % 256 ∷ w % 256 ∷ d % 256 ∷ [] ≡ openingOf (tableOf n)
-unfolding openingOf tableOf
-opened n k c b w d ek ec eb ew ed hk hc hb hw hd =
-    let fk : k % 256 ≡ field 18 6 n = omega arith in
-    let fc : c % 256 ≡ field 26 1 n = omega arith in
-    let fb : b / 256 % 256 ≡ field 28 16 n / 256 = omega arith in
-    let fl : b % 256 ≡ field 28 16 n % 256 = omega arith in
-    let fw : w % 256 ≡ field 44 8 n = omega arith in
-    let fd : d % 256 ≡ field 52 6 n = omega arith in
-    rw (length-descriptors, fk, fc, fl, fb, fw, fd)
+    (o : Opening) (n : ℕ)
+    → o .kind ∷ o .copyright ∷ o .block % 256 ∷ o .block / 256 ∷ o .network ∷ o .count ∷ [] ≡ openingOf (tableBy o n)
+unfolding openingOf
+opened o n = rw length-descriptors
 
 -- ---- descriptors
 

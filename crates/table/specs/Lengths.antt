@@ -4,11 +4,12 @@ use Prim.Native.Nat.{ℕ}
 use lib.Dec.{eqb}
 use Rattle.laws.specs.Pick.{both}
 use Rattle.answer.specs.Rules.{Rule, rule}
-use Rattle.fields.specs.Fields.{field}
+use Rattle.fields.specs.declared.Opening.{Opening}
 use Rattle.forms.specs.Tables.{control, size}
-use Rattle.table.specs.Control.{tableOf}
+use Rattle.table.specs.Control.{tableBy}
 
--- 14: loops, control size and fill fit where both sizes are those of the table read
-unfoldable pub lengthRules : ℕ → ℕ → List Rule
-lengthRules blockSize n =
-    rule (both (eqb (field 8 10 n) (control (tableOf n))) (eqb blockSize (size (tableOf n)))) 14 0 ∷ []
+-- 14: loops, control size and fill fit where both sizes are those of the table that opens with these fields, and whose loops are
+-- those of control data n
+unfoldable pub lengthRules : ℕ → Opening → ℕ → List Rule
+lengthRules blockSize o n =
+    rule (both (eqb (o .control) (control (tableBy o n))) (eqb blockSize (size (tableBy o n)))) 14 0 ∷ []

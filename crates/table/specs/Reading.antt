@@ -5,7 +5,8 @@ use lib.Dec.{eqb, ltb, leb}
 use lib.ListN.{length, take}
 use Rattle.laws.specs.Pick.{both}
 use Rattle.answer.specs.Rules.{Rule, rule, judged}
-use Rattle.fields.specs.Fields.{field, whole}
+use Rattle.fields.specs.Fields.{whole}
+use Rattle.fields.specs.Opening.{openingIn}
 use Rattle.forms.specs.Tables.{Table, known}
 use Rattle.table.specs.Control.{tableOf}
 use Rattle.table.specs.Lengths.{lengthRules}
@@ -24,9 +25,9 @@ frameRules application len head =
 -- 10 in its first eight bytes, 12 for kind and access, 13 for an odd size: what can be said of a block before it is read whole
 unfoldable pub frontRules : ℕ → List ℕ → List Rule
 frontRules blockSize ns =
-    let n = whole 4 ns in
+    let o = openingIn (whole 4 ns) in
     rule (eqb (sound (take 8 ns)) 8) 10 (headLength + sound (take 8 ns))
-    ∷ rule (both (known (field 18 6 n)) (eqb (field 24 2 n) 0)) 12 0
+    ∷ rule (both (known (o .kind)) (eqb (o .access) 0)) 12 0
     ∷ rule (eqb (blockSize % 2) 0) 13 0
     ∷ []
 
@@ -34,12 +35,14 @@ frontRules blockSize ns =
 unfoldable pub wholeRules : ℕ → List ℕ → List Rule
 wholeRules head ns =
     rule (eqb (sound ns) (length ns)) 10 (headLength + sound ns)
-    ∷ rule (eqb (field 0 8 (whole 4 ns)) (checksum head ns)) 11 0
+    ∷ rule (eqb (openingIn (whole 4 ns) .checksum) (checksum head ns)) 11 0
     ∷ []
 
 -- what follows the frame
 abbrev pub bodyRules : ℕ → List ℕ → List Rule
-bodyRules head ns = frontRules (head / 32) ns ++ (wholeRules head ns ++ lengthRules (head / 32) (whole 4 ns))
+bodyRules head ns =
+    let n = whole 4 ns in
+    frontRules (head / 32) ns ++ (wholeRules head ns ++ lengthRules (head / 32) (openingIn n) n)
 
 -- for a record of so many bytes, this head and these nibbles
 abbrev pub rulesFor : ℕ → ℕ → ℕ → List ℕ → List Rule

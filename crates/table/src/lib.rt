@@ -5,7 +5,7 @@ mod spelling;
 
 ghost use mathlib.Core.Path.{_≡_};
 ghost use mathlib.Core.List.{map};
-ghost use Prim.Native.Nat.{_+_, _-_, _*_, _/_, _%_, _<_, _≤_};
+ghost use Prim.Native.Nat.{_<_, _≤_};
 ghost use lib.ListN.{length};
 ghost use Rattle.answer.specs.Rules.{judged};
 ghost use Rattle.answer.specs.Values.{refused};
@@ -13,23 +13,18 @@ ghost use Rattle.answer.specs.Writing.{answered, left};
 ghost use Rattle.answer.specs.declared.Answer.the-variants.{Done};
 ghost use Rattle.octet.specs.Decoding.{nib};
 ghost use Rattle.forms.specs.Form.{form};
+ghost use Rattle.fields.specs.Opening.{openingIn};
 ghost use Rattle.fields.specs.Compound.{compound};
 ghost use Rattle.sums.specs.Block.{headOf};
 ghost use Rattle.table.specs.Reading.{frameRules, frontRules, wholeRules, bodyRules, readRules, tableRead};
 ghost use Rattle.table.specs.Control.{tableOf};
 use answer::Answer;
 use blocks::HEAD;
-use spelling::KIND;
-
-// Where those fields of tables 15 and 17 begin that aren't the table's own, in bits: checksum, CA_mode. The third,
-// control_block_size, is module `lengths`'.
-const SUM: usize = 0;
-
-const ACCESS: usize = 24;
+use fields::Opening;
 
 // The table of a block of this application: its form is written to the front of `out`. Each protected
-// byte is decoded at most eight times: once or twice to see that it can be and for the sum, twice
-// while the loops are measured and at most four times while fields are written.
+// byte is decoded at most five times: for the tests that it can be, for the sum, and for fields, of which
+// two may share a byte.
 pub fn read_block(application: u8, rec: &[u8], out: &mut [u8]) -> Answer
     ensures answer { λ r.
         ⌜ r ≡ answered (readRules application (now (rec .entry))) (form (tableRead (now (rec .entry)))) (now (out .entry)) ⌝ }
@@ -37,26 +32,9 @@ pub fn read_block(application: u8, rec: &[u8], out: &mut [u8]) -> Answer
         ⌜ now (out .exit)
         ≡ left (readRules application (now (rec .entry))) (form (tableRead (now (rec .entry)))) (now (out .entry)) ⌝ }
 {
-    match judge(application, rec) {
-        Answer::Refused(why) => Answer::Refused(why),
-        Answer::Done(need) => {
-            if out.len() < need {
-                return answer::refuse(1, 0);
-            }
-            spelling::write_form(&rec[HEAD..], out);
-            Answer::Done(need)
-        }
-    }
-}
-
-// All rules but the room; where they hold, the bytes of the table's form.
-fn judge(application: u8, rec: &[u8]) -> Answer
-    ensures { λ r.
-        ⌜ r ≡ judged refused (readRules application (now (rec .entry))) (Done (length (form (tableRead (now (rec .entry)))))) ⌝ }
-{
     match judge_frame(application, rec) {
         Answer::Refused(why) => Answer::Refused(why),
-        Answer::Done(head) => judge_body(head, &rec[HEAD..]),
+        Answer::Done(head) => read_body(head, &rec[HEAD..], out),
     }
 }
 
@@ -90,37 +68,61 @@ fn head_of(rec: &[u8]) -> usize
     forms::byte_at(rec, 0) + 256 * forms::byte_at(rec, 1)
 }
 
-// The rules after those of the frame; where all hold, the bytes of the table's form.
-fn judge_body(head: usize, body: &[u8]) -> Answer
+// What follows the frame, with the fields that the block opens with taken once.
+fn read_body(head: usize, body: &[u8], out: &mut [u8]) -> Answer
     requires { ⌜ 8 ≤ length (now body) ⌝ }
+    ensures answer { λ r.
+        ⌜ r
+        ≡ answered (bodyRules head (map nib (now (body .entry)))) (form (tableOf (compound (now (body .entry)))))
+        (now (out .entry)) ⌝ }
+    ensures output { λ _.
+        ⌜ now (out .exit)
+        ≡ left (bodyRules head (map nib (now (body .entry)))) (form (tableOf (compound (now (body .entry)))))
+        (now (out .entry)) ⌝ }
+{
+    let opening = fields::opening_of(body);
+    match judge_body(head, opening, body) {
+        Answer::Refused(why) => Answer::Refused(why),
+        Answer::Done(need) => {
+            if out.len() < need {
+                return answer::refuse(1, 0);
+            }
+            spelling::write_form(opening, body, out);
+            Answer::Done(need)
+        }
+    }
+}
+
+// All rules after those of the frame but the room; where they hold, the bytes of the table's form.
+fn judge_body(head: usize, opening: Opening, body: &[u8]) -> Answer
+    requires { ⌜ (8 ≤ length (now body)) × (opening ≡ openingIn (compound (now body))) ⌝ }
     ensures { λ r.
         ⌜ r
         ≡ judged refused (bodyRules head (map nib (now (body .entry))))
         (Done (length (form (tableOf (compound (now (body .entry))))))) ⌝ }
 {
-    match judge_front(head / 32, body) {
+    match judge_front(head / 32, opening, body) {
         Answer::Refused(why) => Answer::Refused(why),
-        Answer::Done(_) => match judge_whole(head, body) {
+        Answer::Done(_) => match judge_whole(head, opening, body) {
             Answer::Refused(why) => Answer::Refused(why),
-            Answer::Done(_) => lengths::judge_lengths(head / 32, body),
+            Answer::Done(_) => lengths::judge_lengths(head / 32, opening, body),
         },
     }
 }
 
 // 10 in its first eight bytes, 12, 13: what can be said of a block before it is read whole.
-fn judge_front(size: usize, body: &[u8]) -> Answer
-    requires { ⌜ 8 ≤ length (now body) ⌝ }
+fn judge_front(size: usize, opening: Opening, body: &[u8]) -> Answer
+    requires { ⌜ (8 ≤ length (now body)) × (opening ≡ openingIn (compound (now body))) ⌝ }
     ensures { λ r. ⌜ r ≡ judged refused (frontRules size (map nib (now (body .entry)))) (Done 0) ⌝ }
 {
     let good = sums::sound(&body[..8]);
     if good != 8 {
         return answer::refuse(10, HEAD + good);
     }
-    let kind = fields::field_of(body, KIND, 6);
-    if !forms::known(kind) {
+    if !forms::known(opening.kind as usize) {
         return answer::refuse(12, 0);
     }
-    if fields::field_of(body, ACCESS, 2) != 0 {
+    if opening.access != 0 {
         return answer::refuse(12, 0);
     }
     if size % 2 != 0 {
@@ -130,15 +132,15 @@ fn judge_front(size: usize, body: &[u8]) -> Answer
 }
 
 // 10 in any other byte, 11.
-fn judge_whole(head: usize, body: &[u8]) -> Answer
-    requires { ⌜ 8 ≤ length (now body) ⌝ }
+fn judge_whole(head: usize, opening: Opening, body: &[u8]) -> Answer
+    requires { ⌜ opening ≡ openingIn (compound (now body)) ⌝ }
     ensures { λ r. ⌜ r ≡ judged refused (wholeRules head (map nib (now (body .entry)))) (Done 0) ⌝ }
 {
     let sum = sums::sum_of(head, body);
     if 255 < sum {
         return answer::refuse(10, HEAD + sums::sound(body));
     }
-    if fields::field_of(body, SUM, 8) != sum {
+    if opening.checksum as usize != sum {
         return answer::refuse(11, 0);
     }
     Answer::Done(0)

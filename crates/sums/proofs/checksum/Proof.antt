@@ -4,10 +4,12 @@ use borrow.Author.Needs.{needs}
 use mathlib.Core.Path.{_≡_, _∙_, ap}
 use mathlib.Core.List.{List, map}
 use Prim.Native.Nat.{ℕ, _+_, _-_, _%_, _<_}
-use lib.ListN.{length, drop}
+use native.Mathlib.Omega.{arith}
+use lib.ListN.{length, drop, getD}
 use denote.Ref.{now}
 use Rattle.laws.proofs.Maps.{map-drop}
 use Rattle.octet.specs.Decoding.{nib}
+use Rattle.octet.proofs.Laws.{nib-le, entry-at}
 use Rattle.fields.specs.Fields.{parts}
 use Rattle.sums.specs.Sums.{total}
 use Rattle.sums.proofs.Summing.{sum-step, sum-end}
@@ -15,32 +17,43 @@ use Rattle.sums.proofs.checksum.Statement.{statement}
 use Rattle.sums.proofs.checksum.Tie as tie
 
 abbrev Inv-loop : tie.InvT-loop
-Inv-loop head body sum₀ i₀ sum i =
+Inv-loop head body table sum₀ i₀ sum i =
     (sum < 256)
     × ((sum + total (map nib (drop i body))) % 256 ≡ (total (parts 4 4 head) + total (drop 2 (map nib body))) % 256)
 
 abbrev μ-loop : tie.MeasureT-loop
-μ-loop head body sum₀ i₀ sum i = length body - i
+μ-loop head body table sum₀ i₀ sum i = length body - i
+
+decodings-requires : tie.Need-decodings-requires Inv-loop μ-loop
+decodings-requires c κs = search needs
 
 head-total-requires : tie.Need-head-total-requires Inv-loop μ-loop
 head-total-requires c κs = search needs
 
 loop-holds : tie.Need-loop-holds Inv-loop μ-loop
 loop-holds c =
-    let s : List ℕ = now (c .before .before .args .body) in
+    let s : List ℕ = now (c .before .before .before .args .body) in
     (search needs, ap (λ (x : ℕ). (x + total (map nib (drop 2 s))) % 256) (c .head-total .ensures .0) ∙ rw map-drop)
 
-shared-slice-read-decode : tie.Need-shared-slice-read-decode Inv-loop μ-loop
-shared-slice-read-decode c = search needs
-
-decode-requires : tie.Need-decode-requires Inv-loop μ-loop
-decode-requires c κs = search needs
+shared-slice-read-total : tie.Need-shared-slice-read-total Inv-loop μ-loop
+shared-slice-read-total c = search needs
 
 cast-total : tie.Need-cast-total Inv-loop μ-loop
-cast-total c = search needs
+cast-total c = omega (arith, c .shared-slice-known2 .given (c .before .before .loop .i))
+
+array-read-total : tie.Need-array-read-total Inv-loop μ-loop
+array-read-total c = omega (arith, c .shared-slice-known2 .given (c .before .before .loop .i))
+
+cast-total-2 : tie.Need-cast-total-2 Inv-loop μ-loop
+cast-total-2 c = search needs
 
 add-total : tie.Need-add-total Inv-loop μ-loop
-add-total c = search needs
+add-total c =
+    let l = c .before .before .loop in
+    let s : List ℕ = now (c .before .before .before .before .before .before .args .body) in
+    let t = c .before .before .before .before .decodings in
+    let e = entry-at (t .result) (t .ensures) (getD s (l .i) 0) (c .shared-slice-known2 .given (l .i) .fits) in
+    omega (arith, e, nib-le (getD s (l .i) 0), l .inv .0)
 
 add-i : tie.Need-add-i Inv-loop μ-loop
 add-i c = search needs
@@ -50,11 +63,13 @@ loop-less c = search needs
 
 loop-again : tie.Need-loop-again Inv-loop μ-loop
 loop-again c =
-    let l = c .before .before .before .loop in
-    let a = c .before .before .before .before .before .before .args in (
+    let l = c .before .before .loop in
+    let s : List ℕ = now (c .before .before .before .before .before .before .args .body) in
+    let t = c .before .before .before .before .decodings in
+    let e = entry-at (t .result) (t .ensures) (getD s (l .i) 0) (c .shared-slice-known2 .given (l .i) .fits) in (
       search needs,
-      ap (λ (x : ℕ). ((l .total + x) % 256 + total (map nib (drop (l .i + 1) (now (a .body))))) % 256) (c .decode .ensures)
-          ∙ sum-step (now (a .body)) (l .i) (l .total) (search needs)
+      ap (λ (x : ℕ). ((l .total + x) % 256 + total (map nib (drop (l .i + 1) s))) % 256) e
+          ∙ sum-step s (l .i) (l .total) (search needs)
           ∙ l .inv .1,
     )
 
@@ -64,7 +79,7 @@ sub-result c = search needs
 returns : tie.Need-returns Inv-loop μ-loop
 returns c =
     let l = c .before .loop in
-    let a = c .before .before .before .before .args in
+    let a = c .before .before .before .before .before .args in
     sum-end (a .head) (now (a .body)) (l .i) (l .total) (search needs) (l .inv .0) (l .inv .1)
 
 pub checksum-spec : {M : Type 1} → statement M
@@ -73,11 +88,13 @@ checksum-spec =
     (tie.spec
     Inv-loop
     μ-loop
+    decodings-requires
     head-total-requires
     loop-holds
-    shared-slice-read-decode
-    decode-requires
+    shared-slice-read-total
     cast-total
+    array-read-total
+    cast-total-2
     add-total
     add-i
     loop-less

@@ -6,34 +6,43 @@ use mathlib.Core.List.{map, List}
 use Prim.Native.Nat.{ℕ, _+_, _-_, _≤_}
 use native.Mathlib.Nat.{zero-add}
 use native.Mathlib.Omega.{arith}
-use lib.ListN.{length, drop}
+use lib.ListN.{length, drop, getD}
 use denote.Ref.{now}
 use Rattle.octet.specs.Decoding.{nib}
+use Rattle.octet.proofs.Laws.{entry-at}
 use Rattle.sums.specs.Sums.{sound}
 use Rattle.sums.proofs.Summing.{sound-step, sound-stop, sound-end}
 use Rattle.sums.proofs.sound.Statement.{statement}
 use Rattle.sums.proofs.sound.Tie as tie
 
 abbrev Inv-loop : tie.InvT-loop
-Inv-loop s i₀ i = (i ≤ length s) × (i + sound (map nib (drop i s)) ≡ sound (map nib s))
+Inv-loop s table i₀ i = (i ≤ length s) × (i + sound (map nib (drop i s)) ≡ sound (map nib s))
 
 abbrev μ-loop : tie.MeasureT-loop
-μ-loop s i₀ i = length s - i
+μ-loop s table i₀ i = length s - i
+
+decodings-requires : tie.Need-decodings-requires Inv-loop μ-loop
+decodings-requires c κs = search needs
 
 loop-holds : tie.Need-loop-holds Inv-loop μ-loop
 loop-holds c = (search needs, zero-add _)
 
-shared-slice-read-decode : tie.Need-shared-slice-read-decode Inv-loop μ-loop
-shared-slice-read-decode c = search needs
+shared-slice-read-if1 : tie.Need-shared-slice-read-if1 Inv-loop μ-loop
+shared-slice-read-if1 c = search needs
 
-decode-requires : tie.Need-decode-requires Inv-loop μ-loop
-decode-requires c κs = search needs
+cast-if1 : tie.Need-cast-if1 Inv-loop μ-loop
+cast-if1 c = omega (arith, c .shared-slice-known2 .given (c .before .before .loop .i))
+
+array-read-if1 : tie.Need-array-read-if1 Inv-loop μ-loop
+array-read-if1 c = omega (arith, c .shared-slice-known2 .given (c .before .before .loop .i))
 
 returns : tie.Need-returns Inv-loop μ-loop
 returns c =
-    let l = c .before .before .before .before .loop in
+    let l = c .before .before .before .loop in
     let s : List ℕ = now (c .before .before .before .before .before .before .args .s) in
-    sound-stop s (l .i) (search needs) (omega (arith, c .before .decode .ensures)) ∙ l .inv .1
+    let t = c .before .before .before .before .decodings in
+    let e = entry-at (t .result) (t .ensures) (getD s (l .i) 0) (c .before .shared-slice-known2 .given (l .i) .fits) in
+    sound-stop s (l .i) (search needs) (omega (arith, e, c .if1 .taken)) ∙ l .inv .1
 
 add-i : tie.Need-add-i Inv-loop μ-loop
 add-i c = search needs
@@ -43,12 +52,14 @@ loop-less c = search needs
 
 loop-again : tie.Need-loop-again Inv-loop μ-loop
 loop-again c =
-    let l = c .before .before .before .before .loop in
+    let l = c .before .before .before .loop in
     let s : List ℕ = now (c .before .before .before .before .before .before .args .s) in
-    (search needs, sound-step s (l .i) (search needs) (omega (arith, c .before .decode .ensures)) ∙ l .inv .1)
+    let t = c .before .before .before .before .decodings in
+    let e = entry-at (t .result) (t .ensures) (getD s (l .i) 0) (c .before .shared-slice-known2 .given (l .i) .fits) in
+    (search needs, sound-step s (l .i) (search needs) (omega (arith, e, c .if1 .left)) ∙ l .inv .1)
 
 returns-2 : tie.Need-returns-2 Inv-loop μ-loop
-returns-2 c = sound-end (now (c .before .before .before .args .s)) _ (search needs) ∙ c .before .loop .inv .1
+returns-2 c = sound-end (now (c .before .before .before .before .args .s)) _ (search needs) ∙ c .before .loop .inv .1
 
 pub sound-spec : {M : Type 1} → statement M
 sound-spec =
@@ -56,9 +67,11 @@ sound-spec =
     (tie.spec
     Inv-loop
     μ-loop
+    decodings-requires
     loop-holds
-    shared-slice-read-decode
-    decode-requires
+    shared-slice-read-if1
+    cast-if1
+    array-read-if1
     returns
     add-i
     loop-less

@@ -10,6 +10,7 @@ use lib.Seq.{length-take-le}
 use denote.Ref.{now}
 use Rattle.laws.proofs.Maps.{map-take}
 use Rattle.octet.specs.Decoding.{nib}
+use Rattle.fields.specs.declared.Opening.{Opening}
 use Rattle.sums.specs.Sums.{sound}
 use Rattle.table.proofs.Judging.{front-10, front-12, front-12′, front-13, front-done}
 use Rattle.sums.proofs.Summing.{sound-le}
@@ -19,7 +20,7 @@ use Rattle.table.proofs.judge_front.Statement.{statement}
 use Rattle.table.proofs.judge_front.Tie as tie
 
 slice-aggregate-sound : tie.Need-slice-aggregate-sound
-slice-aggregate-sound c = sym (length-take-le 8 (now (c .before .before .args .body)) (c .before .before .pre))
+slice-aggregate-sound c = sym (length-take-le 8 (now (c .before .before .args .body)) (c .before .before .pre .0))
 
 sound-requires : tie.Need-sound-requires
 sound-requires c κs = search needs
@@ -27,7 +28,7 @@ sound-requires c κs = search needs
 add-refuse : tie.Need-add-refuse
 add-refuse c =
     let s : List ℕ = take 8 (now (c .before .before .before .before .args .body)) in
-    omega (arith, c .before .sound .ensures, sound-le (map nib s), length-map s nib, length-take-le 8 (now (c .before .before .before .before .args .body)) (c .before .before .before .before .pre))
+    omega (arith, c .before .sound .ensures, sound-le (map nib s), length-map s nib, length-take-le 8 (now (c .before .before .before .before .args .body)) (c .before .before .before .before .pre .0))
 
 refuse-requires : tie.Need-refuse-requires
 refuse-requires c κs = search needs
@@ -38,8 +39,8 @@ returns c =
     let e : c .before .before .sound .result ≡ sound (take 8 (map nib s)) = c .before .before .sound .ensures ∙ ap sound (map-take nib 8 s) in
     rw e at (c .refuse .ensures) ∙ sym (front-10 _ (map nib s) _ (rw e at (c .before .if1 .taken)))
 
-field-of-requires : tie.Need-field-of-requires
-field-of-requires c κs = search needs
+cast-known : tie.Need-cast-known
+cast-known c = search needs
 
 known-requires : tie.Need-known-requires
 known-requires c κs = search needs
@@ -50,12 +51,10 @@ refuse-requires-2 c κs = search needs
 returns-2 : tie.Need-returns-2
 returns-2 c =
     let s : List ℕ = now (c .before .before .before .before .before .before .before .before .args .body) in
+    let p = c .before .before .before .before .before .before .before .before .pre .1 in
     let e : c .before .before .before .before .before .sound .result ≡ sound (take 8 (map nib s)) = c .before .before .before .before .before .sound .ensures ∙ ap sound (map-take nib 8 s) in
-    let k = c .before .before .known .ensures ∙ ap known (c .before .before .before .field-of .ensures .0) in
+    let k = c .before .before .known .ensures ∙ ap (λ (o : Opening). known (o .kind)) p in
     c .refuse2 .ensures ∙ sym (front-12 _ (map nib s) _ (sym e ∙ c .before .before .before .before .if1 .left) (sym k ∙ not-true _ (c .before .if2 .taken)))
-
-field-of-requires-2 : tie.Need-field-of-requires-2
-field-of-requires-2 c κs = search needs
 
 refuse-requires-3 : tie.Need-refuse-requires-3
 refuse-requires-3 c κs = search needs
@@ -63,9 +62,10 @@ refuse-requires-3 c κs = search needs
 returns-3 : tie.Need-returns-3
 returns-3 c =
     let s : List ℕ = now (c .before .before .before .before .before .before .before .before .before .before .args .body) in
+    let p = c .before .before .before .before .before .before .before .before .before .before .pre .1 in
     let e : c .before .before .before .before .before .before .before .sound .result ≡ sound (take 8 (map nib s)) = c .before .before .before .before .before .before .before .sound .ensures ∙ ap sound (map-take nib 8 s) in
-    let k = c .before .before .before .before .known .ensures ∙ ap known (c .before .before .before .before .before .field-of .ensures .0) in
-    c .refuse3 .ensures ∙ sym (front-12′ _ (map nib s) _ (sym e ∙ c .before .before .before .before .before .before .if1 .left) (sym k ∙ not-false _ (c .before .before .before .if2 .left)) (rw (c .before .before .field-of2 .ensures .0) at (c .before .if3 .taken)))
+    let k = c .before .before .before .before .known .ensures ∙ ap (λ (o : Opening). known (o .kind)) p in
+    c .refuse3 .ensures ∙ sym (front-12′ _ (map nib s) _ (sym e ∙ c .before .before .before .before .before .before .if1 .left) (sym k ∙ not-false _ (c .before .before .before .if2 .left)) (rw (ap (λ (o : Opening). o .access) p) at (c .before .if3 .taken)))
 
 refuse-requires-4 : tie.Need-refuse-requires-4
 refuse-requires-4 c κs = search needs
@@ -73,16 +73,18 @@ refuse-requires-4 c κs = search needs
 returns-4 : tie.Need-returns-4
 returns-4 c =
     let s : List ℕ = now (c .before .before .before .before .before .before .before .before .before .before .before .args .body) in
+    let p = c .before .before .before .before .before .before .before .before .before .before .before .pre .1 in
     let e : c .before .before .before .before .before .before .before .before .sound .result ≡ sound (take 8 (map nib s)) = c .before .before .before .before .before .before .before .before .sound .ensures ∙ ap sound (map-take nib 8 s) in
-    let k = c .before .before .before .before .before .known .ensures ∙ ap known (c .before .before .before .before .before .before .field-of .ensures .0) in
-    c .refuse4 .ensures ∙ sym (front-13 _ (map nib s) _ (sym e ∙ c .before .before .before .before .before .before .before .if1 .left) (sym k ∙ not-false _ (c .before .before .before .before .if2 .left)) (sym (c .before .before .before .field-of2 .ensures .0) ∙ c .before .before .if3 .left) (c .before .if4 .taken))
+    let k = c .before .before .before .before .before .known .ensures ∙ ap (λ (o : Opening). known (o .kind)) p in
+    c .refuse4 .ensures ∙ sym (front-13 _ (map nib s) _ (sym e ∙ c .before .before .before .before .before .before .before .if1 .left) (sym k ∙ not-false _ (c .before .before .before .before .if2 .left)) (sym (ap (λ (o : Opening). o .access) p) ∙ c .before .before .if3 .left) (c .before .if4 .taken))
 
 returns-5 : tie.Need-returns-5
 returns-5 c =
     let s : List ℕ = now (c .before .before .before .before .before .before .before .before .before .before .args .body) in
+    let p = c .before .before .before .before .before .before .before .before .before .before .pre .1 in
     let e : c .before .before .before .before .before .before .before .sound .result ≡ sound (take 8 (map nib s)) = c .before .before .before .before .before .before .before .sound .ensures ∙ ap sound (map-take nib 8 s) in
-    let k = c .before .before .before .before .known .ensures ∙ ap known (c .before .before .before .before .before .field-of .ensures .0) in
-    sym (front-done _ (map nib s) _ (sym e ∙ c .before .before .before .before .before .before .if1 .left) (sym k ∙ not-false _ (c .before .before .before .if2 .left)) (sym (c .before .before .field-of2 .ensures .0) ∙ c .before .if3 .left) (c .if4 .left))
+    let k = c .before .before .before .before .known .ensures ∙ ap (λ (o : Opening). known (o .kind)) p in
+    sym (front-done _ (map nib s) _ (sym e ∙ c .before .before .before .before .before .before .if1 .left) (sym k ∙ not-false _ (c .before .before .before .if2 .left)) (sym (ap (λ (o : Opening). o .access) p) ∙ c .before .if3 .left) (c .if4 .left))
 
 pub judge-front-spec : {M : Type 1} → statement M
 judge-front-spec =
@@ -93,11 +95,10 @@ judge-front-spec =
     add-refuse
     refuse-requires
     returns
-    field-of-requires
+    cast-known
     known-requires
     refuse-requires-2
     returns-2
-    field-of-requires-2
     refuse-requires-3
     returns-3
     refuse-requires-4

@@ -1,13 +1,14 @@
 -- `table::judge_whole` meets its contract: each `return` is the first rule that doesn't hold, and the last is both passed.
 -- Assumes nothing.
 use borrow.Author.Needs.{needs}
-use mathlib.Core.Path.{_∙_, sym}
+use mathlib.Core.Path.{_∙_, sym, ap}
 use mathlib.Core.List.{List, map}
 use Prim.Native.Nat.{ℕ}
 use native.Mathlib.Omega.{arith}
 use lib.ListN.{length-map}
 use denote.Ref.{now}
 use Rattle.octet.specs.Decoding.{nib}
+use Rattle.fields.specs.declared.Opening.{Opening}
 use Rattle.sums.specs.Sums.{sound}
 use Rattle.table.proofs.Judging.{whole-10, whole-11, whole-done}
 use Rattle.sums.proofs.Summing.{sound-le}
@@ -34,8 +35,8 @@ returns c =
     rw (c .before .sound .ensures) at (c .refuse .ensures)
     ∙ sym (whole-10 _ (map nib s) _ (λ e. absurd (omega (arith, c .before .before .before .sum-of .ensures .0 (c .before .before .if1 .taken), e, length-map s nib))))
 
-field-of-requires : tie.Need-field-of-requires
-field-of-requires c κs = search needs
+cast-if2 : tie.Need-cast-if2
+cast-if2 c = search needs
 
 refuse-requires-2 : tie.Need-refuse-requires-2
 refuse-requires-2 c κs = search needs
@@ -44,20 +45,15 @@ returns-2 : tie.Need-returns-2
 returns-2 c =
     let s : List ℕ = now (c .before .before .before .before .before .before .args .body) in
     let w = c .before .before .before .before .sum-of .ensures .1 .0 (omega (arith, c .before .before .before .if1 .left)) in
-    c .refuse2 .ensures
-    ∙ sym
-    (whole-11 _ (map nib s) _
-    (w .0 ∙ sym (length-map s nib))
-    (rw (c .before .before .field-of .ensures .0, w .1) at (c .before .if2 .taken)))
+    let p = ap (λ (o : Opening). o .checksum) (c .before .before .before .before .before .before .pre) in
+    c .refuse2 .ensures ∙ sym (whole-11 _ (map nib s) _ (w .0 ∙ sym (length-map s nib)) (rw (p, w .1) at (c .before .if2 .taken)))
 
 returns-3 : tie.Need-returns-3
 returns-3 c =
     let s : List ℕ = now (c .before .before .before .before .before .args .body) in
     let w = c .before .before .before .sum-of .ensures .1 .0 (omega (arith, c .before .before .if1 .left)) in
-    sym
-    (whole-done _ (map nib s) _
-    (w .0 ∙ sym (length-map s nib))
-    (rw (c .before .field-of .ensures .0, w .1) at (c .if2 .left)))
+    let p = ap (λ (o : Opening). o .checksum) (c .before .before .before .before .before .pre) in
+    sym (whole-done _ (map nib s) _ (w .0 ∙ sym (length-map s nib)) (rw (p, w .1) at (c .if2 .left)))
 
 pub judge-whole-spec : {M : Type 1} → statement M
 judge-whole-spec =
@@ -68,7 +64,7 @@ judge-whole-spec =
     add-refuse
     refuse-requires
     returns
-    field-of-requires
+    cast-if2
     refuse-requires-2
     returns-2
     returns-3)

@@ -1,98 +1,98 @@
--- `table::read_block` meets its contract: `judge` says which rule refuses or how many bytes are needed, then the room decides.
+-- `table::read_block` meets its contract: the frame is judged first, and where it is taken the block behind the head is there.
 -- Assumes nothing.
 use borrow.Author.Needs.{needs}
-use mathlib.Core.Path.{_∙_, sym, ap}
+use mathlib.Core.Path.{_≡_, _∙_, sym, ap, ap₂}
 use mathlib.Core.List.{List, map}
-use Prim.Native.Nat.{ℕ}
+use Prim.Native.Nat.{ℕ, _+_, _/_, _≤_}
 use native.Mathlib.Omega.{arith}
-use lib.Seq.{sets}
+use lib.ListN.{length, length-drop}
 use denote.Ref.{now}
 use Rattle.laws.proofs.Lists.{part-rest}
-use Rattle.answer.proofs.Lent.{lent-refused, lent-short, lent-done, lent-value}
+use Rattle.answer.specs.declared.Answer.{Answer}
+use Rattle.answer.specs.Writing.{answered, after, left}
+use Rattle.answer.proofs.Steps.{done-value}
 use Rattle.octet.specs.Decoding.{nib}
 use Rattle.fields.specs.Fields.{whole}
 use Rattle.forms.specs.Form.{form}
-use Rattle.sums.specs.Block.{nibblesOf}
+use Rattle.sums.specs.Block.{headOf, nibblesOf}
 use Rattle.table.specs.Control.{tableOf}
-use Rattle.table.specs.Reading.{readRules, tableRead}
-use Rattle.table.proofs.Judging.{long-enough}
-use Rattle.answer.specs.declared.Answer.the-variants.{Done}
+use Rattle.table.specs.Reading.{frameRules, bodyRules, tableRead}
+use Rattle.table.proofs.Judging.{framed, frame-refused, frame-taken}
 use Rattle.table.proofs.read_block.Statement.{statement}
 use Rattle.table.proofs.read_block.Tie as tie
 
-judge-requires : tie.Need-judge-requires
-judge-requires c κs = search needs
+judge-frame-requires : tie.Need-judge-frame-requires
+judge-frame-requires c κs = search needs
 
 enum-known-why : tie.Need-enum-known-why
 enum-known-why c = search needs
 
-enum-known-need : tie.Need-enum-known-need
-enum-known-need c = search needs
+enum-known-head : tie.Need-enum-known-head
+enum-known-head c = search needs
 
-refuse-requires : tie.Need-refuse-requires
-refuse-requires c κs = search needs
+-- a frame that is taken says how long the record is
+taken :
+    (c : tie.After-known-told2)
+    → let r = now (c .before .before .before .before .before .before .args .rec) in
+    (length r ≡ 2 + headOf r / 32) × (8 ≤ headOf r / 32)
+taken c =
+    let a = c .before .before .before .before .before .before .args in
+    framed (a .application) (length (now (a .rec))) (headOf (now (a .rec))) _ _
+    (sym (c .before .before .before .judge-frame .ensures) ∙ c .before .head .given .1)
+
+sub-read-body : tie.Need-sub-read-body
+sub-read-body c = omega (arith, taken c)
+
+part-read-body-start : tie.Need-part-read-body-start
+part-read-body-start c = omega (arith, taken c)
+
+part-read-body-end : tie.Need-part-read-body-end
+part-read-body-end c = search needs
+
+read-body-requires : tie.Need-read-body-requires
+read-body-requires c κs =
+    rw (part-rest 2 (now (c .before .before .before .before .before .before .before .before .args .rec)), length-drop) (omega (arith, taken (c .before .before)))
 
 returns : tie.Need-returns
 returns c =
-    let a = c .before .before .before .before .before .before .before .before .args in
-    let r = now (a .rec) in
-    let j = c .before .before .before .before .before .judge .ensures in
-    let e = lent-value (readRules (a .application) r) (form (tableRead r)) (now (a .out)) _ j (c .before .before .before .need .given .1) in
-    let p = lent-short (readRules (a .application) r) (form (tableRead r)) (now (a .out)) _ j (c .before .before .before .need .given .1) (omega (arith, e)) in
-    (c .refuse .ensures ∙ p .0, p .1)
-
-sub-write-form : tie.Need-sub-write-form
-sub-write-form c =
-    let a = c .before .before .before .before .before .before .before .args in
-    long-enough (a .application) (now (a .rec)) _ _ (sym (c .before .before .before .before .judge .ensures) ∙ c .before .before .need .given .1)
-
-part-write-form-start : tie.Need-part-write-form-start
-part-write-form-start c =
-    let a = c .before .before .before .before .before .before .before .args in
-    long-enough (a .application) (now (a .rec)) _ _ (sym (c .before .before .before .before .judge .ensures) ∙ c .before .before .need .given .1)
-
-part-write-form-end : tie.Need-part-write-form-end
-part-write-form-end c = search needs
-
-write-form-requires : tie.Need-write-form-requires
-write-form-requires c κs = search needs
-
-returns-2 : tie.Need-returns-2
-returns-2 c =
     let a = c .before .before .before .before .before .before .args in
     let r = now (a .rec) in
-    lent-refused (readRules (a .application) r) (form (tableRead r)) (now (a .out)) _ (c .before .before .before .judge .ensures) (c .before .why .given .1)
+    frame-refused (frameRules (a .application) (length r) (headOf r)) (bodyRules (headOf r) (nibblesOf r)) (form (tableRead r)) (now (a .out)) (headOf r)
+    (c .before .before .before .judge-frame .ensures) (c .before .why .given .1)
 
 same-length : tie.Need-same-length
 same-length c = search needs
 
-returns-3 : tie.Need-returns-3
+returns-2 : tie.Need-returns-2
 unfolding nibblesOf
-returns-3 c =
-    let a = c .before .before .before .before .before .before .before .before .before .before .before .before .args in
+returns-2 c =
+    let a = c .before .before .before .before .before .before .before .before .before .before .before .args in
     let r = now (a .rec) in
-    let j = c .before .before .before .before .before .before .before .before .before .judge .ensures in
-    let e = lent-value (readRules (a .application) r) (form (tableRead r)) (now (a .out)) _ j (c .before .before .before .before .before .before .before .need .given .1) in
-    let p = lent-done (readRules (a .application) r) (form (tableRead r)) (now (a .out)) _ j (c .before .before .before .before .before .before .before .need .given .1) (omega (arith, e)) in (
-      ap Done e ∙ p .0,
-      c .before .before .write-form .ensures
-          ∙ ap (λ (l : List ℕ). sets (now (a .out)) 0 (form (tableOf (whole 4 (map nib l))))) (part-rest 2 r)
-          ∙ p .1,
+    let j = c .before .before .before .before .before .before .before .before .judge-frame .ensures in
+    let d = c .before .before .before .before .before .before .head .given .1 in
+    let h = done-value (frameRules (a .application) (length r) (headOf r)) _ _ (sym j ∙ d) in
+    let out : List ℕ = now (a .out) in
+    let bytes : List ℕ → List ℕ = λ l. form (tableOf (whole 4 (map nib l))) in
+    let one =
+    ap₂ (λ (k : ℕ) (l : List ℕ). answered (bodyRules k (map nib l)) (bytes l) out) h (part-rest 2 r) in
+    let all =
+    ap₂ (λ (k : ℕ) (l : List ℕ). left (bodyRules k (map nib l)) (bytes l) out) h (part-rest 2 r) in
+    let two = frame-taken (frameRules (a .application) (length r) (headOf r)) (bodyRules (headOf r) (nibblesOf r)) (form (tableRead r)) out (headOf r) j d in (
+      c .before .before .read-body .ensures .0 ∙ one ∙ two,
+      c .before .before .read-body .ensures .1 ∙ all ∙ ap (λ (x : Answer). after x (form (tableRead r)) out) two,
     )
 
 pub read-block-spec : {M : Type 1} → statement M
 read-block-spec =
     tie.close
     (tie.spec
-    judge-requires
+    judge-frame-requires
     enum-known-why
-    enum-known-need
-    refuse-requires
+    enum-known-head
+    sub-read-body
+    part-read-body-start
+    part-read-body-end
+    read-body-requires
     returns
-    sub-write-form
-    part-write-form-start
-    part-write-form-end
-    write-form-requires
-    returns-2
     same-length
-    returns-3)
+    returns-2)

@@ -10,35 +10,22 @@ use denote.Ref.{now}
 use Rattle.forms.specs.Tables.{per}
 use Rattle.forms.specs.Form.{listed}
 use Rattle.fields.specs.Compound.{compound}
-use Rattle.table.specs.Control.{descriptorsOf, tableOf}
+use Rattle.table.specs.Control.{descriptorsOf}
 use Rattle.table.proofs.Written.{descriptor-on, descriptors-end}
 use Rattle.table.proofs.spelling.write_descriptors.Statement.{statement}
 use Rattle.table.proofs.spelling.write_descriptors.Tie as tie
 
 abbrev Inv-loop : tie.InvT-loop
-Inv-loop body out₀ kind left₀ at₀ q₀ out left at q =
-    (length out ≡ length out₀) × (q + 92 * left ≤ 5802) × (at + 730 * left ≤ 46048)
+Inv-loop kind count body out₀ left₀ at₀ q₀ out left at q =
+    (length out ≡ length out₀) × (q + 92 * left ≤ 23466) × (at + 730 * left ≤ 186208)
     × (sets out q (listed kind (descriptorsOf (per kind) left (compound body / 2 ^ at)))
-    ≡ sets out₀ 6 (listed (tableOf (compound body) .kind) (tableOf (compound body) .descriptors)))
+    ≡ sets out₀ 6 (listed kind (descriptorsOf (per kind) count (compound body / 2 ^ 58))))
 
 abbrev μ-loop : tie.MeasureT-loop
-μ-loop body out₀ kind left₀ at₀ q₀ out left at q = left
-
-field-of-requires : tie.Need-field-of-requires Inv-loop μ-loop
-field-of-requires c κs = search needs
-
-field-of-requires-2 : tie.Need-field-of-requires-2 Inv-loop μ-loop
-field-of-requires-2 c κs = search needs
+μ-loop kind count body out₀ left₀ at₀ q₀ out left at q = left
 
 loop-holds : tie.Need-loop-holds Inv-loop μ-loop
-unfolding tableOf
-loop-holds c =
-    let e = c .before .field-of .ensures .0 in (
-      refl,
-      omega (arith, c .field-of2 .ensures .1),
-      omega (arith, c .field-of2 .ensures .1),
-      rw (e, c .field-of2 .ensures .0) refl,
-    )
+loop-holds c = (refl, search needs, search needs, refl)
 
 write-descriptor-requires : tie.Need-write-descriptor-requires Inv-loop μ-loop
 write-descriptor-requires c κs = search needs
@@ -70,10 +57,10 @@ loop-less c = search needs
 loop-again : tie.Need-loop-again Inv-loop μ-loop
 loop-again c =
     let l = c .before .before .before .before .before .loop in
-    let a = c .before .before .before .before .before .before .before .before .before .before .args in
+    let a = c .before .before .before .before .before .before .before .before .args in
     let d = c .before .before .write-descriptor in
     let n = compound (now (a .body)) in
-    let kind = c .before .before .before .before .before .before .before .field-of .result in (
+    let kind = a .kind in (
       d .kept .1 .1 .1 .0 ∙ l .inv .0,
       omega (arith, d .ensures .1, l .inv .1),
       omega (arith, d .ensures .1, l .inv .2),
@@ -87,7 +74,7 @@ same-length c = c .before .loop .inv .0
 returns : tie.Need-returns Inv-loop μ-loop
 returns c =
     let l = c .before .loop in
-    descriptors-end (c .before .before .before .field-of .result) (l .left) (compound (now (c .before .before .before .before .before .before .args .body))) (l .at) (l .q)
+    descriptors-end (c .before .before .before .before .args .kind) (l .left) (compound (now (c .before .before .before .before .args .body))) (l .at) (l .q)
     (l .out) _ (search needs) (l .inv .3)
 
 pub write-descriptors-spec : {M : Type 1} → statement M
@@ -96,8 +83,6 @@ write-descriptors-spec =
     (tie.spec
     Inv-loop
     μ-loop
-    field-of-requires
-    field-of-requires-2
     loop-holds
     write-descriptor-requires
     mul-at

@@ -1,14 +1,22 @@
 -- `table::spelling::write_form` meets its contract: the opening and then the descriptors are the form. Assumes nothing.
 use borrow.Author.Needs.{needs}
+use mathlib.Core.Path.{_∙_, ap}
+use lib.Seq.{sets}
 use denote.Ref.{now}
 use Rattle.fields.specs.Compound.{compound}
-use Rattle.table.specs.Control.{tableOf}
-use Rattle.table.proofs.Written.{form-stored}
+use Rattle.table.specs.Control.{tableBy}
+use Rattle.table.proofs.Written.{opened, form-stored}
 use Rattle.table.proofs.spelling.write_form.Statement.{statement}
 use Rattle.table.proofs.spelling.write_form.Tie as tie
 
 write-opening-requires : tie.Need-write-opening-requires
 write-opening-requires c κs = search needs
+
+cast-write-descriptors : tie.Need-cast-write-descriptors
+cast-write-descriptors c = search needs
+
+cast-write-descriptors-2 : tie.Need-cast-write-descriptors-2
+cast-write-descriptors-2 c = search needs
 
 write-descriptors-requires : tie.Need-write-descriptors-requires
 write-descriptors-requires c κs = search needs
@@ -18,10 +26,18 @@ same-length c = search needs
 
 returns : tie.Need-returns
 returns c =
-    let a = c .before .before .before .before .before .before .before .before .before .before .args in
-    form-stored (tableOf (compound (now (a .body)))) (now (a .out)) _ _ (c .before .before .before .before .before .before .write-opening .ensures)
+    let a = c .before .before .before .before .before .before .before .before .before .before .before .before .args in
+    let n = compound (now (a .body)) in
+    form-stored (tableBy (a .opening) n) (now (a .out)) _ _ (c .before .before .before .before .before .before .before .before .write-opening .ensures ∙ ap (sets (now (a .out)) 0) (opened (a .opening) n))
     (c .before .before .write-descriptors .ensures)
 
 pub write-form-spec : {M : Type 1} → statement M
 write-form-spec =
-    tie.close (tie.spec write-opening-requires write-descriptors-requires same-length returns)
+    tie.close
+    (tie.spec
+    write-opening-requires
+    cast-write-descriptors
+    cast-write-descriptors-2
+    write-descriptors-requires
+    same-length
+    returns)

@@ -15,7 +15,7 @@ use Rattle.table.proofs.spelling.write_words.Tie as tie
 
 abbrev Inv-loop : tie.InvT-loop
 Inv-loop body from k out₀ q at₀ p₀ left₀ out at p left =
-    (length out ≡ length out₀) × (p + 3 * left < 65536) × (at + 24 * left < 65536)
+    (length out ≡ length out₀) × (p + 3 * left < 300000) × (at + 24 * left < 300000)
     × (sets out p (spelled (parts 24 left (compound body / 2 ^ at))) ≡ sets out₀ q (spelled (parts 24 k (compound body / 2 ^ from))))
 
 abbrev μ-loop : tie.MeasureT-loop

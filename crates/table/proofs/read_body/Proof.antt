@@ -1,0 +1,89 @@
+-- `table::read_body` meets its contract: `judge_body` says which rule refuses or how many bytes are needed, then the room decides.
+-- Assumes nothing.
+use borrow.Author.Needs.{needs}
+use mathlib.Core.Path.{_∙_, ap}
+use mathlib.Core.List.{map}
+use native.Mathlib.Omega.{arith}
+use lib.Seq.{sets}
+use denote.Ref.{now}
+use Rattle.answer.specs.declared.Answer.the-variants.{Done}
+use Rattle.answer.proofs.Lent.{lent-refused, lent-short, lent-done, lent-value}
+use Rattle.octet.specs.Decoding.{nib}
+use Rattle.fields.specs.Compound.{compound}
+use Rattle.fields.specs.declared.Opening.{Opening}
+use Rattle.forms.specs.Form.{form}
+use Rattle.table.specs.Control.{tableBy, tableOf}
+use Rattle.table.specs.Reading.{bodyRules}
+use Rattle.table.proofs.read_body.Statement.{statement}
+use Rattle.table.proofs.read_body.Tie as tie
+
+opening-of-requires : tie.Need-opening-of-requires
+opening-of-requires c κs = search needs
+
+judge-body-requires : tie.Need-judge-body-requires
+judge-body-requires c κs = search needs
+
+enum-known-why : tie.Need-enum-known-why
+enum-known-why c = search needs
+
+enum-known-need : tie.Need-enum-known-need
+enum-known-need c = search needs
+
+refuse-requires : tie.Need-refuse-requires
+refuse-requires c κs = search needs
+
+returns : tie.Need-returns
+returns c =
+    let a = c .before .before .before .before .before .before .before .before .before .args in
+    let n = compound (now (a .body)) in
+    let rules = bodyRules (a .head) (map nib (now (a .body))) in
+    let j = c .before .before .before .before .before .judge-body .ensures in
+    let d = c .before .before .before .need .given .1 in
+    let e = lent-value rules (form (tableOf n)) (now (a .out)) _ j d in
+    let p = lent-short rules (form (tableOf n)) (now (a .out)) _ j d (omega (arith, e)) in
+    (c .refuse .ensures ∙ p .0, p .1)
+
+write-form-requires : tie.Need-write-form-requires
+write-form-requires c κs = search needs
+
+returns-2 : tie.Need-returns-2
+returns-2 c =
+    let a = c .before .before .before .before .before .before .before .args in
+    let n = compound (now (a .body)) in
+    let rules = bodyRules (a .head) (map nib (now (a .body))) in
+    let j = c .before .before .before .judge-body .ensures in
+    lent-refused rules (form (tableOf n)) (now (a .out)) _ j (c .before .why .given .1)
+
+same-length : tie.Need-same-length
+same-length c = search needs
+
+returns-3 : tie.Need-returns-3
+unfolding tableOf
+returns-3 c =
+    let a = c .before .before .before .before .before .before .before .before .before .before .before .before .args in
+    let n = compound (now (a .body)) in
+    let rules = bodyRules (a .head) (map nib (now (a .body))) in
+    let j = c .before .before .before .before .before .before .before .before .judge-body .ensures in
+    let d = c .before .before .before .before .before .before .need .given .1 in
+    let e = lent-value rules (form (tableOf n)) (now (a .out)) _ j d in
+    let p = lent-done rules (form (tableOf n)) (now (a .out)) _ j d (omega (arith, e)) in (
+      ap Done e ∙ p .0,
+      c .before .before .write-form .ensures
+          ∙ ap (λ (o : Opening). sets (now (a .out)) 0 (form (tableBy o n))) (c .before .before .before .before .before .before .before .before .before .opening-of .ensures)
+          ∙ p .1,
+    )
+
+pub read-body-spec : {M : Type 1} → statement M
+read-body-spec =
+    tie.close
+    (tie.spec
+    opening-of-requires
+    judge-body-requires
+    enum-known-why
+    enum-known-need
+    refuse-requires
+    returns
+    write-form-requires
+    returns-2
+    same-length
+    returns-3)
