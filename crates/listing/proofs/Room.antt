@@ -17,7 +17,8 @@ use Rattle.forms.specs.Form.{spelled, listed, form, tableIn}
 use Rattle.forms.specs.Writing.{formRules}
 use Rattle.forms.proofs.Measures.{length-spelled, length-listed, length-form}
 use Rattle.printing.specs.Lines.{place, decimal, hexed, numberLine, letters, languageOf, languageLine, pageLine}
-use Rattle.listing.specs.Lines.{blockName, networkName, descriptorName, kindLine, kindTI, kindLI, languageLines, subtitleLines, entryLines, descriptorLine, descriptorLines, headLines, descriptorLinesOf, linesOf, linesFrom}
+use Rattle.listing.specs.Lines.{blockName, networkName, descriptorName, kindLine, kindTI, kindLI, languageLines, subtitleLines, entryLines, descriptorLine, descriptorLines, headLines, descriptorLinesOf, linesOf}
+use Rattle.listing.specs.Internal.{linesFrom}
 
 -- ---- a line each
 

@@ -1,4 +1,4 @@
--- Writing PES packets: SCOPE 6.2 and 6.10, after EN 300 472.
--- What can be written as a PES packet: SCOPE 6.10, after EN 300 472.
-pub mod Writing
+-- Writing PES packets, and what can be written as one: SCOPE 6.2 and 6.10, after EN 300 472.
 pub mod Records
+pub mod Writing
+pub mod Internal

@@ -1,8 +1,7 @@
 // 44-byte records to PES packets of teletext, the other way than crate `pes`: SCOPE 6; EN 300 472, clauses 4.2 to 4.4.
 // The call takes any bytes and answers; a refusal leaves the lent output as it was.
 //
-// The definitions are in specs/Writing.antt: the packet's bytes; the call's rules, in order, are crate
-// `writable`'s. What reading and writing owe each other is proofs/Statements.antt.
+// The definitions are in specs/: Writing has the packet's bytes, Records the call's rules in order. What reading and writing owe each other is proofs/Statements.antt.
 mod writable;
 
 use answer::Answer;
@@ -12,7 +11,8 @@ ghost use Prim.Native.Nat.{_+_, _*_, _≤_};
 ghost use lib.ListN.{length, replicate};
 ghost use lib.Seq.{sets};
 ghost use Rattle.answer.specs.Writing.{answered, left};
-ghost use Rattle.pes_writer.specs.Writing.{unitCount, packetBytes, writeRules, headerOf, unitOf, unitsOf, stuffingUnit, stuffingUnits, packetOf};
+ghost use Rattle.pes_writer.specs.Writing.{unitCount, writeRules, headerOf, unitOf, unitsOf, stuffingUnit, stuffingUnits, packetOf};
+ghost use Rattle.pes_writer.specs.Internal.{packetBytes};
 
 // A record's bytes: a unit's id, its line byte, and the text.
 const RECORD: usize = 44;

@@ -10,14 +10,12 @@ ghost use Rattle.forms.specs.Form.{wordsIn, tableIn};
 ghost use Rattle.sums.specs.Block.{nibbles, recordOf};
 ghost use Rattle.octet.specs.Image.{image};
 ghost use lib.Seq.{sets};
-ghost use Rattle.table_writer.specs.Ink.{ready, inked, moved, Fine};
-ghost use Rattle.table_writer.specs.Seal.{sealed};
+ghost use Rattle.table_writer.specs.Internal.{ready, inked, moved, Fine, sealed, firstFields, secondFields};
 ghost use Rattle.answer.specs.Rules.{judged};
 ghost use Rattle.answer.specs.Values.{refused};
 ghost use Rattle.answer.specs.Writing.{answered, left};
 ghost use Rattle.answer.specs.declared.Answer.the-variants.{Done};
 ghost use Rattle.forms.specs.Writing.{writeRules};
-ghost use Rattle.table_writer.specs.Parts.{firstFields, secondFields};
 use answer::Answer;
 use answer::Refusal;
 use blocks::HEAD;
@@ -26,10 +24,10 @@ use forms::OPENING;
 use forms::WORD;
 
 // Where the next nibble goes, and the bits, fewer than four, that don't make one yet.
-pub struct Pen {
-    pub at: usize,
-    pub held: usize,
-    pub bits: usize,
+struct Pen {
+    at: usize,
+    held: usize,
+    bits: usize,
 }
 
 // The record of a table of this application, from the table's form, to the front of `out`. It holds

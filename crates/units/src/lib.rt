@@ -2,7 +2,7 @@
 // function takes any bytes and answers; nothing is kept between calls.
 //
 // The definitions are in specs/Units.antt. What a unit that is met tells is in proofs/Meets.antt. What an id and a line byte say alone
-// is crate `marks`, the walk's answer as a number for C crate `packing`.
+// is `marks`; the walk's answer as a number for C is crate `firmware`'s.
 pub mod marks;
 
 use answer::Refusal;

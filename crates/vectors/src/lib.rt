@@ -1,5 +1,5 @@
-// What the programs try_NAME read from standard input, in large pieces: cases, one after the other (crate `cases`). The
-// output that a call is lent is crate `lent`, the line that answers a case crate `lines`.
+// What the programs try_NAME read from standard input, in large pieces: cases, one after the other (`cases`). The
+// output that a call is lent is `lent`, the line that answers a case `lines`.
 //
 // A program lends all memory: 131,200 bytes for the input, of which a case takes up to 65,545, and
 // 65,536 for the output. In each turn it calls `fill` and `cases::next`, and for a case `cases::payload`,

@@ -1,3 +1,3 @@
 pub mod Cutting
-pub mod Writing
 pub mod Order
+pub mod Internal

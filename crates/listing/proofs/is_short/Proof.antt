@@ -9,7 +9,7 @@ use lib.Dec.{ltb}
 use lib.ListN.{length}
 use denote.Ref.{now}
 use Rattle.forms.specs.Form.{tableIn}
-use Rattle.listing.specs.Lines.{linesFrom}
+use Rattle.listing.specs.Internal.{linesFrom}
 use Rattle.listing.proofs.Room.{lines-room}
 use Rattle.listing.proofs.is_short.Statement.{statement}
 use Rattle.listing.proofs.is_short.Tie as tie

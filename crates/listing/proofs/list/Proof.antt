@@ -11,7 +11,7 @@ use Rattle.answer.specs.declared.Answer.the-variants.{Done}
 use Rattle.forms.specs.Tables.{bits}
 use Rattle.forms.specs.Form.{tableIn}
 use Rattle.forms.specs.Writing.{formRules}
-use Rattle.listing.specs.Lines.{linesFrom}
+use Rattle.listing.specs.Internal.{linesFrom}
 use Rattle.listing.proofs.Room.{judged-long}
 use Rattle.listing.proofs.list.Statement.{statement}
 use Rattle.listing.proofs.list.Tie as tie

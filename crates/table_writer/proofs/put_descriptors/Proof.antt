@@ -13,7 +13,7 @@ use Rattle.fields.specs.Fields.{Field, fitting}
 use Rattle.forms.specs.Tables.{per, loops}
 use Rattle.forms.specs.Form.{descriptorsIn, tableIn}
 use Rattle.forms.proofs.Measures.{words-counted}
-use Rattle.table_writer.specs.Ink.{inked, moved, Fine}
+use Rattle.table_writer.specs.Internal.{inked, moved, Fine}
 use Rattle.table_writer.proofs.Inking.{room-on, none-left, none-inked}
 use Rattle.table_writer.proofs.Looped.{loops-end}
 use Rattle.table_writer.proofs.Descriptors.{heading-lt, few-words, fit-on, room-heading, fine-heading, room-words, fine-descriptor, on-descriptor, inked-descriptor}

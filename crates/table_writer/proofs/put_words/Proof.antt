@@ -8,7 +8,7 @@ use lib.ListN.{length, drop}
 use denote.Ref.{now}
 use Rattle.fields.specs.Fields.{Field, alike}
 use Rattle.forms.specs.Form.{wordsIn}
-use Rattle.table_writer.specs.Ink.{inked, moved, Fine}
+use Rattle.table_writer.specs.Internal.{inked, moved, Fine}
 use Rattle.table_writer.proofs.Inking.{room-first, room-on, on-moved, on-inked, on-fine, none-left, none-inked}
 use Rattle.table_writer.proofs.Looped.{alike-on, alike-end}
 use Rattle.table_writer.proofs.put_words.Statement.{statement}
