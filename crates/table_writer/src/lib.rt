@@ -7,6 +7,7 @@ ghost use lib.ListN.{length, drop};
 ghost use Rattle.fields.specs.Fields.{alike, laid, fitting};
 ghost use Rattle.forms.specs.Tables.{loops, size, fits, bits as Tables·bits};
 ghost use Rattle.forms.specs.Form.{wordsIn, tableIn};
+ghost use Rattle.forms.specs.Internal.{formMost};
 ghost use Rattle.sums.specs.Block.{nibbles, recordOf};
 ghost use Rattle.octet.specs.Image.{image};
 ghost use lib.Seq.{sets};
@@ -172,7 +173,7 @@ fn put_descriptors(table: &[u8], pen: Pen, out: &mut [u8]) -> Pen
 // Lays the k words from a place of the form on.
 fn put_words(table: &[u8], from: usize, k: usize, pen: Pen, out: &mut [u8]) -> Pen
     requires { ⌜ Fine pen
-        × (from + 3 * k < 400000)
+        × (from + 3 * k ≤ formMost)
         × (pen .at + ready pen (alike 24 (wordsIn k (drop from (now table)))) ≤ length (now out)) ⌝ }
     ensures { λ r.
         ⌜ (r ≡ moved pen (alike 24 (wordsIn k (drop from (now (table .entry))))))
