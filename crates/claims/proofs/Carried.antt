@@ -19,7 +19,7 @@ use Rattle.symbols.specs.Stream.{Symbol, byteOf, perPacket, streamOf, grab, poi
 use Rattle.writer.specs.Cutting.{dataPacket, dataPackets, afterPackets, pages, pagesFor}
 use Rattle.writer.proofs.Aligned.{Celled, stream-celled, after-celled, celled-aligned}
 use Rattle.writer.proofs.Counting.{covered}
-use Rattle.writer.proofs.Filling.{length-grab}
+use Rattle.writer.proofs.Filling.{length-grab, before-le}
 use Rattle.pages.specs.declared.headers.Page.the-variants.{Shut, Open}
 use Rattle.walk.specs.Mode.{Mode, off, scan, gives}
 use Rattle.pages.specs.Headers.{Seen, junk, other, ours, packetY}
@@ -33,7 +33,7 @@ use Rattle.claims.specs.Carrying.{heardBlocks}
 use Rattle.claims.proofs.Losing.{lost-all, came-append}
 use Rattle.claims.proofs.Walking.{Plain, sentEnds, sentGives, Blocks}
 use Rattle.claims.proofs.Carrying.{Between, idle, gone}
-use Rattle.claims.proofs.Packet.{before-le, Heard, heard-packet, lost-packet}
+use Rattle.claims.proofs.Packet.{Heard, heard-packet, lost-packet}
 use Rattle.claims.proofs.Hearing.{elsewhere-heard, zero-heard, packet-heard, PacketHeard, read, skipped, unread}
 use Rattle.claims.proofs.Sending.{Sends, stream-sends, Grabbed, grabbed}
 

@@ -11,6 +11,7 @@ use borrow.Author.Tests.{le-leb}
 use Rattle.laws.proofs.Maps.{map-take, map-drop}
 use Rattle.blocks.specs.Block.{Block}
 use Rattle.symbols.specs.Stream.{Symbol, start, fill, bits, raw, byteOf, beforeStart, pointerOf}
+use Rattle.writer.proofs.Filling.{before-le}
 use Rattle.walk.specs.Mode.{Mode, scan, step, ends, gives, continues, finished, unfinished}
 use Rattle.walk.specs.Reading.{readMode, readBlocks}
 use Rattle.claims.specs.Noise.{Hears, Near}
@@ -64,14 +65,6 @@ before-take (start ∷ ss) = refl
 before-take (fill ∷ ss) = ap suc (before-take ss)
 before-take (bits n ∷ ss) = ap suc (before-take ss)
 before-take (raw b ∷ ss) = ap suc (before-take ss)
-
-pub before-le : (ss : List Symbol) → beforeStart ss ≤ length ss
-unfolding beforeStart
-before-le [] = omega arith
-before-le (start ∷ ss) = omega arith
-before-le (fill ∷ ss) = omega (arith, before-le ss)
-before-le (bits n ∷ ss) = omega (arith, before-le ss)
-before-le (raw b ∷ ss) = omega (arith, before-le ss)
 
 -- at the first start nothing runs
 at-start : (m : Mode) (ss : List Symbol) → Plain m ss → beforeStart ss < length ss → sentEnds m (take (beforeStart ss) ss) ≡ scan

@@ -1,5 +1,5 @@
 -- A table and its form in lent bytes are each other's inverse. Assumes nothing.
-use mathlib.Core.Path.{_≡_, _∙_, refl, sym, ap, ap₂, subst}
+use mathlib.Core.Path.{_≡_, _∙_, refl, sym, ap, ap₂}
 use mathlib.Core.Bool.{Bool, true, false}
 use mathlib.Core.List.{List, [], _∷_, _++_}
 use Prim.Native.Nat.{ℕ, zero, suc, _+_, _-_, _*_, _/_, _%_, _^_, _≤_, _<_}
@@ -10,12 +10,13 @@ use lib.Dec.{ltb, eqb}
 use lib.ListN.{length, getD, take, drop, length-drop, take-append-drop}
 use lib.Seq.{drop-drop, drop-at, drop-cons, getD-drop}
 use Rattle.laws.specs.Pick.{both, either}
+use Rattle.laws.proofs.Countdown.{at-more}
 use Rattle.laws.proofs.Tests.{both-true}
 use Rattle.fields.specs.Fields.{alike, fitting, parts, whole}
 use Rattle.fields.proofs.Laid.{fitting-append, whole-parts, whole-first, whole-next, whole-lt}
 use Rattle.forms.specs.Tables.{Descriptor, Table, TI, LI, known, per, entries, loops, bits, entire, fits}
 use Rattle.forms.specs.Form.{spelled, listed, openingOf, form, wordsIn, descriptorsIn, tableIn}
-use Rattle.forms.proofs.Sendable.{Sendable, sendable, sends, entries-whole}
+use Rattle.forms.proofs.Sendable.{Sendable, Sound, sendable, sends, all-back}
 use Rattle.forms.proofs.Measures.{per-pos, length-spelled, length-listed, length-form, bits-of, eights}
 
 -- ---- the table out of its form
@@ -28,31 +29,27 @@ words-back (w ∷ ws) rest h =
     let small : w < 2 ^ 24 = ltb-true w (2 ^ 24) (p .0) in
     ap₂ (λ (x : ℕ) (xs : List ℕ). x ∷ xs) (whole-parts 8 3 w ∙ mod-eq-of-lt small) (words-back ws rest (p .1))
 
+descriptor-back :
+    (kind : ℕ) (d : Descriptor) (ds : List Descriptor) → Sound kind d
+    → descriptorsIn (per kind) (suc (length ds)) (listed kind (d ∷ ds)) ≡ d ∷ descriptorsIn (per kind) (length ds) (listed kind ds)
+unfolding descriptorsIn listed
+descriptor-back kind d ds s =
+    let count = s .whole-entries in
+    let n = per kind * entries kind (d .words) in
+    let words : wordsIn n (spelled (d .words) ++ listed kind ds) ≡ d .words =
+    ap (λ (x : ℕ). wordsIn x (spelled (d .words) ++ listed kind ds)) count ∙ words-back (d .words) (listed kind ds) (s .words-fit) in
+    let rest : drop (2 + 3 * n) (listed kind (d ∷ ds)) ≡ listed kind ds =
+    sym (drop-drop (3 * n) 2 (listed kind (d ∷ ds)))
+    ∙ drop-at (spelled (d .words)) (listed kind ds) (3 * n) (length-spelled (d .words) ∙ ap (λ (x : ℕ). 3 * x) (sym count)) in
+    let one : _≡_ {A = Descriptor} (record { id = d .id; words = wordsIn n (spelled (d .words) ++ listed kind ds) }) d =
+    ap (λ (ws : List ℕ). record { id = d .id; words = ws }) words in
+    ap₂ (λ (x : Descriptor) (xs : List Descriptor). x ∷ xs) one (ap (descriptorsIn (per kind) (length ds)) rest)
+
 descriptors-back :
     (kind : ℕ) (ds : List Descriptor) → entire kind ds ≡ true → fitting (loops kind ds) ≡ true
     → descriptorsIn (per kind) (length ds) (listed kind ds) ≡ ds
-unfolding descriptorsIn listed entire loops fitting
-descriptors-back kind [] h k = refl
-descriptors-back kind (d ∷ ds) h k =
-    let c = entries kind (d .words) in
-    let f = listed kind (d ∷ ds) in
-    let e = both-true (eqb (c * per kind) (length (d .words))) (entire kind ds) h in
-    let k₁ = both-true (ltb (d .id) (2 ^ 6)) _ k in
-    let k₂ = both-true (ltb c (2 ^ 4)) _ (k₁ .1) in
-    let k₃ =
-    both-true (fitting (alike 24 (d .words))) (fitting (loops kind ds))
-    (sym (fitting-append (alike 24 (d .words)) (loops kind ds)) ∙ k₂ .1) in
-    let count : per kind * c ≡ length (d .words) =
-    entries-whole kind (d .words) (eqb-true (c * per kind) (length (d .words)) (e .0)) in
-    let words : wordsIn (per kind * c) (spelled (d .words) ++ listed kind ds) ≡ d .words =
-    ap (λ (x : ℕ). wordsIn x (spelled (d .words) ++ listed kind ds)) count ∙ words-back (d .words) (listed kind ds) (k₃ .0) in
-    let rest : drop (2 + 3 * (per kind * c)) f ≡ listed kind ds =
-    sym (drop-drop (3 * (per kind * c)) 2 f)
-    ∙ drop-at (spelled (d .words)) (listed kind ds) (3 * (per kind * c)) (length-spelled (d .words) ∙ ap (λ (x : ℕ). 3 * x) (sym count)) in
-    let one : _≡_ {A = Descriptor} (record { id = d .id; words = wordsIn (per kind * c) (spelled (d .words) ++ listed kind ds) }) d =
-    ap (λ (ws : List ℕ). record { id = d .id; words = ws }) words in
-    ap₂ (λ (x : Descriptor) (xs : List Descriptor). x ∷ xs) one
-    (ap (descriptorsIn (per kind) (length ds)) rest ∙ descriptors-back kind ds (e .1) (k₃ .1))
+unfolding descriptorsIn
+descriptors-back kind = all-back kind (descriptorsIn (per kind)) (listed kind) (λ f. refl) (descriptor-back kind)
 
 pub form-in : (t : Table) → Sendable t → tableIn (form t) ≡ t
 unfolding tableIn form openingOf whole
@@ -189,10 +186,9 @@ pub in-on :
     ≡ record { id = id; words = wordsIn words (drop (at + 2) f) } ∷ descriptorsIn each (left - 1) (drop (at + (2 + 3 * words)) f)
 unfolding descriptorsIn
 in-on each left at id c words f h e₀ e₁ e₂ =
-    let k : left ≡ suc (left - 1) = omega arith in
     let i : getD (drop at f) 0 0 ≡ id = getD-drop at f 0 0 ∙ ap (λ (x : ℕ). getD f x 0) (add-zero at) ∙ sym e₀ in
     let w : each * getD (drop at f) 1 0 ≡ words = ap (λ (x : ℕ). each * x) (getD-drop at f 1 0 ∙ sym e₁) ∙ sym e₂ in
-    ap (λ (n : ℕ). descriptorsIn each n (drop at f)) k ∙ (rw (w, i, drop-drop 2 at f, drop-drop (2 + 3 * words) at f))
+    at-more (λ (n : ℕ). descriptorsIn each n (drop at f)) left h ∙ (rw (w, i, drop-drop 2 at f, drop-drop (2 + 3 * words) at f))
 
 -- as the form's length goes
 pub form-on :
@@ -205,15 +201,6 @@ form-on kind left at c words whole f h e₁ e₂ inv =
     ≡ 2 + 3 * words + length (listed kind (descriptorsIn (per kind) (left - 1) (drop (at + (2 + 3 * words)) f))) =
     rw (in-on (per kind) left at (getD f at 0) c words f h refl e₁ e₂, length-listed, length-words) in
     omega (arith, step)
-
-pub form-end :
-    (kind left at whole : ℕ) (f : List ℕ) → left ≤ 0
-    → at + length (listed kind (descriptorsIn (per kind) left (drop at f))) ≡ whole
-    → at ≡ whole
-unfolding descriptorsIn listed
-form-end kind left at whole f h inv =
-    let e : left ≡ 0 = omega arith in
-    sym (add-zero at) ∙ subst (λ (k : ℕ). at + length (listed kind (descriptorsIn (per kind) k (drop at f))) ≡ whole) e inv
 
 -- words of three bytes always fit
 words-fit : (k : ℕ) (f : List ℕ) → fitting (alike 24 (wordsIn k f)) ≡ true
@@ -236,13 +223,6 @@ fits-on kind left at id c words f h e₀ e₁ e₂ =
     rw (in-on (per kind) left at id c words f h e₀ e₁ e₂, entries-in kind c words (drop (at + 2) f) e₂)
     (ap (λ (b : Bool). both (ltb id 64) (both (ltb c 16) b))
     (fitting-append (alike 24 ws) rest ∙ ap (λ (b : Bool). both b (fitting rest)) (words-fit words (drop (at + 2) f))))
-
-pub fits-end :
-    (kind left at : ℕ) (f : List ℕ) → left ≤ 0 → fitting (loops kind (descriptorsIn (per kind) left (drop at f))) ≡ true
-unfolding descriptorsIn loops fitting
-fits-end kind left at f h =
-    let e : left ≡ 0 = omega arith in
-    ap (λ (k : ℕ). fitting (loops kind (descriptorsIn (per kind) k (drop at f)))) e
 
 -- ---- what of a form can be out of its field
 

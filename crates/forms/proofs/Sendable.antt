@@ -1,15 +1,16 @@
 -- What a table that can be sent has, each value by itself. Assumes nothing.
-use mathlib.Core.Path.{_≡_, _∙_}
+use mathlib.Core.Path.{_≡_, _∙_, sym, ap}
 use mathlib.Core.Bool.{true}
-use mathlib.Core.List.{List}
-use Prim.Native.Nat.{ℕ, _*_, _^_, _<_}
+use mathlib.Core.List.{List, [], _∷_}
+use Prim.Native.Nat.{ℕ, suc, _*_, _^_, _<_}
 use native.Mathlib.Nat.{mul-comm}
-use borrow.Author.Tests.{ltb-true, lt-ltb}
-use lib.Dec.{ltb}
+use borrow.Author.Tests.{ltb-true, lt-ltb, eqb-true}
+use lib.Dec.{ltb, eqb}
 use lib.ListN.{length}
 use Rattle.laws.proofs.Tests.{both-true}
-use Rattle.fields.specs.Fields.{fitting}
-use Rattle.forms.specs.Tables.{Table, known, per, entries, loops, fields, control, entire, fits}
+use Rattle.fields.specs.Fields.{alike, fitting}
+use Rattle.fields.proofs.Laid.{fitting-append}
+use Rattle.forms.specs.Tables.{Descriptor, Table, known, per, entries, loops, fields, control, entire, fits}
 
 -- what a table that can be sent has
 pub record Sendable (t : Table) : Type 0 where
@@ -62,6 +63,44 @@ sends t s =
       s .loops-fit,
     )
 
--- the count is that of the entries, and their words are whole
-pub entries-whole : (kind : ℕ) (ws : List ℕ) → entries kind ws * per kind ≡ length ws → per kind * entries kind ws ≡ length ws
-entries-whole kind ws e = mul-comm (per kind) (entries kind ws) ∙ e
+-- ---- descriptors
+
+-- what a descriptor of such a table has
+pub record Sound (kind : ℕ) (d : Descriptor) : Type 0 where
+  pub whole-entries : per kind * entries kind (d .words) ≡ length (d .words)
+  pub id-fits : d .id < 64
+  pub entries-fit : entries kind (d .words) < 16
+  pub words-fit : fitting (alike 24 (d .words)) ≡ true
+
+-- the first one, and the others
+pub parted :
+    (kind : ℕ) (d : Descriptor) (ds : List Descriptor) → entire kind (d ∷ ds) ≡ true → fitting (loops kind (d ∷ ds)) ≡ true
+    → Sound kind d × (entire kind ds ≡ true) × (fitting (loops kind ds) ≡ true)
+unfolding entire loops fitting
+parted kind d ds h k =
+    let c = entries kind (d .words) in
+    let e = both-true (eqb (c * per kind) (length (d .words))) (entire kind ds) h in
+    let i = both-true (ltb (d .id) (2 ^ 6)) _ k in
+    let n = both-true (ltb c (2 ^ 4)) _ (i .1) in
+    let w =
+    both-true (fitting (alike 24 (d .words))) (fitting (loops kind ds))
+    (sym (fitting-append (alike 24 (d .words)) (loops kind ds)) ∙ n .1) in
+    let sound : Sound kind d =
+    record {
+      whole-entries = mul-comm (per kind) c ∙ eqb-true (c * per kind) (length (d .words)) (e .0);
+      id-fits = ltb-true (d .id) 64 (i .0);
+      entries-fit = ltb-true c 16 (n .0);
+      words-fit = w .0;
+    } in
+    (sound, e .1, w .1)
+
+-- what is put as bytes or as bits reads back, where each descriptor that is put before others does
+pub all-back :
+    {S : Type 0} (kind : ℕ) (read : ℕ → S → List Descriptor) (put : List Descriptor → S) → ((f : S) → read 0 f ≡ [])
+    → ((d : Descriptor) (ds : List Descriptor) → Sound kind d → read (suc (length ds)) (put (d ∷ ds)) ≡ d ∷ read (length ds) (put ds))
+    → (ds : List Descriptor) → entire kind ds ≡ true → fitting (loops kind ds) ≡ true
+    → read (length ds) (put ds) ≡ ds
+all-back kind read put none one [] h k = none (put [])
+all-back kind read put none one (d ∷ ds) h k =
+    let p = parted kind d ds h k in
+    one d ds (p .0) ∙ ap (λ (xs : List Descriptor). d ∷ xs) (all-back kind read put none one ds (p .1) (p .2))

@@ -5,3 +5,4 @@ pub mod Form
 pub mod Writing
 pub mod Kinds
 pub mod Words
+pub mod Internal

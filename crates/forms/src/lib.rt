@@ -19,6 +19,7 @@ ghost use Rattle.fields.specs.Fields.{fitting};
 ghost use Rattle.forms.specs.Tables.{bits, loops, fits, known};
 ghost use Rattle.forms.specs.Form.{form, tableIn};
 ghost use Rattle.forms.specs.Writing.{formRules};
+ghost use Rattle.forms.specs.Internal.{formMost};
 use answer::Answer;
 
 // The bits before the first descriptor in tables 15 and 17.
@@ -54,7 +55,7 @@ pub fn judge_form(table: &[u8]) -> Answer
 
 // The length of a form by its counts as they stand.
 fn form_size(table: &[u8]) -> usize
-    ensures { λ r. ⌜ (r ≡ length (form (tableIn (now (table .entry))))) × (r ≤ 390666) ⌝ }
+    ensures { λ r. ⌜ (r ≡ length (form (tableIn (now (table .entry))))) × (r ≤ formMost) ⌝ }
 {
     let kind = items::byte_at(table, 0);
     let mut left = items::byte_at(table, 5);
@@ -70,7 +71,7 @@ fn form_size(table: &[u8]) -> usize
 fn judge_values(table: &[u8]) -> Answer
     requires { ⌜ (known (getD (now table) 0 0) ≡ true)
         × (length (now table) ≡ length (form (tableIn (now table))))
-        × (length (now table) ≤ 390666) ⌝ }
+        × (length (now table) ≤ formMost) ⌝ }
     ensures { λ r.
         ⌜ r
         ≡ judged refused (rule (fits (tableIn (now (table .entry)))) 15 0 ∷ []) (Done (bits (tableIn (now (table .entry))))) ⌝ }

@@ -1,3 +1,4 @@
+pub mod Countdown
 pub mod Lists
 pub mod Maps
 pub mod Picks

@@ -2,9 +2,9 @@
 use mathlib.Core.Path.{_≡_, refl}
 use mathlib.Core.Bool.{Bool, true, false}
 use mathlib.Core.List.{List, [], _∷_}
-use Prim.Native.Nat.{ℕ, _+_, _*_, _/_, _%_, _≤_}
+use Prim.Native.Nat.{ℕ, _+_, _*_, _≤_, _<_}
 use native.Mathlib.Omega.{arith}
-use lib.Dec.{eqb, leb}
+use lib.Dec.{eqb}
 use lib.ListN.{length, length-append}
 use borrow.Author.Tests.{eqb-true}
 use Rattle.laws.specs.Pick.{pick}
@@ -12,27 +12,23 @@ use Rattle.answer.specs.Values.{refused}
 use Rattle.answer.specs.Rules.{judged}
 use Rattle.answer.specs.declared.Answer.the-variants.{Done}
 use Rattle.answer.proofs.Steps.{done-every, first-holds, others-hold}
-use Rattle.forms.specs.Tables.{Descriptor, Table, TI}
+use Rattle.fields.specs.Fields.{fitting}
+use Rattle.forms.specs.Tables.{Descriptor, Table, TI, loops, entire, fits}
 use Rattle.forms.specs.Form.{spelled, listed, form, tableIn}
 use Rattle.forms.specs.Writing.{formRules}
 use Rattle.forms.proofs.Measures.{length-spelled, length-listed, length-form}
-use Rattle.printing.specs.Lines.{place, decimal, hexed, numberLine, letters, languageOf, languageLine, pageLine}
-use Rattle.listing.specs.Lines.{blockName, networkName, descriptorName, kindLine, kindTI, kindLI, languageLines, subtitleLines, entryLines, descriptorLine, descriptorLines, headLines, descriptorLinesOf, linesOf, linesFrom}
+use Rattle.forms.proofs.Sendable.{Sendable, parted}
+use Rattle.printing.specs.Lines.{digitMost, hexed, numberLine, letters, languageOf, languageLine, pageLine}
+use Rattle.printing.proofs.Decimals.{digits-few}
+use Rattle.listing.specs.Lines.{blockName, networkName, descriptorName, kindLine, kindTI, kindLI, languageLines, subtitleLines, entryLines, descriptorLine, descriptorLines, headLines, descriptorLinesOf, linesOf}
+use Rattle.listing.specs.Internal.{linesFrom}
 
 -- ---- a line each
 
-place-room : (unit n : ℕ) → length (place unit n) ≤ 1
-unfolding place
-place-room unit n = go (leb unit n)
-  where
-    go : (t : Bool) → length (pick t ((48 + n / unit % 10) ∷ []) []) ≤ 1
-    go true = omega arith
-    go false = omega arith
-
-number-room : (name : List ℕ) (n : ℕ) → length (numberLine name n) ≤ length name + 6
-unfolding numberLine decimal
-number-room name n =
-    simp length-append (omega (arith, place-room 10000 n, place-room 1000 n, place-room 100 n, place-room 10 n))
+-- a number of two bytes has at most five digits
+number-room : (name : List ℕ) (n : ℕ) → n < 65536 → length (numberLine name n) ≤ length name + 6
+unfolding numberLine
+number-room name n h = simp length-append (omega (arith, digits-few digitMost 4 n (omega arith)))
 
 kind-room : (kind : ℕ) → length (kindLine kind) ≤ 8
 unfolding kindLine
@@ -84,25 +80,37 @@ entries-room kind ws = go (eqb kind TI)
     go true = subtitles-room ws
     go false = languages-room ws
 
-descriptors-room : (kind : ℕ) (ds : List Descriptor) → length (descriptorLines kind ds) ≤ 9 * length (listed kind ds)
+descriptors-room :
+    (kind : ℕ) (ds : List Descriptor) → entire kind ds ≡ true → fitting (loops kind ds) ≡ true
+    → length (descriptorLines kind ds) ≤ 9 * length (listed kind ds)
 unfolding descriptorLines descriptorLine
-descriptors-room kind [] = omega arith
-descriptors-room kind (d ∷ ds) =
-    simp (length-append, length-listed kind d ds)
-    (omega (arith, number-room descriptorName (d .id), entries-room kind (d .words), descriptors-room kind ds))
+descriptors-room kind [] h k = omega arith
+descriptors-room kind (d ∷ ds) h k =
+    let p = parted kind d ds h k in
+    let own = number-room descriptorName (d .id) (omega (arith, p .0 .id-fits)) in
+    let rest = descriptors-room kind ds (p .1) (p .2) in
+    simp (length-append, length-listed kind d ds) (omega (arith, own, rest, entries-room kind (d .words)))
 
-pub lines-room : (head : Bool) (t : Table) → length (linesFrom head t) ≤ 9 * length (form t)
+pub lines-room : (head : Bool) (t : Table) → Sendable t → length (linesFrom head t) ≤ 9 * length (form t)
 unfolding linesOf headLines descriptorLinesOf
-lines-room head t = go head
+lines-room head t s = go head
   where
+    each : length (descriptorLinesOf t) ≤ 9 * length (listed (t .kind) (t .descriptors))
+    each = descriptors-room (t .kind) (t .descriptors) (s .entire-all) (s .loops-fit)
+
     go : (h : Bool) → length (pick h (linesOf t) (descriptorLinesOf t)) ≤ 9 * length (form t)
     go true =
-        simp length-append
-        (omega (arith, kind-room (t .kind), number-room blockName (t .block), number-room networkName (t .network), descriptors-room (t .kind) (t .descriptors), length-form t))
-    go false = omega (arith, descriptors-room (t .kind) (t .descriptors), length-form t)
+        let block = number-room blockName (t .block) (s .block-fits) in
+        let network = number-room networkName (t .network) (omega (arith, s .network-fits)) in
+        simp length-append (omega (arith, kind-room (t .kind), block, network, each, length-form t))
+    go false = omega (arith, each, length-form t)
 
--- ---- what judging a form says of its length
+-- ---- what judging a form says of it
 
-pub judged-long : (f : List ℕ) (n m : ℕ) → judged refused (formRules f) (Done n) ≡ Done m → length f ≡ length (form (tableIn f))
+pub judged-form :
+    (f : List ℕ) (n m : ℕ) → judged refused (formRules f) (Done n) ≡ Done m
+    → (length f ≡ length (form (tableIn f))) × (fits (tableIn f) ≡ true)
 unfolding formRules
-judged-long f n m e = eqb-true _ _ (first-holds (others-hold (others-hold (done-every (formRules f) n m e))))
+judged-form f n m e =
+    let r = others-hold (others-hold (done-every (formRules f) n m e)) in
+    (eqb-true _ _ (first-holds r), first-holds (others-hold r))

@@ -10,6 +10,7 @@ use lib.Dec.{eqb}
 use lib.ListN.{getD, drop}
 use lib.Seq.{drop-drop, getD-drop}
 use Rattle.laws.specs.Pick.{pick}
+use Rattle.laws.proofs.Countdown.{at-none, at-more}
 use Rattle.forms.specs.Tables.{TI, per}
 use Rattle.forms.specs.Form.{wordAt, wordsIn, descriptorsIn, tableIn}
 use Rattle.forms.proofs.Forms.{in-on, two-bytes}
@@ -67,15 +68,13 @@ pub entries-on :
     ≡ entryLines kind (wordsIn (per kind) (drop i f)) ++ entryLines kind (wordsIn (per kind * (left - 1)) (drop (i + 3 * each) f))
 unfolding entryLines per
 entries-on kind left i each f h e =
-    let k : left ≡ suc (left - 1) = omega arith in
-    ap (λ (n : ℕ). entryLines kind (wordsIn (per kind * n) (drop i f))) k ∙ entries-step (eqb kind TI) (left - 1) (drop i f)
+    at-more (λ (n : ℕ). entryLines kind (wordsIn (per kind * n) (drop i f))) left h ∙ entries-step (eqb kind TI) (left - 1) (drop i f)
     ∙ (rw (e, mul-one, drop-drop))
 
 pub entries-end : (kind left i : ℕ) (f : List ℕ) → left ≤ 0 → entryLines kind (wordsIn (per kind * left) (drop i f)) ≡ []
 unfolding entryLines wordsIn subtitleLines languageLines
 entries-end kind left i f h =
-    let k : left ≡ 0 = omega arith in
-    ap (λ (n : ℕ). entryLines kind (wordsIn (per kind * n) (drop i f))) k ∙ (rw mul-zero (none (eqb kind TI)))
+    at-none (λ (n : ℕ). entryLines kind (wordsIn (per kind * n) (drop i f))) left h ∙ (rw mul-zero (none (eqb kind TI)))
   where
     none : (b : Bool) → linesBy b [] ≡ []
     none true = refl
@@ -92,12 +91,6 @@ pub descriptors-on :
 unfolding descriptorLines
 descriptors-on kind left i c words f h e₁ e₂ =
     rw (in-on (per kind) left i (getD f i 0) c words f h refl e₁ e₂, ← e₂)
-
-pub descriptors-end : (kind left i : ℕ) (f : List ℕ) → left ≤ 0 → descriptorLines kind (descriptorsIn (per kind) left (drop i f)) ≡ []
-unfolding descriptorLines descriptorsIn
-descriptors-end kind left i f h =
-    let k : left ≡ 0 = omega arith in
-    ap (λ (n : ℕ). descriptorLines kind (descriptorsIn (per kind) n (drop i f))) k
 
 -- ---- the head
 

@@ -1,5 +1,4 @@
 -- The desk's lines of a table: SCOPE 13.2. Characters are their codes, and 10 ends a line.
-use mathlib.Core.Bool.{Bool}
 use mathlib.Core.List.{List, [], _∷_, _++_}
 use Prim.Native.Nat.{ℕ}
 use lib.Dec.{eqb}
@@ -66,7 +65,3 @@ descriptorLinesOf t = descriptorLines (t .kind) (t .descriptors)
 -- the lines of a table
 unfoldable pub linesOf : Table → List ℕ
 linesOf t = headLines t ++ descriptorLinesOf t
-
--- the one or the other: with the lines of the head, or without
-abbrev pub linesFrom : Bool → Table → List ℕ
-linesFrom head t = pick head (linesOf t) (descriptorLinesOf t)

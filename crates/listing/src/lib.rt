@@ -1,13 +1,16 @@
 // A table as the desk's lines (SCOPE 13).
+ghost use mathlib.Core.Bool.{true};
 ghost use mathlib.Core.Path.{_≡_};
 ghost use Prim.Native.Nat.{_+_, _*_, _/_, _<_, _≤_};
 ghost use lib.Dec.{ltb};
 ghost use lib.ListN.{length, getD, drop};
 ghost use Rattle.answer.specs.Writing.{answered, left};
-ghost use Rattle.forms.specs.Tables.{per};
+ghost use Rattle.forms.specs.Tables.{per, fits};
 ghost use Rattle.forms.specs.Form.{form, wordsIn, tableIn};
+ghost use Rattle.forms.specs.Internal.{descriptorMost, formMost};
 ghost use Rattle.forms.specs.Writing.{formRules};
-ghost use Rattle.listing.specs.Lines.{kindLine, entryLines, descriptorLine, headLines, descriptorLinesOf, linesOf, linesFrom};
+ghost use Rattle.listing.specs.Lines.{kindLine, entryLines, descriptorLine, headLines, descriptorLinesOf, linesOf};
+ghost use Rattle.listing.specs.Internal.{linesFrom, headMost, entryMost, descriptorLinesMost};
 ghost use Rattle.printing.specs.Putting.{Put, reach};
 use answer::Answer;
 use answer::Refusal;
@@ -57,7 +60,7 @@ fn list(table: &[u8], head: bool, out: &mut [u8]) -> Answer
 // Whether the lines are longer than the room. Nine bytes for each of the form are always enough, and the
 // lines are then not measured.
 fn is_short(table: &[u8], head: bool, room: usize) -> bool
-    requires { ⌜ length (now table) ≡ length (form (tableIn (now table))) ⌝ }
+    requires { ⌜ (length (now table) ≡ length (form (tableIn (now table)))) × (fits (tableIn (now table)) ≡ true) ⌝ }
     ensures { λ r. ⌜ r ≡ ltb room (length (linesFrom head (tableIn (now (table .entry))))) ⌝ }
 {
     if table.len() <= room / 9 {
@@ -87,7 +90,7 @@ fn put_lines(table: &[u8], head: bool, out: &mut [u8]) -> usize
 
 // The lines of kind, block and network.
 fn put_head(table: &[u8], out: &mut [u8]) -> usize
-    ensures { λ r. ⌜ Put (now (out .entry)) 0 (headLines (tableIn (now (table .entry)))) (now (out .exit)) r × (r ≤ 100) ⌝ }
+    ensures { λ r. ⌜ Put (now (out .entry)) 0 (headLines (tableIn (now (table .entry)))) (now (out .exit)) r × (r ≤ headMost) ⌝ }
 {
     let kind = forms::byte_at(table, 0);
     let block = forms::byte_at(table, 2) + 256 * forms::byte_at(table, 3);
@@ -99,7 +102,7 @@ fn put_head(table: &[u8], out: &mut [u8]) -> usize
 
 // The lines from `descriptor=` on.
 fn put_descriptors(table: &[u8], out: &mut [u8], q: usize) -> usize
-    requires { ⌜ q ≤ 100 ⌝ }
+    requires { ⌜ q ≤ headMost ⌝ }
     ensures { λ r. ⌜ Put (now (out .entry)) q (descriptorLinesOf (tableIn (now (table .entry)))) (now (out .exit)) r ⌝ }
 {
     let kind = forms::byte_at(table, 0);
@@ -124,12 +127,12 @@ fn put_descriptor(
     out: &mut [u8],
     q: usize,
 ) -> usize
-    requires { ⌜ (i < 400000) × (entries < 256) × (q + 8000 ≤ reach) ⌝ }
+    requires { ⌜ (i ≤ formMost) × (entries < 256) × (q + descriptorLinesMost ≤ reach) ⌝ }
     ensures { λ r.
         ⌜ Put (now (out .entry)) q
         (descriptorLine kind (getD (now (table .entry)) i 0) (wordsIn (per kind * entries) (drop (i + 2) (now (table .entry)))))
         (now (out .exit)) r
-        × (r ≤ q + 8000) ⌝ }
+        × (r ≤ q + descriptorLinesMost) ⌝ }
 {
     let id = forms::byte_at(table, i);
     let at = printing::put_number(b"descriptor=", id, out, q);
@@ -138,10 +141,10 @@ fn put_descriptor(
 
 // The lines of the k entries from the place `from` of a form on.
 fn put_entries(table: &[u8], kind: usize, from: usize, k: usize, out: &mut [u8], q: usize) -> usize
-    requires { ⌜ (from < 401000) × (k < 256) × (q + 28 * k ≤ reach) ⌝ }
+    requires { ⌜ (from ≤ formMost + 2) × (k < 256) × (q + entryMost * k ≤ reach) ⌝ }
     ensures { λ r.
         ⌜ Put (now (out .entry)) q (entryLines kind (wordsIn (per kind * k) (drop from (now (table .entry))))) (now (out .exit)) r
-        × (r ≤ q + 28 * k) ⌝ }
+        × (r ≤ q + entryMost * k) ⌝ }
 {
     let step = 3 * forms::words_of(kind, 1);
     let mut left = k;
@@ -157,10 +160,10 @@ fn put_entries(table: &[u8], kind: usize, from: usize, k: usize, out: &mut [u8],
 
 // The lines of the entry at the place i of a form.
 fn put_entry(table: &[u8], kind: usize, i: usize, out: &mut [u8], q: usize) -> usize
-    requires { ⌜ (i < 403000) × (q + 28 ≤ reach) ⌝ }
+    requires { ⌜ (i ≤ formMost + descriptorMost) × (q + entryMost ≤ reach) ⌝ }
     ensures { λ r.
         ⌜ Put (now (out .entry)) q (entryLines kind (wordsIn (per kind) (drop i (now (table .entry))))) (now (out .exit)) r
-        × (r ≤ q + 28) ⌝ }
+        × (r ≤ q + entryMost) ⌝ }
 {
     let at = printing::put_language(forms::word_at(table, i), out, q);
     if kind != TI {

@@ -1,7 +1,7 @@
 -- The parts of a packet that is written: one unit more, and how long each part is. Assumes nothing.
 use mathlib.Core.Path.{_≡_, _∙_, refl}
-use mathlib.Core.List.{List, [], _++_}
-use Prim.Native.Nat.{ℕ, zero, suc, _+_, _-_, _*_, _<_, _≤_}
+use mathlib.Core.List.{List, _++_}
+use Prim.Native.Nat.{ℕ, zero, suc, _+_, _-_, _*_, _≤_}
 use native.Mathlib.Omega.{arith}
 use lib.Dec.{leb}
 use lib.ListN.{length, length-append, length-map, length-take, length-drop}
@@ -12,28 +12,6 @@ use Rattle.laws.proofs.Tests.{both-first}
 use Rattle.answer.specs.Rules.{Every}
 use Rattle.answer.proofs.Steps.{first-holds, others-hold}
 use Rattle.pes_writer.specs.Writing.{unitCount, packetSize, writeRules, headerOf, unitOf, unitsOf, stuffingUnit, stuffingUnits, packetOf}
-
--- ---- one more, or none
-
-pub units-none : (u : ℕ) (rs : List ℕ) (at : ℕ) → u ≤ 0 → unitsOf u rs at ≡ []
-unfolding unitsOf
-units-none zero rs at h = refl
-units-none (suc u) rs at h = absurd (omega arith)
-
-pub units-more : (u : ℕ) (rs : List ℕ) (at : ℕ) → 0 < u → unitsOf u rs at ≡ unitOf rs at ++ unitsOf (u - 1) rs (at + 44)
-unfolding unitsOf
-units-more zero rs at h = absurd (omega arith)
-units-more (suc u) rs at h = let e : suc u - 1 ≡ u = omega arith in rw e
-
-pub stuffing-more : (k : ℕ) → 0 < k → stuffingUnits k ≡ stuffingUnit ++ stuffingUnits (k - 1)
-unfolding stuffingUnits
-stuffing-more zero h = absurd (omega arith)
-stuffing-more (suc k) h = let e : suc k - 1 ≡ k = omega arith in rw e
-
-pub stuffing-none : (k : ℕ) → k ≤ 0 → stuffingUnits k ≡ []
-unfolding stuffingUnits
-stuffing-none zero h = refl
-stuffing-none (suc k) h = absurd (omega arith)
 
 -- ---- lengths
 

@@ -1,3 +1,4 @@
--- Writing PES packets: SCOPE 6.2 and 6.10, after EN 300 472; and what can be written.
-pub mod Writing
+-- Writing PES packets, and what can be written as one: SCOPE 6.2 and 6.10, after EN 300 472.
 pub mod Records
+pub mod Writing
+pub mod Internal

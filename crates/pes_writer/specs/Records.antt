@@ -1,7 +1,7 @@
 -- The rules of a list of records that is to be written, and the length of the packet that holds it (SCOPE 6.10).
 use mathlib.Core.Bool.{Bool, true}
 use mathlib.Core.List.{List, [], _∷_}
-use Prim.Native.Nat.{ℕ, zero, suc, _+_, _*_, _/_, _%_}
+use Prim.Native.Nat.{ℕ, zero, suc, _+_, _/_, _%_}
 use lib.Dec.{eqb, leb}
 use lib.ListN.{length}
 use Rattle.laws.specs.Pick.{both}
@@ -16,10 +16,6 @@ unitCount rs = length rs / recordSize
 -- the smallest N that has room for them, 1 for none (SCOPE 6.10): there are 4 × N − 1 units in N × 184 bytes (SCOPE 6.8)
 abbrev pub packetSize : ℕ → ℕ
 packetSize u = u / 4 + 1
-
--- the bytes of the packet of that N
-abbrev pub packetBytes : List ℕ → ℕ
-packetBytes rs = packetSize (unitCount rs) * 184
 
 -- the record at a place is one that reading gives: a text unit's id, and a line offset that isn't refused
 abbrev pub recordFits : List ℕ → ℕ → Bool

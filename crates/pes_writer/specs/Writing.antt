@@ -6,7 +6,7 @@ use Rattle.octet.specs.Turning.{turned}
 use Rattle.units.specs.Units.{byteAt, textLength, framing}
 use Rattle.pes.specs.Texts.{textBytes, recordSize}
 use Rattle.pes.specs.Header.{lengthOf}
-pub use Rattle.pes_writer.specs.Records.{unitCount, packetSize, packetBytes, recordFits}
+pub use Rattle.pes_writer.specs.Records.{unitCount, packetSize, recordFits}
 unfoldable pub use Rattle.pes_writer.specs.Records.{recordsFit, writeRules}
 
 -- the header, with 84 00 24 at byte 6 and FF from byte 9 up to its end (SCOPE 6.2), and the data_identifier behind it

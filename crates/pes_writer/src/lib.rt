@@ -12,7 +12,8 @@ ghost use Prim.Native.Nat.{_+_, _*_, _≤_};
 ghost use lib.ListN.{length, replicate};
 ghost use lib.Seq.{sets};
 ghost use Rattle.answer.specs.Writing.{answered, left};
-ghost use Rattle.pes_writer.specs.Writing.{unitCount, packetBytes, writeRules, headerOf, unitOf, unitsOf, stuffingUnit, stuffingUnits, packetOf};
+ghost use Rattle.pes_writer.specs.Writing.{unitCount, writeRules, headerOf, unitOf, unitsOf, stuffingUnit, stuffingUnits, packetOf};
+ghost use Rattle.pes_writer.specs.Internal.{packetBytes};
 
 // A record's bytes: a unit's id, its line byte, and the text.
 const RECORD: usize = 44;

@@ -1,5 +1,5 @@
 // Whether 44-byte records can be written as a PES packet of teletext, and how long that packet is: EN 300 472,
-// clauses 4.2 to 4.4. Writing it is crate `pes_writer`.
+// clauses 4.2 to 4.4.
 //
 // The rules, in order, are in specs/Records.antt.
 use answer::Answer;
@@ -11,7 +11,8 @@ ghost use Rattle.laws.specs.Pick.{both};
 ghost use Rattle.answer.specs.Rules.{judged};
 ghost use Rattle.answer.specs.Values.{refused};
 ghost use Rattle.units.specs.Marks.{textId, lineFits};
-ghost use Rattle.pes_writer.specs.Records.{packetBytes, recordsFit, writeRules};
+ghost use Rattle.pes_writer.specs.Records.{recordsFit, writeRules};
+ghost use Rattle.pes_writer.specs.Internal.{packetBytes};
 
 // A record's bytes: a unit's id, its line byte, and the text.
 const RECORD: usize = 44;

@@ -1,4 +1,4 @@
-pub mod Places
+pub mod Decimals
 pub mod Printed
 pub mod Spelling
 pub mod Putting

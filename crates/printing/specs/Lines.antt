@@ -1,24 +1,25 @@
 -- What is printed piece by piece: SCOPE 13. Characters are their codes, and 10 ends a line.
 use mathlib.Core.Bool.{Bool, true}
 use mathlib.Core.List.{List, [], _∷_, _++_}
-use Prim.Native.Nat.{ℕ, _+_, _/_, _%_}
+use Prim.Native.Nat.{ℕ, zero, suc, _+_, _/_, _%_}
 use lib.Dec.{ltb, leb}
 use Rattle.laws.specs.Pick.{pick, both}
 use Rattle.forms.specs.Form.{spelled}
 
 -- ---- numbers
 
--- a decimal place, the ones (1) or the tens (10) or .., left out where it would be a leading zero
-unfoldable pub place : ℕ → ℕ → List ℕ
-place unit n = pick (leb unit n) ((48 + n / unit % 10) ∷ []) []
+-- a number's decimal digits, at most k: those of its tenth, where it has one, and then that of the ones
+unfoldable pub digitsIn : ℕ → ℕ → List ℕ
+digitsIn zero n = []
+digitsIn (suc k) n = pick (ltb n 10) [] (digitsIn k (n / 10)) ++ ((48 + n % 10) ∷ [])
 
--- a number in decimal digits, at most five (SCOPE 13.3)
-unfoldable pub decimal : ℕ → List ℕ
-decimal n = place 10000 n ++ place 1000 n ++ place 100 n ++ place 10 n ++ ((48 + n % 10) ∷ [])
+-- the most digits that a number of 64 bits has
+abbrev pub digitMost : ℕ
+digitMost = 20
 
--- all five, leading zeros too
-abbrev pub places : ℕ → List ℕ
-places n = (48 + n / 10000 % 10) ∷ (48 + n / 1000 % 10) ∷ (48 + n / 100 % 10) ∷ (48 + n / 10 % 10) ∷ (48 + n % 10) ∷ []
+-- a number in decimal digits (SCOPE 13.3)
+abbrev pub decimal : ℕ → List ℕ
+decimal n = digitsIn digitMost n
 
 -- a hex digit, in lower case (SCOPE 13.3)
 unfoldable pub digit : ℕ → ℕ

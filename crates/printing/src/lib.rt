@@ -11,17 +11,20 @@ ghost use mathlib.Core.List.{_∷_, [], _++_};
 ghost use Prim.Native.Nat.{_+_, _^_, _≤_, _<_};
 ghost use lib.ListN.{length, drop};
 ghost use Rattle.forms.specs.Form.{spelled};
-ghost use Rattle.printing.specs.Lines.{places, decimal, digit as Lines·digit, hexed, letter as Lines·letter, letters as Lines·letters, numberLine, languageOf, languageLine, pageLine};
+ghost use Rattle.printing.specs.Lines.{digitMost, decimal, digit as Lines·digit, hexed, letter as Lines·letter, letters as Lines·letters, numberLine, languageOf, languageLine, pageLine};
 ghost use Rattle.printing.specs.Putting.{Put, within};
 
 // No place that a list's lines take is further on.
 const REACH: usize = 4000000;
 
+// The most digits that a number has.
+const DIGITS: usize = 20;
+
 // A line of a name and a number.
 pub fn put_number(name: &[u8], n: usize, out: &mut [u8], q: usize) -> usize
     ensures { λ r.
         ⌜ Put (now (out .entry)) q (within q (numberLine (now (name .entry)) n)) (now (out .exit)) r
-        × (r ≤ q + length (now (name .entry)) + 6) ⌝ }
+        × (r ≤ q + length (now (name .entry)) + digitMost + 1) ⌝ }
 {
     if q > REACH {
         return q;
@@ -123,36 +126,27 @@ fn digit(n: usize) -> u8
 
 // A number in decimal, and the end of the line.
 fn put_decimal(n: usize, out: &mut [u8], q: usize) -> usize
-    requires { ⌜ q + 6 < 2 ^ 64 ⌝ }
-    ensures { λ r. ⌜ Put (now (out .entry)) q (decimal n ++ (10 ∷ [])) (now (out .exit)) r × (r ≤ q + 6) ⌝ }
+    requires { ⌜ q + digitMost + 1 < 2 ^ 64 ⌝ }
+    ensures { λ r. ⌜ Put (now (out .entry)) q (decimal n ++ (10 ∷ [])) (now (out .exit)) r × (r ≤ q + digitMost + 1) ⌝ }
 {
-    let from = leading(n);
-    let line = [
-        (48 + n / 10000 % 10) as u8,
-        (48 + n / 1000 % 10) as u8,
-        (48 + n / 100 % 10) as u8,
-        (48 + n / 10 % 10) as u8,
-        (48 + n % 10) as u8,
-        10,
-    ];
+    let mut line = [10u8; DIGITS + 1];
+    let from = set_digits(n, &mut line);
     puts::put(&line[from..], out, q)
 }
 
-// How many of a number's five places are leading zeros.
-fn leading(n: usize) -> usize
-    ensures { λ r. ⌜ (r ≤ 4) × (drop r (places n ++ (10 ∷ [])) ≡ decimal n ++ (10 ∷ [])) ⌝ }
+// Sets a number's digits, the last one at the line's last byte but one, and answers where they begin.
+fn set_digits(n: usize, line: &mut [u8]) -> usize
+    requires { ⌜ length (now line) ≡ digitMost + 1 ⌝ }
+    ensures { λ r. ⌜ (r < digitMost) × (drop r (now (line .exit)) ≡ decimal n ++ drop digitMost (now (line .entry))) ⌝ }
 {
-    if n < 10 {
-        return 4;
+    let mut at = DIGITS;
+    let mut m = n;
+    while 10 <= m {
+        at -= 1;
+        line[at] = (48 + m % 10) as u8;
+        m /= 10;
     }
-    if n < 100 {
-        return 3;
-    }
-    if n < 1000 {
-        return 2;
-    }
-    if n < 10000 {
-        return 1;
-    }
-    0
+    at -= 1;
+    line[at] = (48 + m) as u8;
+    at
 }

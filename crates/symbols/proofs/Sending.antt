@@ -17,7 +17,8 @@ use Rattle.blocks.proofs.Walking.{Standing, blocks-at, blocks-not, begins-head,
 use Rattle.symbols.specs.declared.Pen.{Pen}
 use Rattle.symbols.specs.declared.Sent.{Sent}
 use Rattle.symbols.specs.Stream.{Symbol, start, fill, bits, raw, byteOf, cell, fillAfter, symbols, cellsOf, streamOf}
-use Rattle.symbols.specs.Pen.{nibbleOf, isStart, blockAt, movedOf, fillerAt, sentOf, restOf, Within, Goes, Sends}
+use Rattle.symbols.specs.Pen.{movedOf, fillerAt, sentOf}
+use Rattle.symbols.specs.Internal.{nibbleOf, isStart, blockAt, restOf, Within, Goes, Sends}
 
 -- ---- how many symbols a block has
 

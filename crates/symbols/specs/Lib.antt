@@ -2,3 +2,4 @@
 pub mod Stream
 pub mod Pen
 pub mod Cells
+pub mod Internal

@@ -14,7 +14,8 @@ ghost use mathlib.Core.Path.{_≡_};
 ghost use Prim.Native.Nat.{_+_, _/_, _^_, _≤_, _<_};
 ghost use lib.ListN.{length, getD};
 ghost use Rattle.symbols.specs.Stream.{fill, byteOf, cellsOf};
-ghost use Rattle.symbols.specs.Pen.{nibbleOf, blockAt, movedOf, fillerAt, sentOf};
+ghost use Rattle.symbols.specs.Pen.{movedOf, fillerAt, sentOf};
+ghost use Rattle.symbols.specs.Internal.{nibbleOf, blockAt};
 
 const START: u8 = 12;
 

@@ -1,17 +1,14 @@
 -- Cases G (its block), H and I of SCOPE 14.1, computed from the definitions. Assumes nothing.
 use mathlib.Core.Path.{_≡_, refl}
-use mathlib.Core.List.{[], _∷_, map}
+use mathlib.Core.List.{[], _∷_}
 use Prim.Native.Nat.{ℕ}
 use lib.ListN.{replicate}
 use Rattle.answer.specs.Rules.{judged}
 use Rattle.answer.specs.Values.{refused}
 use Rattle.answer.specs.declared.Answer.the-variants.{Done}
-use Rattle.octet.specs.Bits.{number}
-use Rattle.octet.specs.Image.{image, withParity}
-use Rattle.fields.specs.Fields.{alike, width, laid, fitting, parts, whole}
+use Rattle.fields.specs.Fields.{alike, width, laid, fitting, whole}
 use Rattle.forms.specs.Tables.{Table, TI, per, loops, fields, bits, fill, size, entire, fits}
 use Rattle.forms.specs.Form.{spelled, listed, openingOf, form, wordsIn, descriptorsIn, tableIn}
-use Rattle.sums.specs.Block.{header}
 use Rattle.forms.specs.Writing.{formRules, writeRules}
 
 -- G's table: a TI with one subtitle, in Dutch (SCOPE 13.6)
@@ -39,11 +36,6 @@ I n =
       network = 2;
       descriptors = replicate n (record { id = 5; words = replicate 30 0x647574 });
     }
-
--- F: the header of application 1 and size 30
-pub case-F : map image (parts 4 4 (laid (header 1 30) 0)) ≡ 0x02 ∷ 0xA1 ∷ 0x5E ∷ 0x15 ∷ []
-unfolding laid parts image withParity number
-case-F = refl
 
 -- G: bits, fill and size of the block
 pub case-G : (bits G ≡ 116) × (fill G ≡ 4) × (size G ≡ 30)

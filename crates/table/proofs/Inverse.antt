@@ -4,17 +4,15 @@ use mathlib.Core.Bool.{true}
 use mathlib.Core.List.{List, [], _∷_, _++_}
 use Prim.Native.Nat.{ℕ, zero, suc, _+_, _*_, _/_, _%_, _^_, _<_}
 use native.Mathlib.Nat.{div-one, mod-eq-of-lt, mul-comm, mul-div-cancel-left}
-use borrow.Author.Tests.{ltb-true, lt-ltb, eqb-true, eq-eqb}
-use lib.Dec.{ltb, eqb}
+use borrow.Author.Tests.{lt-ltb, eq-eqb}
 use lib.ListN.{length}
 use lib.Pow.{shr-shr}
-use Rattle.laws.proofs.Tests.{both-true}
-use Rattle.fields.specs.Fields.{Field, alike, width, laid, fitting, field, parts}
+use Rattle.fields.specs.Fields.{alike, width, laid, fitting, field, parts}
 use Rattle.fields.proofs.Laid.{lay, lay-parts, parts-laid, laid-append, laid-past, laid-drop, laid-at, laid-first, length-parts, width-row, fitting-append, fitting-parts, field-first, field-lt}
 use Rattle.forms.specs.Tables.{Descriptor, Table, known, per, entries, loops, fields, bits, control, entire}
 use Rattle.table.specs.Control.{descriptorsOf, tableOf}
 use Rattle.forms.proofs.Measures.{per-pos, width-loops, bits-of}
-use Rattle.forms.proofs.Sendable.{Sendable, entries-whole}
+use Rattle.forms.proofs.Sendable.{Sendable, Sound, all-back}
 use Rattle.table.proofs.Written.{length-descriptors}
 
 -- ---- what is read, laid again
@@ -129,36 +127,36 @@ read-sendable n k e =
 
 -- ---- what is laid, read again
 
-reread-loops :
-    (kind : ℕ) (ds : List Descriptor) (rest : ℕ) → entire kind ds ≡ true → fitting (loops kind ds) ≡ true
-    → descriptorsOf (per kind) (length ds) (laid (loops kind ds) rest) ≡ ds
-unfolding descriptorsOf loops entire fitting
-reread-loops kind [] rest h k = refl
-reread-loops kind (d ∷ ds) rest h k =
+reread-loop :
+    (kind rest : ℕ) (d : Descriptor) (ds : List Descriptor) → Sound kind d
+    → descriptorsOf (per kind) (suc (length ds)) (laid (loops kind (d ∷ ds)) rest) ≡ d ∷ descriptorsOf (per kind) (length ds) (laid (loops kind ds) rest)
+unfolding descriptorsOf loops
+reread-loop kind rest d ds s =
     let c = entries kind (d .words) in
-    let front : List Field = (6, d .id) ∷ (4, c) ∷ alike 24 (d .words) in
     let n = laid (loops kind (d ∷ ds)) rest in
-    let whole-d = both-true (eqb (c * per kind) (length (d .words))) (entire kind ds) h in
-    let k₁ = both-true (ltb (d .id) (2 ^ 6)) _ k in
-    let k₂ = both-true (ltb c (2 ^ 4)) _ (k₁ .1) in
-    let k₃ = both-true (fitting (alike 24 (d .words))) (fitting (loops kind ds)) (sym (fitting-append (alike 24 (d .words)) (loops kind ds)) ∙ k₂ .1) in
-    let e-id : field 0 6 n ≡ d .id = field-first 6 n ∙ laid-first (6, d .id) _ rest ∙ mod-eq-of-lt (ltb-true (d .id) (2 ^ 6) (k₁ .0)) in
-    let e-c : field 6 4 n ≡ c = unfold width in (laid-at ((6, d .id) ∷ []) 4 c _ rest ∙ mod-eq-of-lt (ltb-true c (2 ^ 4) (k₂ .0))) in
-    let e-words : per kind * field 6 4 n ≡ length (d .words) =
-    ap (λ (x : ℕ). per kind * x) e-c ∙ entries-whole kind (d .words) (eqb-true (c * per kind) (length (d .words)) (whole-d .0)) in
+    let e-id : field 0 6 n ≡ d .id = field-first 6 n ∙ laid-first (6, d .id) _ rest ∙ mod-eq-of-lt (s .id-fits) in
+    let e-c : field 6 4 n ≡ c = unfold width in (laid-at ((6, d .id) ∷ []) 4 c _ rest ∙ mod-eq-of-lt (s .entries-fit)) in
+    let e-words : per kind * field 6 4 n ≡ length (d .words) = ap (λ (x : ℕ). per kind * x) e-c ∙ s .whole-entries in
     let e-ten : n / 2 ^ 10 ≡ laid (alike 24 (d .words)) (laid (loops kind ds) rest) =
     unfold width in (laid-drop ((6, d .id) ∷ (4, c) ∷ []) _ rest ∙ laid-append (alike 24 (d .words)) (loops kind ds) rest) in
     let e-list : parts 24 (per kind * field 6 4 n) (n / 2 ^ 10) ≡ d .words =
-    ap₂ (parts 24) e-words e-ten ∙ parts-laid 24 (d .words) (laid (loops kind ds) rest) (k₃ .0) in
+    ap₂ (parts 24) e-words e-ten ∙ parts-laid 24 (d .words) (laid (loops kind ds) rest) (s .words-fit) in
+    let e-past : laid (alike 24 (d .words)) (laid (loops kind ds) rest) / 2 ^ (24 * length (d .words)) ≡ laid (loops kind ds) rest =
+    ap (λ (x : ℕ). laid (alike 24 (d .words)) (laid (loops kind ds) rest) / 2 ^ x) (mul-comm 24 (length (d .words)) ∙ sym (width-row 24 (d .words)))
+    ∙ laid-past (alike 24 (d .words)) (laid (loops kind ds) rest) in
     let e-rest : n / 2 ^ (10 + 24 * (per kind * field 6 4 n)) ≡ laid (loops kind ds) rest =
     ap (λ (x : ℕ). n / 2 ^ (10 + 24 * x)) e-words ∙ sym (shr-shr n 10 (24 * length (d .words)))
-    ∙ ap (λ (x : ℕ). x / 2 ^ (24 * length (d .words))) e-ten
-    ∙ ap (λ (x : ℕ). laid (alike 24 (d .words)) (laid (loops kind ds) rest) / 2 ^ x) (mul-comm 24 (length (d .words)) ∙ sym (width-row 24 (d .words)))
-    ∙ laid-past (alike 24 (d .words)) (laid (loops kind ds) rest) in
+    ∙ ap (λ (x : ℕ). x / 2 ^ (24 * length (d .words))) e-ten ∙ e-past in
     let one : _≡_ {A = Descriptor} (record { id = field 0 6 n; words = parts 24 (per kind * field 6 4 n) (n / 2 ^ 10) }) d =
     ap₂ (λ (i : ℕ) (ws : List ℕ). record { id = i; words = ws }) e-id e-list in
-    ap₂ (λ (x : Descriptor) (xs : List Descriptor). x ∷ xs) one
-    (ap (descriptorsOf (per kind) (length ds)) e-rest ∙ reread-loops kind ds rest (whole-d .1) (k₃ .1))
+    ap₂ (λ (x : Descriptor) (xs : List Descriptor). x ∷ xs) one (ap (descriptorsOf (per kind) (length ds)) e-rest)
+
+reread-loops :
+    (kind : ℕ) (ds : List Descriptor) (rest : ℕ) → entire kind ds ≡ true → fitting (loops kind ds) ≡ true
+    → descriptorsOf (per kind) (length ds) (laid (loops kind ds) rest) ≡ ds
+unfolding descriptorsOf
+reread-loops kind ds rest =
+    all-back kind (descriptorsOf (per kind)) (λ (xs : List Descriptor). laid (loops kind xs) rest) (λ f. refl) (reread-loop kind rest) ds
 
 -- the fields of a block whose access is free, each at its place
 module _ (sum c reserved rest : ℕ) (t : Table) (s : Sendable t) where

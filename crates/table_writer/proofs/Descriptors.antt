@@ -9,7 +9,7 @@ use Rattle.fields.specs.Fields.{Field, alike, width, laid, fitting}
 use Rattle.forms.specs.Tables.{per, loops}
 use Rattle.forms.specs.Form.{wordsIn, descriptorsIn}
 use Rattle.table_writer.specs.declared.Pen.{Pen}
-use Rattle.table_writer.specs.Ink.{ready, inked, moved, Fine}
+use Rattle.table_writer.specs.Internal.{ready, inked, moved, Fine}
 use Rattle.table_writer.proofs.Inking.{room-first, room-on, on-moved, on-inked, on-fine, pressed-moved, pressed-inked, pressed-ready}
 use Rattle.table_writer.proofs.Looped.{heading, heading-laid, heading-width, loops-on, fits-now}
 

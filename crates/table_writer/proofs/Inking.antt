@@ -13,7 +13,7 @@ use Rattle.octet.specs.Image.{image}
 use Rattle.fields.specs.Fields.{Field, width, laid, parts}
 use Rattle.fields.proofs.Laid.{laid-lt, laid-append, laid-above, width-append, length-parts, parts-append, parts-same}
 use Rattle.table_writer.specs.declared.Pen.{Pen}
-use Rattle.table_writer.specs.Ink.{inHand, ready, inked, moved, Fine}
+use Rattle.table_writer.specs.Internal.{inHand, ready, inked, moved, Fine}
 
 -- ---- within a field
 

@@ -1,14 +1,15 @@
 -- The fields of a form, a word or a descriptor at a time. Assumes nothing.
-use mathlib.Core.Path.{_≡_, _∙_, refl, sym, ap}
+use mathlib.Core.Path.{_≡_, _∙_, refl, sym}
 use mathlib.Core.Bool.{true}
 use mathlib.Core.List.{List, [], _∷_, _++_}
-use Prim.Native.Nat.{ℕ, suc, _+_, _-_, _*_, _≤_, _<_}
+use Prim.Native.Nat.{ℕ, _+_, _-_, _*_, _<_}
 use native.Mathlib.Nat.{add-zero}
 use native.Mathlib.Omega.{arith}
 use borrow.Author.Tests.{ltb-true}
 use lib.Dec.{ltb}
 use lib.ListN.{getD, drop}
 use lib.Seq.{drop-drop, getD-drop}
+use Rattle.laws.proofs.Countdown.{at-more}
 use Rattle.laws.proofs.Tests.{both-true}
 use Rattle.fields.specs.Fields.{Field, alike, width, laid, fitting}
 use Rattle.forms.specs.Tables.{per, loops}
@@ -20,15 +21,8 @@ pub alike-on :
     → alike 24 (wordsIn left (drop i f)) ≡ ((24, w) ∷ []) ++ alike 24 (wordsIn (left - 1) (drop (i + 3) f))
 unfolding alike wordsIn
 alike-on left i w f h e =
-    let k : left ≡ suc (left - 1) = omega arith in
-    ap (λ (n : ℕ). alike 24 (wordsIn n (drop i f))) k
+    at-more (λ (n : ℕ). alike 24 (wordsIn n (drop i f))) left h
     ∙ (rw (e, getD-drop i f 2 0, getD-drop i f 1 0, getD-drop i f 0 0, add-zero i, drop-drop 3 i f))
-
-pub alike-end : (left i : ℕ) (f : List ℕ) → left ≤ 0 → alike 24 (wordsIn left (drop i f)) ≡ []
-unfolding alike wordsIn
-alike-end left i f h =
-    let k : left ≡ 0 = omega arith in
-    ap (λ (n : ℕ). alike 24 (wordsIn n (drop i f))) k
 
 -- ---- descriptors
 
@@ -53,12 +47,6 @@ pub loops-on :
 unfolding loops
 loops-on kind left i id c words f h e₀ e₁ e₂ =
     rw (in-on (per kind) left i id c words f h e₀ e₁ e₂, entries-in kind c words (drop (i + 2) f) e₂)
-
-pub loops-end : (kind left i : ℕ) (f : List ℕ) → left ≤ 0 → loops kind (descriptorsIn (per kind) left (drop i f)) ≡ []
-unfolding loops descriptorsIn
-loops-end kind left i f h =
-    let k : left ≡ 0 = omega arith in
-    ap (λ (n : ℕ). loops kind (descriptorsIn (per kind) n (drop i f))) k
 
 -- what fits goes on fitting
 pub fits-now :

@@ -24,7 +24,7 @@ use Rattle.forms.specs.Form.{tableIn}
 use Rattle.forms.proofs.Measures.{bits-of}
 use Rattle.sums.proofs.Nibbles.{behind-sum, nibbles-again}
 use Rattle.sums.proofs.Summing.{checksum-lt}
-use Rattle.table_writer.specs.Seal.{sumIn, sealed}
+use Rattle.table_writer.specs.Internal.{sumIn, sealed}
 
 length-nibbles : (sum reserved filling : ℕ) (t : Table) → length (map image (nibbles sum reserved filling t)) ≡ size t
 unfolding nibbles

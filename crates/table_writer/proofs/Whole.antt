@@ -17,8 +17,7 @@ use Rattle.sums.specs.Block.{nibbles}
 use Rattle.forms.proofs.Sendable.{sendable}
 use Rattle.forms.proofs.Forms.{length-in, two-bytes}
 use Rattle.table_writer.specs.declared.Pen.{Pen}
-use Rattle.table_writer.specs.Parts.{firstFields, secondFields}
-use Rattle.table_writer.specs.Ink.{inHand, ready, inked, moved, Fine}
+use Rattle.table_writer.specs.Internal.{firstFields, secondFields, inHand, ready, inked, moved, Fine}
 use Rattle.table_writer.proofs.Inking.{room-first, room-on, on-moved, on-inked, moved-fine, pressed-moved, pressed-inked, pressed-ready}
 
 abbrev pub lastField : Table → List Field

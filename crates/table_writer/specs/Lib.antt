@@ -1,4 +1,1 @@
--- How the writer lays fields into lent bytes.
-pub mod Ink
-pub mod Parts
-pub mod Seal
+pub mod Internal

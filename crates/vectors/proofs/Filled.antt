@@ -7,7 +7,8 @@ use native.Mathlib.Numerals.{add-one}
 use lib.ListN.{length, take, drop, set, getD, replicate, replicate-append-replicate, drop-of-length-le}
 use lib.Seq.{take-suc-set, drop-cons}
 use borrow.Author.Tests.{eq-eqb, ne-eqb}
-use Rattle.vectors.specs.Lent.{filler, untouched}
+use Rattle.vectors.specs.Lent.{filler}
+use Rattle.vectors.specs.Internal.{untouched}
 
 -- one more byte is filled
 pub fill-one :

@@ -1,20 +1,6 @@
 -- The output that a program lends to the call it tries: filled with A5 before, so that what the call leaves can be told.
-use mathlib.Core.Bool.{Bool, true}
-use mathlib.Core.List.{List, [], _∷_}
 use Prim.Native.Nat.{ℕ}
-use lib.Dec.{eqb, leb}
-use lib.ListN.{length, drop}
-use Rattle.laws.specs.Pick.{both}
 
 -- what the lent output is filled with
 abbrev pub filler : ℕ
 filler = 165
-
--- every byte is filler
-unfoldable pub untouched : List ℕ → Bool
-untouched [] = true
-untouched (b ∷ bs) = both (eqb b filler) (untouched bs)
-
--- n bytes were written to the front of the lent output, and no other byte of it
-abbrev pub keptFrom : List ℕ → ℕ → Bool
-keptFrom out n = both (leb n (length out)) (untouched (drop n out))

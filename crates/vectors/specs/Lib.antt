@@ -1,4 +1,5 @@
--- The form of the cases that the programs try_NAME run, the output that they lend, and what a line is.
+-- What the programs try_NAME share: the form of their cases, the output that they lend, what a line is.
 pub mod Cases
 pub mod Lent
 pub mod Ending
+pub mod Internal

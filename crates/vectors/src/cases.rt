@@ -1,6 +1,6 @@
 // A case that a program try_NAME runs, as the bytes that it has read hold it: op (1 byte), room (4 bytes, low byte
 // first: how long the lent output is), length (4 bytes, low byte first) and so many bytes, the payload. A room or
-// a length over 65,536 is taken as 65,536. Crate `vectors` reads the bytes.
+// a length over 65,536 is taken as 65,536.
 ghost use mathlib.Core.Path.{_≡_};
 ghost use Prim.Native.Nat.{_+_, _*_, _≤_};
 ghost use lib.ListN.{length};

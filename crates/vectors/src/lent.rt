@@ -2,7 +2,8 @@
 ghost use mathlib.Core.Path.{_≡_};
 ghost use Prim.Native.Nat.{min};
 ghost use lib.ListN.{length, replicate};
-ghost use Rattle.vectors.specs.Lent.{filler, keptFrom};
+ghost use Rattle.vectors.specs.Lent.{filler};
+ghost use Rattle.vectors.specs.Internal.{keptFrom};
 
 // What the lent output is filled with before a call.
 const FILLER: u8 = 0xA5;

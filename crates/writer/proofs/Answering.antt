@@ -21,8 +21,8 @@ use Rattle.packet.specs.declared.Setting.{Setting}
 use Rattle.writer.specs.declared.Measured.the-variants.{Cells, Broken}
 use Rattle.packet.specs.Setting.{inRange}
 use Rattle.symbols.specs.Stream.{cell, streamOf}
-use Rattle.writer.specs.Cutting.{pagesFor, packets, cutBytes, cutRules}
-use Rattle.writer.specs.Writing.{measureOf, pagesBytes, takesOf}
+use Rattle.writer.specs.Cutting.{pagesFor, packets, cutBytes, cutRules, takesOf}
+use Rattle.writer.specs.Internal.{measureOf, pagesBytes}
 
 -- ---- the room
 

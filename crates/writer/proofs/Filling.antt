@@ -12,7 +12,7 @@ use Rattle.symbols.specs.declared.Pen.{Pen}
 use Rattle.symbols.specs.declared.Sent.{Sent}
 use Rattle.symbols.specs.Stream.{Symbol, start, fill, bits, raw, byteOf, grab, beforeStart}
 use Rattle.symbols.specs.Cells.{firstOf}
-use Rattle.symbols.specs.Pen.{isStart, restOf, Within, Goes, Sends}
+use Rattle.symbols.specs.Internal.{isStart, restOf, Within, Goes, Sends}
 
 pub length-grab : (n : ℕ) (ss : List Symbol) → length (grab n ss) ≡ n
 unfolding grab

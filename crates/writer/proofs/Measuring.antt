@@ -14,7 +14,7 @@ use Rattle.writer.specs.declared.Measured.{Measured}
 use Rattle.writer.specs.declared.Measured.the-variants.{Cells, Broken}
 use Rattle.symbols.specs.Stream.{raw, cell, cellsOf, streamOf}
 use Rattle.symbols.proofs.Sending.{cells-length, raw-length}
-use Rattle.writer.specs.Writing.{measureOf}
+use Rattle.writer.specs.Internal.{measureOf}
 
 stream-length : (b : Block) (bs : List Block) → length (streamOf (b ∷ bs)) / cell ≡ (length (b .raw) + 7) / 3 + length (streamOf bs) / cell
 unfolding streamOf

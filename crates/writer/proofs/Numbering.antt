@@ -13,7 +13,7 @@ use Rattle.packet.specs.declared.Setting.{Setting}
 use Rattle.packet.specs.Packet.{packetLength, address, packetZero, packetOf}
 use Rattle.symbols.specs.Stream.{Symbol, perPacket, streamOf}
 use Rattle.writer.specs.Cutting.{dataPacket, dataPackets, pages, pagesFor, packets, joined, cutBytes}
-use Rattle.writer.specs.Writing.{pageOf}
+use Rattle.writer.specs.Internal.{pageOf}
 use Rattle.writer.specs.Order.{numbered}
 use Rattle.writer.proofs.Paging.{zero-length, packet-length}
 

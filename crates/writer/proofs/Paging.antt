@@ -15,8 +15,8 @@ use Rattle.symbols.specs.declared.Pen.{Pen}
 use Rattle.packet.specs.Packet.{packetLength, packetZero, packetOf}
 use Rattle.symbols.specs.Stream.{Symbol, byteOf, perPacket, streamOf, grab}
 use Rattle.writer.specs.Cutting.{dataPacket, dataPackets, pages, joined}
-use Rattle.symbols.specs.Pen.{restOf, Within, Goes}
-use Rattle.writer.specs.Writing.{pageOf, pageLength}
+use Rattle.symbols.specs.Internal.{restOf, Within, Goes}
+use Rattle.writer.specs.Internal.{pageOf, pageLength}
 use Rattle.symbols.proofs.Sending.{some-cells}
 use Rattle.writer.proofs.Filling.{length-grab}
 

@@ -1,4 +1,5 @@
 -- The writer: records to packets, in pages of k packets.
+use mathlib.Core.Bool.{Bool}
 use mathlib.Core.List.{List, [], _∷_, _++_, map}
 use Prim.Native.Nat.{ℕ, zero, suc, _+_, _-_, _*_, _/_, _%_}
 use lib.Dec.{leb}
@@ -55,7 +56,10 @@ cutBytes s index k records = joined (packets s index k records)
 abbrev pub usualPage : ℕ
 usualPage = 25
 
--- the writer's refusals, in order (SCOPE 3.7): 16 for the setting, the index or the page's length, 13 for a list that isn't whole records
+-- whether the setting, the first index and the page's length are in range (SCOPE 7.6, 8.1)
+abbrev pub takesOf : Setting → ℕ → ℕ → Bool
+takesOf s index k = both (inRange s) (both (leb index 15) (both (leb 1 k) (leb k 25)))
+
+-- the writer's refusals, in order (SCOPE 3.7): 16 for what it is set to, 13 for a list that isn't whole records
 abbrev pub cutRules : Setting → ℕ → ℕ → List ℕ → List Rule
-cutRules s index k records =
-    rule (both (inRange s) (both (leb index 15) (both (leb 1 k) (leb k 25)))) 16 0 ∷ rule (whole records) 13 0 ∷ []
+cutRules s index k records = rule (takesOf s index k) 16 0 ∷ rule (whole records) 13 0 ∷ []

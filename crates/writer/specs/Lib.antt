@@ -1,4 +1,4 @@
 -- Records to packets of the guide page: SCOPE 11.
 pub mod Cutting
-pub mod Writing
 pub mod Order
+pub mod Internal

@@ -21,9 +21,9 @@ ghost use Rattle.answer.specs.Writing.{answered, left};
 ghost use Rattle.blocks.specs.Block.{blocks as Block·blocks};
 ghost use Rattle.packet.specs.Packet.{packetLength};
 ghost use Rattle.symbols.specs.Stream.{byteOf, cell, perPacket, streamOf, grab, beforeStart};
-ghost use Rattle.symbols.specs.Pen.{restOf, Within, Goes};
-ghost use Rattle.writer.specs.Cutting.{dataPacket, pages, pagesFor, joined, cutBytes, usualPage, cutRules};
-ghost use Rattle.writer.specs.Writing.{measureOf, pageLength, pageOf, pagesBytes, takesOf};
+ghost use Rattle.symbols.specs.Internal.{restOf, Within, Goes};
+ghost use Rattle.writer.specs.Cutting.{dataPacket, pages, pagesFor, joined, cutBytes, usualPage, cutRules, takesOf};
+ghost use Rattle.writer.specs.Internal.{measureOf, pageLength, pageOf, pagesBytes};
 
 // How many packets a page has unless told otherwise, and at most.
 const USUAL_PAGE: u8 = 25;

@@ -1,22 +1,25 @@
 -- `forms::form_size` meets its contract: the bytes passed and those of the descriptors left make the form's length. The measure
 -- is the descriptors left. Assumes nothing.
 use borrow.Author.Needs.{needs}
-use mathlib.Core.Path.{_≡_, refl, sym}
+use mathlib.Core.Path.{_≡_, _∙_, refl, sym}
 use mathlib.Core.List.{List}
 use Prim.Native.Nat.{ℕ, _+_, _*_, _≤_}
+use native.Mathlib.Nat.{add-zero}
 use native.Mathlib.Omega.{arith}
 use lib.ListN.{length, drop}
 use denote.Ref.{now}
+use Rattle.laws.proofs.Countdown.{at-none}
 use Rattle.forms.specs.Tables.{per}
 use Rattle.forms.specs.Form.{listed, form, descriptorsIn, tableIn}
+use Rattle.forms.specs.Internal.{descriptorMost, formMost}
 use Rattle.forms.proofs.Measures.{words-counted, length-form}
-use Rattle.forms.proofs.Forms.{form-on, form-end}
+use Rattle.forms.proofs.Forms.{form-on}
 use Rattle.forms.proofs.form_size.Statement.{statement}
 use Rattle.forms.proofs.form_size.Tie as tie
 
 abbrev Inv-loop : tie.InvT-loop
 Inv-loop table kind left₀ at₀ left at =
-    (at + 1532 * left ≤ 390666)
+    (at + descriptorMost * left ≤ formMost)
     × (at + length (listed kind (descriptorsIn (per kind) left (drop at table))) ≡ length (form (tableIn table)))
 
 abbrev μ-loop : tie.MeasureT-loop
@@ -70,10 +73,13 @@ loop-again c =
     )
 
 returns : tie.Need-returns Inv-loop μ-loop
+unfolding descriptorsIn listed
 returns c =
     let l = c .before .loop in
     let f : List ℕ = now (c .before .before .before .before .before .args .table) in
-    (form-end (c .before .before .before .byte-at .result) (l .left) (l .at) _ f (search needs) (l .inv .1), search needs)
+    let kind = c .before .before .before .byte-at .result in
+    let end = at-none (λ (n : ℕ). l .at + length (listed kind (descriptorsIn (per kind) n (drop (l .at) f)))) (l .left) (search needs) in
+    (sym (add-zero (l .at)) ∙ sym end ∙ l .inv .1, search needs)
 
 pub form-size-spec : {M : Type 1} → statement M
 form-size-spec =

@@ -8,17 +8,19 @@ use native.Mathlib.Omega.{arith}
 use borrow.Author.Tests.{lt-ltb, le-ltb}
 use lib.ListN.{drop}
 use denote.Ref.{now}
+use Rattle.laws.proofs.Countdown.{at-none}
 use Rattle.fields.specs.Fields.{fitting}
 use Rattle.forms.specs.Tables.{per, loops}
 use Rattle.forms.specs.Form.{descriptorsIn, tableIn}
+use Rattle.forms.specs.Internal.{descriptorMost, formMost}
 use Rattle.forms.proofs.Measures.{words-counted}
-use Rattle.forms.proofs.Forms.{fits-on, fits-end}
+use Rattle.forms.proofs.Forms.{fits-on}
 use Rattle.forms.proofs.loops_fit.Statement.{statement}
 use Rattle.forms.proofs.loops_fit.Tie as tie
 
 abbrev Inv-loop : tie.InvT-loop
 Inv-loop table kind left₀ at₀ left at =
-    (at + 1532 * left ≤ 390666)
+    (at + descriptorMost * left ≤ formMost)
     × (fitting (loops kind (descriptorsIn (per kind) left (drop at table))) ≡ fitting (loops (tableIn table .kind) (tableIn table .descriptors)))
 
 abbrev μ-loop : tie.MeasureT-loop
@@ -104,10 +106,12 @@ loop-again c =
     )
 
 returns-3 : tie.Need-returns-3 Inv-loop μ-loop
+unfolding descriptorsIn loops fitting
 returns-3 c =
     let l = c .before .loop in
     let f : List ℕ = now (c .before .before .before .before .before .args .table) in
-    sym (fits-end (c .before .before .before .byte-at .result) (l .left) (l .at) f (search needs)) ∙ l .inv .1
+    let kind = c .before .before .before .byte-at .result in
+    sym (at-none (λ (n : ℕ). fitting (loops kind (descriptorsIn (per kind) n (drop (l .at) f)))) (l .left) (search needs)) ∙ l .inv .1
 
 pub loops-fit-spec : {M : Type 1} → statement M
 loops-fit-spec =

@@ -9,7 +9,8 @@ use lib.Dec.{ltb}
 use lib.ListN.{length}
 use denote.Ref.{now}
 use Rattle.forms.specs.Form.{tableIn}
-use Rattle.listing.specs.Lines.{linesFrom}
+use Rattle.forms.proofs.Sendable.{sendable}
+use Rattle.listing.specs.Internal.{linesFrom}
 use Rattle.listing.proofs.Room.{lines-room}
 use Rattle.listing.proofs.is_short.Statement.{statement}
 use Rattle.listing.proofs.is_short.Tie as tie
@@ -19,7 +20,7 @@ returns c =
     let a = c .before .before .args in
     let f : List ℕ = now (a .table) in
     let h : length (linesFrom (a .head) (tableIn f)) ≤ a .room =
-    omega (arith, lines-room (a .head) (tableIn f), c .before .before .pre, c .if1 .taken) in
+    omega (arith, lines-room (a .head) (tableIn f) (sendable (tableIn f) (c .before .before .pre .1)), c .before .before .pre .0, c .if1 .taken) in
     sym (le-ltb _ _ h)
 
 measure-requires : tie.Need-measure-requires

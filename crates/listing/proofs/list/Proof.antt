@@ -11,8 +11,8 @@ use Rattle.answer.specs.declared.Answer.the-variants.{Done}
 use Rattle.forms.specs.Tables.{bits}
 use Rattle.forms.specs.Form.{tableIn}
 use Rattle.forms.specs.Writing.{formRules}
-use Rattle.listing.specs.Lines.{linesFrom}
-use Rattle.listing.proofs.Room.{judged-long}
+use Rattle.listing.specs.Internal.{linesFrom}
+use Rattle.listing.proofs.Room.{judged-form}
 use Rattle.listing.proofs.list.Statement.{statement}
 use Rattle.listing.proofs.list.Tie as tie
 
@@ -28,7 +28,7 @@ enum-told c = search needs
 is-short-requires : tie.Need-is-short-requires
 is-short-requires c κs =
     let f : List ℕ = now (c .before .before .before .before .before .args .table) in
-    judged-long f (bits (tableIn f)) _ (sym (c .before .before .judge-form .ensures) ∙ c .enum-told .given .1)
+    judged-form f (bits (tableIn f)) _ (sym (c .before .before .judge-form .ensures) ∙ c .enum-told .given .1)
 
 returns : tie.Need-returns
 returns c =

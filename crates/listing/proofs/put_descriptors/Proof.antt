@@ -6,18 +6,21 @@ use Prim.Native.Nat.{ℕ, _+_, _*_, _≤_}
 use native.Mathlib.Omega.{arith}
 use lib.ListN.{length, drop}
 use denote.Ref.{now}
+use Rattle.laws.proofs.Countdown.{at-none}
 use Rattle.forms.proofs.Measures.{words-counted}
 use Rattle.forms.specs.Form.{descriptorsIn, tableIn}
+use Rattle.forms.specs.Internal.{descriptorMost, formMost}
 use Rattle.forms.specs.Tables.{per}
 use Rattle.listing.specs.Lines.{descriptorLines, descriptorLinesOf}
+use Rattle.listing.specs.Internal.{descriptorLinesMost, linesMost}
 use Rattle.printing.proofs.Printed.{Left, left-start, left-on, left-end}
-use Rattle.listing.proofs.Walk.{descriptors-on, descriptors-end}
+use Rattle.listing.proofs.Walk.{descriptors-on}
 use Rattle.listing.proofs.put_descriptors.Statement.{statement}
 use Rattle.listing.proofs.put_descriptors.Tie as tie
 
 abbrev Inv-loop : tie.InvT-loop
 Inv-loop table out₀ q kind left₀ i₀ p₀ out left i p =
-    (length out ≡ length out₀) × (i + 1532 * left ≤ 390666) × (p + 8000 * left ≤ 2040100)
+    (length out ≡ length out₀) × (i + descriptorMost * left ≤ formMost) × (p + descriptorLinesMost * left ≤ linesMost)
     × Left out p (descriptorLines kind (descriptorsIn (per kind) left (drop i table))) out₀ q (descriptorLinesOf (tableIn table))
 
 abbrev μ-loop : tie.MeasureT-loop
@@ -82,9 +85,12 @@ same-length : tie.Need-same-length Inv-loop μ-loop
 same-length c = search needs
 
 returns : tie.Need-returns Inv-loop μ-loop
+unfolding descriptorLines descriptorsIn
 returns c =
     let l = c .before .loop in
-    left-end (descriptors-end (c .before .before .before .byte-at .result) (l .left) (l .i) (now (c .before .before .before .before .before .before .args .table)) (search needs)) (l .inv .3)
+    let f : List ℕ = now (c .before .before .before .before .before .before .args .table) in
+    let kind = c .before .before .before .byte-at .result in
+    left-end (at-none (λ (n : ℕ). descriptorLines kind (descriptorsIn (per kind) n (drop (l .i) f))) (l .left) (search needs)) (l .inv .3)
 
 pub put-descriptors-spec : {M : Type 1} → statement M
 put-descriptors-spec =

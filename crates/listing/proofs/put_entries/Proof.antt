@@ -9,6 +9,7 @@ use denote.Ref.{now}
 use Rattle.forms.specs.Form.{wordsIn}
 use Rattle.forms.specs.Tables.{per}
 use Rattle.listing.specs.Lines.{entryLines}
+use Rattle.listing.specs.Internal.{entryMost}
 use Rattle.printing.proofs.Printed.{Left, left-start, left-on, left-end}
 use Rattle.listing.proofs.Walk.{entries-on, entries-end}
 use Rattle.listing.proofs.put_entries.Statement.{statement}
@@ -16,7 +17,7 @@ use Rattle.listing.proofs.put_entries.Tie as tie
 
 abbrev Inv-loop : tie.InvT-loop
 Inv-loop table kind from k out₀ q step left₀ i₀ p₀ out left i p =
-    (length out ≡ length out₀) × (i + 6 * left ≤ from + 6 * k) × (p + 28 * left ≤ q + 28 * k)
+    (length out ≡ length out₀) × (i + 6 * left ≤ from + 6 * k) × (p + entryMost * left ≤ q + entryMost * k)
     × Left out p (entryLines kind (wordsIn (per kind * left) (drop i table))) out₀ q (entryLines kind (wordsIn (per kind * k) (drop from table)))
 
 abbrev μ-loop : tie.MeasureT-loop

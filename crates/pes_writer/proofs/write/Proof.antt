@@ -9,7 +9,8 @@ use Rattle.answer.specs.declared.Answer.the-variants.{Done}
 use Rattle.answer.specs.Rules.{Every}
 use Rattle.answer.proofs.Steps.{done-every, done-value}
 use Rattle.answer.proofs.Lent.{lent-refused, lent-short, lent-done}
-use Rattle.pes_writer.specs.Writing.{packetBytes, writeRules, packetOf}
+use Rattle.pes_writer.specs.Writing.{writeRules, packetOf}
+use Rattle.pes_writer.specs.Internal.{packetBytes}
 use Rattle.pes_writer.proofs.Making.{packet-length, fits-packet}
 use Rattle.pes_writer.proofs.write.Statement.{statement}
 use Rattle.pes_writer.proofs.write.Tie as tie

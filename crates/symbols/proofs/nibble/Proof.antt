@@ -1,7 +1,7 @@
 -- `symbols::nibble` meets its contract: a nibble of a number is that of its sixteenth, one place lower. Assumes nothing.
 use borrow.Author.Needs.{needs}
 use mathlib.Core.Path.{_≡_}
-use Rattle.symbols.specs.Pen.{nibbleOf}
+use Rattle.symbols.specs.Internal.{nibbleOf}
 use Rattle.symbols.proofs.nibble.Statement.{statement}
 use Rattle.symbols.proofs.nibble.Tie as tie
 

@@ -9,20 +9,21 @@ use native.Mathlib.Nat.{le-trans, le-of-eq}
 use native.Mathlib.Omega.{arith}
 use lib.ListN.{length, drop}
 use denote.Ref.{now}
+use Rattle.laws.proofs.Countdown.{at-none}
 use Rattle.fields.specs.Fields.{Field, fitting}
 use Rattle.forms.specs.Tables.{per, loops}
 use Rattle.forms.specs.Form.{descriptorsIn, tableIn}
+use Rattle.forms.specs.Internal.{descriptorMost, formMost}
 use Rattle.forms.proofs.Measures.{words-counted}
-use Rattle.table_writer.specs.Ink.{inked, moved, Fine}
+use Rattle.table_writer.specs.Internal.{inked, moved, Fine}
 use Rattle.table_writer.proofs.Inking.{room-on, none-left, none-inked}
-use Rattle.table_writer.proofs.Looped.{loops-end}
 use Rattle.table_writer.proofs.Descriptors.{heading-lt, few-words, fit-on, room-heading, fine-heading, room-words, fine-descriptor, on-descriptor, inked-descriptor}
 use Rattle.table_writer.proofs.put_descriptors.Statement.{statement}
 use Rattle.table_writer.proofs.put_descriptors.Tie as tie
 
 abbrev Inv-loop : tie.InvT-loop
 Inv-loop table out₀ kind left₀ p₀ i₀ out left p i =
-    Fine p × (length out ≡ length out₀) × (i + 1532 * left ≤ 390666)
+    Fine p × (length out ≡ length out₀) × (i + descriptorMost * left ≤ formMost)
     × (fitting (loops kind (descriptorsIn (per kind) left (drop i table))) ≡ true)
     × (moved p (loops kind (descriptorsIn (per kind) left (drop i table))) ≡ moved p₀ (loops (tableIn table .kind) (tableIn table .descriptors)))
     × (inked p (loops kind (descriptorsIn (per kind) left (drop i table))) out ≡ inked p₀ (loops (tableIn table .kind) (tableIn table .descriptors)) out₀)
@@ -149,12 +150,13 @@ same-length : tie.Need-same-length Inv-loop μ-loop
 same-length c = c .before .loop .inv .1
 
 returns : tie.Need-returns Inv-loop μ-loop
+unfolding loops descriptorsIn
 returns c =
     let l = c .before .loop in
     let s = c .before .before .before .before .before .before in
     let f : List ℕ = now (s .args .table) in
     let kind = c .before .before .before .byte-at .result in
-    let e = loops-end kind (l .left) (l .i) f (search needs) in (
+    let e = at-none (λ (n : ℕ). loops kind (descriptorsIn (per kind) n (drop (l .i) f))) (l .left) (search needs) in (
       sym (none-left (l .p) (l .inv .0)) ∙ sym (ap (moved (l .p)) e) ∙ l .inv .4,
       sym (none-inked (l .p) (l .inv .0) (l .out)) ∙ sym (ap (λ (x : List Field). inked (l .p) x (l .out)) e) ∙ l .inv .5,
     )

@@ -3,20 +3,22 @@
 use borrow.Author.Needs.{needs}
 use mathlib.Core.Path.{_≡_, _∙_, refl, sym, ap}
 use mathlib.Core.List.{List, [], _∷_}
-use Prim.Native.Nat.{ℕ, _+_, _-_, _*_, _<_}
+use Prim.Native.Nat.{ℕ, _+_, _-_, _*_, _≤_}
 use lib.ListN.{length, drop}
 use denote.Ref.{now}
+use Rattle.laws.proofs.Countdown.{at-none}
 use Rattle.fields.specs.Fields.{Field, alike}
 use Rattle.forms.specs.Form.{wordsIn}
-use Rattle.table_writer.specs.Ink.{inked, moved, Fine}
+use Rattle.forms.specs.Internal.{formMost}
+use Rattle.table_writer.specs.Internal.{inked, moved, Fine}
 use Rattle.table_writer.proofs.Inking.{room-first, room-on, on-moved, on-inked, on-fine, none-left, none-inked}
-use Rattle.table_writer.proofs.Looped.{alike-on, alike-end}
+use Rattle.table_writer.proofs.Looped.{alike-on}
 use Rattle.table_writer.proofs.put_words.Statement.{statement}
 use Rattle.table_writer.proofs.put_words.Tie as tie
 
 abbrev Inv-loop : tie.InvT-loop
 Inv-loop table from k out₀ p₀ i₀ left₀ out p i left =
-    Fine p × (length out ≡ length out₀) × (i + 3 * left < 400000)
+    Fine p × (length out ≡ length out₀) × (i + 3 * left ≤ formMost)
     × (moved p (alike 24 (wordsIn left (drop i table))) ≡ moved p₀ (alike 24 (wordsIn k (drop from table))))
     × (inked p (alike 24 (wordsIn left (drop i table))) out ≡ inked p₀ (alike 24 (wordsIn k (drop from table))) out₀)
 
@@ -75,11 +77,12 @@ same-length : tie.Need-same-length Inv-loop μ-loop
 same-length c = c .before .loop .inv .1
 
 returns : tie.Need-returns Inv-loop μ-loop
+unfolding alike wordsIn
 returns c =
     let l = c .before .loop in
     let s = c .before .before .before .before in
     let f : List ℕ = now (s .args .table) in
-    let e = alike-end (l .left) (l .i) f (search needs) in (
+    let e = at-none (λ (n : ℕ). alike 24 (wordsIn n (drop (l .i) f))) (l .left) (search needs) in (
       sym (none-left (l .p) (l .inv .0)) ∙ sym (ap (moved (l .p)) e) ∙ l .inv .3,
       sym (none-inked (l .p) (l .inv .0) (l .out)) ∙ sym (ap (λ (x : List Field). inked (l .p) x (l .out)) e) ∙ l .inv .4,
     )

@@ -12,8 +12,7 @@ use Rattle.fields.specs.Fields.{laid}
 use Rattle.forms.specs.Tables.{bits, control, fill}
 use Rattle.forms.specs.Form.{tableIn}
 use Rattle.forms.proofs.Sendable.{sendable}
-use Rattle.table_writer.specs.Parts.{firstFields}
-use Rattle.table_writer.specs.Ink.{inked, ready}
+use Rattle.table_writer.specs.Internal.{firstFields, inked, ready}
 use Rattle.table_writer.proofs.Whole.{start-fine, room-1, fine-1, room-2, fine-2, room-3, fine-3, room-4, all-stored}
 use Rattle.table_writer.proofs.write_fields.Statement.{statement}
 use Rattle.table_writer.proofs.write_fields.Tie as tie

@@ -10,7 +10,7 @@ use Rattle.forms.specs.Form.{tableIn}
 use Rattle.forms.proofs.Measures.{bits-of}
 use Rattle.forms.proofs.Sendable.{sendable}
 use Rattle.table_writer.proofs.Sealing.{record-stored, head-of}
-use Rattle.table_writer.specs.Seal.{sealed}
+use Rattle.table_writer.specs.Internal.{sealed}
 use Rattle.table_writer.proofs.write_record.Statement.{statement}
 use Rattle.table_writer.proofs.write_record.Tie as tie
 

@@ -9,8 +9,7 @@ use lib.ListN.{length}
 use borrow.Author.Tests.{not-true, not-false}
 use Rattle.blocks.specs.Block.{whole, blocks}
 use Rattle.symbols.specs.Stream.{cell, streamOf}
-use Rattle.writer.specs.Cutting.{pagesFor}
-use Rattle.writer.specs.Writing.{takesOf}
+use Rattle.writer.specs.Cutting.{pagesFor, takesOf}
 use Rattle.writer.proofs.Aligned.{stream-cells}
 use Rattle.writer.proofs.Measuring.{cells-bound}
 use Rattle.writer.proofs.Answering.{measured-broken, measured-cells, Taken, taken, cut-out-of-range, cut-broken, cut-written}

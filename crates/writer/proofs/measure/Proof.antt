@@ -6,7 +6,7 @@ use native.Mathlib.Omega.{arith}
 use lib.ListN.{length, drop}
 use borrow.Author.Needs.{needs}
 use Rattle.blocks.proofs.Walking.{Standing, standing, ended, broken}
-use Rattle.writer.specs.Writing.{measureOf}
+use Rattle.writer.specs.Internal.{measureOf}
 use Rattle.writer.proofs.Measuring.{measureFrom, measure-start, measure-step, measure-end, measure-broken, record-cells}
 use Rattle.writer.proofs.measure.Statement.{statement}
 use Rattle.writer.proofs.measure.Tie as tie

@@ -4,7 +4,7 @@ use native.Mathlib.Omega.{arith}
 use lib.ListN.{length}
 use Rattle.blocks.specs.Block.{blocks}
 use Rattle.symbols.specs.Stream.{streamOf}
-use Rattle.writer.specs.Writing.{pageLength, pagesBytes}
+use Rattle.writer.specs.Internal.{pageLength, pagesBytes}
 use Rattle.writer.proofs.Paging.{pages-length}
 use Rattle.writer.proofs.Answering.{short-of-room, fits-room, room-enough}
 use Rattle.writer.proofs.write_all.Statement.{statement}

@@ -5,7 +5,7 @@ use native.Mathlib.Omega.{arith}
 use lib.ListN.{length-set}
 use Rattle.writer.proofs.PacketZero.{written}
 use Rattle.symbols.specs.Stream.{perPacket, grab}
-use Rattle.symbols.specs.Pen.{restOf}
+use Rattle.symbols.specs.Internal.{restOf}
 use Rattle.writer.proofs.Filling.{length-grab, before-le}
 use Rattle.writer.proofs.Laying.{packet-laid}
 use Rattle.writer.proofs.write_packet.Statement.{statement}

@@ -5,7 +5,7 @@ use borrow.Author.Needs.{needs}
 use lib.Seq.{sets}
 use Rattle.packet.specs.Packet.{packetZero}
 use Rattle.writer.proofs.PacketZero.{written}
-use Rattle.symbols.specs.Pen.{restOf}
+use Rattle.symbols.specs.Internal.{restOf}
 use Rattle.writer.proofs.Paging.{Rowed, rowed-none, rowed-more, rowed-all, page-laid}
 use Rattle.writer.proofs.write_page.Statement.{statement}
 use Rattle.writer.proofs.write_page.Tie as tie

@@ -3,11 +3,14 @@
 use borrow.Author.Needs.{needs}
 use borrow.Author.Tests.{not-true, not-false}
 use mathlib.Core.Path.{_≡_, _∙_, sym}
-use Prim.Native.Nat.{_+_, _*_, _≤_}
+use mathlib.Core.List.{List}
+use Prim.Native.Nat.{ℕ, _+_, _*_, _≤_}
 use native.Mathlib.Omega.{arith}
 use lib.ListN.{length}
+use denote.Ref.{now}
+use Rattle.laws.proofs.Countdown.{at-none}
 use Rattle.pes_writer.specs.Records.{recordsFit}
-use Rattle.pes_writer.proofs.Fits.{fit-stops, fit-goes, fit-none}
+use Rattle.pes_writer.proofs.Fits.{fit-stops, fit-goes}
 use Rattle.pes_writer.proofs.writable.records_fit.Statement.{statement}
 use Rattle.pes_writer.proofs.writable.records_fit.Tie as tie
 
@@ -55,7 +58,11 @@ loop-again c =
     (omega arith, sym (fit-goes (l .more) _ (l .at) (search needs) (sym (f .ensures) ∙ not-false (f .result) (c .if1 .left))) ∙ l .inv .1)
 
 returns-2 : tie.Need-returns-2 Inv-loop μ-loop
-returns-2 c = let l = c .before .loop in sym (fit-none (l .more) _ (l .at) (search needs)) ∙ l .inv .1
+unfolding recordsFit
+returns-2 c =
+    let l = c .before .loop in
+    let rs : List ℕ = now (c .before .before .before .args .records) in
+    sym (at-none (λ (n : ℕ). recordsFit n rs (l .at)) (l .more) (search needs)) ∙ l .inv .1
 
 pub records-fit-spec : {M : Type 1} → statement M
 records-fit-spec =

@@ -5,7 +5,7 @@ use Prim.Native.Nat.{_-_, _≤_}
 use lib.ListN.{length, drop}
 use borrow.Author.Needs.{needs}
 use borrow.Author.Tests.{lt-leb, le-leb}
-use Rattle.vectors.specs.Lent.{untouched}
+use Rattle.vectors.specs.Internal.{untouched}
 use Rattle.vectors.proofs.Filled.{untouched-on, untouched-not, untouched-end}
 use Rattle.vectors.proofs.lent.kept.Statement.{statement}
 use Rattle.vectors.proofs.lent.kept.Tie as tie

@@ -1,15 +1,12 @@
--- What the writer's own functions promise one another: what is measured, taken and written.
-use mathlib.Core.Bool.{Bool}
+-- What only private calls cite; nothing here needs to be believed. What is measured and what is written, page by page.
 use mathlib.Core.List.{List, _∷_}
 use Prim.Native.Nat.{ℕ, _+_, _*_, _/_}
-use lib.Dec.{leb}
 use lib.ListN.{length}
-use Rattle.laws.specs.Pick.{pick, both}
+use Rattle.laws.specs.Pick.{pick}
 use Rattle.blocks.specs.Block.{whole, blocks}
 use Rattle.writer.specs.declared.Measured.{Measured}
 use Rattle.writer.specs.declared.Measured.the-variants.{Cells, Broken}
 use Rattle.packet.specs.declared.Setting.{Setting}
-use Rattle.packet.specs.Setting.{inRange}
 use Rattle.packet.specs.Packet.{packetLength, packetZero}
 use Rattle.symbols.specs.Stream.{Symbol, cell, streamOf}
 use Rattle.writer.specs.Cutting.{dataPackets, pages, joined}
@@ -29,7 +26,3 @@ pageLength k = packetLength * (k + 1)
 -- the bytes of so many pages from the first record on
 abbrev pub pagesBytes : Setting → ℕ → ℕ → ℕ → List ℕ → List ℕ
 pagesBytes s index k count l = joined (pages s k count index (streamOf (blocks l)))
-
--- what the writer is set to is in range; otherwise it is 16 (SCOPE 3.7, 7.6)
-abbrev pub takesOf : Setting → ℕ → ℕ → Bool
-takesOf s index k = both (inRange s) (both (leb index 15) (both (leb 1 k) (leb k 25)))
