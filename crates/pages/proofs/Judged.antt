@@ -18,7 +18,8 @@ use Rattle.packet.proofs.Addressed.{address-long}
 use Rattle.pages.specs.declared.headers.Page.{Page}
 use Rattle.pages.specs.declared.headers.Verdict.{Verdict}
 use Rattle.pages.specs.Judging.{verdictOfY, verdictOf}
-use Rattle.pages.specs.Headers.{Seen, junk, other, foreign, ours, packetY, seeZero, seenZero}
+use Rattle.pages.specs.Headers.{Seen, junk, other, foreign, ours, packetY, seeZero}
+use Rattle.pages.specs.Internal.{seenZero}
 use Rattle.pages.proofs.Seeing.{decodes-at}
 use Rattle.pages.specs.Seen.{seeY, see, seenAs}
 

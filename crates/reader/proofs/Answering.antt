@@ -27,7 +27,7 @@ use Rattle.reader.proofs.Running.{run-full}
 use Rattle.reader.proofs.AnsweringMany.{handed-back}
 use Rattle.reader.specs.declared.Heard.{Heard}
 use Rattle.reader.specs.Feeding.{refusedHeard, feedHeard, feedReader, feedOut}
-use Rattle.reader.specs.Telling.{told}
+use Rattle.reader.specs.Internal.{told}
 
 -- ---- a list of one packet
 

@@ -23,9 +23,8 @@ use Rattle.state.specs.Acting.{State}
 use Rattle.state.specs.State.{readerOf, readerInRange}
 use Rattle.reader.specs.Many.{begun, run, ranAll, refusedAll, feedAllHeard, feedAllReader, feedAllOut}
 use Rattle.walk.specs.Places.{zeroed}
-use Rattle.walk.specs.Holding.{Holds}
-use Rattle.reader.specs.Stepped.{stateIn}
-use Rattle.reader.specs.Holding.{started, RanTo}
+use Rattle.walk.specs.Internal.{Holds}
+use Rattle.reader.specs.Internal.{stateIn, started, RanTo}
 
 -- the reader that what has come is handed back as
 pub handed-back :

@@ -19,13 +19,13 @@ use Rattle.walk.specs.declared.Got.{Got}
 use Rattle.walk.specs.Mode.{running}
 use Rattle.walk.specs.Reading.{dropIf}
 use Rattle.walk.specs.Store.{modeOf}
-use Rattle.walk.specs.Holding.{Kept, Went, ReadPacket}
+use Rattle.walk.specs.Internal.{Kept, Went, ReadPacket}
 use Rattle.walk.proofs.Keeping.{holds-mode}
 use Rattle.laws.proofs.Tests.{either-false}
 use Rattle.walk.proofs.Adding.{went-nowhere, went-on}
 use Rattle.reader.specs.declared.many.Going.{Going}
 use Rattle.state.specs.Acting.{State, act, handed, dropped}
-use Rattle.reader.specs.Stepped.{Heeded, Acted, stateIn}
+use Rattle.reader.specs.Internal.{Heeded, Acted, stateIn}
 
 -- ---- what the code does by a verdict
 

@@ -16,11 +16,10 @@ ghost use Rattle.laws.specs.Pick.{both};
 ghost use Rattle.packet.specs.Setting.{inRange};
 ghost use Rattle.packet.specs.Packet.{packetLength};
 ghost use Rattle.octet.specs.Decoding.{nib};
-ghost use Rattle.walk.specs.Holding.{Kept, PacketRoom};
-ghost use Rattle.reader.specs.Stepped.{stateIn, Heeded};
+ghost use Rattle.walk.specs.Internal.{Kept, PacketRoom};
 ghost use Rattle.state.specs.State.{readerInRange, Sixteen};
 ghost use Rattle.reader.specs.Many.{begun, run, feedAllHeard, feedAllReader, feedAllOut};
-ghost use Rattle.reader.specs.Holding.{started, RanTo};
+ghost use Rattle.reader.specs.Internal.{stateIn, Heeded, started, RanTo};
 
 // What a list of packets gave: how many of them were taken, how many blocks they finished, as how many
 // bytes of records at the front of the output, and whether a block was dropped.

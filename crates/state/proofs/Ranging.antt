@@ -11,7 +11,7 @@ use lib.Seq.{take-append-seam, drop-append-seam}
 use borrow.Author.Tests.{le-leb}
 use Rattle.laws.specs.Pick.{pick}
 use Rattle.laws.proofs.Tests.{both-true}
-use Rattle.walk.specs.Holding.{Good}
+use Rattle.walk.specs.Internal.{Good}
 use Rattle.walk.proofs.Along.{drop-good, read-good}
 use Rattle.pages.proofs.Judged.{Shaped, shaped}
 use Rattle.blocks.specs.Block.{sizeOf}

@@ -1,6 +1,5 @@
 // Within a packet: what its pointer says, and what a block's header says. Where a block starts in its bytes, and whether what stands before
-// the pointed byte may stand there, is crate `starts`; the running block's bytes are the reader's (crate `rows`), and the laws of the
-// running block in its store are crate `holding`.
+// the pointed byte may stand there, is module `starts`; the running block's bytes are the reader's.
 pub mod starts;
 
 pub use starts::falls;
@@ -10,8 +9,7 @@ ghost use Prim.Native.Nat.{_+_, _-_, _≤_};
 ghost use lib.ListN.{length, drop};
 ghost use Rattle.octet.specs.Decoding.{nib};
 ghost use Rattle.walk.specs.Reading.{pointedBy};
-ghost use Rattle.walk.specs.Places.{heads};
-ghost use Rattle.walk.specs.Holding.{aheadIn, nextOf};
+ghost use Rattle.walk.specs.Places.{heads, aheadIn, nextOf};
 
 // The running block: none; its start and so many nibbles of its 16 bits; its 16 bits, and how many
 // of its bytes are in the store.

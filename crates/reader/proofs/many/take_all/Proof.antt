@@ -8,8 +8,7 @@ use borrow.Author.Needs.{needs}
 use borrow.Author.Tests.{not-false}
 use Rattle.packet.specs.Packet.{packetLength}
 use Rattle.reader.specs.Many.{Ran, begun, run}
-use Rattle.reader.specs.Holding.{RanTo}
-use Rattle.reader.specs.Stepped.{stateIn}
+use Rattle.reader.specs.Internal.{RanTo, stateIn}
 use Rattle.walk.proofs.Keeping.{holds-kept}
 use Rattle.pages.proofs.Judged.{see-elsewhere}
 use Rattle.reader.proofs.Heeding.{acted, act-other}
