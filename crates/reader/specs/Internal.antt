@@ -4,10 +4,8 @@ use mathlib.Core.Path.{_≡_}
 use mathlib.Core.Bool.{Bool, false}
 use mathlib.Core.List.{List}
 use Prim.Native.Nat.{ℕ}
-use lib.Dec.{eqb}
 use lib.ListN.{length}
 use lib.Seq.{sets}
-use Rattle.laws.specs.Pick.{pick}
 use Rattle.blocks.specs.Block.{Block, recordsOf}
 use Rattle.pages.specs.declared.headers.Page.{Page}
 use Rattle.pages.specs.declared.headers.Verdict.{Verdict}
@@ -22,7 +20,6 @@ use Rattle.reader.specs.declared.many.HeardAll.{HeardAll}
 use Rattle.reader.specs.declared.many.HeardAll.the-variants.{TookAll, RefusedAll}
 use Rattle.reader.specs.declared.many.Going.{Going}
 use Rattle.reader.specs.declared.many.Taking.{Taking}
-use Rattle.reader.specs.Feeding.{refusedHeard}
 use Rattle.reader.specs.Many.{Ran}
 
 -- ---- one packet more
@@ -64,7 +61,7 @@ pub record RanTo (b : Ran) (r : Taking) (store old new : List ℕ) : Type 0 wher
 
 -- ---- a list of one
 
--- where none was taken, there was no room
+-- what was heard of its packet
 abbrev pub told : HeardAll → Heard
 told (RefusedAll r) = Refused r
-told (TookAll packets blocks written dropped) = pick (eqb packets 0) (refusedHeard 1 0) (Took blocks written dropped)
+told (TookAll packets blocks written dropped) = Took blocks written dropped

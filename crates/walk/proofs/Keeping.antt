@@ -20,8 +20,8 @@ use Rattle.walk.specs.declared.Taken.{Taken}
 use Rattle.walk.specs.declared.Ahead.{Ahead}
 use Rattle.walk.specs.declared.Ahead.the-variants.{Nothing, Broken, Cut, Whole}
 use Rattle.walk.specs.Mode.{Mode, off, scan, heading, body, filler, shifted, full, continues}
-use Rattle.walk.specs.Store.{storeLength, modeOf, runOf, heldOf}
-use Rattle.walk.specs.Places.{StartAhead, nothing, broken, cut, whole, heads, found, zeroed, aheadIn}
+use Rattle.walk.specs.Store.{storeLength, zeroed, modeOf, runOf, heldOf}
+use Rattle.walk.specs.Places.{StartAhead, nothing, broken, cut, whole, heads, found, aheadIn}
 use Rattle.walk.specs.Internal.{Bits, Good, Holds, Kept, TookIn, awaits}
 use Rattle.walk.proofs.Staying.{stays}
 use Rattle.walk.proofs.Along.{more-bits, decoded}

@@ -13,9 +13,8 @@ use Rattle.walk.specs.declared.Run.the-variants.{Idle, Head, Body}
 use Rattle.walk.specs.declared.Got.{Got}
 use Rattle.walk.specs.declared.Taken.{Taken}
 use Rattle.walk.specs.Mode.{Mode, off, scan, heading, body, full, running, isFull, ends, gives, spoils, continues, finished, unfinished}
-use Rattle.walk.specs.Store.{storeLength, modeOf, runOf, heldOf}
+use Rattle.walk.specs.Store.{storeLength, zeroed, modeOf, runOf, heldOf}
 use Rattle.walk.specs.Reading.{dropIf, readMode, readBlocks, readDrops, room}
-use Rattle.walk.specs.Places.{zeroed}
 
 -- g nibbles have come, and v has their bits and no others
 pub record Bits (g v : ℕ) : Type 0 where

@@ -1,10 +1,10 @@
 -- Reading by places, as the code goes: filler is passed by in one go, then a start's four bytes, then the block's bytes. That it is the
 -- reading byte by byte of Mode is shown in proofs/Walking.
 use mathlib.Core.Bool.{Bool, false}
-use mathlib.Core.List.{List, [], _∷_, _++_}
+use mathlib.Core.List.{List, [], _∷_}
 use Prim.Native.Nat.{ℕ, zero, suc, _-_}
 use lib.Dec.{eqb, leb}
-use lib.ListN.{length, drop, replicate}
+use lib.ListN.{length, drop}
 use Rattle.laws.specs.Pick.{pick, both}
 use Rattle.octet.specs.Decoding.{nib, undecodable}
 use Rattle.blocks.specs.Block.{sizeOf}
@@ -13,7 +13,6 @@ use Rattle.walk.specs.declared.Run.the-variants.{Idle, Head, Body}
 use Rattle.walk.specs.declared.Ahead.{Ahead}
 use Rattle.walk.specs.declared.Ahead.the-variants.{Nothing, Broken, Cut, Whole}
 use Rattle.walk.specs.Mode.{filler, shifted}
-use Rattle.walk.specs.Store.{storeLength}
 
 -- how many bytes of filler l begins with
 unfoldable pub fillers : List ℕ → ℕ
@@ -40,10 +39,6 @@ heads (suc k) v (b ∷ bs) = pick (eqb (nib b) undecodable) broken (heads k (shi
 unfoldable pub found : List ℕ → StartAhead
 found [] = nothing
 found (b ∷ bs) = pick (filler b) (found bs) (pick (eqb (nib b) 12) (heads 4 0 bs) nothing)
-
--- a store that holds these bytes, and zeros past them
-unfoldable pub zeroed : List ℕ → List ℕ
-zeroed held = held ++ replicate (storeLength - length held) 0
 
 -- what an answer by places says stands ahead in s
 abbrev pub aheadIn : List ℕ → Ahead → StartAhead
