@@ -1,16 +1,17 @@
 -- Blocks cut by our writer come through noise: what comes out of a fresh reader is what was sent, in order, each once, and a block
 -- is lost only where two flips are allowed. One induction along the pages for every number of flips and every page length; at each
 -- packet the reader stands where the clean walk does, or has dropped. Assumes nothing.
-use mathlib.Core.Path.{_≡_, refl, ap, subst}
-use mathlib.Core.Bool.{Bool, true, false}
+use mathlib.Core.Path.{_≡_, _∙_, refl, ap, subst}
+use mathlib.Core.Bool.{false}
 use mathlib.Core.Logic.{_⊎_, inl, inr}
 use mathlib.Core.List.{List, [], _∷_, _++_, map}
 use Prim.Native.Nat.{ℕ, zero, suc, _+_, _*_, _%_, _≤_, _<_}
 use native.Mathlib.Nat.{zero-mul, suc-mul}
 use native.Mathlib.Omega.{arith}
-use lib.ListN.{length, drop, length-drop}
+use lib.ListN.{length, drop, length-drop, length-map}
 use lib.Seq.{drop-drop}
 use borrow.Author.Tests.{le-leb, le-ltb, eq-eqb}
+use Rattle.laws.proofs.Picks.{same}
 use Rattle.octet.specs.Decoding.{undecodable}
 use Rattle.blocks.specs.Block.{Block}
 use Rattle.packet.specs.declared.Setting.{Setting}
@@ -79,12 +80,8 @@ act-ours :
 unfolding act
 act-ours {R} {L} k {m} index st small r = opened (rw (le-leb k 25 small)) refl (go (r .follows))
   where
-    dropped-off : (t : Bool) → dropIf t off ≡ off
-    dropped-off true = refl
-    dropped-off false = refl
-
     go : (st .mode ≡ off) ⊎ ((st .index + 1) % 16 ≡ index) → Between R L m (dropIf (breaks (st .page) (st .index) index k) (st .mode))
-    go (inl e) = rw (e, dropped-off (breaks (st .page) (st .index) index k)) (rw e at (r .mode))
+    go (inl e) = rw (e, same (breaks (st .page) (st .index) index k) {a = off} refl refl) (rw e at (r .mode))
     go (inr e) = rw (r .whole, le-ltb 25 k small, e, eq-eqb index index refl) (r .mode)
 
 -- packet last + 1 of an open page is read
@@ -171,8 +168,9 @@ module _ (R : ℕ → ℕ → Type 0) (L : Type 0) (hears : Hears R L) (s : Sett
         → Plain m (grab perPacket ss) → Inside R L k m index last st → Near R (dataPacket s (suc last) ss) q
         → Took R L (Inside R L k (sentEnds m (grab perPacket ss)) index (suc last)) (sentGives m (grab perPacket ss)) st (see s q)
     packet-takes m index last ss st {q} h celled plain r n =
+        let size = length-map (grab perPacket ss) byteOf ∙ length-grab perPacket ss in
         let p : pointerOf (grab perPacket ss) < 16 = omega (arith, before-le (grab perPacket ss), length-grab perPacket ss) in
-        go r (packet-heard R L hears s (suc last) (pointerOf (grab perPacket ss)) _ (omega arith) (omega arith) p n)
+        go r (packet-heard R L hears s (suc last) (pointerOf (grab perPacket ss)) _ (omega arith) (omega arith) p size n)
       where
         sy : List Symbol
         sy = grab perPacket ss

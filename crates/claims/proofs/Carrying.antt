@@ -2,23 +2,22 @@
 -- allowed, has been dropped. Assumes nothing.
 use mathlib.Core.Path.{_≡_, refl}
 use mathlib.Core.Bool.{Bool, true, false}
-use mathlib.Core.Logic.{_⊎_, inl, inr}
+use mathlib.Core.Logic.{⊎-elim}
 use mathlib.Core.List.{List, [], _∷_, _++_, map, append-assoc, append-nil}
 use Prim.Native.Nat.{ℕ, suc, _+_, _*_, _/_, _<_}
 use native.Mathlib.Omega.{arith}
-use lib.Dec.{eqb, ltb, lit<}
+use lib.Dec.{ltb, lit<}
 use lib.ListN.{length}
-use borrow.Author.Tests.{ne-eqb}
 use Rattle.laws.specs.Pick.{pick}
 use Rattle.octet.specs.Image.{image}
-use Rattle.octet.specs.Decoding.{nib, undecodable}
+use Rattle.octet.specs.Decoding.{nib}
 use Rattle.octet.proofs.Laws.{nib-image}
 use Rattle.blocks.specs.Block.{Block}
 use Rattle.symbols.specs.Stream.{Symbol, start, fill, bits, raw, byteOf, beforeStart}
 use Rattle.walk.specs.Mode.{Mode, off, scan, heading, body, full, step, emitted, ends, gives, behind, carry, continues, finished, unfinished}
 use Rattle.claims.specs.Noise.{Hears, Near, none, more, over}
 use Rattle.claims.proofs.Losing.{near-snoc, lost-all}
-use Rattle.claims.proofs.Walking.{Fit, skips, opens, nibble, byte, Plain, sentEnds, sentGives, nib-sent, full-near, Blocks, same-block}
+use Rattle.claims.proofs.Walking.{Fit, skips, opens, nibble, byte, Plain, sentEnds, sentGives, nib-sent, known, full-near, Blocks, same-block}
 
 -- the mode and the blocks so far along what was sent, beside the running block along what arrives. A block that is full waits there
 -- for the pointed byte.
@@ -53,11 +52,7 @@ module _ (R : ℕ → ℕ → Type 0) (L : Type 0) (hears : Hears R L) (pointed 
       (h c : ℕ) {l m : List ℕ} → Near R l m → full h l ≡ true → R (image 3) c
       → (t : Bool) → Carried R L scan (record { head = h; raw = l } ∷ []) (behind t h m c)
   behind-fill h c n e f false = waits n e
-  behind-fill h c {l} {m} n e f true = go (hears 3 c (lit< tt) f)
-    where
-      go : (nib c ≡ 3) ⊎ ((nib c ≡ undecodable) × L) → Carried R L scan (record { head = h; raw = l } ∷ []) (behind true h m c)
-      go (inl q) = rw q (waits n e)
-      go (inr w) = rw (w .0) (gone (w .1))
+  behind-fill h c n e f true = ⊎-elim (λ q. rw q (waits n e)) (λ w. rw (w .0) (gone (w .1))) (hears 3 c (lit< tt) f)
 
   wait-fill :
       (h c : ℕ) {l m : List ℕ} → Near R l m → full h l ≡ true → R (image 3) c
@@ -69,11 +64,10 @@ module _ (R : ℕ → ℕ → Type 0) (L : Type 0) (hears : Hears R L) (pointed 
       (g v n c : ℕ) → n < 16 → R (image n) c
       → Carried R L (step (heading g v) (image n)) (emitted (heading g v) (image n)) (carry pointed (heading g v) c)
   unfolding step emitted carry
-  head-nibble g v n c h f = go (hears n c h f)
+  head-nibble g v n c h f =
+      ⊎-elim (λ (e : nib c ≡ n). rw (nib-sent n h, e, known n h) (on (v / 16 + n * 4096) (ltb g 3) (full (v / 16 + n * 4096) []) refl)) (λ w. rw (w .0) (gone (w .1)))
+      (hears n c h f)
     where
-      read : eqb n undecodable ≡ false
-      read = ne-eqb n undecodable (λ e. omega arith)
-
       on :
           (w : ℕ) (t u : Bool) → full w [] ≡ u
           → Carried R L
@@ -83,12 +77,6 @@ module _ (R : ℕ → ℕ → Type 0) (L : Type 0) (hears : Hears R L) (pointed 
       on w true u e = heads
       on w false true e = waits none e
       on w false false e = bodies none e
-
-      go :
-          (nib c ≡ n) ⊎ ((nib c ≡ undecodable) × L)
-          → Carried R L (step (heading g v) (image n)) (emitted (heading g v) (image n)) (carry pointed (heading g v) c)
-      go (inl e) = rw (nib-sent n h, e, read) (on (v / 16 + n * 4096) (ltb g 3) (full (v / 16 + n * 4096) []) refl)
-      go (inr w) = rw (w .0) (gone (w .1))
 
   body-byte :
       (h b c : ℕ) {l m : List ℕ} → R b c → Near R l m → full h l ≡ false

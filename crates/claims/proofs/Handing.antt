@@ -1,4 +1,4 @@
--- Packets that are handed on as the calls allow, by `feed` or in dataPackets by `feed_all`, give what a call of `feed` for each of them gives.
+-- Packets that are handed on as the calls allow, by `feed` or many at a time by `feed_all`, give what a call of `feed` for each of them gives.
 -- Assumes nothing.
 use mathlib.Core.Path.{_≡_, _∙_, refl, sym, ap, ap₂, subst}
 use mathlib.Core.Bool.{true}
@@ -30,7 +30,7 @@ use Rattle.reader.specs.Many.{feedAllHeard, feedAllReader, feedAllOut}
 use Rattle.claims.specs.Noise.{Each, nil, and}
 use Rattle.claims.specs.Carrying.{heardBlocks}
 use Rattle.claims.specs.Feeding.{Call, packetsOf, writtenOf, numberOf, comesOut, numberOfAll, packetsOfAll, writtenOfAll, leaves, inOne, AsCalls}
-use Rattle.claims.specs.Calls.{Feeds, feed, FeedsAll, feed-all, Fed, end, one, packetY}
+use Rattle.claims.specs.Calls.{Feeds, feed, FeedsAll, feed-all, Fed, end, one, many}
 use Rattle.claims.proofs.Fed.{callsFor, packets-of-calls, call-reader, call-taken, fed-blocks}
 use Rattle.claims.proofs.Many.{one-by-one}
 
@@ -48,10 +48,10 @@ feeds-all (feed-all κs a x t post) = (post .0, post .1 .0, post .1 .1)
 
 -- ---- calls of `feed` in a row
 
-row-joined : (cs : List Call) → inOne cs ≡ joined (packetsOf cs)
+list-joined : (cs : List Call) → inOne cs ≡ joined (packetsOf cs)
 unfolding inOne joined packetsOf
-row-joined [] = refl
-row-joined (c ∷ cs) = ap (λ (l : List ℕ). c .packet ++ l) (row-joined cs)
+list-joined [] = refl
+list-joined (c ∷ cs) = ap (λ (l : List ℕ). c .packet ++ l) (list-joined cs)
 
 packets-append : (a b : List Call) → packetsOf (a ++ b) ≡ packetsOf a ++ packetsOf b
 unfolding packetsOf
@@ -93,7 +93,7 @@ module _ (s : Setting) (i : inRange s ≡ true) where
   comes-back : (st : State) → Sound st → (cs : List Call) → FortyTwo (packetsOf cs) → blocks (recordsOf (comesOut s (readerOf st) cs)) ≡ comesOut s (readerOf st) cs
   comes-back st r cs f = rw (fed-blocks s i st r cs f) (blocks-records (heard-sized st r (packetsOf cs)))
 
-  -- ---- a row in one call
+  -- ---- a list in one call
 
   -- calls for the packets that it takes
   record Ones (st : State) (old : List ℕ) (ps : List (List ℕ)) : Type 0 where
@@ -109,14 +109,14 @@ module _ (s : Setting) (i : inRange s ≡ true) where
     left : Left (leaves s (readerOf st) calls)
     stops : (behind ≡ []) ⊎ (length old < length (recordsOf (comesOut s (readerOf st) calls)) + room)
 
-  ones : (st : State) → Sound st → (old : List ℕ) {ps : List (List ℕ)} → FortyTwo ps → Ones st old ps
+  ones : (st : State) → Sound st → (old : List ℕ) → room ≤ length old → {ps : List (List ℕ)} → FortyTwo ps → Ones st old ps
   unfolding packetsOf
-  ones st r old {ps} f = go (one-by-one s i st r old (callsFor ps) (rw packets-of-calls f))
+  ones st r old enough {ps} f = go (one-by-one s i st r old enough (callsFor ps) (rw packets-of-calls f))
     where
       go : (front : List Call) × (back : List Call) × (callsFor ps ≡ front ++ back) × AsCalls s (readerOf st) old front back → Ones st old ps
       go (front, back, e, a) =
           let all : ps ≡ packetsOf (front ++ back) = sym (packets-of-calls ps) ∙ ap packetsOf e in
-          let bytes : joined ps ≡ inOne (front ++ back) = ap joined all ∙ sym (row-joined (front ++ back)) in
+          let bytes : joined ps ≡ inOne (front ++ back) = ap joined all ∙ sym (list-joined (front ++ back)) in
           let whole : ps ≡ packetsOf front ++ packetsOf back = all ∙ packets-append front back in
           let fed : FortyTwo (packetsOf front) = forty-front (packetsOf front) (packetsOf back) (subst FortyTwo whole f) in
           let bs = comesOut s (readerOf st) front in
@@ -140,7 +140,7 @@ module _ (s : Setting) (i : inRange s ≡ true) where
       → room ≤ length old → FeedsAll s (readerOf st) (joined ps) old h after out → 1 ≤ packetsOfAll h
   unfolding packetsOf comesOut recordsOf
   feed-all-moves st r {ps} f some {old = old} enough call =
-      let here = ones st r old f in
+      let here = ones st r old enough f in
       let n = ap packetsOfAll (feeds-all call .0) ∙ here .packets in
       subst (λ (k : ℕ). 1 ≤ k) (sym n) (go (here .calls) (here .whole) (here .stops))
     where
@@ -151,7 +151,7 @@ module _ (s : Setting) (i : inRange s ≡ true) where
       go [] e (inr l) = absurd (omega arith)
       go (c ∷ cs) e w = omega arith
 
--- what a row leaves of the packets that it was taken from
+-- what a call for a list leaves of the packets that the list was taken from
 rest-of :
     (n : ℕ) (qs : List (List ℕ)) (cs : List Call) (behind : List (List ℕ)) → take n qs ≡ packetsOf cs ++ behind
     → qs ≡ packetsOf cs ++ drop (length cs) qs
@@ -198,9 +198,9 @@ as-ones s i (one {old = old} enough call fed) st r e (more {p = q} l f) =
     then-ones (c ∷ []) (call-reader s i st r c l) refl (ap numberOf (said .0) ∙ call-taken s i st r c l)
     (ap₂ (λ (x : Heard) (o : List ℕ). blocks (take (writtenOf x) o)) (said .0) (said .2) ∙ sym (append-nil _))
     (as-ones s i fed (act st (see s q)) (sound-after s st q r) (said .1 ∙ call-reader s i st r c l) f)
-as-ones s i (packetY {old = old} {qs = qs} {h = h} n enough call fed) st r e f =
+as-ones s i (many {old = old} {qs = qs} {h = h} n enough call fed) st r e f =
     let said = rw e at (feeds-all call) in
-    let here = ones s i st r old (forty-take n f) in
+    let here = ones s i st r old enough (forty-take n f) in
     let left = here .left in
     then-ones (here .calls) (left .held)
     (rest-of n qs (here .calls) (here .behind) (here .whole) ∙ ap (λ (k : ℕ). packetsOf (here .calls) ++ drop k qs) (sym (ap packetsOfAll (said .0) ∙ here .packets)))

@@ -12,12 +12,13 @@ use borrow.Author.Tests.{lt-ltb, eq-eqb, ne-eqb, le-leb}
 use Rattle.octet.specs.Image.{image}
 use Rattle.octet.specs.Decoding.{nib, undecodable}
 use Rattle.packet.specs.declared.Setting.{Setting}
-use Rattle.packet.specs.Packet.{address, packetZero, packetOf}
+use Rattle.packet.specs.Packet.{packetLength, address, packetZero, packetOf}
 use Rattle.packet.specs.Address.{decodes}
 use Rattle.pages.specs.Headers.{junk, other, ours, packetY, seeZero}
 use Rattle.pages.specs.Seen.{see, seeY}
+use Rattle.pages.proofs.Judged.{sees, see-junk}
 use Rattle.claims.specs.Noise.{Hears, Near, more, Each, nil, and, Elsewhere}
-use Rattle.claims.proofs.Losing.{near-drop}
+use Rattle.claims.proofs.Losing.{near-length, near-drop}
 
 -- l begins with bytes that decode to these nibbles
 pub data Reads : List ℕ → List ℕ → Type 0 where
@@ -64,12 +65,13 @@ addressed-nibbles magazine y h =
     and a (and b nil)
 
 -- a packet of our magazine is seen by its number
-see-ours : (s : Setting) (y : ℕ) {q : List ℕ} → y < 32 → Reads (addressed (s .magazine) y) q → see s q ≡ seeY s y q
-unfolding see
-see-ours s y h r =
+see-ours :
+    (s : Setting) (y : ℕ) {q : List ℕ} → y < 32 → length q ≡ packetLength → Reads (addressed (s .magazine) y) q → see s q ≡ seeY s y q
+see-ours s y {q} h long r =
     let m : (s .magazine % 8 + 8 * (y % 2)) % 8 ≡ s .magazine % 8 = omega arith in
     let n : (s .magazine % 8 + 8 * (y % 2)) / 8 + 2 * (y / 2) ≡ y = omega arith in
-    rw (
+    sees s q long
+    ∙ rw (
       reads-decodes (addressed-nibbles (s .magazine) y h) r,
       reads-at r 0 (omega arith),
       reads-at r 1 (omega arith),
@@ -79,17 +81,13 @@ see-ours s y h r =
     )
 
 see-elsewhere :
-    (s : Setting) (magazine y : ℕ) {q : List ℕ} → y < 32 → (magazine % 8 ≡ s .magazine % 8 → ⊥) → Reads (addressed magazine y) q
-    → see s q ≡ other
-unfolding see
-see-elsewhere s magazine y h z r =
+    (s : Setting) (magazine y : ℕ) {q : List ℕ} → y < 32 → length q ≡ packetLength → (magazine % 8 ≡ s .magazine % 8 → ⊥)
+    → Reads (addressed magazine y) q → see s q ≡ other
+see-elsewhere s magazine y {q} h long z r =
     let m : (magazine % 8 + 8 * (y % 2)) % 8 ≡ magazine % 8 = omega arith in
-    rw
+    sees s q long
+    ∙ rw
     (reads-decodes (addressed-nibbles magazine y h) r, reads-at r 0 (omega arith), m, ne-eqb (magazine % 8) (s .magazine % 8) z)
-
-see-junk : (s : Setting) (q : List ℕ) → decodes 2 q ≡ false → see s q ≡ junk
-unfolding see
-see-junk s q e = rw e
 
 -- the address with noise is read, or, with two flips, can't be
 address-heard :
@@ -102,10 +100,13 @@ pub elsewhere-heard :
     (R : ℕ → ℕ → Type 0) (L : Type 0) → Hears R L → (s : Setting) {q : List ℕ} → Elsewhere R s q → (see s q ≡ other) ⊎ ((see s q ≡ junk) × L)
 elsewhere-heard R L hears s {q} e = go (address-heard R L hears (e .magazine) (e .y) (e .rest) (e .number) (e .near))
   where
+    long : length q ≡ packetLength
+    long = omega (arith, near-length (e .near), e .long)
+
     go :
         Reads (addressed (e .magazine) (e .y)) q ⊎ ((decodes 2 q ≡ false) × L)
         → (see s q ≡ other) ⊎ ((see s q ≡ junk) × L)
-    go (inl r) = inl (see-elsewhere s (e .magazine) (e .y) (e .number) (e .differs) r)
+    go (inl r) = inl (see-elsewhere s (e .magazine) (e .y) (e .number) long (e .differs) r)
     go (inr w) = inr (see-junk s q (w .0), w .1)
 
 -- ---- packet 0
@@ -157,13 +158,16 @@ module _ (s : Setting) (page : s .page < 256) (stream : s .stream < 16) (index n
       go (address-heard R L hears (s .magazine) 0 _ (omega arith) near)
       (nibbles-heard R L hears (sixOf s index n) _ six-nibbles (near-drop 2 near))
     where
+      long : length q ≡ packetLength
+      long = sym (near-length near)
+
       go :
           Reads (addressed (s .magazine) 0) q ⊎ ((decodes 2 q ≡ false) × L)
           → Reads (sixOf s index n) (drop 2 q) ⊎ ((decodes 6 (drop 2 q) ≡ false) × L)
           → (see s q ≡ ours index n) ⊎ ((see s q ≡ junk) × L)
       go (inr w) r = inr (see-junk s q (w .0), w .1)
-      go (inl a) (inl r) = inl (see-ours s 0 (omega arith) a ∙ seeY-zero q ∙ zero-seen r)
-      go (inl a) (inr w) = inr (see-ours s 0 (omega arith) a ∙ seeY-zero q ∙ zero-junk (drop 2 q) (w .0), w .1)
+      go (inl a) (inl r) = inl (see-ours s 0 (omega arith) long a ∙ seeY-zero q ∙ zero-seen r)
+      go (inl a) (inr w) = inr (see-ours s 0 (omega arith) long a ∙ seeY-zero q ∙ zero-junk (drop 2 q) (w .0), w .1)
 
 -- ---- packets 1 to 25
 
@@ -179,16 +183,19 @@ seeY-packet s y q h k = rw (ne-eqb y 0 (λ e. omega arith), le-leb y 25 k)
 
 pub packet-heard :
     (R : ℕ → ℕ → Type 0) (L : Type 0) → Hears R L → (s : Setting) (y p : ℕ) (bytes : List ℕ) {q : List ℕ} → 1 ≤ y → y ≤ 25 → p < 16
-    → Near R (packetOf s y p bytes) q → PacketHeard R L s y p bytes q
+    → length bytes ≡ 39 → Near R (packetOf s y p bytes) q → PacketHeard R L s y p bytes q
 unfolding packetOf
-packet-heard R L hears s y p bytes {q} least most h near =
+packet-heard R L hears s y p bytes {q} least most h size near =
     go (address-heard R L hears (s .magazine) y _ (omega arith) near) (pointer-heard (near-drop 2 near))
   where
     pointer-heard : {l : List ℕ} → Near R (image p ∷ bytes) l → (nib (getD l 0 0) ≡ p) ⊎ ((nib (getD l 0 0) ≡ undecodable) × L)
     pointer-heard (more {b = b} f n) = hears p b h f
 
+    long : length q ≡ packetLength
+    long = omega (arith, near-length near, size)
+
     seen : Reads (addressed (s .magazine) y) q → see s q ≡ packetY y (nib (getD q 2 0)) (drop 3 q)
-    seen a = see-ours s y (omega arith) a ∙ seeY-packet s y q least most
+    seen a = see-ours s y (omega arith) long a ∙ seeY-packet s y q least most
 
     at-two : nib (getD (drop 2 q) 0 0) ≡ nib (getD q 2 0)
     at-two = ap nib (getD-drop 2 q 0 0)

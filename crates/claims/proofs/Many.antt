@@ -1,15 +1,15 @@
--- A list of packets in one call is a call for each of them, as far as there is room. Assumes nothing.
+-- A list of packets in one call, with room for one, is a call for each of them, as far as there is room. Assumes nothing.
 use mathlib.Core.Path.{_≡_, _∙_, refl, sym, ap, ap₂}
 use mathlib.Core.Logic.{_⊎_, inl, inr}
 use mathlib.Core.Bool.{Bool, true, false}
 use mathlib.Core.List.{List, [], _∷_, _++_, append-assoc, append-nil}
-use Prim.Native.Nat.{ℕ, _+_, _*_, _/_, _%_, _<_}
+use Prim.Native.Nat.{ℕ, _+_, _*_, _/_, _%_, _≤_, _<_}
 use native.Mathlib.Nat.{zero-add}
 use native.Mathlib.Omega.{arith}
 use lib.Dec.{leb}
 use lib.ListN.{length, length-append}
 use lib.Seq.{take-at, drop-at}
-use borrow.Author.Tests.{leb-false, eq-eqb}
+use borrow.Author.Tests.{le-leb, leb-false, eq-eqb}
 use Rattle.laws.specs.Pick.{either}
 use Rattle.blocks.specs.Block.{Block, recordsOf}
 use Rattle.packet.specs.declared.Setting.{Setting}
@@ -117,9 +117,10 @@ split s long a (c ∷ cs) (more l e) =
 -- ---- the two calls
 
 pub one-by-one :
-    (s : Setting) → inRange s ≡ true → (st : State) → Sound st → (old : List ℕ) (cs : List Call) → FortyTwo (packetsOf cs)
+    (s : Setting) → inRange s ≡ true → (st : State) → Sound st → (old : List ℕ) → room ≤ length old → (cs : List Call)
+    → FortyTwo (packetsOf cs)
     → (front : List Call) × (back : List Call) × (cs ≡ front ++ back) × AsCalls s (readerOf st) old front back
-one-by-one s i st r old cs e =
+one-by-one s i st r old enough cs e =
     let p = split s (length old) (begun st) cs e in
     let n = length-one cs e in
     let bs = after-blocks s i (begun st) r (p .front) (p .fed) in
@@ -137,13 +138,14 @@ one-by-one s i st r old cs e =
               i,
               reader-in-range st r,
               eq-eqb _ _ z,
+              le-leb _ _ enough,
               ran,
               bs,
               k,
               after-dropped s i (begun st) r (p .front) (p .fed),
             );
-        reader = rw (← (p .whole), i, reader-in-range st r, eq-eqb _ _ z, ran) (after-reader s i (begun st) r (p .front) (p .fed));
-        out = rw (← (p .whole), i, reader-in-range st r, eq-eqb _ _ z, ran, bs);
+        reader = rw (← (p .whole), i, reader-in-range st r, eq-eqb _ _ z, le-leb _ _ enough, ran) (after-reader s i (begun st) r (p .front) (p .fed));
+        out = rw (← (p .whole), i, reader-in-range st r, eq-eqb _ _ z, le-leb _ _ enough, ran, bs);
         stops = rw bs at (p .stops);
       },
     )

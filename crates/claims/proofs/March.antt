@@ -2,23 +2,25 @@
 -- decoded, the reader hands out what a fresh reader would, whatever it held and whatever comes. So no block that it hands out holds
 -- a byte from before. Assumes nothing.
 use mathlib.Core.Path.{_≡_, _∙_, refl, sym, ap₂}
-use mathlib.Core.Bool.{Bool, true, false}
+use mathlib.Core.Bool.{true}
 use mathlib.Core.List.{List, [], _∷_, _++_}
 use Prim.Native.Nat.{ℕ, _%_}
-use lib.ListN.{getD}
+use lib.ListN.{length, getD}
 use borrow.Author.Tests.{eq-eqb}
+use Rattle.laws.proofs.Picks.{same}
 use Rattle.octet.specs.Decoding.{nib}
 use Rattle.blocks.specs.Block.{Block}
 use Rattle.packet.specs.declared.Setting.{Setting}
 use Rattle.packet.specs.Setting.{inRange}
+use Rattle.packet.specs.Packet.{packetLength}
 use Rattle.writer.proofs.Numbering.{FortyTwo, more}
 use Rattle.pages.specs.declared.headers.Page.the-variants.{Shut}
 use Rattle.walk.specs.Mode.{off}
 use Rattle.pages.specs.Headers.{Seen, junk, other, foreign, ours, packetY, seeZero}
 use Rattle.pages.specs.Seen.{see, seeY}
+use Rattle.pages.proofs.Judged.{sees, see-junk}
 use Rattle.state.specs.Acting.{State, act, handed}
 use Rattle.pages.specs.Judging.{breaks}
-use Rattle.walk.specs.Reading.{dropIf}
 use Rattle.state.specs.State.{readerOf, freshState}
 use Rattle.state.proofs.Ranging.{Sound, sound-fresh}
 use Rattle.claims.specs.Carrying.{heardBlocks}
@@ -30,10 +32,6 @@ use Rattle.claims.proofs.Fed.{fed-blocks}
 abbrev idleAt : ℕ → State
 idleAt index = record { page = Shut; index = index; mode = off }
 
-dropped-off : (t : Bool) → dropIf t off ≡ off
-dropped-off true = refl
-dropped-off false = refl
-
 -- of two such readers a packet makes two such again, or makes them the same
 data Meets : State → State → Type 0 where
   both-idle : {i j : ℕ} → Meets (idleAt i) (idleAt j)
@@ -44,7 +42,7 @@ unfolding act
 meets-after i j junk = both-idle
 meets-after i j other = both-idle
 meets-after i j foreign = both-idle
-meets-after i j (ours k n) = rw (dropped-off (breaks Shut i k n), dropped-off (breaks Shut j k n)) one
+meets-after i j (ours k n) = rw (same (breaks Shut i k n) {a = off} refl refl, same (breaks Shut j k n) {a = off} refl refl) one
 meets-after i j (packetY y p l) = both-idle
 
 idle-hands : (i j : ℕ) (x : Seen) → handed (idleAt i) x ≡ handed (idleAt j) x
@@ -72,10 +70,10 @@ after-unread :
 unfolding heardBlocks handed
 after-unread s st q e qs = rw (e, after-junk st junk refl) (same-blocks s qs both-idle)
 
-pub unreadable-junk : (s : Setting) (q : List ℕ) → Unreadable s q → see s q ≡ junk
-unfolding see seeY seeZero
-unreadable-junk s q (address e) = rw e
-unreadable-junk s q (zero a m y e) = rw (a, eq-eqb (nib (getD q 0 0) % 8) (s .magazine % 8) m, y, e)
+pub unreadable-junk : (s : Setting) (q : List ℕ) → length q ≡ packetLength → Unreadable s q → see s q ≡ junk
+unfolding seeY seeZero
+unreadable-junk s q long (address e) = see-junk s q e
+unreadable-junk s q long (zero a m y e) = sees s q long ∙ rw (a, eq-eqb (nib (getD q 0 0) % 8) (s .magazine % 8) m, y, e)
 
 -- whatever a reader holds, once a packet can't be read its calls write what a fresh reader's would, whatever comes
 pub march :
@@ -84,5 +82,5 @@ pub march :
 unfolding packetsOf
 march s a st r c u cs (more l f) =
     fed-blocks s a st r (c ∷ cs) (more l f)
-    ∙ after-unread s st (c .packet) (unreadable-junk s (c .packet) u) (packetsOf cs)
+    ∙ after-unread s st (c .packet) (unreadable-junk s (c .packet) l u) (packetsOf cs)
     ∙ sym (fed-blocks s a freshState sound-fresh cs f)

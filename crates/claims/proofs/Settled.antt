@@ -42,8 +42,7 @@ use Rattle.writer.proofs.cut.Reads as writer·cut
 use Rattle.writer.proofs.cut_pages.Reads as writer·cut-pages
 use Rattle.walk.specs.declared.Ahead.{Ahead}
 use Rattle.walk.specs.declared.Ahead.the-variants.{Nothing, Broken, Cut, Whole}
-use Rattle.walk.specs.Places.{StartAhead, nothing, broken, cut, whole}
-use Rattle.walk.specs.Holding.{aheadIn, nextOf}
+use Rattle.walk.specs.Places.{StartAhead, nothing, broken, cut, whole, aheadIn, nextOf}
 use Rattle.walk.proofs.pointed.Reads as walk·pointed
 use Rattle.walk.proofs.starts.find.Reads as walk·find
 use Rattle.walk.proofs.head_on.Reads as walk·head-on

@@ -9,7 +9,7 @@ use native.Mathlib.Omega.{arith}
 use lib.ListN.{length, length-map, getD, take, drop}
 use Rattle.octet.specs.Image.{image}
 use Rattle.octet.specs.Decoding.{nib, undecodable}
-use Rattle.blocks.specs.Block.{Block, sizeOf, blocks, recordOf as Block·recordOf, recordsOf as Block·recordsOf}
+use Rattle.blocks.specs.Block.{Block, blocks, recordOf as Block·recordOf, recordsOf as Block·recordsOf}
 use Rattle.blocks.specs.Sizes.{Sized}
 use Rattle.blocks.specs.Sizes
 use Rattle.blocks.proofs.Round.{blocks-records}
@@ -20,6 +20,7 @@ use Rattle.sums.specs.Block.{header, nibblesOf, nibbles, checksumOf, recordWith
 use Rattle.table.specs.Reading.{Outcome, accepted, refused, readBlock}
 use Rattle.forms.proofs.Sendable.{sendable}
 use Rattle.sums.proofs.Nibbles.{nibbles-back}
+use Rattle.table.proofs.Exact.{header-lt, header-size}
 use Rattle.table.proofs.Back.{writes-back}
 use Rattle.table.proofs.Noise.{reads-alike, broken-refused}
 use Rattle.claims.specs.Noise.{Hears, Near, none, more, Came, over, kept, lost, Alike, Each, nil, and, Fits}
@@ -35,14 +36,6 @@ tableBlock application t = record { head = laid (header application (size t)) 0;
 
 -- ---- it is a block, and its record is the one written
 
-head-small : (application n : ℕ) → laid (header application n) 0 < 65536
-unfolding laid
-head-small application n = omega arith
-
-head-size : (application n : ℕ) → n < 2048 → sizeOf (laid (header application n) 0) ≡ n
-unfolding laid
-head-size application n h = omega arith
-
 nibbles-length : (application : ℕ) (t : Table) → length (nibblesFor application t) ≡ size t
 unfolding nibbles
 nibbles-length application t = length-parts 4 (size t) _
@@ -51,18 +44,18 @@ pub table-fits : (application : ℕ) (t : Table) → fits t ≡ true → Fits (t
 table-fits application t f =
     let c = sendable t f .control-fits in
     record {
-      head = head-small application (size t);
+      head = header-lt application (size t);
       size =
           length-map (nibblesFor application t) image
           ∙ nibbles-length application t
-          ∙ sym (head-size application (size t) (omega arith));
+          ∙ sym (header-size application (size t) (omega arith));
     }
 
 block-record : (application : ℕ) (t : Table) → recordOf application t ≡ Block·recordOf (tableBlock application t)
 unfolding recordWith parts
 block-record application t =
     let h = laid (header application (size t)) 0 in
-    let e : h / 256 % 256 ≡ h / 256 = omega (arith, head-small application (size t)) in
+    let e : h / 256 % 256 ≡ h / 256 = omega (arith, header-lt application (size t)) in
     ap (λ (x : ℕ). h % 256 ∷ x ∷ map image (nibblesFor application t)) e
 
 pub all-fit : (application : ℕ) {ts : List Table} → Each (λ t. fits t ≡ true) ts → Each Fits (map (tableBlock application) ts)

@@ -3,7 +3,7 @@
 -- is read its image was sent. Assumes nothing.
 use mathlib.Core.Path.{_≡_, _∙_, refl, sym, ap}
 use mathlib.Core.Bool.{Bool, true, false}
-use mathlib.Core.Logic.{_⊎_, inl, inr}
+use mathlib.Core.Logic.{⊎-elim}
 use mathlib.Core.List.{List, [], _∷_, _++_, map}
 use Prim.Native.Nat.{ℕ, suc, _+_, _*_, _/_, _<_}
 use native.Mathlib.Nat.{mod-eq-of-lt}
@@ -51,6 +51,9 @@ step-start = rw (nib-image 12)
 pub nib-sent : (n : ℕ) → n < 16 → nib (image n) ≡ n
 nib-sent n h = nib-image n ∙ mod-eq-of-lt h
 
+pub known : (n : ℕ) → n < 16 → eqb n undecodable ≡ false
+known n h = ne-eqb n undecodable (λ e. omega arith)
+
 -- ---- the same along what arrives
 
 -- the mode along what arrives, beside the mode along what was sent; L allows loss
@@ -78,25 +81,14 @@ module _ (R : ℕ → ℕ → Type 0) (L : Type 0) (hears : Hears R L) where
   dropped-here : {m : Mode} (a : List Block) → L → Follows R L m a off []
   dropped-here a x = record { mode = gone x; blocks = lost-all x a }
 
-  scan-fill : (c : ℕ) → R (image 3) c → Follows R L (step scan (image 3)) (emitted scan (image 3)) (step scan c) (emitted scan c)
+  -- between blocks: a nibble that takes the walk where it can be
+  between :
+      (n c : ℕ) → n < 16 → Sim R L (step scan (image n)) (step scan (image n)) → R (image n) c
+      → Follows R L (step scan (image n)) (emitted scan (image n)) (step scan c) (emitted scan c)
   unfolding step emitted
-  scan-fill c f = go (hears 3 c (lit< tt) f)
-    where
-      go :
-          (nib c ≡ 3) ⊎ ((nib c ≡ undecodable) × L)
-          → Follows R L (step scan (image 3)) (emitted scan (image 3)) (step scan c) (emitted scan c)
-      go (inl e) = rw (nib-image 3, e) (record { mode = scans; blocks = over })
-      go (inr w) = rw (nib-image 3, w .0) (dropped-here [] (w .1))
-
-  scan-start : (c : ℕ) → R (image 12) c → Follows R L (step scan (image 12)) (emitted scan (image 12)) (step scan c) (emitted scan c)
-  unfolding step emitted
-  scan-start c f = go (hears 12 c (lit< tt) f)
-    where
-      go :
-          (nib c ≡ 12) ⊎ ((nib c ≡ undecodable) × L)
-          → Follows R L (step scan (image 12)) (emitted scan (image 12)) (step scan c) (emitted scan c)
-      go (inl e) = rw (nib-image 12, e) (record { mode = heads; blocks = over })
-      go (inr w) = rw (nib-image 12, w .0) (dropped-here [] (w .1))
+  between n c h s f =
+      ⊎-elim (λ (e : nib c ≡ n). rw (nib-sent n h, e) (record { mode = rw (nib-sent n h) at s; blocks = over })) (λ w. rw (w .0) (dropped-here [] (w .1)))
+      (hears n c h f)
 
   -- past a nibble that was heard right
   headed-same : (g w : ℕ) (t u : Bool) → full w [] ≡ u →
@@ -113,17 +105,12 @@ module _ (R : ℕ → ℕ → Type 0) (L : Type 0) (hears : Hears R L) where
       (g v n c : ℕ) → n < 16 → R (image n) c
       → Follows R L (step (heading g v) (image n)) (emitted (heading g v) (image n)) (step (heading g v) c) (emitted (heading g v) c)
   unfolding step emitted
-  head-nibble g v n c h f = go (hears n c h f)
-    where
-      read : eqb n undecodable ≡ false
-      read = ne-eqb n undecodable (λ e. omega arith)
-
-      go :
-          (nib c ≡ n) ⊎ ((nib c ≡ undecodable) × L)
-          → Follows R L (step (heading g v) (image n)) (emitted (heading g v) (image n)) (step (heading g v) c) (emitted (heading g v) c)
-      go (inl e) =
-          rw (nib-sent n h, e, read) (headed-same g (v / 16 + n * 4096) (ltb g 3) (full (v / 16 + n * 4096) []) refl)
-      go (inr w) = rw (w .0) (dropped-here (emitted (heading g v) (image n)) (w .1))
+  head-nibble g v n c h f =
+      ⊎-elim
+      (λ (e : nib c ≡ n).
+      rw (nib-sent n h, e, known n h) (headed-same g (v / 16 + n * 4096) (ltb g 3) (full (v / 16 + n * 4096) []) refl))
+      (λ w. rw (w .0) (dropped-here (emitted (heading g v) (image n)) (w .1)))
+      (hears n c h f)
 
   body-byte :
       (h b c : ℕ) {l m : List ℕ} → R b c → Near R l m
@@ -148,9 +135,9 @@ module _ (R : ℕ → ℕ → Type 0) (L : Type 0) (hears : Hears R L) where
   step-follows :
       {m k : Mode} {s : Symbol} (c : ℕ) → Fit m s → R (byteOf s) c → Sim R L m k
       → Follows R L (step m (byteOf s)) (emitted m (byteOf s)) (step k c) (emitted k c)
-  step-follows c skips f scans = scan-fill c f
+  step-follows c skips f scans = between 3 c (lit< tt) (rw step-fill scans) f
   step-follows c skips f (gone x) = gone-step _ _ c x
-  step-follows c opens f scans = scan-start c f
+  step-follows c opens f scans = between 12 c (lit< tt) (rw step-start heads) f
   step-follows c opens f (gone x) = gone-step _ _ c x
   step-follows c (nibble {g} {v} {n} h) f heads = head-nibble g v n c h f
   step-follows c (nibble h) f (gone x) = gone-step _ _ c x

@@ -19,7 +19,7 @@ use Rattle.fields.specs.Fields.{alike, width, laid, parts, fitting}
 use Rattle.packet.specs.declared.Setting.{Setting}
 use Rattle.packet.specs.Setting.{inRange}
 use Rattle.packet.specs.Packet.{address, packetZero}
-use Rattle.packet.specs.Address.{decodes}
+use Rattle.packet.specs.Address.{decodes, addressOf}
 use Rattle.symbols.specs.Stream.{symbols, cellsOf, streamOf, grab, beforeStart}
 use Rattle.writer.specs.Cutting.{dataPackets, pages, packets}
 use Rattle.writer.proofs.Cases.{desk}
@@ -27,7 +27,7 @@ use Rattle.writer.proofs.Numbering.{FortyTwo, packets-forty}
 use Rattle.writer.proofs.Numbering
 use Rattle.pages.specs.declared.headers.Page.the-variants.{Shut}
 use Rattle.pages.specs.Headers.{junk, other}
-use Rattle.pages.specs.Seen.{see}
+use Rattle.pages.specs.Seen.{seenAs, see}
 use Rattle.walk.specs.Mode.{running, heading}
 use Rattle.state.specs.declared.Reader.{Reader}
 use Rattle.state.specs.Acting.{State, act, handed, dropped}
@@ -171,7 +171,7 @@ feed-tells =
       counts = λ s i st r c l. call-counts s i st r c l ∙ ap length (sym (call-blocks s i st r c l));
       drops =
           λ s i st r c l e u.
-          call-drops s i st r c l ∙ ap (dropped st) (unreadable-junk s (c .packet) u) ∙ dropped-junk st ∙ e;
+          call-drops s i st r c l ∙ ap (dropped st) (unreadable-junk s (c .packet) l u) ∙ dropped-junk st ∙ e;
     }
 
 -- a packet rightly addressed to magazine 2
@@ -179,7 +179,7 @@ away : List ℕ
 away = address 2 0 ++ replicate 40 0x20
 
 away-seen : see desk away ≡ other
-unfolding see away decodes nib nibbleFrom image withParity differing number bits
+unfolding see seenAs addressOf away decodes nib nibbleFrom image withParity differing number bits
 away-seen = refl
 
 handed-away : (st : State) → handed st (see desk away) ≡ []

@@ -100,8 +100,8 @@ pub data Fed (s : Setting) : Reader → List (List ℕ) → List ℕ → List Bl
       {r after : Reader} {q old out : List ℕ} {qs : List (List ℕ)} {h : Heard} {numbers : List ℕ} {bs : List Block}
       → room ≤ length old → Feeds s r q old h after out → Fed s after qs numbers bs
       → Fed s r (q ∷ qs) (numberOf h ∷ numbers) (Block·blocks (take (writtenOf h) out) ++ bs)
-  -- at most n of those that are left go to `feed_all` in a row; those that it doesn't take stay
-  packetY :
+  -- at most n of those that are left go to `feed_all`; those that it doesn't take stay
+  many :
       {r after : Reader} {old out : List ℕ} {qs : List (List ℕ)} {h : HeardAll} {numbers : List ℕ} {bs : List Block} (n : ℕ)
       → room ≤ length old → FeedsAll s r (joined (take n qs)) old h after out → Fed s after (drop (packetsOfAll h) qs) numbers bs
       → Fed s r qs (numberOfAll h ∷ numbers) (Block·blocks (take (writtenOfAll h) out) ++ bs)

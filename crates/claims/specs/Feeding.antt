@@ -53,7 +53,7 @@ comesOut s r (c ∷ cs) =
 
 -- ---- a list of packets in one call
 
--- the number of an answer for a row, how many packets it says were taken, and how many bytes it reports as written
+-- the number of an answer for a list, how many packets it says were taken, and how many bytes it reports as written
 abbrev pub numberOfAll : HeardAll → ℕ
 numberOfAll (TookAll packets blocks written dropped) = 0
 numberOfAll (RefusedAll r) = r .no

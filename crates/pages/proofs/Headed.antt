@@ -17,7 +17,8 @@ use Rattle.pages.specs.declared.headers.Page.{Page}
 use Rattle.pages.specs.declared.headers.Page.the-variants.{Shut, Open}
 use Rattle.pages.specs.declared.headers.Verdict.{Verdict}
 use Rattle.pages.specs.Judging.{incomplete, breaks, verdictOf}
-use Rattle.pages.specs.Headers.{Seen, junk, foreign, ours, seeZero, legible, seenZero}
+use Rattle.pages.specs.Headers.{Seen, junk, foreign, ours, seeZero}
+use Rattle.pages.specs.Internal.{legible, seenZero}
 use Rattle.pages.proofs.Seeing.{decodes-at}
 
 -- ---- packet 0 of our magazine

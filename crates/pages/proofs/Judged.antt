@@ -1,5 +1,5 @@
 -- What a packet is seen as, by its address, and the verdict on it. Assumes nothing.
-use mathlib.Core.Path.{_≡_, _∙_, refl, sym}
+use mathlib.Core.Path.{_≡_, refl, sym}
 use mathlib.Core.Bool.{Bool, true, false, not}
 use mathlib.Core.List.{List}
 use Prim.Native.Nat.{ℕ, _+_, _*_, _/_, _%_, _≤_, _<_}
@@ -9,7 +9,8 @@ use lib.Dec.{leb, ltb, eqb, lit<}
 use lib.ListN.{length, getD, drop}
 use borrow.Author.Tests.{le-leb, lt-leb, lt-ltb, le-ltb, eq-eqb, ne-eqb}
 use Rattle.laws.specs.Pick.{pick, both}
-use Rattle.laws.proofs.Tests.{both-first, both-second}
+use Rattle.laws.proofs.Picks.{same}
+use Rattle.laws.proofs.Tests.{both-first, both-second, both-false}
 use Rattle.octet.specs.Decoding.{nib}
 use Rattle.packet.specs.declared.Setting.{Setting}
 use Rattle.packet.specs.Packet.{packetLength}
@@ -18,7 +19,8 @@ use Rattle.packet.proofs.Addressed.{address-long}
 use Rattle.pages.specs.declared.headers.Page.{Page}
 use Rattle.pages.specs.declared.headers.Verdict.{Verdict}
 use Rattle.pages.specs.Judging.{verdictOfY, verdictOf}
-use Rattle.pages.specs.Headers.{Seen, junk, other, foreign, ours, packetY, seeZero, seenZero}
+use Rattle.pages.specs.Headers.{Seen, junk, other, foreign, ours, packetY, seeZero}
+use Rattle.pages.specs.Internal.{seenZero}
 use Rattle.pages.proofs.Seeing.{decodes-at}
 use Rattle.pages.specs.Seen.{seeY, see, seenAs}
 
@@ -26,29 +28,39 @@ use Rattle.pages.specs.Seen.{seeY, see, seenAs}
 
 -- a packet is what its address says
 module _ (s : Setting) (p : List ℕ) where
+  -- by the two bytes of its address
   pub sees :
-      {x : ℕ} → 2 ≤ length p → x ≡ addressOf p
-      → see s p ≡ pick (leb x 255) (pick (eqb (x % 8) (s .magazine % 8)) (seeY s (x / 8) p) other) junk
-  unfolding see
-  sees {x} long e = go (decodes 2 p) refl (e ∙ address-long p long)
+      length p ≡ packetLength
+      → see s p
+      ≡ pick (decodes 2 p) (pick (eqb (nib (getD p 0 0) % 8) (s .magazine % 8)) (seeY s (nib (getD p 0 0) / 8 + 2 * nib (getD p 1 0)) p) other) junk
+  unfolding see seenAs
+  sees long = rw (eq-eqb _ _ long, address-long p (omega (arith, long))) (go (decodes 2 p) refl)
     where
-      go : (t : Bool) → t ≡ decodes 2 p → x ≡ pick t (nib (getD p 0 0) + 16 * nib (getD p 1 0)) 256
-          → pick t (pick (eqb (nib (getD p 0 0) % 8) (s .magazine % 8)) (seeY s (nib (getD p 0 0) / 8 + 2 * nib (getD p 1 0)) p) other) junk
-          ≡ pick (leb x 255) (pick (eqb (x % 8) (s .magazine % 8)) (seeY s (x / 8) p) other) junk
-      go true q f =
-          let h : x ≤ 255 = omega (arith, decodes-at 2 0 p q (omega arith), decodes-at 2 1 p q (omega arith), f) in
-          let u : x % 8 ≡ nib (getD p 0 0) % 8 = omega (arith, f) in
-          let v : x / 8 ≡ nib (getD p 0 0) / 8 + 2 * nib (getD p 1 0) = omega (arith, f) in
+      x : ℕ
+      x = nib (getD p 0 0) + 16 * nib (getD p 1 0)
+
+      go :
+          (t : Bool) → t ≡ decodes 2 p
+          → pick (leb (pick t x 256) 255) (pick (eqb (pick t x 256 % 8) (s .magazine % 8)) (seeY s (pick t x 256 / 8) p) other) junk
+          ≡ pick t (pick (eqb (nib (getD p 0 0) % 8) (s .magazine % 8)) (seeY s (nib (getD p 0 0) / 8 + 2 * nib (getD p 1 0)) p) other) junk
+      go true q =
+          let h : x ≤ 255 = omega (arith, decodes-at 2 0 p q (omega arith), decodes-at 2 1 p q (omega arith)) in
+          let u : x % 8 ≡ nib (getD p 0 0) % 8 = omega arith in
+          let v : x / 8 ≡ nib (getD p 0 0) / 8 + 2 * nib (getD p 1 0) = omega arith in
           rw (le-leb _ _ h, u, v)
-      go false q f = let h : 255 < x = omega (arith, f) in rw (lt-leb _ _ h)
+      go false q = refl
+
+  -- an address that can't be decoded
+  pub see-junk : decodes 2 p ≡ false → see s p ≡ junk
+  unfolding see seenAs addressOf
+  see-junk e = rw (e, both-false) (same (eqb (length p) packetLength) refl refl)
 
   -- what is passed by is another magazine's
-  pub see-elsewhere : {x : ℕ} → 2 ≤ length p → x ≡ addressOf p → elsewhere s x ≡ true → see s p ≡ other
-  unfolding elsewhere
+  pub see-elsewhere : {x : ℕ} → length p ≡ packetLength → x ≡ addressOf p → elsewhere s x ≡ true → see s p ≡ other
+  unfolding see seenAs elsewhere
   see-elsewhere {x} long e t =
       let m = eqb (x % 8) (s .magazine % 8) in
-      let h : leb x 255 ≡ true = both-first (leb x 255) (not m) t in
-      sees long e ∙ rw h (go m (both-second (leb x 255) (not m) t))
+      rw (← e, eq-eqb _ _ long, both-first (leb x 255) (not m) t) (go m (both-second (leb x 255) (not m) t))
     where
       go : (t : Bool) → not t ≡ true → pick t (seeY s (x / 8) p) other ≡ other
       go true k = cc
@@ -59,11 +71,6 @@ module _ (s : Setting) (p : List ℕ) where
   as-short x h = rw (ne-eqb _ _ h)
 
   module _ (long : length p ≡ packetLength) {x : ℕ} where
-    -- with its own address a packet of 42 bytes is what it is
-    pub as-seen : x ≡ addressOf p → seenAs s x p ≡ see s p
-    unfolding seenAs
-    as-seen e = rw (eq-eqb _ _ long) (sym (sees (omega (arith, long)) e))
-
     pub as-junk : 255 < x → seenAs s x p ≡ junk
     unfolding seenAs
     as-junk h = rw (eq-eqb _ _ long, lt-leb _ _ h)
@@ -99,32 +106,35 @@ Shaped q (ours index n) = index ≤ 15
 Shaped q (packetY y p l) = (p ≡ nib (getD q 2 0)) × (l ≡ drop 3 q)
 
 pub shaped : (s : Setting) (q : List ℕ) → Shaped q (see s q)
-unfolding see seeY seeZero
+unfolding see seenAs seeY seeZero
 shaped s q =
-    go (decodes 2 q) (eqb (nib (getD q 0 0) % 8) (s .magazine % 8)) (eqb (nib (getD q 0 0) / 8 + 2 * nib (getD q 1 0)) 0)
-    (leb (nib (getD q 0 0) / 8 + 2 * nib (getD q 1 0)) 25)
+    go (eqb (length q) packetLength) (leb (addressOf q) 255) (eqb (addressOf q % 8) (s .magazine % 8)) (eqb (addressOf q / 8) 0)
+    (leb (addressOf q / 8) 25)
     (decodes 6 (drop 2 q)) refl
     (both (eqb (nib (getD (drop 2 q) 0 0) + 16 * nib (getD (drop 2 q) 1 0)) (s .page)) (eqb (nib (getD (drop 2 q) 4 0)) (s .stream)))
   where
     go :
-        (a b c d e : Bool) → decodes 6 (drop 2 q) ≡ e → (f : Bool)
+        (long a b c d e : Bool) → decodes 6 (drop 2 q) ≡ e → (f : Bool)
         → Shaped q
+        (pick long
         (pick a
         (pick b
         (pick c
         (pick e
         (pick f (ours (nib (getD (drop 2 q) 2 0)) (nib (getD (drop 2 q) 3 0) % 8 + 8 * (nib (getD (drop 2 q) 5 0) % 4))) foreign)
         junk)
-        (pick d (packetY (nib (getD q 0 0) / 8 + 2 * nib (getD q 1 0)) (nib (getD q 2 0)) (drop 3 q)) other))
+        (pick d (packetY (addressOf q / 8) (nib (getD q 2 0)) (drop 3 q)) other))
         other)
         junk)
-    go false b c d e p f = tt
-    go true false c d e p f = tt
-    go true true false true e p f = (refl, refl)
-    go true true false false e p f = tt
-    go true true true d false p f = tt
-    go true true true d true p false = tt
-    go true true true d true p true = omega (arith, decodes-at 6 2 (drop 2 q) (sym p) (lit< tt))
+        junk)
+    go false a b c d e p f = tt
+    go true false b c d e p f = tt
+    go true true false c d e p f = tt
+    go true true true false true e p f = (refl, refl)
+    go true true true false false e p f = tt
+    go true true true true d false p f = tt
+    go true true true true d true p false = tt
+    go true true true true d true p true = omega (arith, decodes-at 6 2 (drop 2 q) (sym p) (lit< tt))
 
 -- ---- the verdict, by what a packet is seen as
 

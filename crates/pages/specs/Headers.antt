@@ -1,9 +1,8 @@
 -- What a packet is to a reader of a setting, and packet 0 by its bytes.
-use mathlib.Core.Bool.{Bool}
 use mathlib.Core.List.{List}
 use Prim.Native.Nat.{ℕ, _+_, _*_, _%_}
 use lib.Dec.{eqb}
-use lib.ListN.{length, getD, drop}
+use lib.ListN.{length, getD}
 use Rattle.laws.specs.Pick.{pick, both}
 use Rattle.octet.specs.Decoding.{nib}
 use Rattle.packet.specs.declared.Setting.{Setting}
@@ -31,14 +30,6 @@ seeZero s l =
     foreign)
     junk
 
--- a packet 0 that can be read: 42 bytes, and the six after its address can be decoded
-abbrev pub legible : List ℕ → Bool
-legible p = both (eqb (length p) packetLength) (decodes 6 (drop 2 p))
-
 -- a packet that isn't 42 bytes long counts as one that can't be read
 abbrev pub inFull : List ℕ → Seen → Seen
 inFull p x = pick (eqb (length p) packetLength) x junk
-
--- a packet 0
-unfoldable pub seenZero : Setting → List ℕ → Seen
-seenZero s p = inFull p (seeZero s (drop 2 p))

@@ -1,5 +1,5 @@
--- What a packet is to the reader, by its address: SCOPE 8.2 to 8.4.
--- What a packet can be to the reader, what packet 0 is, and what each does: SCOPE 8.
-pub mod Seen
+-- What a packet can be to the reader, what packet 0 is, what any packet is by its address, and what each does: SCOPE 8.
 pub mod Headers
+pub mod Seen
 pub mod Judging
+pub mod Internal

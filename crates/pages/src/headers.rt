@@ -6,7 +6,7 @@ ghost use mathlib.Core.Bool.{false};
 ghost use lib.Dec.{leb, eqb};
 ghost use Rattle.laws.specs.Pick.{pick, both};
 ghost use Rattle.pages.specs.declared.headers.Page.the-variants.{Shut, Open};
-ghost use Rattle.pages.specs.Headers.{legible, seenZero};
+ghost use Rattle.pages.specs.Internal.{legible, seenZero};
 ghost use Rattle.pages.specs.Judging.{incomplete, breaks, verdictOf};
 
 // The page of ours that is open, if one is: how many packets follow its packet 0, and the number of

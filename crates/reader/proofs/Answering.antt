@@ -1,14 +1,14 @@
--- The answers of the call for one packet, from those of the call for a list of packets: a list of one packet takes it where there is room,
--- and else takes none. Assumes nothing.
+-- The answers of the call for one packet, from those of the call for a list of packets: a list of one is refused as its packet is, and
+-- takes it where it isn't. Assumes nothing.
 use mathlib.Core.Path.{_≡_, refl, sym}
 use mathlib.Core.Bool.{Bool, true, false}
 use mathlib.Core.List.{List}
-use Prim.Native.Nat.{ℕ, _/_, _%_, _≤_, _<_}
+use Prim.Native.Nat.{ℕ, _/_, _%_, _≤_}
 use native.Mathlib.Omega.{arith}
 use lib.Dec.{leb}
 use lib.ListN.{length}
 use lib.Seq.{take-all}
-use borrow.Author.Tests.{le-leb, leb-true, leb-false, eq-eqb, ne-eqb}
+use borrow.Author.Tests.{le-leb, leb-true, eq-eqb, ne-eqb}
 use Rattle.laws.specs.Pick.{both}
 use Rattle.laws.proofs.Tests.{both-false}
 use Rattle.blocks.specs.Block.{recordsOf}
@@ -16,29 +16,22 @@ use Rattle.packet.specs.declared.Setting.{Setting}
 use Rattle.packet.specs.Setting.{inRange}
 use Rattle.packet.specs.Packet.{packetLength}
 use Rattle.walk.specs.Reading.{room}
-use Rattle.walk.specs.Store.{storeLength}
 use Rattle.state.specs.declared.Reader.{Reader}
 use Rattle.state.specs.Acting.{State}
-use Rattle.state.specs.State.{stateOf, readerOf, readerInRange, Sixteen}
-use Rattle.state.proofs.Holding.{ready-kept}
+use Rattle.state.specs.State.{stateOf, readerInRange}
 use Rattle.reader.specs.declared.many.HeardAll.{HeardAll}
 use Rattle.reader.specs.Many.{begun, ranOn, run, feedAllHeard, feedAllReader, feedAllOut}
-use Rattle.reader.proofs.Running.{run-full}
-use Rattle.reader.proofs.AnsweringMany.{handed-back}
 use Rattle.reader.specs.declared.Heard.{Heard}
 use Rattle.reader.specs.Feeding.{refusedHeard, feedHeard, feedReader, feedOut}
-use Rattle.reader.specs.Telling.{told}
+use Rattle.reader.specs.Internal.{told}
 
 -- ---- a list of one packet
 
-module _ (s : Setting) (long : ℕ) (st : State) (p : List ℕ) where
-  run-one : length p ≡ packetLength → room ≤ long → run s long (length p / packetLength) (begun st) p ≡ ranOn s (begun st) p
-  unfolding run recordsOf
-  run-one h r = rw (h, le-leb room long r, take-all packetLength p (omega (arith, h)))
-
-  run-none : long < room → run s long (length p / packetLength) (begun st) p ≡ begun st
-  unfolding recordsOf
-  run-none r = sym (run-full s long (length p / packetLength) (begun st) p r)
+run-one :
+    (s : Setting) (long : ℕ) (st : State) (p : List ℕ) → length p ≡ packetLength → room ≤ long
+    → run s long (length p / packetLength) (begun st) p ≡ ranOn s (begun st) p
+unfolding run recordsOf
+run-one s long st p h r = rw (h, le-leb room long r, take-all packetLength p (omega (arith, h)))
 
 -- ---- the answers
 
@@ -50,16 +43,10 @@ module _ (s : Setting) (r : Reader) (p old : List ℕ) where
   pub other-length : ¬ (length p ≡ packetLength) → Answers s r p old (refusedHeard 16 0) r old
   other-length n = rw (ne-eqb _ _ n, both-false, both-false) (refl, (refl, refl))
 
-  -- the reader that a list of no packets hands back is the one handed in
-  same-reader :
-      both (inRange s) (both (readerInRange r) true) ≡ true → Sixteen (r .run) → length (r .store) ≡ storeLength → r ≡ readerOf (stateOf r)
-  same-reader e w k = handed-back refl refl (ready-kept s r true refl e w k)
-
-  of-row :
-      length p ≡ packetLength → Sixteen (r .run) → length (r .store) ≡ storeLength
+  of-list :
+      length p ≡ packetLength
       → Answers s r p old (told (feedAllHeard s r p old)) (feedAllReader s r p old) (feedAllOut s r p old)
-  unfolding recordsOf
-  of-row l w k = go (both (inRange s) (both (readerInRange r) true)) refl (leb room (length old)) refl
+  of-list l = go (both (inRange s) (both (readerInRange r) true)) refl (leb room (length old)) refl
     where
       z : length p % packetLength ≡ 0
       z = omega (arith, l)
@@ -68,15 +55,13 @@ module _ (s : Setting) (r : Reader) (p old : List ℕ) where
           (ready : Bool) → ready ≡ both (inRange s) (both (readerInRange r) true) → (enough : Bool) → enough ≡ leb room (length old)
           → Answers s r p old (told (feedAllHeard s r p old)) (feedAllReader s r p old) (feedAllOut s r p old)
       go false e enough f = rw (eq-eqb _ _ l, eq-eqb _ _ z, ← e) (refl, (refl, refl))
+      go true e false f = rw (eq-eqb _ _ l, eq-eqb _ _ z, ← e, ← f) (refl, (refl, refl))
       go true e true f =
           rw (eq-eqb _ _ l, eq-eqb _ _ z, ← e, ← f, run-one s (length old) (stateOf r) p l (leb-true _ _ (sym f))) (refl, (refl, refl))
-      go true e false f =
-          rw (eq-eqb _ _ l, eq-eqb _ _ z, ← e, ← f, run-none s (length old) (stateOf r) p (leb-false _ _ (sym f)))
-          (refl, (sym (same-reader (sym e) w k), refl))
 
   -- the packet as a list of one
   pub one :
-      {h : HeardAll} {x : Heard} {after : Reader} {new : List ℕ} → length p ≡ packetLength → Sixteen (r .run) → length (r .store) ≡ storeLength
+      {h : HeardAll} {x : Heard} {after : Reader} {new : List ℕ} → length p ≡ packetLength
       → h ≡ feedAllHeard s r p old → x ≡ told h → after ≡ feedAllReader s r p old → new ≡ feedAllOut s r p old
       → Answers s r p old x after new
-  one l w k e t f g = rw (t, e, f, g) (of-row l w k)
+  one l e t f g = rw (t, e, f, g) (of-list l)

@@ -2,10 +2,11 @@
 use mathlib.Core.Path.{_≡_, _∙_, refl}
 use mathlib.Core.Bool.{Bool, true, false}
 use mathlib.Core.List.{List}
-use Prim.Native.Nat.{ℕ, _%_, _/_, _≤_}
+use Prim.Native.Nat.{ℕ, _%_, _/_, _≤_, _<_}
 use native.Mathlib.Omega.{arith}
 use lib.Dec.{eqb}
 use lib.ListN.{length}
+use borrow.Author.Tests.{le-leb, lt-leb}
 use Rattle.laws.specs.Pick.{both}
 use Rattle.laws.proofs.Lists.{sets-front}
 use Rattle.blocks.specs.Block.{recordsOf}
@@ -22,16 +23,14 @@ use Rattle.reader.specs.declared.many.Going.{Going}
 use Rattle.state.specs.Acting.{State}
 use Rattle.state.specs.State.{readerOf, readerInRange}
 use Rattle.reader.specs.Many.{begun, run, ranAll, refusedAll, feedAllHeard, feedAllReader, feedAllOut}
-use Rattle.walk.specs.Places.{zeroed}
-use Rattle.walk.specs.Holding.{Holds}
-use Rattle.reader.specs.Stepped.{stateIn}
-use Rattle.reader.specs.Holding.{started, RanTo}
+use Rattle.walk.specs.Reading.{room}
+use Rattle.walk.specs.Internal.{Holds}
+use Rattle.reader.specs.Internal.{stateIn, started, RanTo}
 
 -- the reader that what has come is handed back as
-pub handed-back :
+handed-back :
     {st : State} {page : Page} {index : ℕ} {run : Run} {store : List ℕ} → page ≡ st .page → index ≡ st .index → Holds (st .mode) run store
     → record { page = page; index = index; run = run; store = store } ≡ readerOf st
-unfolding zeroed
 handed-back x y w = rw (x, y, w .run, w .kept)
 
 -- the answer, the reader and the output are these
@@ -44,17 +43,20 @@ module _ (s : Setting) (r : Reader) (l old : List ℕ) where
     pub not-ready-all : ready ≡ false → AnswersAll s r l old (refusedAll 16 0) r old
     not-ready-all i = rw (← e, i) (refl, (refl, refl))
 
+    pub no-room-all : ready ≡ true → length old < room → AnswersAll s r l old (refusedAll 1 0) r old
+    no-room-all i h = rw (← e, i, lt-leb _ _ h) (refl, (refl, refl))
+
     pub taken-all :
-        {g : Going} {t : Taking} {store new : List ℕ} → ready ≡ true → g ≡ started (r .page) (r .index) (r .run)
+        {g : Going} {t : Taking} {store new : List ℕ} → ready ≡ true → room ≤ length old → g ≡ started (r .page) (r .index) (r .run)
         → t .going .got .written ≤ length old
         → RanTo (run s (length old) (length l / packetLength) (begun (stateIn g (r .store))) l) t store old new
         → AnswersAll s r l old
         (TookAll (t .packets) (t .going .got .blocks) (t .going .got .written) (t .going .got .dropped))
         (record { page = t .going .page; index = t .going .index; run = t .going .got .run; store = store }) new
-    taken-all {g} {t} {store} {new} i q f x =
+    taken-all {g} {t} {store} {new} i h q f x =
         let bytes : List ℕ = recordsOf (ranAll s r l old .blocks) in
         let w : RanTo (ranAll s r l old) t store old new = rw q at x in
-        rw (← e, i) (
+        rw (← e, i, le-leb _ _ h) (
           rw (w .packets, w .blocks, w .written, w .dropped),
           (handed-back (w .page) (w .index) (w .holds), w .out ∙ sets-front old bytes (omega (arith, w .written))),
         )

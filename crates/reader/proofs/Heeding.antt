@@ -4,28 +4,27 @@ use mathlib.Core.Path.{_≡_, refl}
 use mathlib.Core.Bool.{true, false}
 use mathlib.Core.List.{List, []}
 use Prim.Native.Nat.{ℕ}
-use lib.ListN.{length, getD, drop}
+use lib.ListN.{getD, drop}
 use Rattle.laws.specs.Pick.{both}
 use Rattle.octet.specs.Decoding.{nib}
 use Rattle.packet.specs.declared.Setting.{Setting}
-use Rattle.packet.specs.Packet.{packetLength}
 use Rattle.pages.specs.declared.headers.Verdict.{Verdict}
 use Rattle.pages.specs.Headers.{Seen, junk, other, foreign, ours, packetY}
 use Rattle.pages.specs.Seen.{see, seenAs}
 use Rattle.packet.specs.Address.{addressOf}
 use Rattle.pages.specs.Judging.{verdictOf}
-use Rattle.pages.proofs.Judged.{Shaped, shaped, as-seen}
+use Rattle.pages.proofs.Judged.{Shaped, shaped}
 use Rattle.walk.specs.declared.Got.{Got}
 use Rattle.walk.specs.Mode.{running}
 use Rattle.walk.specs.Reading.{dropIf}
 use Rattle.walk.specs.Store.{modeOf}
-use Rattle.walk.specs.Holding.{Kept, Went, ReadPacket}
+use Rattle.walk.specs.Internal.{Kept, Went, ReadPacket}
 use Rattle.walk.proofs.Keeping.{holds-mode}
 use Rattle.laws.proofs.Tests.{either-false}
 use Rattle.walk.proofs.Adding.{went-nowhere, went-on}
 use Rattle.reader.specs.declared.many.Going.{Going}
 use Rattle.state.specs.Acting.{State, act, handed, dropped}
-use Rattle.reader.specs.Stepped.{Heeded, Acted, stateIn}
+use Rattle.reader.specs.Internal.{Heeded, Acted, stateIn}
 
 -- ---- what the code does by a verdict
 
@@ -56,9 +55,10 @@ module _ (s : Setting) (p : List ℕ) (st : State) (a r : Going) (store old new 
   fits (packetY y q l) e w = rw (e .0, e .1) w
 
   pub acted :
-      {v : Verdict} {x : ℕ} → length p ≡ packetLength → x ≡ addressOf p → v ≡ verdictOf (st .page) (st .index) (seenAs s x p)
+      {v : Verdict} {x : ℕ} → x ≡ addressOf p → v ≡ verdictOf (st .page) (st .index) (seenAs s x p)
       → Heeded v (nib (getD p 2 0)) (drop 3 p) st a r store old new → Acted (see s p) st a r store old new
-  acted h f e w = fits (see s p) (shaped s p) (rw (e, as-seen s p h f) at w)
+  unfolding see
+  acted f e w = fits (see s p) (shaped s p) (rw (e, f) at w)
 
 -- nothing changes
 pub act-other :

@@ -19,9 +19,8 @@ use Rattle.pages.specs.Seen.{see}
 use Rattle.state.specs.Acting.{State, handed, dropped}
 use Rattle.walk.specs.Reading.{room}
 use Rattle.reader.specs.Many.{Ran, begun, ranOn, run}
-use Rattle.walk.specs.Holding.{Good, Kept}
-use Rattle.reader.specs.Stepped.{Acted, stateIn}
-use Rattle.reader.specs.Holding.{RanTo}
+use Rattle.walk.specs.Internal.{Good, Kept}
+use Rattle.reader.specs.Internal.{Acted, stateIn, RanTo}
 use Rattle.walk.proofs.Keeping.{holds-mode}
 use Rattle.walk.proofs.Adding.{recordsOf-append}
 use Rattle.walk.proofs.Room.{two-each}

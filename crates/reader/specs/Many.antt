@@ -1,4 +1,4 @@
--- A list of packets: each is taken while the room left is enough for one (SCOPE 10.6).
+-- A list of packets: with room for one at all, each is taken while the room left is enough for one (SCOPE 10.6).
 use mathlib.Core.Bool.{Bool, false}
 use mathlib.Core.List.{List, [], _∷_, _++_}
 use Prim.Native.Nat.{ℕ, zero, suc, _+_, _%_, _/_}
@@ -48,22 +48,27 @@ run s long (suc n) a l =
 abbrev pub ranAll : Setting → Reader → List ℕ → List ℕ → Ran
 ranAll s r l old = run s (length old) (length l / packetLength) (begun (stateOf r)) l
 
-abbrev pub feedAllRules : Setting → Reader → List ℕ → List Rule
-feedAllRules s r l = rule (both (inRange s) (both (readerInRange r) (eqb (length l % packetLength) 0))) 16 0 ∷ []
+-- 16 for setting, state or list, and after it 1, whatever the list is (SCOPE 3.5, 10.6)
+abbrev pub feedAllRules : Setting → Reader → List ℕ → List ℕ → List Rule
+feedAllRules s r l old =
+    rule (both (inRange s) (both (readerInRange r) (eqb (length l % packetLength) 0))) 16 0 ∷ rule (leb room (length old)) 1 0 ∷ []
 
 abbrev pub refusedAll : ℕ → ℕ → HeardAll
 refusedAll number offset = RefusedAll (refusal number offset)
 
+-- the answer: how many packets, how many blocks, how many bytes, whether a block was dropped
 abbrev pub feedAllHeard : Setting → Reader → List ℕ → List ℕ → HeardAll
 feedAllHeard s r l old =
     let a = ranAll s r l old in
-    judged refusedAll (feedAllRules s r l)
+    judged refusedAll (feedAllRules s r l old)
     (TookAll (a .packets) (length (a .blocks)) (length (recordsOf (a .blocks))) (a .dropped))
 
+-- the reader handed back: a refusal's is equal to the one handed in (SCOPE 3.2)
 abbrev pub feedAllReader : Setting → Reader → List ℕ → List ℕ → Reader
-feedAllReader s r l old = judged (λ number offset. r) (feedAllRules s r l) (readerOf (ranAll s r l old .state))
+feedAllReader s r l old = judged (λ number offset. r) (feedAllRules s r l old) (readerOf (ranAll s r l old .state))
 
+-- the output afterwards
 abbrev pub feedAllOut : Setting → Reader → List ℕ → List ℕ → List ℕ
 feedAllOut s r l old =
     let bytes = recordsOf (ranAll s r l old .blocks) in
-    judged (λ number offset. old) (feedAllRules s r l) (bytes ++ drop (length bytes) old)
+    judged (λ number offset. old) (feedAllRules s r l old) (bytes ++ drop (length bytes) old)

@@ -14,10 +14,9 @@ ghost use Rattle.blocks.specs.Block.{recordOf};
 ghost use Rattle.packet.specs.Packet.{packetLength};
 ghost use Rattle.walk.specs.declared.Run.the-variants.{Body};
 ghost use Rattle.walk.specs.Mode.{Mode, body, running};
-ghost use Rattle.walk.specs.Store.{modeOf};
+ghost use Rattle.walk.specs.Store.{zeroed, modeOf};
 ghost use Rattle.walk.specs.Reading.{dropIf};
-ghost use Rattle.walk.specs.Places.{zeroed};
-ghost use Rattle.walk.specs.Holding.{blockWith, Holds, Kept, TookIn, Room, Finished, ContinuedTo, ContinuedOn, Flowed, PacketRoom, ReadPacket, Lost, runs};
+ghost use Rattle.walk.specs.Internal.{blockWith, Holds, Kept, TookIn, Room, Finished, ContinuedTo, ContinuedOn, Flowed, PacketRoom, ReadPacket, Lost, runs};
 
 // The 39 bytes of a packet of our page, by its pointer: the running block goes on or is dropped, and the records of the blocks that
 // they finish stand in the output behind what is written.

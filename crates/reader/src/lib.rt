@@ -12,7 +12,7 @@ pub use state::Reader;
 pub use state::fresh;
 ghost use mathlib.Core.Path.{_≡_};
 ghost use Rattle.reader.specs.Feeding.{feedHeard, feedReader, feedOut};
-ghost use Rattle.reader.specs.Telling.{told as Telling·told};
+ghost use Rattle.reader.specs.Internal.{told as Internal·told};
 
 // What one packet gave: so many blocks, as so many bytes of records at the front of the output, and
 // whether a block was dropped.
@@ -55,26 +55,21 @@ pub fn feed(setting: Setting, reader: Reader, packet: &[u8], out: &mut [u8]) -> 
     }
 }
 
-// What one packet gave, from what a list of one gave: none is taken where there is no room.
+// What one packet gave, from what a list of one gave.
 fn told(heard: HeardAll) -> Heard
-    ensures { λ r. ⌜ r ≡ Telling·told heard ⌝ }
+    ensures { λ r. ⌜ r ≡ Internal·told heard ⌝ }
 {
     match heard {
         HeardAll::RefusedAll(r) => Heard::Refused(r),
         HeardAll::TookAll {
-            packets,
+            packets: _,
             blocks,
             written,
             dropped,
-        } => {
-            if packets == 0 {
-                return Heard::Refused(Refusal { no: 1, at: 0 });
-            }
-            Heard::Took {
-                blocks: blocks,
-                written: written,
-                dropped: dropped,
-            }
-        }
+        } => Heard::Took {
+            blocks: blocks,
+            written: written,
+            dropped: dropped,
+        },
     }
 }

@@ -16,11 +16,10 @@ ghost use Rattle.laws.specs.Pick.{both};
 ghost use Rattle.packet.specs.Setting.{inRange};
 ghost use Rattle.packet.specs.Packet.{packetLength};
 ghost use Rattle.octet.specs.Decoding.{nib};
-ghost use Rattle.walk.specs.Holding.{Kept, PacketRoom};
-ghost use Rattle.reader.specs.Stepped.{stateIn, Heeded};
+ghost use Rattle.walk.specs.Internal.{Kept, PacketRoom};
 ghost use Rattle.state.specs.State.{readerInRange, Sixteen};
 ghost use Rattle.reader.specs.Many.{begun, run, feedAllHeard, feedAllReader, feedAllOut};
-ghost use Rattle.reader.specs.Holding.{started, RanTo};
+ghost use Rattle.reader.specs.Internal.{stateIn, Heeded, started, RanTo};
 
 // What a list of packets gave: how many of them were taken, how many blocks they finished, as how many
 // bytes of records at the front of the output, and whether a block was dropped.
@@ -55,8 +54,9 @@ struct Taking {
 
 // A list of packets of 42 bytes, taken one after the other, while at least 2,112 bytes of the output are
 // left: the blocks that they finish stand as records at the front of the output, and the reader has gone
-// on. Refused with 16 where the setting or the state is out of range or the list isn't whole packets: the
-// output and the reader are then as they were. The state is tested once, and it is copied in and out once.
+// on. Refused with 16 where the setting or the state is out of range or the list isn't whole packets, then
+// with 1 where the output is under 2,112 bytes, also for an empty list: the output and the reader are then
+// as they were. The state is tested once, and it is copied in and out once.
 pub fn feed_all(setting: Setting, reader: Reader, packets: &[u8], out: &mut [u8]) -> FedAll
     ensures { λ r. ⌜ r .heard ≡ feedAllHeard setting reader (now (packets .entry)) (now (out .entry)) ⌝ }
     ensures { λ r. ⌜ r .reader ≡ feedAllReader setting reader (now (packets .entry)) (now (out .entry)) ⌝ }
@@ -69,6 +69,12 @@ pub fn feed_all(setting: Setting, reader: Reader, packets: &[u8], out: &mut [u8]
     if !is_ready(setting, page, reader.index, run, &store, whole) {
         return FedAll {
             heard: HeardAll::RefusedAll(Refusal { no: 16, at: 0 }),
+            reader: reader,
+        };
+    }
+    if out.len() < 2112 {
+        return FedAll {
+            heard: HeardAll::RefusedAll(Refusal { no: 1, at: 0 }),
             reader: reader,
         };
     }

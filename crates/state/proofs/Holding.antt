@@ -16,11 +16,9 @@ use Rattle.packet.specs.Setting.{inRange}
 use Rattle.walk.specs.declared.Run.{Run}
 use Rattle.walk.specs.declared.Run.the-variants.{Idle, Head, Body}
 use Rattle.state.specs.declared.Reader.{Reader}
-use Rattle.walk.specs.Store.{storeLength}
-use Rattle.state.specs.State.{zeros, pageInRange, runInRange, heldBy, readerInRange}
-use Rattle.walk.specs.Places.{zeroed}
-use Rattle.walk.specs.Holding.{Kept}
-use Rattle.state.specs.State.{Sixteen}
+use Rattle.walk.specs.Store.{storeLength, zeroed}
+use Rattle.state.specs.State.{zeros, pageInRange, runInRange, heldBy, readerInRange, Sixteen}
+use Rattle.walk.specs.Internal.{Kept}
 
 zeros-all : (l : List ℕ) → zeros l ≡ true → l ≡ replicate (length l) 0
 unfolding zeros

@@ -11,7 +11,7 @@ use lib.Seq.{take-append-seam, drop-append-seam}
 use borrow.Author.Tests.{le-leb}
 use Rattle.laws.specs.Pick.{pick}
 use Rattle.laws.proofs.Tests.{both-true}
-use Rattle.walk.specs.Holding.{Good}
+use Rattle.walk.specs.Internal.{Good}
 use Rattle.walk.proofs.Along.{drop-good, read-good}
 use Rattle.pages.proofs.Judged.{Shaped, shaped}
 use Rattle.blocks.specs.Block.{sizeOf}
@@ -19,8 +19,8 @@ use Rattle.packet.specs.declared.Setting.{Setting}
 use Rattle.pages.specs.declared.headers.Page.{Page}
 use Rattle.pages.specs.declared.headers.Page.the-variants.{Shut, Open}
 use Rattle.walk.specs.Mode.{Mode, off, scan, heading, body}
-use Rattle.walk.specs.Store.{storeLength, modeOf, runOf}
-use Rattle.state.specs.State.{stateOf, storeOf, readerOf, zeros, pageInRange, runInRange, heldBy, readerInRange, freshState}
+use Rattle.walk.specs.Store.{storeLength, zeroed, modeOf, runOf, heldOf}
+use Rattle.state.specs.State.{stateOf, readerOf, zeros, pageInRange, runInRange, heldBy, readerInRange, freshState}
 use Rattle.state.specs.Acting.{State, pointerOf, bytesOf, act}
 use Rattle.pages.specs.declared.headers.Verdict.{Verdict}
 use Rattle.pages.specs.Judging.{verdictOf}
@@ -85,7 +85,8 @@ unfolding zeros
 zeros-replicate zero = refl
 zeros-replicate (suc n) = zeros-replicate n
 
-mode-held : (m : Mode) → Good m → modeOf (runOf m) (storeOf m) ≡ m
+mode-held : (m : Mode) → Good m → modeOf (runOf m) (zeroed (heldOf m)) ≡ m
+unfolding zeroed
 mode-held off r = refl
 mode-held scan r = absurd r
 mode-held (heading g v) r = refl
@@ -101,7 +102,8 @@ run-in-range scan r = absurd r
 run-in-range (heading g v) r = rw (le-leb g 3 (r .got), r .only)
 run-in-range (body h held) r = le-leb (length held) (sizeOf h) (r .1)
 
-zeros-past : (m : Mode) → zeros (drop (heldBy (runOf m)) (storeOf m)) ≡ true
+zeros-past : (m : Mode) → zeros (drop (heldBy (runOf m)) (zeroed (heldOf m))) ≡ true
+unfolding zeroed
 zeros-past off = zeros-replicate 2047
 zeros-past scan = zeros-replicate 2047
 zeros-past (heading g v) = zeros-replicate 2047

@@ -18,7 +18,7 @@ use Rattle.pages.specs.Judging.{verdictOf}
 use Rattle.walk.specs.Reading.{dropIf, readBlocks}
 use Rattle.pages.specs.Headers.{Seen}
 use Rattle.walk.proofs.Along.{Along, good-along, drop-good, continues-along}
-use Rattle.walk.specs.Holding.{Good}
+use Rattle.walk.specs.Internal.{Good}
 use Rattle.state.proofs.Ranging.{Sound}
 
 pub sized-append : {a b : List Block} → Sized a → Sized b → Sized (a ++ b)

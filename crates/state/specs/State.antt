@@ -1,9 +1,9 @@
 -- The state as the reader holds it: the running block's bytes in a store of 2,047, all others zero (SCOPE 10.1).
 use mathlib.Core.Bool.{Bool, true}
-use mathlib.Core.List.{List, [], _∷_, _++_}
+use mathlib.Core.List.{List, [], _∷_}
 use Prim.Native.Nat.{ℕ, _-_, _%_, _^_, _<_}
 use lib.Dec.{eqb, leb}
-use lib.ListN.{length, drop, replicate}
+use lib.ListN.{drop}
 use Rattle.laws.specs.Pick.{both}
 use Rattle.blocks.specs.Block.{sizeOf}
 use Rattle.pages.specs.declared.headers.Page.{Page}
@@ -11,8 +11,8 @@ use Rattle.pages.specs.declared.headers.Page.the-variants.{Shut, Open}
 use Rattle.walk.specs.declared.Run.{Run}
 use Rattle.walk.specs.declared.Run.the-variants.{Idle, Head, Body}
 use Rattle.state.specs.declared.Reader.{Reader}
-use Rattle.walk.specs.Store.{storeLength, modeOf, runOf, heldOf}
-use Rattle.walk.specs.Mode.{Mode, off}
+use Rattle.walk.specs.Store.{zeroed, modeOf, runOf, heldOf}
+use Rattle.walk.specs.Mode.{off}
 use Rattle.state.specs.Acting.{State}
 
 -- the state that a reader holds
@@ -20,11 +20,8 @@ abbrev pub stateOf : Reader → State
 stateOf r = record { page = r .page; index = r .index; mode = modeOf (r .run) (r .store) }
 
 -- how a reader holds it
-abbrev pub storeOf : Mode → List ℕ
-storeOf m = heldOf m ++ replicate (storeLength - length (heldOf m)) 0
-
 abbrev pub readerOf : State → Reader
-readerOf st = record { page = st .page; index = st .index; run = runOf (st .mode); store = storeOf (st .mode) }
+readerOf st = record { page = st .page; index = st .index; run = runOf (st .mode); store = zeroed (heldOf (st .mode)) }
 
 -- a fresh reader: no page is open and nothing runs. Any index does; nothing can be dropped by it.
 abbrev pub freshState : State

@@ -22,12 +22,8 @@ use Rattle.forms.specs.Writing.{formRules, writeRules}
 use Rattle.forms.proofs.Sendable.{sendable}
 use Rattle.forms.proofs.Measures.{length-form}
 use Rattle.sums.proofs.Nibbles.{nibbles-again}
-use Rattle.table.proofs.Exact.{reads-exactly}
+use Rattle.table.proofs.Exact.{header-lt, reads-exactly}
 use Rattle.forms.proofs.Forms.{Bytes, form-in, in-form}
-
-header-lt : (application blockSize : ℕ) → laid (header application blockSize) 0 < 65536
-unfolding laid
-header-lt application blockSize = omega arith
 
 head-back : (h : ℕ) (rest : List ℕ) → h < 65536 → headOf (parts 8 2 h ++ rest) ≡ h
 unfolding parts

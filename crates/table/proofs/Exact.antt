@@ -138,11 +138,19 @@ bits-any : (sum c reserved : ℕ) (t : Table) → width (fields sum c reserved t
 unfolding width fields
 bits-any sum c reserved t = refl
 
-headed :
-    (application blockSize h : ℕ) → application < 32 → blockSize < 2048 → h ≡ laid (header application blockSize) 0
-    → (h % 32 ≡ application) × (h / 32 ≡ blockSize)
-unfolding laid
-headed application blockSize h a b e = (omega arith, omega arith)
+-- a block's 16 bits, and what they say
+module _ (application blockSize : ℕ) where
+  pub header-lt : laid (header application blockSize) 0 < 65536
+  unfolding laid
+  header-lt = omega arith
+
+  pub header-size : blockSize < 2048 → laid (header application blockSize) 0 / 32 ≡ blockSize
+  unfolding laid
+  header-size h = omega arith
+
+  headed : (h : ℕ) → application < 32 → blockSize < 2048 → h ≡ laid (header application blockSize) 0 → (h % 32 ≡ application) × (h / 32 ≡ blockSize)
+  unfolding laid
+  headed h a b e = (omega arith, ap (λ (x : ℕ). x / 32) e ∙ header-size b)
 
 module _ (application : ℕ) (r : List ℕ) (t : Table) (s : Says application r t) where
   sum : ℕ

@@ -15,7 +15,7 @@ use Rattle.octet.proofs.Laws.{nib-le}
 use Rattle.blocks.specs.Block.{sizeOf}
 use Rattle.walk.specs.Mode.{Mode, off, scan, heading, body, shifted, full, headed, step, ends, behind, carriedHead, carry, continues, unfinished}
 use Rattle.walk.specs.Reading.{dropIf, pointed, readMode}
-use Rattle.walk.specs.Holding.{Bits, Good}
+use Rattle.walk.specs.Internal.{Bits, Good}
 
 -- a mode along a packet
 abbrev pub Along : Mode → Type 0

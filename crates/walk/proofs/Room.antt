@@ -14,7 +14,7 @@ use Rattle.blocks.specs.Block.{Block, headLength, recordsOf}
 use Rattle.walk.specs.Mode.{Mode, off, scan, heading, body, filler, shifted, full, step, emitted, gives, continues, finished}
 use Rattle.walk.specs.Store.{storeLength}
 use Rattle.walk.specs.Reading.{room, pointed, readBlocks}
-use Rattle.walk.specs.Holding.{Good, blockWith}
+use Rattle.walk.specs.Internal.{Good, blockWith}
 use Rattle.walk.proofs.Adding.{recordsOf-append}
 use Rattle.walk.proofs.Along.{Along, good-along, continues-along}
 

@@ -15,8 +15,7 @@ use Rattle.octet.specs.Decoding.{nib}
 use Rattle.walk.specs.declared.Ahead.{Ahead}
 use Rattle.walk.specs.declared.Ahead.the-variants.{Nothing, Broken, Cut, Whole}
 use Rattle.walk.specs.Mode.{filler}
-use Rattle.walk.specs.Holding.{nextOf}
-use Rattle.walk.specs.Places.{nothing, fillers, heads, found}
+use Rattle.walk.specs.Places.{nextOf, nothing, fillers, heads, found}
 
 -- ---- filler
 

@@ -3,4 +3,4 @@ pub mod Mode
 pub mod Store
 pub mod Reading
 pub mod Places
-pub mod Holding
+pub mod Internal

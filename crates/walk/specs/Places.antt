@@ -1,13 +1,18 @@
--- Reading by places, as the code goes: filler is passed by in one go, then a start's four bytes, then the block's bytes. proofs/Walking
--- shows that it is the reading byte by byte of Mode. Only private calls cite these.
-use mathlib.Core.List.{List, [], _∷_, _++_}
+-- Reading by places, as the code goes: filler is passed by in one go, then a start's four bytes, then the block's bytes. That it is the
+-- reading byte by byte of Mode is shown in proofs/Walking.
+use mathlib.Core.Bool.{Bool, false}
+use mathlib.Core.List.{List, [], _∷_}
 use Prim.Native.Nat.{ℕ, zero, suc, _-_}
-use lib.Dec.{eqb}
-use lib.ListN.{length, replicate}
-use Rattle.laws.specs.Pick.{pick}
+use lib.Dec.{eqb, leb}
+use lib.ListN.{length, drop}
+use Rattle.laws.specs.Pick.{pick, both}
 use Rattle.octet.specs.Decoding.{nib, undecodable}
+use Rattle.blocks.specs.Block.{sizeOf}
+use Rattle.walk.specs.declared.Run.{Run}
+use Rattle.walk.specs.declared.Run.the-variants.{Idle, Head, Body}
+use Rattle.walk.specs.declared.Ahead.{Ahead}
+use Rattle.walk.specs.declared.Ahead.the-variants.{Nothing, Broken, Cut, Whole}
 use Rattle.walk.specs.Mode.{filler, shifted}
-use Rattle.walk.specs.Store.{storeLength}
 
 -- how many bytes of filler l begins with
 unfoldable pub fillers : List ℕ → ℕ
@@ -35,6 +40,22 @@ unfoldable pub found : List ℕ → StartAhead
 found [] = nothing
 found (b ∷ bs) = pick (filler b) (found bs) (pick (eqb (nib b) 12) (heads 4 0 bs) nothing)
 
--- a store that holds these bytes, and zeros past them
-unfoldable pub zeroed : List ℕ → List ℕ
-zeroed held = held ++ replicate (storeLength - length held) 0
+-- what an answer by places says stands ahead in s
+abbrev pub aheadIn : List ℕ → Ahead → StartAhead
+aheadIn s Nothing = nothing
+aheadIn s Broken = broken
+aheadIn s (Cut got bits) = cut got bits
+aheadIn s (Whole head next) = whole head (drop next s)
+
+-- the place past a whole header; the other answers give none
+abbrev pub nextOf : Ahead → ℕ → ℕ
+nextOf Nothing other = other
+nextOf Broken other = other
+nextOf (Cut got bits) other = other
+nextOf (Whole head next) other = next
+
+-- a running block is held whole, and the bytes l behind it are only filler
+abbrev pub stands : Run → List ℕ → Bool
+stands Idle l = false
+stands (Head got bits) l = false
+stands (Body head held) l = both (leb (sizeOf head) held) (leb (length l) (fillers l))

@@ -10,8 +10,7 @@ ghost use Prim.Native.Nat.{_+_, _-_, _≤_};
 ghost use lib.ListN.{length, drop};
 ghost use Rattle.octet.specs.Decoding.{nib};
 ghost use Rattle.walk.specs.Reading.{pointedBy};
-ghost use Rattle.walk.specs.Places.{heads};
-ghost use Rattle.walk.specs.Holding.{aheadIn, nextOf};
+ghost use Rattle.walk.specs.Places.{heads, aheadIn, nextOf};
 
 // The running block: none; its start and so many nibbles of its 16 bits; its 16 bits, and how many
 // of its bytes are in the store.

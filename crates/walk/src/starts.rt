@@ -6,8 +6,7 @@ ghost use mathlib.Core.Path.{_≡_};
 ghost use mathlib.Core.Bool.{not};
 ghost use Prim.Native.Nat.{_+_, _≤_};
 ghost use lib.ListN.{length, drop};
-ghost use Rattle.walk.specs.Places.{fillers, found};
-ghost use Rattle.walk.specs.Holding.{aheadIn, nextOf, stands};
+ghost use Rattle.walk.specs.Places.{fillers, found, aheadIn, nextOf, stands};
 
 // What stands ahead from `from` on where nothing runs.
 pub fn find(s: &[u8], from: usize) -> Ahead

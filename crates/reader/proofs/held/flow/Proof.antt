@@ -8,8 +8,8 @@ use lib.Seq.{drop-drop}
 use denote.Ref.{now}
 use borrow.Author.Needs.{needs}
 use Rattle.laws.proofs.Lists.{part-rest}
-use Rattle.walk.specs.Places.{zeroed}
-use Rattle.walk.specs.Holding.{aheadIn}
+use Rattle.walk.specs.Store.{zeroed}
+use Rattle.walk.specs.Places.{aheadIn}
 use Rattle.walk.proofs.Stepping.{next-from, next-within}
 use Rattle.walk.proofs.Keeping.{found-bits}
 use Rattle.walk.proofs.Adding.{place, Leads, from-place, flow-nothing, flow-broken, flow-cut, flow-held, flow-on}

@@ -1,12 +1,13 @@
 -- `reader::many::feed_all` meets its contract: its tests in order, and then the packets one after the other. Assumes nothing.
 use mathlib.Core.Path.{_≡_, refl}
+use native.Mathlib.Omega.{arith}
 use lib.ListN.{length}
 use denote.Ref.{now}
 use borrow.Author.Needs.{needs}
 use borrow.Author.Tests.{not-true, not-false, eqb-true}
 use Rattle.walk.specs.Store.{storeLength}
 use Rattle.state.proofs.Holding.{ready-whole, ready-kept}
-use Rattle.reader.proofs.AnsweringMany.{not-ready-all, taken-all}
+use Rattle.reader.proofs.AnsweringMany.{not-ready-all, no-room-all, taken-all}
 use Rattle.reader.proofs.many.feed_all.Statement.{statement}
 use Rattle.reader.proofs.many.feed_all.Tie as tie
 
@@ -24,30 +25,35 @@ returns c =
     let a = c .before .before .before .before .before .before .args in
     not-ready-all (a .setting) (a .reader) (now (a .packets)) (now (a .out)) (c .before .is-ready .ensures .0) (not-true _ (c .if1 .taken))
 
+returns-2 : tie.Need-returns-2
+returns-2 c =
+    let a = c .before .before .before .before .before .before .before .args in
+    no-room-all (a .setting) (a .reader) (now (a .packets)) (now (a .out)) (c .before .before .is-ready .ensures .0) (not-false _ (c .before .if1 .left)) (c .if2 .taken)
+
 start-requires : tie.Need-start-requires
 start-requires c κs = search needs
 
 take-all-requires : tie.Need-take-all-requires
 take-all-requires c κs =
-    let a = c .before .before .before .before .before .before .before .before .before .args in
-    let r = c .before .before .before .before .is-ready .ensures in
-    let n = not-false _ (c .before .before .before .if1 .left) in
+    let a = c .before .before .before .before .before .before .before .before .before .before .args in
+    let r = c .before .before .before .before .before .is-ready .ensures in
+    let n = not-false _ (c .before .before .before .before .if1 .left) in
     rw (c .before .before .start .ensures) (
-      ready-kept (a .setting) (a .reader) _ (r .0) n (r .1 n) (long (c .before .before .before .before .before .before .before .before .before)),
+      ready-kept (a .setting) (a .reader) _ (r .0) n (r .1 n) (long (c .before .before .before .before .before .before .before .before .before .before)),
       (eqb-true _ _ (ready-whole (a .setting) (a .reader) _ (r .0) n), (refl, refl, refl)),
     )
 
 same-length : tie.Need-same-length
 same-length c = search needs
 
-returns-2 : tie.Need-returns-2
-returns-2 c =
-    let a = c .before .before .before .before .before .before .before .before .before .before .before .before .before .before .args in
+returns-3 : tie.Need-returns-3
+returns-3 c =
+    let a = c .before .before .before .before .before .before .before .before .before .before .before .before .before .before .before .args in
     let t = c .before .before .before .before .take-all .ensures in
     taken-all (a .setting) (a .reader) (now (a .packets)) (now (a .out))
-    (c .before .before .before .before .before .before .before .before .before .is-ready .ensures .0) (not-false _ (c .before .before .before .before .before .before .before .before .if1 .left)) (c .before .before .before .before .before .before .before .start .ensures) (t .1) (t .0)
+    (c .before .before .before .before .before .before .before .before .before .before .is-ready .ensures .0) (not-false _ (c .before .before .before .before .before .before .before .before .before .if1 .left)) (omega arith) (c .before .before .before .before .before .before .before .start .ensures) (t .1) (t .0)
 
 pub feed-all-spec : {M : Type 1} → statement M
 feed-all-spec =
     tie.close
-    (tie.spec slice-aggregate-is-ready is-ready-requires returns start-requires take-all-requires same-length returns-2)
+    (tie.spec slice-aggregate-is-ready is-ready-requires returns returns-2 start-requires take-all-requires same-length returns-3)

@@ -6,7 +6,7 @@ use borrow.Author.Needs.{needs}
 use Rattle.octet.specs.Decoding.{nib}
 use Rattle.blocks.specs.Block.{recordsOf}
 use Rattle.walk.proofs.Keeping.{holds-kept}
-use Rattle.reader.specs.Stepped.{stateIn}
+use Rattle.reader.specs.Internal.{stateIn}
 use Rattle.reader.proofs.Heeding.{heed-only, heed-read}
 use Rattle.reader.proofs.many.heed.Statement.{statement}
 use Rattle.reader.proofs.many.heed.Tie as tie

@@ -8,8 +8,7 @@ use borrow.Author.Needs.{needs}
 use borrow.Author.Tests.{not-false}
 use Rattle.packet.specs.Packet.{packetLength}
 use Rattle.reader.specs.Many.{Ran, begun, run}
-use Rattle.reader.specs.Holding.{RanTo}
-use Rattle.reader.specs.Stepped.{stateIn}
+use Rattle.reader.specs.Internal.{RanTo, stateIn}
 use Rattle.walk.proofs.Keeping.{holds-kept}
 use Rattle.pages.proofs.Judged.{see-elsewhere}
 use Rattle.reader.proofs.Heeding.{acted, act-other}
@@ -123,7 +122,7 @@ loop-again c =
     let h : l .at + 42 ≤ length (now (a .packets)) = omega (arith, l .inv .0, l .inv .1, e) in
     let p = take (l .at + 42 - l .at) (drop (l .at) (now (a .packets))) in
     let k = packet-length (now (a .packets)) (l .at) h in
-    let x = acted (a .setting) p (stateIn (l .a) (l .store)) _ _ _ _ _ k (c .before .before .before .before .before .before .before .before .before .before .address .ensures) (c .before .before .before .before .before .before .judge .ensures) (c .before .before .heed .ensures) in
+    let x = acted (a .setting) p (stateIn (l .a) (l .store)) _ _ _ _ _ (c .before .before .before .before .before .before .before .before .before .before .address .ensures) (c .before .before .before .before .before .before .judge .ensures) (c .before .before .heed .ensures) in
     let g = still-room (a .setting) p (stateIn (l .a) (l .store)) (holds-kept _ (w .holds) .good) k x (l .inv .4) in (
       h,
       omega (arith, l .inv .1, h),
@@ -145,7 +144,7 @@ loop-again-2 c =
     let w = l .inv .6 .1 in
     let h : l .at + 42 ≤ length (now (a .packets)) = omega arith in
     let p = take (l .at + 42 - l .at) (drop (l .at) (now (a .packets))) in
-    let o = see-elsewhere (a .setting) p (omega (arith, packet-length (now (a .packets)) (l .at) h)) (c .before .before .address .ensures) (sym (c .before .passes-by .ensures) ∙ not-false _ (c .if2 .left)) in (
+    let o = see-elsewhere (a .setting) p (packet-length (now (a .packets)) (l .at) h) (c .before .before .address .ensures) (sym (c .before .passes-by .ensures) ∙ not-false _ (c .if2 .left)) in (
       h,
       omega arith,
       l .inv .2,

@@ -1,24 +1,20 @@
--- How the code holds what the definitions speak of: a mode as a run and a store, and what a part of a call adds to what has come so
--- far. Only calls within the reader cite these.
+-- What only private calls cite; nothing here needs to be believed. How the code holds what the definitions speak of: a mode as a run and
+-- a store, and what a part of a call adds to what has come so far.
 use mathlib.Core.Path.{_≡_}
 use mathlib.Core.Bool.{Bool, true, false, not}
 use mathlib.Core.List.{List, []}
 use Prim.Native.Nat.{ℕ, _+_, _-_, _*_, _%_, _^_, _≤_, _<_}
 use lib.ListN.{length, drop}
 use lib.Seq.{sets}
-use lib.Dec.{leb}
 use Rattle.laws.specs.Pick.{pick, both, either}
 use Rattle.blocks.specs.Block.{Block, headLength, sizeOf, recordsOf}
 use Rattle.walk.specs.declared.Run.{Run}
 use Rattle.walk.specs.declared.Run.the-variants.{Idle, Head, Body}
 use Rattle.walk.specs.declared.Got.{Got}
 use Rattle.walk.specs.declared.Taken.{Taken}
-use Rattle.walk.specs.declared.Ahead.{Ahead}
-use Rattle.walk.specs.declared.Ahead.the-variants.{Nothing, Broken, Cut, Whole}
 use Rattle.walk.specs.Mode.{Mode, off, scan, heading, body, full, running, isFull, ends, gives, spoils, continues, finished, unfinished}
-use Rattle.walk.specs.Store.{storeLength, modeOf, runOf, heldOf}
+use Rattle.walk.specs.Store.{storeLength, zeroed, modeOf, runOf, heldOf}
 use Rattle.walk.specs.Reading.{dropIf, readMode, readBlocks, readDrops, room}
-use Rattle.walk.specs.Places.{StartAhead, nothing, broken, cut, whole, fillers, zeroed}
 
 -- g nibbles have come, and v has their bits and no others
 pub record Bits (g v : ℕ) : Type 0 where
@@ -47,20 +43,6 @@ Kept r store = Holds (modeOf r store) r store
 abbrev pub blockWith : ℕ → List ℕ → Block
 blockWith h l = record { head = h; raw = l }
 
--- what an answer by places says stands ahead in s
-abbrev pub aheadIn : List ℕ → Ahead → StartAhead
-aheadIn s Nothing = nothing
-aheadIn s Broken = broken
-aheadIn s (Cut got bits) = cut got bits
-aheadIn s (Whole head next) = whole head (drop next s)
-
--- the place past a whole header; the other answers give none
-abbrev pub nextOf : Ahead → ℕ → ℕ
-nextOf Nothing other = other
-nextOf Broken other = other
-nextOf (Cut got bits) other = other
-nextOf (Whole head next) other = next
-
 -- a running block that has taken its bytes, over those up to the pointed byte
 abbrev pub awaits : Mode → List ℕ → Mode
 awaits off l = off
@@ -73,12 +55,6 @@ abbrev pub runs : Run → Bool
 runs Idle = false
 runs (Head got bits) = true
 runs (Body head held) = true
-
--- it is held whole, and l is only filler
-abbrev pub stands : Run → List ℕ → Bool
-stands Idle l = false
-stands (Head got bits) l = false
-stands (Body head held) l = both (leb (sizeOf head) held) (leb (length l) (fillers l))
 
 -- from the mode m the running block has taken its bytes of l, which s ends with, and the rest of them begins at a place of s
 pub record TookIn (m : Mode) (l s : List ℕ) (r : Taken) (store : List ℕ) : Type 0 where

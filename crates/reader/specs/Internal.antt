@@ -1,0 +1,67 @@
+-- What only private calls cite; nothing here needs to be believed. How the code holds what packets have come to, what one more adds, and
+-- what was heard of one packet, from what was heard of a list of one.
+use mathlib.Core.Path.{_≡_}
+use mathlib.Core.Bool.{Bool, false}
+use mathlib.Core.List.{List}
+use Prim.Native.Nat.{ℕ}
+use lib.ListN.{length}
+use lib.Seq.{sets}
+use Rattle.blocks.specs.Block.{Block, recordsOf}
+use Rattle.pages.specs.declared.headers.Page.{Page}
+use Rattle.pages.specs.declared.headers.Verdict.{Verdict}
+use Rattle.pages.specs.Headers.{Seen}
+use Rattle.walk.specs.declared.Run.{Run}
+use Rattle.walk.specs.Store.{modeOf}
+use Rattle.walk.specs.Internal.{Holds, Went}
+use Rattle.state.specs.Acting.{State, heeded, heededBlocks, heededDrops, act, handed, dropped}
+use Rattle.reader.specs.declared.Heard.{Heard}
+use Rattle.reader.specs.declared.Heard.the-variants.{Took, Refused}
+use Rattle.reader.specs.declared.many.HeardAll.{HeardAll}
+use Rattle.reader.specs.declared.many.HeardAll.the-variants.{TookAll, RefusedAll}
+use Rattle.reader.specs.declared.many.Going.{Going}
+use Rattle.reader.specs.declared.many.Taking.{Taking}
+use Rattle.reader.specs.Many.{Ran}
+
+-- ---- one packet more
+
+-- the state that packets have come to
+abbrev pub stateIn : Going → List ℕ → State
+stateIn a store = record { page = a .page; index = a .index; mode = modeOf (a .got .run) store }
+
+-- what stood at a is now at r: the state st is held, these blocks have gone out, and a block was dropped if d says so
+pub record Stepped (st : State) (bs : List Block) (d : Bool) (a r : Going) (store old new : List ℕ) : Type 0 where
+  pub page : r .page ≡ st .page
+  pub index : r .index ≡ st .index
+  pub went : Went (st .mode) bs d (a .got) (r .got) store old new
+
+-- the verdict v is heeded on a packet with pointer p and these 39 bytes after it
+abbrev pub Heeded : Verdict → ℕ → List ℕ → State → Going → Going → List ℕ → List ℕ → List ℕ → Type 0
+Heeded v p l st = Stepped (heeded v p l st) (heededBlocks v p l st) (heededDrops v p l st)
+
+-- the packet is seen so
+abbrev pub Acted : Seen → State → Going → Going → List ℕ → List ℕ → List ℕ → Type 0
+Acted x st = Stepped (act st x) (handed st x) (dropped st x)
+
+-- ---- packets one after the other
+
+-- no packet has come yet
+abbrev pub started : Page → ℕ → Run → Going
+started page index run = record { page = page; index = index; got = record { run = run; blocks = 0; written = 0; dropped = false } }
+
+-- packets taken one after the other have come to b
+pub record RanTo (b : Ran) (r : Taking) (store old new : List ℕ) : Type 0 where
+  pub packets : r .packets ≡ b .packets
+  pub page : r .going .page ≡ b .state .page
+  pub index : r .going .index ≡ b .state .index
+  pub holds : Holds (b .state .mode) (r .going .got .run) store
+  pub blocks : r .going .got .blocks ≡ length (b .blocks)
+  pub written : r .going .got .written ≡ length (recordsOf (b .blocks))
+  pub dropped : r .going .got .dropped ≡ b .dropped
+  pub out : new ≡ sets old 0 (recordsOf (b .blocks))
+
+-- ---- a list of one
+
+-- what was heard of its packet
+abbrev pub told : HeardAll → Heard
+told (RefusedAll r) = Refused r
+told (TookAll packets blocks written dropped) = Took blocks written dropped
