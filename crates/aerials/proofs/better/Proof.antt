@@ -41,7 +41,9 @@ part-result-end-2 : tie.Need-part-result-end-2
 part-result-end-2 c = search needs
 
 returns-3 : tie.Need-returns-3
-returns-3 c = part-rest 2 _ ∙ the-second _ _ (search needs) (search needs) (search needs)
+returns-3 c =
+    let a = c .before .before .before .before .before .before .before .before .args in
+    part-rest 2 (now (a .second)) ∙ the-second (now (a .first)) (now (a .second)) (search needs) (search needs) (search needs)
 
 sub-result-3 : tie.Need-sub-result-3
 sub-result-3 c = search needs
@@ -53,7 +55,9 @@ part-result-end-3 : tie.Need-part-result-end-3
 part-result-end-3 c = search needs
 
 returns-4 : tie.Need-returns-4
-returns-4 c = part-rest 2 _ ∙ the-first _ _ (search needs) (search needs) (search needs)
+returns-4 c =
+    let a = c .before .before .before .before .before .before .before .before .args in
+    part-rest 2 (now (a .first)) ∙ the-first (now (a .first)) (now (a .second)) (search needs) (search needs) (search needs)
 
 pub better-spec : {M : Type 1} → statement M
 better-spec =
