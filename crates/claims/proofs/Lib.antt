@@ -17,3 +17,4 @@ pub mod Many
 pub mod Handing
 pub mod Calls
 pub mod Happening
+pub mod Aerials

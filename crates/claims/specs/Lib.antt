@@ -7,3 +7,4 @@ pub mod Carries
 pub mod March
 pub mod Tells
 pub mod Calls
+pub mod Twice
