@@ -1,7 +1,7 @@
 """The vectors of the test programs: standard input, and the text that the model
 expects on standard output.
 
-Standard input is a row of cases. A case is an op (1 byte), a room (4 bytes, low
+Standard input is a list of cases. A case is an op (1 byte), a room (4 bytes, low
 byte first: how long the lent output is), a length (the same way) and so many
 bytes, the payload; a room or length over 65,536 is taken as 65,536. The program
 fills the output with A5 before each call and prints a line for each case:
@@ -24,6 +24,7 @@ that is too short for it: op=N unknown. A case that the end cuts short: short=N.
     21  try_guide    one packet for that reader               the blocks' records
     22  try_guide    magazine, page, stream, first index,     packets
                      packets a page (0: no number), records
+    23  try_guide    two packets, each half of it              40 bytes of one
     30  try_table    application, a record                    a table form
     31  try_table    application, a table form                a record
     40  try_listing  a table form                             the desk's lines

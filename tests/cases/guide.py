@@ -1,8 +1,9 @@
-"""try_guide: the reader's cases, then the writer's."""
+"""try_guide: the reader's cases, the writer's, and those of two aerials."""
 
 from model import guide
 from model.guide import Setting
 
+from . import aerials
 from . import reader as hearing
 from . import writer
 from .form import Script, line
@@ -32,10 +33,12 @@ def script_of(dice, size):
         20: (4, readers.fresh),
         21: (0, readers.feed),
         22: (5, lambda payload, room: line(writer.cut_call, payload, room)),
+        aerials.OP: (0, aerials.call),
     })
     hearing.all_cases(script, dice, size)
     writer.all_cases(script, dice, size)
-    for op in (0, 19, 23, 30, 255):
+    aerials.all_cases(script, dice, size)
+    for op in (0, 19, 24, 30, 255):
         script.case(op, 3000, bytes(42))
     for payload in (b"", b"\x01", b"\x01\x00\x00"):
         script.case(20, 0, payload)

@@ -1,5 +1,5 @@
 // Runs cases of the guide page's packets: op 20 takes a setting and a fresh reader, op 21 feeds it one
-// packet, op 22 cuts records into packets.
+// packet, op 22 cuts records into packets, op 23 takes the better of two packets.
 use answer::Answer;
 use packet::Setting;
 use reader::Heard;
@@ -101,11 +101,32 @@ fn run(op: u8, room: usize, payload: &[u8], kept: Kept, out: &mut [u8], text: &m
             vectors::tell(line, lent, text);
             kept
         }
+        23 => {
+            choose(op, payload, text);
+            kept
+        }
         _ => {
             vectors::tell(Line::Unknown(op), lent, text);
             kept
         }
     }
+}
+
+// Op 23: two packets, the first half of the payload and the rest. No output is lent; an empty part is number 16.
+fn choose(op: u8, payload: &[u8], text: &mut [u8]) {
+    let half = payload.len() / 2;
+    let part = aerials::better(&payload[..half], &payload[half..]);
+    let n = part.len();
+    let answer = if n == 0 {
+        answer::refuse(16, 0)
+    } else {
+        Answer::Done(n)
+    };
+    let line = Line::Answered {
+        op: op,
+        answer: answer,
+    };
+    vectors::tell(line, part, text);
 }
 
 // Op 20: magazine, page, stream, application.
