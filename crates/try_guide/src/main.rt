@@ -4,9 +4,11 @@ use answer::Answer;
 use packet::Setting;
 use reader::Heard;
 use reader::Reader;
-use vectors::Input;
+use vectors::Case;
 use vectors::Line;
+use vectors::MOST;
 use vectors::NextCase;
+use vectors::SPACE;
 
 // What op 20 leaves for the ops 21 that follow.
 struct Kept {
@@ -14,30 +16,19 @@ struct Kept {
     reader: Reader,
 }
 
-// A turn: what it found, and what it keeps.
-struct Turn {
-    found: NextCase,
-    kept: Kept,
-}
-
 fn main() {
-    let mut space = [0u8; 131200];
-    let mut out = [0u8; 65536];
-    let mut text = [0u8; 131200];
-    let mut input = Input {
-        from: 0,
-        to: 0,
-        ended: false,
-    };
+    let mut space = [0u8; SPACE];
+    let mut out = [0u8; MOST];
+    let mut text = [0u8; SPACE];
+    let mut input = vectors::start();
     let mut kept = fresh(0, 0, 0, 0);
     let mut turns = u64::MAX;
     while turns > 0 {
         turns -= 1;
-        let turn = step(input, kept, &mut space, &mut out, &mut text);
-        kept = turn.kept;
-        let found = turn.found;
+        let found = vectors::turn(input, &mut space, &mut text);
         match found {
             NextCase::Whole(case) => {
+                kept = run(case, kept, &space, &mut out, &mut text);
                 input = case.rest;
             }
             NextCase::Ended(_) => {
@@ -59,40 +50,17 @@ fn fresh(magazine: u8, page: u8, stream: u8, application: u8) -> Kept {
     }
 }
 
-// One turn: the next case is read and run, or the end is told.
-fn step(
-    input: Input,
-    kept: Kept,
-    space: &mut [u8; 131200],
-    out: &mut [u8; 65536],
-    text: &mut [u8; 131200],
-) -> Turn {
-    let read = vectors::fill(input, space);
-    let found = vectors::next(read, space);
-    match found {
-        NextCase::Whole(case) => {
-            let payload = vectors::payload(case, space);
-            let next = run(case.op, case.room, payload, kept, out, text);
-            Turn {
-                found: found,
-                kept: next,
-            }
-        }
-        NextCase::Ended(left) => {
-            if left > 0 {
-                vectors::tell(Line::Short(left), &[], text);
-            }
-            Turn {
-                found: found,
-                kept: kept,
-            }
-        }
-    }
-}
-
 // A case: the call is lent as much output as it has room.
-fn run(op: u8, room: usize, payload: &[u8], kept: Kept, out: &mut [u8], text: &mut [u8]) -> Kept {
-    let lent = vectors::lend(out, room);
+fn run(
+    case: Case,
+    kept: Kept,
+    space: &[u8; SPACE],
+    out: &mut [u8],
+    text: &mut [u8; SPACE],
+) -> Kept {
+    let op = case.op;
+    let payload = vectors::payload(case, space);
+    let lent = vectors::lend(out, case.room);
     match op {
         20 => begin(op, payload, kept, lent, text),
         21 => feed(op, payload, kept, lent, text),

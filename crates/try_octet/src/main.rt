@@ -1,23 +1,21 @@
 // Runs cases of one byte: op 1 decodes it, 2 gives its image, 3 turns it, 4 finds its fault place.
 use answer::Answer;
-use vectors::Input;
+use vectors::Case;
 use vectors::Line;
 use vectors::NextCase;
+use vectors::SPACE;
 
 fn main() {
-    let mut space = [0u8; 131200];
-    let mut text = [0u8; 131200];
-    let mut input = Input {
-        from: 0,
-        to: 0,
-        ended: false,
-    };
+    let mut space = [0u8; SPACE];
+    let mut text = [0u8; SPACE];
+    let mut input = vectors::start();
     let mut turns = u64::MAX;
     while turns > 0 {
         turns -= 1;
-        let found = step(input, &mut space, &mut text);
+        let found = vectors::turn(input, &mut space, &mut text);
         match found {
             NextCase::Whole(case) => {
+                call(case, &space, &mut text);
                 input = case.rest;
             }
             NextCase::Ended(_) => {
@@ -27,23 +25,10 @@ fn main() {
     }
 }
 
-// One turn: the next case is read and run, or the end is told.
-fn step(input: Input, space: &mut [u8; 131200], text: &mut [u8; 131200]) -> NextCase {
-    let read = vectors::fill(input, space);
-    let found = vectors::next(read, space);
-    match found {
-        NextCase::Whole(case) => call(case.op, vectors::payload(case, space), text),
-        NextCase::Ended(left) => {
-            if left > 0 {
-                vectors::tell(Line::Short(left), &[], text);
-            }
-        }
-    }
-    found
-}
-
 // The call that op names. These calls give a byte, and are lent no output.
-fn call(op: u8, payload: &[u8], text: &mut [u8]) {
+fn call(case: Case, space: &[u8; SPACE], text: &mut [u8; SPACE]) {
+    let op = case.op;
+    let payload = vectors::payload(case, space);
     if payload.len() < 1 {
         vectors::tell(Line::Unknown(op), &[], text);
         return;

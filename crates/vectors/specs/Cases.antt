@@ -1,5 +1,6 @@
 -- A list of cases, as the unread bytes of the lent space hold it: op (1 byte), room (4 bytes, low byte first), length (4 bytes,
 -- low byte first), then so many bytes, the payload.
+use mathlib.Core.Path.{_≡_}
 use mathlib.Core.Bool.{Bool}
 use mathlib.Core.List.{List, []}
 use Prim.Native.Nat.{ℕ, _+_, _*_, _-_, _≤_, min}
@@ -55,6 +56,12 @@ whole s i =
 -- that case, or how many bytes are left over where there is none
 unfoldable pub nextIn : List ℕ → Input → NextCase
 nextIn s i = pick (whole s i) (Whole (caseIn s i)) (Ended (unread i))
+
+-- what a turn finds: the next case of unread bytes that lie in the space s
+pub record Turned (s : List ℕ) (r : NextCase) : Type 0 where
+  pub read : Input
+  pub inside : Within read s
+  pub found : r ≡ nextIn s read
 
 -- the bytes of s from a up to, not including, e; none where that is no part of s
 unfoldable pub part : List ℕ → ℕ → ℕ → List ℕ

@@ -38,7 +38,7 @@ pub enum NextCase {
 }
 
 // The case that the unread bytes begin with.
-pub fn next(input: Input, space: &[u8]) -> NextCase
+pub(crate) fn next(input: Input, space: &[u8]) -> NextCase
     ensures { λ r. ⌜ r ≡ nextIn (now (space .entry)) input ⌝ }
 {
     let from = input.from;

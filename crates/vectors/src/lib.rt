@@ -2,31 +2,35 @@
 // output that a call is lent is module `lent`, the line that answers a case module `lines`.
 //
 // A program lends all memory: 131,200 bytes for the input, of which a case takes up to 65,545, and
-// 65,536 for the output. In each turn it calls `fill` and `cases::next`, and for a case `cases::payload`,
-// `lent::lend` and the call that op names.
+// 65,536 for the output. In each turn it calls `turn`, and for a case `cases::payload`, `lent::lend`, the
+// call that op names, and `lines::tell`.
 pub mod cases;
 pub mod lent;
 pub mod lines;
 mod words;
 
+pub use cases::Case;
 pub use cases::Input;
+pub use cases::MOST;
 pub use cases::NextCase;
-pub use cases::next;
 pub use cases::payload;
 pub use lent::lend;
 pub use lines::Line;
 pub use lines::tell;
+ghost use mathlib.Core.Bool.{false};
 ghost use mathlib.Core.Path.{_≡_};
 ghost use Prim.Native.Nat.{_+_, _≤_};
 ghost use lib.ListN.{length};
-ghost use Rattle.vectors.specs.Cases.{Within};
+ghost use Rattle.vectors.specs.Cases.{Within, Turned};
 use cases::HEAD;
-use cases::MOST;
 use libc::STDIN_FILENO;
 
-// Nothing is unread.
-fn start() -> Input
-    ensures { λ r. ⌜ (r .from ≡ 0) × (r .to ≡ 0) ⌝ }
+// The bytes that a program lends for the input, and for a line.
+pub const SPACE: usize = 131200;
+
+// Before the first turn: nothing is read.
+pub fn start() -> Input
+    ensures { λ r. ⌜ (r .from ≡ 0) × (r .to ≡ 0) × (r .ended ≡ false) ⌝ }
 {
     Input {
         from: 0,
@@ -35,9 +39,31 @@ fn start() -> Input
     }
 }
 
+// One turn: the next case, read where it isn't there yet; or its end, and what is left over is told.
+pub fn turn(input: Input, space: &mut [u8; SPACE], text: &mut [u8; SPACE]) -> NextCase
+    ensures { λ r. ⌜ Turned (now (space .exit)) r ⌝ }
+{
+    let read = fill(input, space);
+    let found = cases::next(read, space);
+    tell_left(found, text);
+    found
+}
+
+// Tells of bytes that are left over where there is no case.
+fn tell_left(found: NextCase, text: &mut [u8]) {
+    match found {
+        NextCase::Whole(_) => {}
+        NextCase::Ended(left) => {
+            if left > 0 {
+                lines::tell(Line::Short(left), &[], text);
+            }
+        }
+    }
+}
+
 // Reads on where a case might not stand whole in the space: the unread bytes go to its front, and
 // standard input fills it up. What is unread then lies within the space.
-pub fn fill(input: Input, space: &mut [u8]) -> Input
+fn fill(input: Input, space: &mut [u8]) -> Input
     ensures { λ r. ⌜ Within r (now (space .exit)) ⌝ }
 {
     let from = input.from;
