@@ -3,7 +3,7 @@
 -- parameters at exit). Assumes nothing.
 use mathlib.Core.Path.{_≡_, _∙_, refl, sym, ap}
 use mathlib.Core.List.{List}
-use Prim.Native.Nat.{ℕ, _-_, _≤_}
+use Prim.Native.Nat.{ℕ, _-_, _≤_, min}
 use native.Mathlib.Omega.{arith}
 use lib.ListN.{length, drop, length-drop}
 use denote.Ref.{now}
@@ -74,6 +74,11 @@ use Rattle.listing.proofs.list_table.Reads as listing·list-table
 use Rattle.listing.proofs.list_descriptors.Reads as listing·list-descriptors
 use Rattle.table_writer.proofs.write_block.Reads as table-writer·write-block
 use Rattle.firmware.proofs.guide_decode.Reads as firmware·guide-decode
+use Rattle.vectors.proofs.start.Reads as vectors·start
+use Rattle.vectors.proofs.lent.lend.Reads as vectors·lend
+use Rattle.vectors.proofs.cases.payload.Reads as vectors·payload
+use Rattle.vectors.specs.declared.cases.Input.{Input}
+use Rattle.moves.proofs.fill.Reads as moves·fill
 use Rattle.firmware.proofs.guide_turn.Reads as firmware·guide-turn
 use Rattle.firmware.proofs.guide_unit_at.Reads as firmware·guide-unit-at
 
@@ -225,6 +230,10 @@ moves·clear-settled κs a x y s t p q = same p q
 
 -- ---- the reader
 
+pub moves·fill-settled :
+    (κs : _) (a : _) (x y : _) (s t : _) → moves·fill.Post κs a x s → moves·fill.Post κs a y t → now (s .0) ≡ now (t .0)
+moves·fill-settled κs a x y s t p q = same p q
+
 pub state·fresh-settled : (κs : _) (a : _) (x y : _) (s t : _) → state·fresh.Post κs a x s → state·fresh.Post κs a y t → x ≡ y
 state·fresh-settled κs a x y s t p q = same p q
 
@@ -329,3 +338,18 @@ wanted·is-name-settled κs a x y s t p q = same p q
 
 pub wanted·is-good-settled : (κs : _) (a : _) (x y : _) (s t : _) → wanted·is-good.Post κs a x s → wanted·is-good.Post κs a y t → x ≡ y
 wanted·is-good-settled κs a x y s t p q = same p q
+
+-- ---- the test programs
+
+pub vectors·start-settled : (κs : _) (a : _) (x y : _) (s t : _) → vectors·start.Post κs a x s → vectors·start.Post κs a y t → x ≡ y
+vectors·start-settled κs a x y s t p q =
+    let e : (x .from ≡ y .from) × (x .to ≡ y .to) × (x .ended ≡ y .ended) = (same (p .0) (q .0), same (p .1) (q .1), same (p .2) (q .2)) in
+    rw (e .0, e .1, e .2)
+
+pub vectors·lend-settled :
+    (κs : _) (a : _) (x y : _) (s t : _) → vectors·lend.Post κs a x s → vectors·lend.Post κs a y t → (x ≡ y) × (now (s .0) ≡ now (t .0))
+vectors·lend-settled κs a x y s t p q = let e = same (p .1 .1) (q .1 .1) in (p .0 ∙ ap (λ (l : List ℕ). min (a .1 .0) (length l)) e ∙ sym (q .0), e)
+
+pub vectors·payload-settled :
+    (κs : _) (a : _) (x y : _) (s t : _) → vectors·payload.Post κs a x s → vectors·payload.Post κs a y t → now x ≡ now y
+vectors·payload-settled κs a x y s t p q = same p q

@@ -52,15 +52,15 @@ take-replicate zero n a h = refl
 take-replicate (suc m) zero a h = absurd (not-suc-le-zero h)
 take-replicate (suc m) (suc n) a h = ap (λ (l : List ℕ). a ∷ l) (take-replicate m n a (omega arith))
 
-pub zero-begins :
-    (d : List ℕ) (n : ℕ) {m : ℕ} → m ≡ min n (length d - 0) → sets d 0 (replicate (m - 0) 0) ≡ sets d 0 (replicate n 0)
-zero-begins d n {m} e =
+pub fill-begins :
+    (d : List ℕ) (n b : ℕ) {m : ℕ} → m ≡ min n (length d - 0) → sets d 0 (replicate (m - 0) b) ≡ sets d 0 (replicate n b)
+fill-begins d n b {m} e =
     let q : m - 0 ≡ m = omega arith in
-    rw (q, ← take-replicate m n 0 (omega arith)) (sets-within d 0 m (replicate n 0) (rw length-replicate (omega arith)))
+    rw (q, ← take-replicate m n b (omega arith)) (sets-within d 0 m (replicate n b) (rw length-replicate (omega arith)))
 
-pub zero-on :
-    (d : List ℕ) (n i : ℕ) → i < n → sets (set d i 0) (i + 1) (replicate (n - (i + 1)) 0) ≡ sets d i (replicate (n - i) 0)
-zero-on d n i h = rw (zero-add i, zero-add (i + 1)) at (sets-run d 0 i n 0 h)
+pub fill-on :
+    (d : List ℕ) (n b i : ℕ) → i < n → sets (set d i b) (i + 1) (replicate (n - (i + 1)) b) ≡ sets d i (replicate (n - i) b)
+fill-on d n b i h = rw (zero-add i, zero-add (i + 1)) at (sets-run d 0 i n b h)
 
-pub zero-ends : (d : List ℕ) (n i : ℕ) → n ≤ i → sets d i (replicate (n - i) 0) ≡ d
-zero-ends d n i h = let p : n - i ≡ 0 = omega arith in rw p
+pub fill-ends : (d : List ℕ) (n b i : ℕ) → n ≤ i → sets d i (replicate (n - i) b) ≡ d
+fill-ends d n b i h = let p : n - i ≡ 0 = omega arith in rw p

@@ -1,4 +1,4 @@
-// Bytes of lent memory, many at a time: copied to a place, or made zero. What doesn't lie within the
+// Bytes of lent memory, many at a time: copied to a place, filled, or made zero. What doesn't lie within the
 // slices is left out.
 ghost use mathlib.Core.Path.{_≡_};
 ghost use Prim.Native.Nat.{_-_, min};
@@ -22,10 +22,17 @@ pub fn copy(src: &[u8], from: usize, n: usize, dst: &mut [u8], to: usize)
 pub fn clear(store: &mut [u8], held: usize)
     ensures { λ _. ⌜ now (store .exit) ≡ sets (now (store .entry)) 0 (replicate held 0) ⌝ }
 {
-    let there = within(held, store.len(), 0);
+    fill(store, held, 0);
+}
+
+// The first n bytes of `dst` are b then.
+pub fn fill(dst: &mut [u8], n: usize, b: u8)
+    ensures { λ _. ⌜ now (dst .exit) ≡ sets (now (dst .entry)) 0 (replicate n b) ⌝ }
+{
+    let there = within(n, dst.len(), 0);
     let mut i = 0;
     while i < there {
-        store[i] = 0;
+        dst[i] = b;
         i += 1;
     }
 }

@@ -60,7 +60,8 @@ fn run(
 ) -> Kept {
     let op = case.op;
     let payload = vectors::payload(case, space);
-    let lent = vectors::lend(out, case.room);
+    let n = vectors::lend(out, case.room);
+    let lent = &mut out[..n];
     match op {
         20 => begin(op, payload, kept, lent, text),
         21 => feed(op, payload, kept, lent, text),
@@ -83,7 +84,7 @@ fn run(
 // Op 23: two packets, the first half of the payload and the rest. No output is lent; an empty part is number 16.
 fn choose(op: u8, payload: &[u8], text: &mut [u8]) {
     let half = payload.len() / 2;
-    let part = aerials::better(&payload[..half], &payload[half..]);
+    let part = aerials::better(&payload[0..half], &payload[half..]);
     let n = part.len();
     let answer = if n == 0 {
         answer::refuse(16, 0)

@@ -28,7 +28,8 @@ fn main() {
 
 // A case: the call is lent as much output as it has room.
 fn run(case: Case, space: &[u8; SPACE], out: &mut [u8], text: &mut [u8; SPACE]) {
-    let lent = vectors::lend(out, case.room);
+    let n = vectors::lend(out, case.room);
+    let lent = &mut out[..n];
     let line = call(case.op, vectors::payload(case, space), lent);
     vectors::tell(line, lent, text);
 }

@@ -1,21 +1,14 @@
--- Filling the lent output byte by byte, and looking byte by byte whether it is as it was filled. Assumes nothing.
-use mathlib.Core.Path.{_≡_, _∙_, ap}
+-- Looking byte by byte whether the lent output is as it was filled. Assumes nothing.
+use mathlib.Core.Path.{_≡_}
 use mathlib.Core.Bool.{true, false}
-use mathlib.Core.List.{List, [], _∷_, _++_}
+use mathlib.Core.List.{List}
 use Prim.Native.Nat.{ℕ, _+_, _≤_, _<_}
 use native.Mathlib.Numerals.{add-one}
-use lib.ListN.{length, take, drop, set, getD, replicate, replicate-append-replicate, drop-of-length-le}
-use lib.Seq.{take-suc-set, drop-cons}
+use lib.ListN.{length, drop, getD, drop-of-length-le}
+use lib.Seq.{drop-cons}
 use borrow.Author.Tests.{eq-eqb, ne-eqb}
 use Rattle.vectors.specs.Lent.{filler}
 use Rattle.vectors.specs.Internal.{untouched}
-
--- one more byte is filled
-pub fill-one :
-    (s : List ℕ) (i : ℕ) → i < length s → take i s ≡ replicate i filler
-    → take (i + 1) (set s i filler) ≡ replicate (i + 1) filler
-fill-one s i h e =
-    rw add-one (take-suc-set s i filler h) ∙ ap (λ (l : List ℕ). l ++ (filler ∷ [])) e ∙ replicate-append-replicate i 1 filler
 
 -- a byte is as it was filled: the rest decides
 pub untouched-on :

@@ -1,24 +1,22 @@
 // The output that a program try_NAME lends to a call: filled before, so that what the call leaves can be told.
 ghost use mathlib.Core.Path.{_≡_};
 ghost use Prim.Native.Nat.{min};
-ghost use lib.ListN.{length, replicate};
+ghost use lib.ListN.{length, replicate, take};
+ghost use lib.Seq.{sets};
 ghost use Rattle.vectors.specs.Lent.{filler};
 ghost use Rattle.vectors.specs.Internal.{keptFrom};
 
 // What the lent output is filled with before a call.
 const FILLER: u8 = 0xA5;
 
-// The first `room` bytes of out, or all where it has fewer, filled: what the call is lent.
-pub fn lend(out: &mut [u8], room: usize) -> &mut [u8]
-    ensures { λ r. ⌜ now r ≡ replicate (min room (length (now (out .entry)))) filler ⌝ }
+// Fills the first `room` bytes of out, or all where it has fewer, and answers how many these are: what the call is lent.
+pub fn lend(out: &mut [u8], room: usize) -> usize
+    ensures many { λ r. ⌜ r ≡ min room (length (now (out .exit))) ⌝ }
+    ensures there { λ r. ⌜ r ≡ length (take r (now (out .exit))) ⌝ }
+    ensures filled { λ _. ⌜ now (out .exit) ≡ sets (now (out .entry)) 0 (replicate room filler) ⌝ }
 {
-    let n = least(room, out.len());
-    let mut i = 0;
-    while i < n {
-        out[i] = FILLER;
-        i += 1;
-    }
-    &mut out[..n]
+    moves::fill(out, room, FILLER);
+    least(room, out.len())
 }
 
 // Whether every byte of the lent output past those written is as it was filled; false where more
