@@ -113,11 +113,11 @@ fn put_stuffing(from: usize, units: usize, out: &mut [u8])
     ensures { λ r. ⌜ now (out .exit) ≡ sets (now (out .entry)) from (stuffingUnits units) ⌝ }
 {
     let mut to = from;
-    let mut more = units;
-    while 0 < more {
+    let mut left = units;
+    while 0 < left {
         put_stuffing_unit(to, out);
         to += UNIT;
-        more -= 1;
+        left -= 1;
     }
 }
 

@@ -14,11 +14,11 @@ use Rattle.pes_writer.proofs.put_stuffing.Statement.{statement}
 use Rattle.pes_writer.proofs.put_stuffing.Tie as tie
 
 abbrev Inv-loop : tie.InvT-loop
-Inv-loop from units out₀ to₀ more₀ out to more =
-    (length out ≡ length out₀) × (to + 46 * more ≤ length out) × (sets out to (stuffingUnits more) ≡ sets out₀ from (stuffingUnits units))
+Inv-loop from units out₀ to₀ left₀ out to left =
+    (length out ≡ length out₀) × (to + 46 * left ≤ length out) × (sets out to (stuffingUnits left) ≡ sets out₀ from (stuffingUnits units))
 
 abbrev μ-loop : tie.MeasureT-loop
-μ-loop from units out₀ to₀ more₀ out to more = more
+μ-loop from units out₀ to₀ left₀ out to left = left
 
 loop-holds : tie.Need-loop-holds Inv-loop μ-loop
 loop-holds c = search needs
@@ -29,8 +29,8 @@ put-stuffing-unit-requires c κs = search needs
 add-to : tie.Need-add-to Inv-loop μ-loop
 add-to c = search needs
 
-sub-more : tie.Need-sub-more Inv-loop μ-loop
-sub-more c = search needs
+sub-left : tie.Need-sub-left Inv-loop μ-loop
+sub-left c = search needs
 
 loop-less : tie.Need-loop-less Inv-loop μ-loop
 loop-less c = search needs
@@ -43,7 +43,7 @@ loop-again c =
     let k = p .kept .1 .0 in (
       k ∙ l .inv .0,
       rw k (omega arith),
-      sets-next (l .out) (p .last .1 .0) (l .to) 46 stuffingUnit (stuffingUnits (l .more - 1)) _ (at-more stuffingUnits (l .more) (search needs))
+      sets-next (l .out) (p .last .1 .0) (l .to) 46 stuffingUnit (stuffingUnits (l .left - 1)) _ (at-more stuffingUnits (l .left) (search needs))
           stuffing-unit-length (p .ensures) ∙ l .inv .2,
     )
 
@@ -54,7 +54,7 @@ returns : tie.Need-returns Inv-loop μ-loop
 unfolding stuffingUnits
 returns c =
     let l = c .before .loop in
-    sym (at-none (λ (n : ℕ). sets (l .out) (l .to) (stuffingUnits n)) (l .more) (search needs)) ∙ l .inv .2
+    sym (at-none (λ (n : ℕ). sets (l .out) (l .to) (stuffingUnits n)) (l .left) (search needs)) ∙ l .inv .2
 
 pub put-stuffing-spec : {M : Type 1} → statement M
 put-stuffing-spec =
@@ -65,7 +65,7 @@ put-stuffing-spec =
     loop-holds
     put-stuffing-unit-requires
     add-to
-    sub-more
+    sub-left
     loop-less
     loop-again
     same-length
