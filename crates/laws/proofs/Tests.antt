@@ -39,6 +39,10 @@ pub either-false : (a : Bool) → either a false ≡ a
 either-false true = refl
 either-false false = refl
 
+pub either-true : (a : Bool) → either a true ≡ true
+either-true true = refl
+either-true false = refl
+
 pub either-assoc : (a b c : Bool) → either (either a b) c ≡ either a (either b c)
 either-assoc true b c = refl
 either-assoc false b c = refl

@@ -1,14 +1,14 @@
 -- What a packet 0 is seen as, from its bytes, and the verdict on it. Assumes nothing.
 use mathlib.Core.Path.{_≡_, refl, sym}
-use mathlib.Core.Bool.{Bool, true, false}
+use mathlib.Core.Bool.{Bool, true, false, not}
 use mathlib.Core.List.{List}
-use Prim.Native.Nat.{ℕ, _+_, _*_, _%_, _<_}
-use lib.Dec.{leb, eqb}
+use Prim.Native.Nat.{ℕ, _+_, _*_, _%_, _≤_, _<_}
+use lib.Dec.{eqb}
 use lib.ListN.{length, getD, drop}
 use lib.Seq.{getD-drop}
-use borrow.Author.Tests.{eqb-true}
-use Rattle.laws.specs.Pick.{pick, both}
-use Rattle.laws.proofs.Tests.{both-first, both-second, both-true}
+use borrow.Author.Tests.{le-leb, lt-leb, lt-ltb, le-ltb, eqb-true}
+use Rattle.laws.specs.Pick.{pick, both, either}
+use Rattle.laws.proofs.Tests.{both-first, both-second, both-true, either-true}
 use Rattle.octet.specs.Decoding.{nib, undecodable}
 use Rattle.packet.specs.declared.Setting.{Setting}
 use Rattle.packet.specs.Packet.{packetLength}
@@ -16,7 +16,7 @@ use Rattle.packet.specs.Address.{decodes}
 use Rattle.pages.specs.declared.headers.Page.{Page}
 use Rattle.pages.specs.declared.headers.Page.the-variants.{Shut, Open}
 use Rattle.pages.specs.declared.headers.Verdict.{Verdict}
-use Rattle.pages.specs.Judging.{incomplete, breaks, verdictOf}
+use Rattle.pages.specs.Judging.{incomplete, verdictOf}
 use Rattle.pages.specs.Headers.{Seen, junk, foreign, ours, seeZero}
 use Rattle.pages.specs.Internal.{legible, seenZero}
 use Rattle.pages.proofs.Seeing.{decodes-at}
@@ -66,11 +66,16 @@ module _ (page : Page) (index : ℕ) {x : Seen} where
   as-lost e f = rw (e, f)
 
   pub as-foreign :
-      {r : Verdict} {t : Bool} → r ≡ record { page = Shut; index = index; drops = t; reads = false } → t ≡ incomplete page → x ≡ foreign
+      {t : Bool} → t ≡ incomplete page → x ≡ foreign → record { page = Shut; index = index; drops = t; reads = false } ≡ verdictOf page index x
+  as-foreign g f = rw (g, f)
+
+  -- n is over 25
+  pub as-many :
+      {r : Verdict} {i n : ℕ} → r ≡ record { page = Shut; index = i; drops = true; reads = false } → 25 < n → x ≡ ours i n
       → r ≡ verdictOf page index x
-  as-foreign e g f = rw (e, g, f)
+  as-many {i = i} {n = n} e h f = rw (e, f, lt-leb n 25 h, lt-ltb 25 n h, either-true)
 
   pub as-ours :
-      {t : Bool} {opened : Page} {i n : ℕ} → t ≡ breaks page index i n → opened ≡ pick (leb n 25) (Open n 0) Shut → x ≡ ours i n
-      → record { page = opened; index = i; drops = t; reads = false } ≡ verdictOf page index x
-  as-ours e g f = rw (e, g, f)
+      {t : Bool} {i n : ℕ} → t ≡ either (incomplete page) (not (eqb i ((index + 1) % 16))) → n ≤ 25 → x ≡ ours i n
+      → record { page = Open n 0; index = i; drops = t; reads = false } ≡ verdictOf page index x
+  as-ours {n = n} e h f = rw (e, f, le-leb n 25 h, le-ltb 25 n h)

@@ -2,12 +2,13 @@
 // the running block.
 use packet::Setting;
 ghost use mathlib.Core.Path.{_≡_};
-ghost use mathlib.Core.Bool.{false};
-ghost use lib.Dec.{leb, eqb};
-ghost use Rattle.laws.specs.Pick.{pick, both};
-ghost use Rattle.pages.specs.declared.headers.Page.the-variants.{Shut, Open};
+ghost use mathlib.Core.Bool.{false, not};
+ghost use Prim.Native.Nat.{_+_, _%_};
+ghost use lib.Dec.{eqb};
+ghost use Rattle.laws.specs.Pick.{both, either};
+ghost use Rattle.pages.specs.declared.headers.Page.the-variants.{Shut};
 ghost use Rattle.pages.specs.Internal.{legible, seenZero};
-ghost use Rattle.pages.specs.Judging.{incomplete, breaks, verdictOf};
+ghost use Rattle.pages.specs.Judging.{incomplete, verdictOf};
 
 // The page of ours that is open, if one is: how many packets follow its packet 0, and the number of
 // the last one that came.
@@ -35,14 +36,22 @@ pub(crate) fn judge_zero(setting: Setting, page: Page, last: u8, packet: &[u8]) 
     let number = octet::quick::decode(packet[2]) + 16 * octet::quick::decode(packet[3]);
     let stream = octet::quick::decode(packet[6]);
     if !is_ours(setting, number, stream) {
-        return shut(last, is_incomplete(page));
+        return Verdict {
+            page: Page::Shut,
+            index: last,
+            drops: is_incomplete(page),
+            reads: false,
+        };
     }
     let index = octet::quick::decode(packet[4]);
     let n = octet::quick::decode(packet[5]) % 8 + 8 * (octet::quick::decode(packet[7]) % 4);
+    if n > 25 {
+        return shut(index, true);
+    }
     Verdict {
-        page: page_of(n),
+        page: Page::Open { n: n, last: 0 },
         index: index,
-        drops: is_break(page, last, index, n),
+        drops: is_break(page, last, index),
         reads: false,
     }
 }
@@ -87,15 +96,12 @@ fn is_ours(setting: Setting, number: u8, stream: u8) -> bool
     stream == setting.stream
 }
 
-// Whether a packet 0 of ours drops the running block: our page isn't complete (SCOPE 8.5), n is over 25
-// (SCOPE 8.7), or the index doesn't follow on our last (SCOPE 8.8).
-fn is_break(page: Page, last: u8, index: u8, n: u8) -> bool
-    ensures { λ r. ⌜ r ≡ breaks page last index n ⌝ }
+// Whether a packet 0 of ours with n up to 25 drops the running block: our page isn't complete (SCOPE 8.5), or
+// the index doesn't follow on our last (SCOPE 8.8).
+fn is_break(page: Page, last: u8, index: u8) -> bool
+    ensures { λ r. ⌜ r ≡ either (incomplete page) (not (eqb index ((last + 1) % 16))) ⌝ }
 {
     if is_incomplete(page) {
-        return true;
-    }
-    if n > 25 {
         return true;
     }
     index != (last % 16 + 1) % 16
@@ -109,14 +115,4 @@ fn is_incomplete(page: Page) -> bool
         Page::Shut => false,
         Page::Open { n, last } => last < n,
     }
-}
-
-// The page that a packet 0 of ours opens.
-fn page_of(n: u8) -> Page
-    ensures { λ r. ⌜ r ≡ pick (leb n 25) (Open n 0) Shut ⌝ }
-{
-    if n > 25 {
-        return Page::Shut;
-    }
-    Page::Open { n: n, last: 0 }
 }

@@ -4,11 +4,11 @@ use mathlib.Core.Bool.{Bool, true, false}
 use mathlib.Core.List.{List}
 use Prim.Native.Nat.{ℕ, _%_, _/_, _≤_, _<_}
 use native.Mathlib.Omega.{arith}
-use lib.Dec.{eqb}
 use lib.ListN.{length}
-use borrow.Author.Tests.{le-leb, lt-leb}
+use borrow.Author.Tests.{le-leb, lt-leb, eq-eqb, ne-eqb}
 use Rattle.laws.specs.Pick.{both}
 use Rattle.laws.proofs.Lists.{sets-front}
+use Rattle.laws.proofs.Tests.{both-false, both-assoc}
 use Rattle.blocks.specs.Block.{recordsOf}
 use Rattle.packet.specs.declared.Setting.{Setting}
 use Rattle.packet.specs.Setting.{inRange}
@@ -16,6 +16,7 @@ use Rattle.packet.specs.Packet.{packetLength}
 use Rattle.state.specs.declared.Reader.{Reader}
 use Rattle.reader.specs.declared.many.HeardAll.{HeardAll}
 use Rattle.reader.specs.declared.many.HeardAll.the-variants.{TookAll}
+use Rattle.reader.specs.declared.many.FedAll.{FedAll}
 use Rattle.reader.specs.declared.many.Taking.{Taking}
 use Rattle.walk.specs.declared.Run.{Run}
 use Rattle.pages.specs.declared.headers.Page.{Page}
@@ -38,25 +39,32 @@ abbrev pub AnswersAll : Setting → Reader → List ℕ → List ℕ → HeardAl
 AnswersAll s r l old h after new =
     (h ≡ feedAllHeard s r l old) × ((after ≡ feedAllReader s r l old) × (new ≡ feedAllOut s r l old))
 
-module _ (s : Setting) (r : Reader) (l old : List ℕ) where
-  module _ {ready : Bool} (e : ready ≡ both (inRange s) (both (readerInRange r) (eqb (length l % packetLength) 0))) where
-    pub not-ready-all : ready ≡ false → AnswersAll s r l old (refusedAll 16 0) r old
-    not-ready-all i = rw (← e, i) (refl, (refl, refl))
+-- a refusal hands the reader back, and leaves the output
+abbrev Refuses : Setting → Reader → List ℕ → List ℕ → ℕ → FedAll → Type 0
+Refuses s r l old number x = x ≡ record { heard = refusedAll number 0; reader = r } → AnswersAll s r l old (x .heard) (x .reader) old
 
-    pub no-room-all : ready ≡ true → length old < room → AnswersAll s r l old (refusedAll 1 0) r old
-    no-room-all i h = rw (← e, i, lt-leb _ _ h) (refl, (refl, refl))
+module _ (s : Setting) (r : Reader) (l old : List ℕ) where
+  pub not-whole-all : {x : FedAll} → (length l % packetLength ≡ 0 → ⊥) → Refuses s r l old 16 x
+  not-whole-all n e = rw (e, ne-eqb _ _ n, both-false, both-false) (refl, (refl, refl))
+
+  module _ {ready : Bool} (e : ready ≡ both (inRange s) (readerInRange r)) where
+    pub not-ready-all : {x : FedAll} → ready ≡ false → Refuses s r l old 16 x
+    not-ready-all i f = rw (f, both-assoc, ← e, i) (refl, (refl, refl))
+
+    pub no-room-all : {x : FedAll} → ready ≡ true → length l % packetLength ≡ 0 → length old < room → Refuses s r l old 1 x
+    no-room-all i z h f = rw (f, both-assoc, ← e, i, eq-eqb _ _ z, lt-leb _ _ h) (refl, (refl, refl))
 
     pub taken-all :
-        {g : Going} {t : Taking} {store new : List ℕ} → ready ≡ true → room ≤ length old → g ≡ started (r .page) (r .index) (r .run)
+        {g : Going} {t : Taking} {store new : List ℕ} → ready ≡ true → length l % packetLength ≡ 0 → room ≤ length old → g ≡ started (r .page) (r .index) (r .run)
         → t .going .got .written ≤ length old
         → RanTo (run s (length old) (length l / packetLength) (begun (stateIn g (r .store))) l) t store old new
         → AnswersAll s r l old
         (TookAll (t .packets) (t .going .got .blocks) (t .going .got .written) (t .going .got .dropped))
         (record { page = t .going .page; index = t .going .index; run = t .going .got .run; store = store }) new
-    taken-all {g} {t} {store} {new} i h q f x =
+    taken-all {g} {t} {store} {new} i z h q f x =
         let bytes : List ℕ = recordsOf (ranAll s r l old .blocks) in
         let w : RanTo (ranAll s r l old) t store old new = rw q at x in
-        rw (← e, i, le-leb _ _ h) (
+        rw (both-assoc, ← e, i, eq-eqb _ _ z, le-leb _ _ h) (
           rw (w .packets, w .blocks, w .written, w .dropped),
           (handed-back (w .page) (w .index) (w .holds), w .out ∙ sets-front old bytes (omega (arith, w .written))),
         )

@@ -33,11 +33,11 @@ pub(crate) fn read(got: Got, store: &mut [u8; 2047], packet: &[u8], out: &mut [u
     let at = 3 + before;
     let was = got.run;
     let taken = take_in(was, store, &packet[3..at]);
-    if before == 39 {
-        return continue_on(got, taken, store, out);
+    if before < 39 {
+        let carried = continue_to(got, taken, store, &packet[3..at], out);
+        return flow(carried, store, &packet[at..], out);
     }
-    let carried = continue_to(got, taken, store, &packet[3..at], out);
-    flow(carried, store, &packet[at..], out)
+    continue_on(got, taken, store, out)
 }
 
 // The running block is dropped where the test holds, and that is noted.

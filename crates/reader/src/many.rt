@@ -18,7 +18,7 @@ ghost use Rattle.packet.specs.Packet.{packetLength};
 ghost use Rattle.octet.specs.Decoding.{nib};
 ghost use Rattle.walk.specs.Internal.{Kept, PacketRoom};
 ghost use Rattle.state.specs.State.{readerInRange, Sixteen};
-ghost use Rattle.reader.specs.Many.{begun, run, feedAllHeard, feedAllReader, feedAllOut};
+ghost use Rattle.reader.specs.Many.{begun, run, refusedAll, feedAllHeard, feedAllReader, feedAllOut};
 ghost use Rattle.reader.specs.Internal.{stateIn, Heeded, started, RanTo};
 
 // What a list of packets gave: how many of them were taken, how many blocks they finished, as how many
@@ -62,21 +62,17 @@ pub fn feed_all(setting: Setting, reader: Reader, packets: &[u8], out: &mut [u8]
     ensures { λ r. ⌜ r .reader ≡ feedAllReader setting reader (now (packets .entry)) (now (out .entry)) ⌝ }
     ensures { λ r. ⌜ now (out .exit) ≡ feedAllOut setting reader (now (packets .entry)) (now (out .entry)) ⌝ }
 {
+    if packets.len() % 42 != 0 {
+        return refused(16, reader);
+    }
     let page = reader.page;
     let run = reader.run;
     let mut store = reader.store;
-    let whole = packets.len() % 42 == 0;
-    if !is_ready(setting, page, reader.index, run, &store, whole) {
-        return FedAll {
-            heard: HeardAll::RefusedAll(Refusal { no: 16, at: 0 }),
-            reader: reader,
-        };
+    if !is_ready(setting, page, reader.index, run, &store) {
+        return refused(16, reader);
     }
     if out.len() < 2112 {
-        return FedAll {
-            heard: HeardAll::RefusedAll(Refusal { no: 1, at: 0 }),
-            reader: reader,
-        };
+        return refused(1, reader);
     }
     let from = start(page, reader.index, run);
     let t = take_all(setting, from, &mut store, packets, out);
@@ -182,15 +178,22 @@ fn start(page: Page, index: u8, run: Run) -> Going
     }
 }
 
-// Whether a call goes on: setting and state are in range, and what came is whole packets.
-fn is_ready(setting: Setting, page: Page, index: u8, run: Run, store: &[u8], whole: bool) -> bool
-    ensures { λ r. ⌜ r ≡ both (inRange setting) (both (readerInRange (record { page = page; index = index; run = run; store = now (store .entry) })) whole) ⌝ }
+// A refusal, by this number: the reader is the one handed in.
+fn refused(no: u8, reader: Reader) -> FedAll
+    ensures { λ r. ⌜ r ≡ record { heard = refusedAll no 0; reader = reader } ⌝ }
+{
+    FedAll {
+        heard: HeardAll::RefusedAll(Refusal { no: no, at: 0 }),
+        reader: reader,
+    }
+}
+
+// Whether setting and state are in range.
+fn is_ready(setting: Setting, page: Page, index: u8, run: Run, store: &[u8]) -> bool
+    ensures { λ r. ⌜ r ≡ both (inRange setting) (readerInRange (record { page = page; index = index; run = run; store = now (store .entry) })) ⌝ }
     ensures { λ r. ⌜ (r ≡ true → Sixteen run) ⌝ }
 {
     if !packet::is_in_range(setting) {
-        return false;
-    }
-    if !whole {
         return false;
     }
     state::in_range(page, index, run, store)

@@ -56,13 +56,8 @@ kept-in-range r e w k =
     let u = both-second (leb (r .index) 15) _ i in
     run-kept (r .run) (r .store) (both-first (runInRange (r .run)) _ u) w k (both-second (runInRange (r .run)) _ u)
 
--- where a call goes on, what came is whole packets, and the state is held
-module _ (s : Setting) (r : Reader) (t : Bool) {b : Bool} (x : b ≡ both (inRange s) (both (readerInRange r) t)) (y : b ≡ true) where
-  in-range-whole : both (readerInRange r) t ≡ true
-  in-range-whole = both-second (inRange s) (both (readerInRange r) t) (sym x ∙ y)
-
-  pub ready-whole : t ≡ true
-  ready-whole = both-second (readerInRange r) t in-range-whole
-
-  pub ready-kept : Sixteen (r .run) → length (r .store) ≡ storeLength → Kept (r .run) (r .store)
-  ready-kept = kept-in-range r (both-first (readerInRange r) t in-range-whole)
+-- where a call goes on, the state is held
+pub ready-kept :
+    (s : Setting) (r : Reader) {b : Bool} → b ≡ both (inRange s) (readerInRange r) → b ≡ true → Sixteen (r .run) → length (r .store) ≡ storeLength
+    → Kept (r .run) (r .store)
+ready-kept s r x y = kept-in-range r (both-second (inRange s) (readerInRange r) (sym x ∙ y))

@@ -9,7 +9,7 @@ use lib.ListN.{length, take, drop, length-append}
 use lib.Seq.{sets, length-take-le, drop-drop}
 use borrow.Author.Tests.{le-leb, lt-leb, eq-eqb, ne-eqb}
 use Rattle.laws.specs.Pick.{both, either}
-use Rattle.laws.proofs.Tests.{both-right, either-false, either-assoc}
+use Rattle.laws.proofs.Tests.{both-right, either-false, either-assoc, either-true}
 use Rattle.laws.proofs.Lists.{sets-append, part-of, part-rest}
 use Rattle.blocks.specs.Block.{Block, sizeOf, recordOf, recordsOf}
 use Rattle.packet.specs.Packet.{packetLength}
@@ -186,10 +186,6 @@ module _ (m : Mode) (l : List ℕ) (a : Got) {t : Taken} {store : List ℕ} (too
 
 -- ---- from the pointed byte on
 
-pub either-true : (a : Bool) → either a true ≡ true
-either-true true = refl
-either-true false = refl
-
 -- no block more
 pub went-none :
     {m : Mode} {d : Bool} (a : Got) (r : Run) {x : Bool} {store : List ℕ} (out : List ℕ) → Holds m r store
@@ -300,8 +296,8 @@ module _ (p : ℕ) {n : ℕ} (e : n ≡ pointedBy p) where
         | no k ↦ f (omega arith)
       ]
 
-  by-pointed : n ≤ 39 → (n ≡ 39 → ⊥) → (p ≤ 12) × (n ≡ 3 * p)
-  by-pointed h i = three (λ l. (l, small l)) (λ f. absurd (i (thirteen f))) (λ k. absurd (omega (arith, over k, h)))
+  by-pointed : n < 39 → (p ≤ 12) × (n ≡ 3 * p)
+  by-pointed h = three (λ l. (l, small l)) (λ f. absurd (omega (arith, thirteen f, h))) (λ k. absurd (omega (arith, over k, h)))
 
   by-none : n ≡ 39 → p ≡ 13
   by-none h = three (λ l. absurd (omega (arith, small l, l, h))) (λ f. f) (λ k. absurd (omega (arith, over k, h)))
@@ -311,11 +307,11 @@ module _ (p : ℕ) {n : ℕ} (e : n ≡ pointedBy p) where
 
 module _ (m : Mode) (p : ℕ) (packet : List ℕ) (a : Got) {n : ℕ} {old : List ℕ} (e : n ≡ pointedBy p) where
   pub read-pointed :
-      {b r : Got} {between store mid new : List ℕ} → n ≤ 39 → (n ≡ 39 → ⊥) → ContinuedTo m (take (3 + n - 3) (drop 3 packet)) a b between old mid
+      {b r : Got} {between store mid new : List ℕ} → n < 39 → ContinuedTo m (take (3 + n - 3) (drop 3 packet)) a b between old mid
       → Flowed (take (length packet - (3 + n)) (drop (3 + n) packet)) b r store mid new
       → ReadPacket m p (drop 3 packet) a r store old new
-  read-pointed h i x y =
-      let k = by-pointed p e h i in
+  read-pointed h x y =
+      let k = by-pointed p e h in
       rw (le-leb _ _ (k .0), drop-drop)
       (went-on (rw (k .1, part-of 3 (3 * p) packet) at x) (rw (k .1, part-rest (3 + 3 * p) packet) at y))
 

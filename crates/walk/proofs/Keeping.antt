@@ -18,7 +18,7 @@ use Rattle.walk.specs.declared.Run.{Run}
 use Rattle.walk.specs.declared.Run.the-variants.{Idle, Head, Body}
 use Rattle.walk.specs.declared.Taken.{Taken}
 use Rattle.walk.specs.declared.Ahead.{Ahead}
-use Rattle.walk.specs.declared.Ahead.the-variants.{Nothing, Broken, Cut, Whole}
+use Rattle.walk.specs.declared.Ahead.the-variants.{Cut, Whole}
 use Rattle.walk.specs.Mode.{Mode, off, scan, heading, body, filler, shifted, full, continues}
 use Rattle.walk.specs.Store.{storeLength, zeroed, modeOf, runOf, heldOf}
 use Rattle.walk.specs.Places.{StartAhead, nothing, broken, cut, whole, heads, found, aheadIn}
@@ -280,11 +280,10 @@ module _ {r : Run} {store : List ℕ} {g v : ℕ} (s : List ℕ) (a : Ahead) (k 
   by-answer : (p : Bool) → continues p (modeOf r store) s ≡ continued-by p (aheadIn s a)
   by-answer p = rw e (head-continued g v s (kept-got k e) x p)
 
-  pub head-nothing : a ≡ Nothing → TookIn (modeOf r store) s s (record { run = Idle; next = 0 }) store
-  head-nothing y = idle-took s s (λ p. by-answer p ∙ rw y) (kept-head k e)
-
-  pub head-broken : a ≡ Broken → TookIn (modeOf r store) s s (record { run = Idle; next = 0 }) store
-  head-broken y = idle-took s s (λ p. by-answer p ∙ rw y) (kept-head k e)
+  -- nothing runs on
+  pub head-lost :
+      ((p : Bool) → continued-by p (aheadIn s a) ≡ off) → TookIn (modeOf r store) s s (record { run = Idle; next = 0 }) store
+  head-lost y = idle-took s s (λ p. by-answer p ∙ y p) (kept-head k e)
 
   pub head-cut : {n w : ℕ} → a ≡ Cut n w → TookIn (modeOf r store) s s (record { run = Head n w; next = length s }) store
   head-cut y =

@@ -1,11 +1,12 @@
 -- `packet::passes_by` meets its contract: whether there is an address, then its magazine. Assumes nothing.
+use native.Mathlib.Omega.{arith}
 use borrow.Author.Needs.{needs}
 use Rattle.packet.proofs.Addressed.{no-address, an-address}
 use Rattle.packet.proofs.passes_by.Statement.{statement}
 use Rattle.packet.proofs.passes_by.Tie as tie
 
 returns : tie.Need-returns
-returns c = let a = c .before .args in no-address (a .setting) (a .address) (c .if1 .taken)
+returns c = let a = c .before .args in no-address (a .setting) (a .address) (omega arith)
 
 cast-result : tie.Need-cast-result
 cast-result c = search needs

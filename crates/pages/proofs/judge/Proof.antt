@@ -42,7 +42,7 @@ returns-5 : tie.Need-returns-5
 returns-5 c =
     let a = c .before .before .before .before .before .before .before .args in
     as-stays (a .page) (a .index)
-    (as-over (a .setting) (now (a .packet)) (c .before .before .before .before .before .if1 .left) (c .before .before .before .before .if2 .left) (c .before .before .if3 .left) (c .if5 .taken))
+    (as-over (a .setting) (now (a .packet)) (c .before .before .before .before .before .if1 .left) (c .before .before .before .before .if2 .left) (c .before .before .if3 .left) (omega arith))
 
 judge-y-requires : tie.Need-judge-y-requires
 judge-y-requires c κs = omega arith

@@ -1,4 +1,5 @@
 -- `pages::judge_y` meets its contract: no page is open, the packet is over n, or it is read. Assumes nothing.
+use native.Mathlib.Omega.{arith}
 use borrow.Author.Needs.{needs}
 use borrow.Author.Tests.{le-leb, lt-leb}
 use Rattle.pages.proofs.judge_y.Statement.{statement}
@@ -14,7 +15,10 @@ is-wrong-requires : tie.Need-is-wrong-requires
 is-wrong-requires c κs = search needs
 
 returns : tie.Need-returns
-returns c = rw (c .before .is-wrong .ensures, c .before .before .before .page .given .1, lt-leb _ _ (c .if1 .taken))
+returns c =
+    let a = c .before .before .before .before .before .args in
+    let page = c .before .before .before .page .given in
+    rw (c .before .is-wrong .ensures, page .1, lt-leb (a .y) (page .0 .0) (omega arith))
 
 returns-2 : tie.Need-returns-2
 returns-2 c = rw (c .enum-told .given .1)

@@ -1,4 +1,5 @@
 -- `reader::feed` meets its contract: the packet's length, and then what the call for a list says of a list of one. Assumes nothing.
+use native.Mathlib.Omega.{arith}
 use denote.Ref.{now}
 use borrow.Author.Needs.{needs}
 use Rattle.reader.proofs.Answering.{other-length, one}
@@ -8,7 +9,7 @@ use Rattle.reader.proofs.feed.Tie as tie
 returns : tie.Need-returns
 returns c =
     let a = c .before .before .before .args in
-    other-length (a .setting) (a .reader) (now (a .packet)) (now (a .out)) (c .if1 .taken)
+    other-length (a .setting) (a .reader) (now (a .packet)) (now (a .out)) (λ e. omega (arith, e, c .if1 .taken))
 
 feed-all-requires : tie.Need-feed-all-requires
 feed-all-requires c κs = search needs

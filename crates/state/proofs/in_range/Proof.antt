@@ -3,6 +3,7 @@ use mathlib.Core.Path.{_∙_, sym}
 use native.Mathlib.Omega.{arith}
 use borrow.Author.Needs.{needs}
 use borrow.Author.Tests.{lt-leb, le-leb, not-true, not-false}
+use Rattle.blocks.specs.Block.{sizeOf}
 use Rattle.state.specs.State.{readerInRange}
 use Rattle.state.proofs.Clearing.{untrue}
 use Rattle.state.proofs.in_range.Statement.{statement}
@@ -46,7 +47,7 @@ cast-if4 c = search needs
 
 returns-4 : tie.Need-returns-4
 unfolding readerInRange
-returns-4 c = (rw (sym (c .before .before .before .before .before .before .is-page .ensures) ∙ not-false _ (c .before .before .before .before .before .if1 .left), le-leb _ _ (c .before .before .before .before .if2 .left), c .before .before .run2 .given .1, lt-leb _ _ (c .if4 .taken)), λ e. untrue e)
+returns-4 c = (rw (sym (c .before .before .before .before .before .before .is-page .ensures) ∙ not-false _ (c .before .before .before .before .before .if1 .left), le-leb _ _ (c .before .before .before .before .if2 .left), c .before .before .run2 .given .1, lt-leb (c .before .before .run2 .given .0 .1 .0) (sizeOf (c .before .before .run2 .given .0 .0)) (omega arith)), λ e. untrue e)
 
 is-clear-requires-3 : tie.Need-is-clear-requires-3
 is-clear-requires-3 c κs = search needs

@@ -1,4 +1,5 @@
 -- `state::is_page` meets its contract: its tests in order. Assumes nothing.
+use native.Mathlib.Omega.{arith}
 use borrow.Author.Needs.{needs}
 use borrow.Author.Tests.{lt-leb, le-leb}
 use Rattle.state.proofs.is_page.Statement.{statement}
@@ -11,13 +12,13 @@ enum-known-page : tie.Need-enum-known-page
 enum-known-page c = search needs
 
 returns : tie.Need-returns
-returns c = rw (c .before .before .page .given .1, lt-leb _ _ (c .if1 .taken))
+returns c = let page = c .before .before .page .given in rw (page .1, lt-leb (page .0 .0) 25 (omega arith))
 
 returns-2 : tie.Need-returns-2
 returns-2 c = search needs
 
 returns-3 : tie.Need-returns-3
-returns-3 c = rw (c .before .before .page .given .1, le-leb _ _ (c .if1 .left))
+returns-3 c = let page = c .before .before .page .given in rw (page .1, le-leb (page .0 .0) 25 (omega arith))
 
 pub is-page-spec : {M : Type 1} → statement M
 is-page-spec = tie.close (tie.spec enum-told enum-known-page returns returns-2 returns-3)

@@ -39,22 +39,23 @@ returns-2 : tie.Need-returns-2 Inv-loop μ-loop
 returns-2 c =
     let l = c .before .before .before .before .before .loop in
     let a = c .before .before .before .before .before .before .before .args in
-    (sym (l .inv .3) ∙ head-broken (now (a .s)) (l .i) (l .g) (l .v) (omega arith) (omega arith) (omega arith), (search needs, search needs))
+    (sym (l .inv .3) ∙ head-broken (now (a .s)) (l .i) (l .g) (l .v) (omega arith) (omega arith) (omega (arith, nib-le (getD (now (a .s)) (l .i) 0))), (search needs, search needs))
 
 cast-v : tie.Need-cast-v Inv-loop μ-loop
 cast-v c = search needs
 
-mul-v : tie.Need-mul-v Inv-loop μ-loop
-mul-v c =
+-- a byte decodes to 16 at most, and past the test to less
+is-nibble : (c : tie.Else2 Inv-loop μ-loop) → c .before .decode .result ≤ 16
+is-nibble c =
     let l = c .before .before .before .before .before .loop in
     let s = now (c .before .before .before .before .before .before .before .args .s) in
     omega (arith, c .before .decode .ensures, nib-le (getD s (l .i) 0))
 
+mul-v : tie.Need-mul-v Inv-loop μ-loop
+mul-v c = omega (arith, is-nibble c)
+
 add-v : tie.Need-add-v Inv-loop μ-loop
-add-v c =
-    let l = c .before .before .before .before .before .loop in
-    let s = now (c .before .before .before .before .before .before .before .args .s) in
-    omega (arith, c .before .decode .ensures, nib-le (getD s (l .i) 0))
+add-v c = omega (arith, is-nibble c)
 
 add-g : tie.Need-add-g Inv-loop μ-loop
 add-g c = search needs
@@ -73,7 +74,7 @@ loop-again c =
     let e = c .before .decode .ensures in (
       λ w. omega arith,
       omega arith,
-      omega (arith, e, nib-le (getD s (l .i) 0)),
+      omega (arith, is-nibble c),
       head-on s (l .i) (l .g) (l .v) n (omega arith) (omega arith) e (c .if2 .left) ∙ l .inv .3,
     )
 

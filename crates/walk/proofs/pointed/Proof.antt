@@ -1,4 +1,5 @@
 -- `walk::pointed` meets its contract: its tests in order. Assumes nothing.
+use native.Mathlib.Omega.{arith}
 use borrow.Author.Needs.{needs}
 use borrow.Author.Tests.{le-leb, lt-leb, eq-eqb, ne-eqb}
 use Rattle.walk.proofs.pointed.Statement.{statement}
@@ -14,13 +15,13 @@ mul-result : tie.Need-mul-result
 mul-result c = search needs
 
 returns : tie.Need-returns
-returns c = rw (← c .before .decode .ensures, le-leb _ _ (c .if1 .taken))
+returns c = rw (← c .before .decode .ensures, le-leb (c .before .decode .result) 12 (omega arith))
 
 returns-2 : tie.Need-returns-2
-returns-2 c = rw (← c .before .before .decode .ensures, lt-leb _ _ (c .before .if1 .left), eq-eqb _ _ (c .if2 .taken))
+returns-2 c = rw (← c .before .before .decode .ensures, lt-leb (c .before .before .decode .result) 12 (omega arith), eq-eqb _ _ (c .if2 .taken))
 
 returns-3 : tie.Need-returns-3
-returns-3 c = rw (← c .before .before .decode .ensures, lt-leb _ _ (c .before .if1 .left), ne-eqb _ _ (c .if2 .left))
+returns-3 c = rw (← c .before .before .decode .ensures, lt-leb (c .before .before .decode .result) 12 (omega arith), ne-eqb _ _ (c .if2 .left))
 
 pub pointed-spec : {M : Type 1} → statement M
 pointed-spec = tie.close (tie.spec decode-requires cast-p mul-result returns returns-2 returns-3)

@@ -1,6 +1,5 @@
 -- `pages::headers::is_break` meets its contract: its tests in order. Assumes nothing.
 use borrow.Author.Needs.{needs}
-use borrow.Author.Tests.{lt-ltb, le-ltb}
 use Rattle.pages.proofs.Seeing.{index-on}
 use Rattle.pages.proofs.headers.is_break.Statement.{statement}
 use Rattle.pages.proofs.headers.is_break.Tie as tie
@@ -11,14 +10,11 @@ is-incomplete-requires c κs = search needs
 returns : tie.Need-returns
 returns c = search needs
 
-returns-2 : tie.Need-returns-2
-returns-2 c = rw (← c .before .before .is-incomplete .ensures, c .before .if1 .left, lt-ltb _ _ (c .if2 .taken))
-
 add-result : tie.Need-add-result
 add-result c = search needs
 
-returns-3 : tie.Need-returns-3
-returns-3 c = rw (← c .before .before .is-incomplete .ensures, c .before .if1 .left, le-ltb _ _ (c .if2 .left), index-on)
+returns-2 : tie.Need-returns-2
+returns-2 c = rw (← c .before .is-incomplete .ensures, c .if1 .left, index-on)
 
 pub is-break-spec : {M : Type 1} → statement M
-is-break-spec = tie.close (tie.spec is-incomplete-requires returns returns-2 add-result returns-3)
+is-break-spec = tie.close (tie.spec is-incomplete-requires returns add-result returns-2)

@@ -1,12 +1,48 @@
 -- `pages::headers::judge_zero` meets its contract: what its six bytes say decides. Assumes nothing.
-use mathlib.Core.Path.{_∙_, sym}
+use mathlib.Core.Path.{_≡_, _∙_, sym}
+use mathlib.Core.Bool.{true}
+use Prim.Native.Nat.{_+_, _*_, _%_, _<_}
 use native.Mathlib.Omega.{arith}
+use lib.ListN.{length}
 use denote.Ref.{now}
 use borrow.Author.Needs.{needs}
 use borrow.Author.Tests.{not-true, not-false}
-use Rattle.pages.proofs.Headed.{legible-long, legible-at, zero-junk, zero-foreign, zero-ours, as-lost, as-foreign, as-ours}
+use Rattle.octet.specs.Decoding.{undecodable}
+use Rattle.packet.specs.Packet.{packetLength}
+use Rattle.pages.specs.Headers.{ours}
+use Rattle.pages.specs.Internal.{legible, seenZero}
+use Rattle.pages.proofs.Headed.{legible-long, legible-at, zero-junk, zero-foreign, zero-ours, as-lost, as-foreign, as-many, as-ours}
 use Rattle.pages.proofs.headers.judge_zero.Statement.{statement}
 use Rattle.pages.proofs.headers.judge_zero.Tie as tie
+
+-- ---- what is known on the way
+
+-- past the first test the packet can be read
+can-read : (c : tie.Else1) → true ≡ legible (now (c .before .before .before .args .packet))
+can-read c = sym (not-false _ (c .if1 .left)) ∙ c .before .readable .ensures
+
+is-long : (c : tie.Else1) → length (now (c .before .before .before .args .packet)) ≡ packetLength
+is-long c = legible-long (now (c .before .before .before .args .packet)) (can-read c)
+
+-- the page's two bytes are nibbles
+page-nibbles : (c : tie.After-decode2) → (c .before .before .decode .result < undecodable) × (c .decode2 .result < undecodable)
+page-nibbles c =
+    let p = now (c .before .before .before .before .before .before .before .args .packet) in
+    let e = can-read (c .before .before .before .before) in
+    (rw (c .before .before .decode .ensures) (legible-at p 0 e (omega arith)), rw (c .decode2 .ensures) (legible-at p 1 e (omega arith)))
+
+-- past the second it is ours
+is-ours :
+    (c : tie.After-decode6)
+    → seenZero (c .before .before .before .before .before .before .before .before .before .before .before .before .before .before .before .before .before .args .setting) (now (c .before .before .before .before .before .before .before .before .before .before .before .before .before .before .before .before .before .args .packet))
+    ≡ ours (c .before .before .before .before .decode4 .result) (c .before .before .decode5 .result % 8 + 8 * (c .decode6 .result % 4))
+is-ours c =
+    let a = c .before .before .before .before .before .before .before .before .before .before .before .before .before .before .before .before .before .args in
+    zero-ours (a .setting) (now (a .packet)) (can-read (c .before .before .before .before .before .before .before .before .before .before .before .before .before .before)) (c .before .before .before .before .before .before .before .before .before .before .before .before .decode .ensures) (c .before .before .before .before .before .before .before .before .before .before .decode2 .ensures)
+    (c .before .before .before .before .before .before .before .before .decode3 .ensures) (c .before .before .before .before .before .before .before .is-ours .ensures) (not-false _ (c .before .before .before .before .before .before .if2 .left)) (c .before .before .before .before .decode4 .ensures)
+    (c .before .before .decode5 .ensures) (c .decode6 .ensures)
+
+-- ---- the needs
 
 readable-requires : tie.Need-readable-requires
 readable-requires c κs = search needs
@@ -20,37 +56,25 @@ returns c =
     as-lost (a .page) (a .last) (c .shut .ensures) (zero-junk (a .setting) (now (a .packet)) (sym (not-true _ (c .before .if1 .taken)) ∙ c .before .before .readable .ensures))
 
 shared-slice-read-decode : tie.Need-shared-slice-read-decode
-shared-slice-read-decode c =
-    let long = legible-long (now (c .before .before .before .before .args .packet)) (sym (not-false _ (c .before .if1 .left)) ∙ c .before .before .readable .ensures) in
-    search needs
+shared-slice-read-decode c = let long = is-long (c .before) in search needs
 
 decode-requires : tie.Need-decode-requires
 decode-requires c κs = search needs
 
 shared-slice-read-decode-2 : tie.Need-shared-slice-read-decode-2
-shared-slice-read-decode-2 c =
-    let long = legible-long (now (c .before .before .before .before .before .before .args .packet)) (sym (not-false _ (c .before .before .before .if1 .left)) ∙ c .before .before .before .before .readable .ensures) in
-    search needs
+shared-slice-read-decode-2 c = let long = is-long (c .before .before .before) in search needs
 
 decode-requires-2 : tie.Need-decode-requires-2
 decode-requires-2 c κs = search needs
 
 mul-number : tie.Need-mul-number
-mul-number c =
-    let p = now (c .before .before .before .before .before .before .before .args .packet) in
-    let e = sym (not-false _ (c .before .before .before .before .if1 .left)) ∙ c .before .before .before .before .before .readable .ensures in
-    omega (arith, c .decode2 .ensures, c .before .before .decode .ensures, legible-at p 0 e (omega arith), legible-at p 1 e (omega arith))
+mul-number c = omega (arith, page-nibbles c)
 
 add-number : tie.Need-add-number
-add-number c =
-    let p = now (c .before .before .before .before .before .before .before .args .packet) in
-    let e = sym (not-false _ (c .before .before .before .before .if1 .left)) ∙ c .before .before .before .before .before .readable .ensures in
-    omega (arith, c .decode2 .ensures, c .before .before .decode .ensures, legible-at p 0 e (omega arith), legible-at p 1 e (omega arith))
+add-number c = omega (arith, page-nibbles c)
 
 shared-slice-read-decode-3 : tie.Need-shared-slice-read-decode-3
-shared-slice-read-decode-3 c =
-    let long = legible-long (now (c .before .before .before .before .before .before .before .before .args .packet)) (sym (not-false _ (c .before .before .before .before .before .if1 .left)) ∙ c .before .before .before .before .before .before .readable .ensures) in
-    search needs
+shared-slice-read-decode-3 c = let long = is-long (c .before .before .before .before .before) in search needs
 
 decode-requires-3 : tie.Need-decode-requires-3
 decode-requires-3 c κs = search needs
@@ -61,36 +85,27 @@ is-ours-requires c κs = search needs
 is-incomplete-requires : tie.Need-is-incomplete-requires
 is-incomplete-requires c κs = search needs
 
-shut-requires-2 : tie.Need-shut-requires-2
-shut-requires-2 c κs = search needs
-
 returns-2 : tie.Need-returns-2
 returns-2 c =
-    let a = c .before .before .before .before .before .before .before .before .before .before .before .before .before .args in
-    let e = sym (not-false _ (c .before .before .before .before .before .before .before .before .before .before .if1 .left)) ∙ c .before .before .before .before .before .before .before .before .before .before .before .readable .ensures in
-    as-foreign (a .page) (a .last) (c .shut2 .ensures) (c .before .is-incomplete .ensures)
-    (zero-foreign (a .setting) (now (a .packet)) e (c .before .before .before .before .before .before .before .before .decode .ensures) (c .before .before .before .before .before .before .decode2 .ensures) (c .before .before .before .before .decode3 .ensures) (c .before .before .before .is-ours .ensures) (not-true _ (c .before .before .if2 .taken)))
+    let a = c .before .before .before .before .before .before .before .before .before .before .before .before .args in
+    as-foreign (a .page) (a .last) (c .is-incomplete .ensures)
+    (zero-foreign (a .setting) (now (a .packet)) (can-read (c .before .before .before .before .before .before .before .before .before)) (c .before .before .before .before .before .before .before .decode .ensures) (c .before .before .before .before .before .decode2 .ensures)
+    (c .before .before .before .decode3 .ensures) (c .before .before .is-ours .ensures) (not-true _ (c .before .if2 .taken)))
 
 shared-slice-read-decode-4 : tie.Need-shared-slice-read-decode-4
-shared-slice-read-decode-4 c =
-    let long = legible-long (now (c .before .before .before .before .before .before .before .before .before .before .before .before .args .packet)) (sym (not-false _ (c .before .before .before .before .before .before .before .before .before .if1 .left)) ∙ c .before .before .before .before .before .before .before .before .before .before .readable .ensures) in
-    search needs
+shared-slice-read-decode-4 c = let long = is-long (c .before .before .before .before .before .before .before .before .before) in search needs
 
 decode-requires-4 : tie.Need-decode-requires-4
 decode-requires-4 c κs = search needs
 
 shared-slice-read-decode-5 : tie.Need-shared-slice-read-decode-5
-shared-slice-read-decode-5 c =
-    let long = legible-long (now (c .before .before .before .before .before .before .before .before .before .before .before .before .before .before .args .packet)) (sym (not-false _ (c .before .before .before .before .before .before .before .before .before .before .before .if1 .left)) ∙ c .before .before .before .before .before .before .before .before .before .before .before .before .readable .ensures) in
-    search needs
+shared-slice-read-decode-5 c = let long = is-long (c .before .before .before .before .before .before .before .before .before .before .before) in search needs
 
 decode-requires-5 : tie.Need-decode-requires-5
 decode-requires-5 c κs = search needs
 
 shared-slice-read-decode-6 : tie.Need-shared-slice-read-decode-6
-shared-slice-read-decode-6 c =
-    let long = legible-long (now (c .before .before .before .before .before .before .before .before .before .before .before .before .before .before .before .before .args .packet)) (sym (not-false _ (c .before .before .before .before .before .before .before .before .before .before .before .before .before .if1 .left)) ∙ c .before .before .before .before .before .before .before .before .before .before .before .before .before .before .readable .ensures) in
-    search needs
+shared-slice-read-decode-6 c = let long = is-long (c .before .before .before .before .before .before .before .before .before .before .before .before .before) in search needs
 
 decode-requires-6 : tie.Need-decode-requires-6
 decode-requires-6 c κs = search needs
@@ -101,19 +116,21 @@ mul-n c = search needs
 add-n : tie.Need-add-n
 add-n c = search needs
 
-page-of-requires : tie.Need-page-of-requires
-page-of-requires c κs = search needs
-
-is-break-requires : tie.Need-is-break-requires
-is-break-requires c κs = search needs
+shut-requires-2 : tie.Need-shut-requires-2
+shut-requires-2 c κs = search needs
 
 returns-3 : tie.Need-returns-3
 returns-3 c =
     let a = c .before .before .before .before .before .before .before .before .before .before .before .before .before .before .before .before .before .before .before .args in
-    let e = sym (not-false _ (c .before .before .before .before .before .before .before .before .before .before .before .before .before .before .before .before .if1 .left)) ∙ c .before .before .before .before .before .before .before .before .before .before .before .before .before .before .before .before .before .readable .ensures in
-    as-ours (a .page) (a .last) (c .is-break .ensures) (c .before .page-of .ensures)
-    (zero-ours (a .setting) (now (a .packet)) e (c .before .before .before .before .before .before .before .before .before .before .before .before .before .before .decode .ensures) (c .before .before .before .before .before .before .before .before .before .before .before .before .decode2 .ensures) (c .before .before .before .before .before .before .before .before .before .before .decode3 .ensures) (c .before .before .before .before .before .before .before .before .before .is-ours .ensures) (not-false _ (c .before .before .before .before .before .before .before .before .if2 .left))
-    (c .before .before .before .before .before .before .decode4 .ensures) (c .before .before .before .before .decode5 .ensures) (c .before .before .decode6 .ensures))
+    as-many (a .page) (a .last) (c .shut2 .ensures) (omega arith) (is-ours (c .before .before))
+
+is-break-requires : tie.Need-is-break-requires
+is-break-requires c κs = search needs
+
+returns-4 : tie.Need-returns-4
+returns-4 c =
+    let a = c .before .before .before .before .before .before .before .before .before .before .before .before .before .before .before .before .before .before .before .args in
+    as-ours (a .page) (a .last) (c .is-break .ensures) (omega arith) (is-ours (c .before .before))
 
 pub judge-zero-spec : {M : Type 1} → statement M
 judge-zero-spec =
@@ -132,7 +149,6 @@ judge-zero-spec =
     decode-requires-3
     is-ours-requires
     is-incomplete-requires
-    shut-requires-2
     returns-2
     shared-slice-read-decode-4
     decode-requires-4
@@ -142,6 +158,7 @@ judge-zero-spec =
     decode-requires-6
     mul-n
     add-n
-    page-of-requires
+    shut-requires-2
+    returns-3
     is-break-requires
-    returns-3)
+    returns-4)

@@ -9,7 +9,7 @@ use denote.Ref.{now}
 use borrow.Author.Needs.{needs}
 use Rattle.laws.proofs.Lists.{part-rest}
 use Rattle.walk.specs.Store.{zeroed}
-use Rattle.walk.specs.Places.{aheadIn}
+use Rattle.walk.specs.Places.{whole, found, aheadIn}
 use Rattle.walk.proofs.Stepping.{next-from, next-within}
 use Rattle.walk.proofs.Keeping.{found-bits}
 use Rattle.walk.proofs.Adding.{place, Leads, from-place, flow-nothing, flow-broken, flow-cut, flow-held, flow-on}
@@ -26,6 +26,24 @@ abbrev μ-loop : tie.MeasureT-loop
 
 loop-holds : tie.Need-loop-holds Inv-loop μ-loop
 loop-holds c = (omega arith, omega arith, c .before .before .pre .1 .1, refl, c .before .before .pre .0, λ r store new w. w)
+
+-- ---- what is known past a whole header
+
+-- what `find` says of the bytes from the place on
+is-whole :
+    (c : tie.After-head Inv-loop μ-loop)
+    → found (drop (c .before .before .before .loop .at) (now (c .before .before .before .before .before .before .args .s))) ≡ whole (c .head .given .0 .0) (drop (c .head .given .0 .1 .0) (now (c .before .before .before .before .before .before .args .s)))
+is-whole c = c .before .before .find .ensures .0 ∙ ap (aheadIn (now (c .before .before .before .before .before .before .args .s))) (c .head .given .1)
+
+-- the place past it lies within the bytes, at least five further on
+past-header :
+    (c : tie.After-head Inv-loop μ-loop)
+    → (c .head .given .0 .1 .0 ≤ length (now (c .before .before .before .before .before .before .args .s))) × (c .before .before .before .loop .at + 5 ≤ c .head .given .0 .1 .0)
+past-header c =
+    let f = c .before .before .find in
+    (next-within (f .result) (c .head .given .1) (f .ensures .1 .1), next-from (f .result) (c .before .before .before .loop .at + 5) (c .head .given .1) (f .ensures .1 .0))
+
+-- ---- the needs
 
 find-requires : tie.Need-find-requires Inv-loop μ-loop
 find-requires c κs = search needs
@@ -98,7 +116,7 @@ cast-size : tie.Need-cast-size Inv-loop μ-loop
 cast-size c = search needs
 
 sub-there : tie.Need-sub-there Inv-loop μ-loop
-sub-there c = next-within (c .before .before .before .find .result) (c .before .head .given .1) (c .before .before .before .find .ensures .1 .1)
+sub-there c = past-header (c .before) .0
 
 copy-requires : tie.Need-copy-requires Inv-loop μ-loop
 copy-requires c κs = search needs
@@ -114,63 +132,45 @@ returns-4 c =
     let a = c .before .before .before .before .before .before .before .before .before .before .before .args in
     let l = c .before .before .before .before .before .before .before .before .loop in
     let n = c .before .before .before .before .before .head .given .0 .1 .0 in
-    let x = c .before .before .before .before .before .before .before .find .ensures .0 ∙ ap (aheadIn (now (a .s))) (c .before .before .before .before .before .head .given .1) in
     rw (c .so-far4 .ensures)
     (from-place (a .got)
     (l .inv .5 _ _ _
-    (flow-held (drop (l .at) (now (a .s))) (place (a .got .dropped) (l .blocks) (l .q)) (l .out) x
+    (flow-held (drop (l .at) (now (a .s))) (place (a .got .dropped) (l .blocks) (l .q)) (l .out) (is-whole (c .before .before .before .before .before))
     (length-drop n (now (a .s)))
     (c .before .before .before .if1 .taken)
     (omega arith)
     (c .before .copy .ensures ∙ rw (l .inv .4, part-rest n (now (a .s)))))))
 
 emit-requires : tie.Need-emit-requires Inv-loop μ-loop
-emit-requires c κs =
-    let u = next-within (c .before .before .before .before .before .find .result) (c .before .before .before .head .given .1) (c .before .before .before .before .before .find .ensures .1 .1) in
-    let w = next-from (c .before .before .before .before .before .find .result) (c .before .before .before .before .before .before .loop .at + 5) (c .before .before .before .head .given .1) (c .before .before .before .before .before .find .ensures .1 .0) in
-    (omega arith, omega arith)
+emit-requires c κs = let n = past-header (c .before .before .before) in (omega (arith, n), omega (arith, n))
 
 add-blocks : tie.Need-add-blocks Inv-loop μ-loop
 add-blocks c = search needs
 
 add-q : tie.Need-add-q Inv-loop μ-loop
-add-q c =
-    let u = next-within (c .before .before .before .before .before .before .before .before .find .result) (c .before .before .before .before .before .before .head .given .1) (c .before .before .before .before .before .before .before .before .find .ensures .1 .1) in
-    let w = next-from (c .before .before .before .before .before .before .before .before .find .result) (c .before .before .before .before .before .before .before .before .before .loop .at + 5) (c .before .before .before .before .before .before .head .given .1) (c .before .before .before .before .before .before .before .before .find .ensures .1 .0) in
-    omega arith
+add-q c = omega (arith, past-header (c .before .before .before .before .before .before))
 
 add-q-2 : tie.Need-add-q-2 Inv-loop μ-loop
-add-q-2 c =
-    let u = next-within (c .before .before .before .before .before .before .before .before .find .result) (c .before .before .before .before .before .before .head .given .1) (c .before .before .before .before .before .before .before .before .find .ensures .1 .1) in
-    let w = next-from (c .before .before .before .before .before .before .before .before .find .result) (c .before .before .before .before .before .before .before .before .before .loop .at + 5) (c .before .before .before .before .before .before .head .given .1) (c .before .before .before .before .before .before .before .before .find .ensures .1 .0) in
-    omega arith
+add-q-2 c = omega (arith, past-header (c .before .before .before .before .before .before))
 
 add-at : tie.Need-add-at Inv-loop μ-loop
-add-at c =
-    let u = next-within (c .before .before .before .before .before .before .before .before .find .result) (c .before .before .before .before .before .before .head .given .1) (c .before .before .before .before .before .before .before .before .find .ensures .1 .1) in
-    omega arith
+add-at c = omega (arith, past-header (c .before .before .before .before .before .before))
 
 loop-less : tie.Need-loop-less Inv-loop μ-loop
-loop-less c =
-    let u = next-within (c .before .before .before .before .before .before .before .before .find .result) (c .before .before .before .before .before .before .head .given .1) (c .before .before .before .before .before .before .before .before .find .ensures .1 .1) in
-    let w = next-from (c .before .before .before .before .before .before .before .before .find .result) (c .before .before .before .before .before .before .before .before .before .loop .at + 5) (c .before .before .before .before .before .before .head .given .1) (c .before .before .before .before .before .before .before .before .find .ensures .1 .0) in
-    omega arith
+loop-less c = omega (arith, past-header (c .before .before .before .before .before .before))
 
 loop-again : tie.Need-loop-again Inv-loop μ-loop
 loop-again c =
-    let u = next-within (c .before .before .before .before .before .before .before .before .find .result) (c .before .before .before .before .before .before .head .given .1) (c .before .before .before .before .before .before .before .before .find .ensures .1 .1) in
-    let w = next-from (c .before .before .before .before .before .before .before .before .find .result) (c .before .before .before .before .before .before .before .before .before .loop .at + 5) (c .before .before .before .before .before .before .head .given .1) (c .before .before .before .before .before .before .before .before .find .ensures .1 .0) in
+    let n = past-header (c .before .before .before .before .before .before) in
     let a = c .before .before .before .before .before .before .before .before .before .before .before .before .args in
-    let l = c .before .before .before .before .before .before .before .before .before .loop in
-    let n = c .before .before .before .before .before .before .head .given .0 .1 .0 in
-    let x = c .before .before .before .before .before .before .before .before .find .ensures .0 ∙ ap (aheadIn (now (a .s))) (c .before .before .before .before .before .before .head .given .1) in (
-      omega arith,
-      omega arith,
-      omega arith,
+    let l = c .before .before .before .before .before .before .before .before .before .loop in (
+      omega (arith, n),
+      omega (arith, n),
+      omega (arith, n),
       c .before .before .emit .kept .1 .1 .1 .1 .0 ∙ l .inv .3,
       l .inv .4,
       λ r store new y. l .inv .5 r store new
-          (flow-on (drop (l .at) (now (a .s))) (place (a .got .dropped) (l .blocks) (l .q)) x (rw length-drop (omega arith))
+          (flow-on (drop (l .at) (now (a .s))) (place (a .got .dropped) (l .blocks) (l .q)) (is-whole (c .before .before .before .before .before .before)) (rw length-drop (omega (arith, n)))
           (c .before .before .emit .ensures)
           (rw drop-drop y)),
     )

@@ -46,21 +46,6 @@ part-take-in-end c = search needs
 take-in-requires : tie.Need-take-in-requires
 take-in-requires c κs = search needs
 
-continue-on-requires : tie.Need-continue-on-requires
-continue-on-requires c κs =
-    let r = c .before .before .before .before .before .before .before .before .before .before .before .pre .1 .1 in
-    (holds-kept _ (c .before .before .before .take-in .ensures .holds), record { long = omega (arith, r .long); few = r .few })
-
-same-length : tie.Need-same-length
-same-length c = search needs
-
-returns-2 : tie.Need-returns-2
-returns-2 c =
-    let a = c .before .before .before .before .before .before .before .before .before .before .before .before .before .before .args in
-    read-unpointed (modeOf (a .got .run) (now (a .store))) (nib (getD (now (a .packet)) 2 0)) (now (a .packet)) (a .got)
-    (c .before .before .before .before .before .before .before .before .before .before .pointed .ensures) (c .before .before .before .before .before .before .before .before .before .before .before .before .before .before .pre .1 .0) (c .before .before .before .before .before .if2 .taken)
-    (c .before .before .continue-on .ensures _ _ (sym (runs-mode (a .got .run) (now (a .store)))) (c .before .before .before .before .before .before .take-in .ensures))
-
 sub-continue-to : tie.Need-sub-continue-to
 sub-continue-to c = search needs
 
@@ -98,16 +83,31 @@ flow-requires c κs =
     let l : length (take (length p - n) (drop n p)) ≡ length p - n = ap length (part-rest n p) ∙ length-drop n p in
     (x .holds .kept, (omega (arith, x .written, g, l, k, q), omega (arith, x .written, x .blocks, t, q)))
 
+same-length : tie.Need-same-length
+same-length c = search needs
+
+returns-2 : tie.Need-returns-2
+returns-2 c =
+    let a = c .before .before .before .before .before .before .before .before .before .before .before .before .before .before .before .before .before .before .before .before .before .args in
+    read-pointed (modeOf (a .got .run) (now (a .store))) (nib (getD (now (a .packet)) 2 0)) (now (a .packet)) (a .got)
+    (c .before .before .before .before .before .before .before .before .before .before .before .before .before .before .before .before .before .pointed .ensures) (c .before .before .before .before .before .before .before .before .before .before .before .before .if2 .taken)
+    (c .before .before .before .before .before .before .before .before .continue-to .ensures _ (sym (runs-mode (a .got .run) (now (a .store)))) (c .before .before .before .before .before .before .before .before .before .before .before .before .before .take-in .ensures))
+    (c .before .before .flow .ensures)
+
+continue-on-requires : tie.Need-continue-on-requires
+continue-on-requires c κs =
+    let r = c .before .before .before .before .before .before .before .before .before .before .before .pre .1 .1 in
+    (holds-kept _ (c .before .before .before .take-in .ensures .holds), record { long = omega (arith, r .long); few = r .few })
+
 same-length-2 : tie.Need-same-length-2
 same-length-2 c = search needs
 
 returns-3 : tie.Need-returns-3
 returns-3 c =
-    let a = c .before .before .before .before .before .before .before .before .before .before .before .before .before .before .before .before .before .before .before .before .before .args in
-    read-pointed (modeOf (a .got .run) (now (a .store))) (nib (getD (now (a .packet)) 2 0)) (now (a .packet)) (a .got)
-    (c .before .before .before .before .before .before .before .before .before .before .before .before .before .before .before .before .before .pointed .ensures) (c .before .before .before .before .before .before .before .before .before .before .before .before .before .before .before .before .if1 .left) (c .before .before .before .before .before .before .before .before .before .before .before .before .if2 .left)
-    (c .before .before .before .before .before .before .before .before .continue-to .ensures _ (sym (runs-mode (a .got .run) (now (a .store)))) (c .before .before .before .before .before .before .before .before .before .before .before .before .before .take-in .ensures))
-    (c .before .before .flow .ensures)
+    let a = c .before .before .before .before .before .before .before .before .before .before .before .before .before .before .args in
+    read-unpointed (modeOf (a .got .run) (now (a .store))) (nib (getD (now (a .packet)) 2 0)) (now (a .packet)) (a .got)
+    (c .before .before .before .before .before .before .before .before .before .before .pointed .ensures) (c .before .before .before .before .before .before .before .before .before .before .before .before .before .before .pre .1 .0) (omega arith)
+    (c .before .before .continue-on .ensures _ _ (sym (runs-mode (a .got .run) (now (a .store)))) (c .before .before .before .before .before .before .take-in .ensures))
 
 pub read-spec : {M : Type 1} → statement M
 read-spec =
@@ -122,9 +122,6 @@ read-spec =
     part-take-in-start
     part-take-in-end
     take-in-requires
-    continue-on-requires
-    same-length
-    returns-2
     sub-continue-to
     part-continue-to-start
     part-continue-to-end
@@ -133,5 +130,8 @@ read-spec =
     part-flow-start
     part-flow-end
     flow-requires
+    same-length
+    returns-2
+    continue-on-requires
     same-length-2
     returns-3)

@@ -3,7 +3,7 @@ use native.Mathlib.Omega.{arith}
 use denote.Ref.{now}
 use borrow.Author.Needs.{needs}
 use Rattle.walk.proofs.Staying.{continues-off}
-use Rattle.walk.proofs.Keeping.{kept-idle, kept-head, kept-body, begun-body, idle-took, head-nothing, head-broken, head-cut, head-whole}
+use Rattle.walk.proofs.Keeping.{kept-idle, kept-head, kept-body, begun-body, idle-took, head-lost, head-cut, head-whole}
 use Rattle.reader.proofs.held.take_in.Statement.{statement}
 use Rattle.reader.proofs.held.take_in.Tie as tie
 
@@ -51,10 +51,16 @@ returns c =
     (kept-idle (c .before .before .before .pre) e)
 
 returns-2 : tie.Need-returns-2
-returns-2 c = head-nothing (now (c .before .before .before .before .before .before .before .args .s)) (c .before .before .head-on .result) (c .before .before .before .before .before .before .before .pre) (c .before .before .before .before .run .given .1) (c .before .before .head-on .ensures .0) (c .enum-told2 .given .1)
+returns-2 c =
+    let h = c .before .before in
+    let b = h .before .before .before .before .before in
+    head-lost (now (b .args .s)) (h .head-on .result) (b .pre) (h .before .before .run .given .1) (h .head-on .ensures .0) (λ p. rw (c .enum-told2 .given .1))
 
 returns-3 : tie.Need-returns-3
-returns-3 c = head-broken (now (c .before .before .before .before .before .before .before .args .s)) (c .before .before .head-on .result) (c .before .before .before .before .before .before .before .pre) (c .before .before .before .before .run .given .1) (c .before .before .head-on .ensures .0) (c .enum-told3 .given .1)
+returns-3 c =
+    let h = c .before .before in
+    let b = h .before .before .before .before .before in
+    head-lost (now (b .args .s)) (h .head-on .result) (b .pre) (h .before .before .run .given .1) (h .head-on .ensures .0) (λ p. rw (c .enum-told3 .given .1))
 
 returns-4 : tie.Need-returns-4
 returns-4 c = head-cut (now (c .before .before .before .before .before .before .before .before .args .s)) (c .before .before .before .head-on .result) (c .before .before .before .before .before .before .before .before .pre) (c .before .before .before .before .before .run .given .1) (c .before .before .before .head-on .ensures .0) (c .before .g .given .1)

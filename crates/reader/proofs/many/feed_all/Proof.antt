@@ -4,15 +4,23 @@ use native.Mathlib.Omega.{arith}
 use lib.ListN.{length}
 use denote.Ref.{now}
 use borrow.Author.Needs.{needs}
-use borrow.Author.Tests.{not-true, not-false, eqb-true}
+use borrow.Author.Tests.{not-true, not-false}
 use Rattle.walk.specs.Store.{storeLength}
-use Rattle.state.proofs.Holding.{ready-whole, ready-kept}
-use Rattle.reader.proofs.AnsweringMany.{not-ready-all, no-room-all, taken-all}
+use Rattle.state.proofs.Holding.{ready-kept}
+use Rattle.reader.proofs.AnsweringMany.{not-whole-all, not-ready-all, no-room-all, taken-all}
 use Rattle.reader.proofs.many.feed_all.Statement.{statement}
 use Rattle.reader.proofs.many.feed_all.Tie as tie
 
 long : (c : tie.Start) → length (c .args .reader .store) ≡ storeLength
 long c = search needs
+
+refused-requires : tie.Need-refused-requires
+refused-requires c κs = search needs
+
+returns : tie.Need-returns
+returns c =
+    let a = c .before .before .before .before .args in
+    not-whole-all (a .setting) (a .reader) (now (a .packets)) (now (a .out)) (λ e. omega (arith, e, c .before .if1 .taken)) (c .refused .ensures)
 
 slice-aggregate-is-ready : tie.Need-slice-aggregate-is-ready
 slice-aggregate-is-ready c = search needs
@@ -20,40 +28,44 @@ slice-aggregate-is-ready c = search needs
 is-ready-requires : tie.Need-is-ready-requires
 is-ready-requires c κs = search needs
 
-returns : tie.Need-returns
-returns c =
-    let a = c .before .before .before .before .before .before .args in
-    not-ready-all (a .setting) (a .reader) (now (a .packets)) (now (a .out)) (c .before .is-ready .ensures .0) (not-true _ (c .if1 .taken))
+refused-requires-2 : tie.Need-refused-requires-2
+refused-requires-2 c κs = search needs
 
 returns-2 : tie.Need-returns-2
 returns-2 c =
-    let a = c .before .before .before .before .before .before .before .args in
-    no-room-all (a .setting) (a .reader) (now (a .packets)) (now (a .out)) (c .before .before .is-ready .ensures .0) (not-false _ (c .before .if1 .left)) (c .if2 .taken)
+    let a = c .before .before .before .before .before .before .before .before .args in
+    not-ready-all (a .setting) (a .reader) (now (a .packets)) (now (a .out)) (c .before .before .is-ready .ensures .0) (not-true _ (c .before .if2 .taken)) (c .refused2 .ensures)
+
+refused-requires-3 : tie.Need-refused-requires-3
+refused-requires-3 c κs = search needs
+
+returns-3 : tie.Need-returns-3
+returns-3 c =
+    let a = c .before .before .before .before .before .before .before .before .before .args in
+    no-room-all (a .setting) (a .reader) (now (a .packets)) (now (a .out)) (c .before .before .before .is-ready .ensures .0) (not-false _ (c .before .before .if2 .left)) (omega arith) (omega arith)
+    (c .refused3 .ensures)
 
 start-requires : tie.Need-start-requires
 start-requires c κs = search needs
 
 take-all-requires : tie.Need-take-all-requires
 take-all-requires c κs =
-    let a = c .before .before .before .before .before .before .before .before .before .before .args in
+    let b = c .before .before .before .before .before .before .before .before .before .before .before in
     let r = c .before .before .before .before .before .is-ready .ensures in
-    let n = not-false _ (c .before .before .before .before .if1 .left) in
-    rw (c .before .before .start .ensures) (
-      ready-kept (a .setting) (a .reader) _ (r .0) n (r .1 n) (long (c .before .before .before .before .before .before .before .before .before .before)),
-      (eqb-true _ _ (ready-whole (a .setting) (a .reader) _ (r .0) n), (refl, refl, refl)),
-    )
+    let n = not-false _ (c .before .before .before .before .if2 .left) in
+    rw (c .before .before .start .ensures) (ready-kept (b .args .setting) (b .args .reader) (r .0) n (r .1 n) (long b), (omega arith, (refl, refl, refl)))
 
 same-length : tie.Need-same-length
 same-length c = search needs
 
-returns-3 : tie.Need-returns-3
-returns-3 c =
-    let a = c .before .before .before .before .before .before .before .before .before .before .before .before .before .before .before .args in
+returns-4 : tie.Need-returns-4
+returns-4 c =
+    let a = c .before .before .before .before .before .before .before .before .before .before .before .before .before .before .before .before .args in
     let t = c .before .before .before .before .take-all .ensures in
     taken-all (a .setting) (a .reader) (now (a .packets)) (now (a .out))
-    (c .before .before .before .before .before .before .before .before .before .before .is-ready .ensures .0) (not-false _ (c .before .before .before .before .before .before .before .before .before .if1 .left)) (omega arith) (c .before .before .before .before .before .before .before .start .ensures) (t .1) (t .0)
+    (c .before .before .before .before .before .before .before .before .before .before .is-ready .ensures .0) (not-false _ (c .before .before .before .before .before .before .before .before .before .if2 .left)) (omega arith) (omega arith) (c .before .before .before .before .before .before .before .start .ensures) (t .1) (t .0)
 
 pub feed-all-spec : {M : Type 1} → statement M
 feed-all-spec =
     tie.close
-    (tie.spec slice-aggregate-is-ready is-ready-requires returns returns-2 start-requires take-all-requires same-length returns-3)
+    (tie.spec refused-requires returns slice-aggregate-is-ready is-ready-requires refused-requires-2 returns-2 refused-requires-3 returns-3 start-requires take-all-requires same-length returns-4)

@@ -2,7 +2,6 @@
 use mathlib.Core.Path.{_∙_, sym}
 use borrow.Author.Needs.{needs}
 use borrow.Author.Tests.{not-true, not-false}
-use Rattle.laws.proofs.Tests.{both-right, both-false}
 use Rattle.state.proofs.Clearing.{untrue}
 use Rattle.reader.proofs.many.is_ready.Statement.{statement}
 use Rattle.reader.proofs.many.is_ready.Tie as tie
@@ -13,17 +12,13 @@ is-in-range-requires c κs = search needs
 returns : tie.Need-returns
 returns c = (rw (sym (c .before .is-in-range .ensures) ∙ not-true _ (c .if1 .taken)), λ e. untrue e)
 
-returns-2 : tie.Need-returns-2
-returns-2 c = (rw (not-true (c .before .before .before .before .args .whole) (c .if2 .taken), both-false, both-false), λ e. untrue e)
-
 in-range-requires : tie.Need-in-range-requires
 in-range-requires c κs = search needs
 
-returns-3 : tie.Need-returns-3
-returns-3 c =
-    let s = sym (c .before .before .before .is-in-range .ensures) ∙ not-false _ (c .before .before .if1 .left) in
-    (c .in-range .ensures .0 ∙ rw (s, not-false (c .before .before .before .before .before .args .whole) (c .before .if2 .left), both-right), c .in-range .ensures .1)
+returns-2 : tie.Need-returns-2
+returns-2 c =
+    (c .in-range .ensures .0 ∙ rw (sym (c .before .before .is-in-range .ensures) ∙ not-false _ (c .before .if1 .left)), c .in-range .ensures .1)
 
 pub is-ready-spec : {M : Type 1} → statement M
 is-ready-spec =
-    tie.close (tie.spec is-in-range-requires returns returns-2 in-range-requires returns-3)
+    tie.close (tie.spec is-in-range-requires returns in-range-requires returns-2)
