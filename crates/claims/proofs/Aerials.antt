@@ -7,11 +7,35 @@ use Prim.Native.Nat.{ℕ, zero, suc, _%_, _<_, _≤_}
 use native.Mathlib.Omega.{arith}
 use borrow.Author.Tests.{eq-eqb}
 use lib.Dec.{ltb}
-use lib.ListN.{length, take, drop, take-append-drop}
+use lib.ListN.{length, getD, set, take, drop, take-append-drop}
 use Rattle.laws.specs.Pick.{pick}
 use Rattle.packet.specs.declared.Setting.{Setting}
 use Rattle.packet.specs.Packet.{address, packetLength}
 use Rattle.aerials.specs.Better.{judgedBytes, addressLength, brokenIn, betterOf}
+use Rattle.octet.specs.Bits.{bits, number, differing}
+use Rattle.octet.specs.Image.{image, withParity}
+use Rattle.octet.specs.Decoding.{nib, nibbleFrom}
+use Rattle.blocks.specs.Block.{blocksWithin}
+use Rattle.fields.specs.Fields.{alike, width, laid, parts, field, whole}
+use Rattle.packet.specs.Packet.{packetZero, packetOf}
+use Rattle.packet.specs.Address.{addressOf, decodes}
+use Rattle.symbols.specs.Stream.{symbols, cellsOf, streamOf, grab, beforeStart}
+use Rattle.writer.specs.Cutting.{dataPackets, pages, packets}
+use Rattle.pages.specs.Headers.{seeZero}
+use Rattle.pages.specs.Seen.{see, seeY, seenAs}
+use Rattle.walk.specs.Mode.{carry, continues, emitted, ends, gives, spoiled, spoils, step}
+use Rattle.state.specs.Acting.{act, handed}
+use Rattle.sums.specs.Sums.{total, checksum, sound}
+use Rattle.sums.specs.Block.{nibbles, nibblesOf, checksumOf, recordWith}
+use Rattle.table.specs.Control.{descriptorsOf, tableOf}
+use Rattle.table.specs.Lengths.{lengthRules}
+use Rattle.table.specs.Reading.{frameRules, frontRules, wholeRules, readBlock}
+use Rattle.forms.specs.Tables.{Table, loops, fields}
+use Rattle.forms.specs.Kinds.{TI, LI, per}
+use Rattle.writer.proofs.Cases.{desk}
+use Rattle.state.specs.State.{freshState}
+use Rattle.claims.specs.Carrying.{heardBlocks}
+use Rattle.claims.specs.Tables.{recordsOf, sent as Tables·sent, tablesOf}
 use Rattle.claims.specs.Noise.{Near, none, more, Elsewhere, Aired, ended, sent, between}
 use Rattle.claims.specs.Twice.{glued, Both, of-first, of-second, Twice}
 use Rattle.claims.specs.Twice.{ended as Twice·ended, sent as Twice·sent, between as Twice·between}
@@ -45,3 +69,108 @@ twice-aired Twice·ended = ended
 twice-aired (Twice·sent long b t) = sent (both-near long b) (twice-aired t)
 twice-aired (Twice·between m y rest h long d b t) =
     between (record { magazine = m; y = y; number = h; rest = rest; long = long; differs = d; near = both-near (ap (λ (n : ℕ). suc (suc n)) long) b }) (twice-aired t)
+
+-- ---- why the caller must know that both are one packet
+
+-- two tables: a list of languages, and a list of subtitles
+abbrev languages : Table
+languages =
+    record {
+      kind = LI;
+      copyright = 0;
+      block = 0;
+      network = 2;
+      descriptors = record { id = 1; words = 0x647574 ∷ 0x656E67 ∷ 0x667265 ∷ [] } ∷ [];
+    }
+
+abbrev subtitles : ℕ → Table
+subtitles page =
+    record {
+      kind = TI;
+      copyright = 0;
+      block = 0;
+      network = 2;
+      descriptors =
+          record { id = 3; words = [] }
+          ∷ record { id = 4; words = [] }
+          ∷ record { id = 5; words = 0x647574 ∷ page ∷ [] }
+          ∷ [];
+    }
+
+-- sent in pages of one packet: three packets 0, and three packets 1, whose addresses are equal
+abbrev air : List (List ℕ)
+air = Tables·sent desk 0 1 (languages ∷ subtitles 0x900888 ∷ [])
+
+-- the second aerial is a page late: where the first hears the last packet, with two flips in its pointer, the second hears the one of the page
+-- before
+abbrev late : List (List ℕ)
+late =
+    let heard = set (getD air 5 []) 2 0xB5 in
+    take 5 air ++ (glued heard heard (getD air 3 []) ∷ [])
+
+-- the head of one table and the tail of the other come out as a table that was not sent: its page is another
+pub late-joins : tablesOf 1 (heardBlocks desk freshState late) ≡ languages ∷ subtitles 0x306888 ∷ []
+unfolding
+    tablesOf
+    heardBlocks
+    recordsOf
+    recordWith
+    nibbles
+    nibblesOf
+    checksumOf
+    checksum
+    total
+    sound
+    laid
+    parts
+    alike
+    width
+    fields
+    loops
+    per
+    field
+    whole
+    packets
+    pages
+    dataPackets
+    streamOf
+    cellsOf
+    symbols
+    grab
+    beforeStart
+    blocksWithin
+    image
+    withParity
+    number
+    packetZero
+    packetOf
+    addressOf
+    decodes
+    betterOf
+    brokenIn
+    nib
+    nibbleFrom
+    differing
+    bits
+    see
+    seeY
+    seenAs
+    seeZero
+    carry
+    continues
+    emitted
+    ends
+    gives
+    spoiled
+    spoils
+    step
+    act
+    handed
+    descriptorsOf
+    tableOf
+    lengthRules
+    frameRules
+    frontRules
+    wholeRules
+    readBlock
+late-joins = refl
