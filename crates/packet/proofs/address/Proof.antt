@@ -33,7 +33,7 @@ returns-3 c =
     let p : List ℕ = now (c .before .before .before .before .before .before .before .before .args .packet) in
     let h = c .before .before .before .before .decode .ensures in
     address-second p (c .before .before .before .before .before .before .if1 .left) h (c .before .decode2 .ensures)
-    (omega (arith, h, nib-le (getD p 0 0), c .before .before .before .if2 .left)) (c .if3 .taken)
+    (omega (arith, h, nib-le (getD p 0 0), c .before .before .before .if2 .left)) (omega (arith, c .before .decode2 .ensures, nib-le (getD p 1 0)))
 
 cast-result : tie.Need-cast-result
 cast-result c = search needs
