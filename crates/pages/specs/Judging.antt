@@ -29,7 +29,7 @@ verdictOfY Shut index y = record { page = Shut; index = index; drops = false; re
 verdictOfY (Open n last) index y =
     record { page = pick (leb y n) (Open n y) (Open n last); index = index; drops = wrongY n last y; reads = leb y n }
 
--- any packet, case by case: SCOPE 8.2 and 8.6 (junk), 8.3 and 8.4 (other), 8.5 and 8.9 (foreign), 8.5 to 8.9 (ours), 8.10 to 8.13 (row)
+-- any packet, case by case: SCOPE 8.2 and 8.6 (junk), 8.3 and 8.4 (other), 8.5 and 8.9 (foreign), 8.5 to 8.9 (ours), 8.10 to 8.13 (packetY)
 abbrev pub verdictOf : Page → ℕ → Seen → Verdict
 verdictOf page index junk = record { page = Shut; index = index; drops = true; reads = false }
 verdictOf page index other = record { page = page; index = index; drops = false; reads = false }

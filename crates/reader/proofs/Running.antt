@@ -2,7 +2,7 @@
 -- ended. Assumes nothing.
 use mathlib.Core.Path.{_≡_, _∙_, refl, sym, ap}
 use mathlib.Core.Bool.{false}
-use mathlib.Core.List.{List}
+use mathlib.Core.List.{List, _++_}
 use Prim.Native.Nat.{ℕ, zero, suc, _+_, _-_, _*_, _/_, _≤_, _<_}
 use native.Mathlib.Nat.{zero-add}
 use native.Mathlib.Omega.{arith}
@@ -42,6 +42,14 @@ module _ {b : Ran} {a : Going} {count : ℕ} {store old mid : List ℕ} (w : Ran
   ran-state : stateIn a store ≡ b .state
   ran-state = rw (w .page, w .index, holds-mode (b .state .mode) (w .holds))
 
+  -- its records go behind those there
+  laid-on :
+      (l : List ℕ)
+      → sets (sets old 0 (recordsOf (b .blocks))) (length (recordsOf (b .blocks))) l ≡ sets old 0 (recordsOf (b .blocks) ++ l)
+  laid-on l =
+      let there = recordsOf (b .blocks) in
+      ap (λ (k : ℕ). sets (sets old 0 there) k l) (sym (zero-add (length there))) ∙ sym (sets-append old 0 there l)
+
   -- one packet more
   pub one-more :
       (s : Setting) (p : List ℕ) {after : Going} {store′ new : List ℕ} → Acted (see s p) (stateIn a store) a after store′ mid new
@@ -57,9 +65,7 @@ module _ {b : Ran} {a : Going} {count : ℕ} {store old mid : List ℕ} (w : Ran
         blocks = y .went .blocks ∙ rw (w .blocks, length-append);
         written = y .went .written ∙ rw (w .written, recordsOf-append, length-append);
         dropped = y .went .dropped ∙ rw (w .dropped);
-        out =
-            y .went .out
-            ∙ rw (w .out, w .written, recordsOf-append) (ap (λ (k : ℕ). sets (sets old 0 (recordsOf (b .blocks))) k (recordsOf bs)) (sym (zero-add (length (recordsOf (b .blocks))))) ∙ sym (sets-append old 0 (recordsOf (b .blocks)) (recordsOf bs)));
+        out = y .went .out ∙ rw (w .out, w .written, recordsOf-append) (laid-on (recordsOf bs));
       }
 
 -- ---- what is left

@@ -32,7 +32,8 @@ returns-3 : tie.Need-returns-3
 returns-3 c =
     let p : List ℕ = now (c .before .before .before .before .before .before .before .before .args .packet) in
     let h = c .before .before .before .before .decode .ensures in
-    address-second p (c .before .before .before .before .before .before .if1 .left) h (c .before .decode2 .ensures) (omega (arith, h, nib-le (getD p 0 0), c .before .before .before .if2 .left)) (c .if3 .taken)
+    address-second p (c .before .before .before .before .before .before .if1 .left) h (c .before .decode2 .ensures)
+    (omega (arith, h, nib-le (getD p 0 0), c .before .before .before .if2 .left)) (omega (arith, c .before .decode2 .ensures, nib-le (getD p 1 0)))
 
 cast-result : tie.Need-cast-result
 cast-result c = search needs
@@ -51,7 +52,8 @@ returns-4 c =
     let p : List ℕ = now (c .before .before .before .before .before .before .before .before .args .packet) in
     let h = c .before .before .before .before .decode .ensures in
     let k = c .before .decode2 .ensures in
-    address-both p (c .before .before .before .before .before .before .if1 .left) h k (omega (arith, h, nib-le (getD p 0 0), c .before .before .before .if2 .left)) (omega (arith, k, nib-le (getD p 1 0), c .if3 .left))
+    address-both p (c .before .before .before .before .before .before .if1 .left) h k (omega (arith, h, nib-le (getD p 0 0), c .before .before .before .if2 .left))
+    (omega (arith, k, nib-le (getD p 1 0), c .if3 .left))
 
 pub address-spec : {M : Type 1} → statement M
 address-spec =

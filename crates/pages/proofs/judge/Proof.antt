@@ -34,24 +34,26 @@ judge-zero-requires c κs = search needs
 
 returns-4 : tie.Need-returns-4
 returns-4 c =
-    let a = c .before .before .before .before .before .before .before .args in
+    let b = c .before .before in
+    let a = b .before .before .before .before .before .args in
     as-same (a .page) (a .index) (c .judge-zero .ensures)
-    (as-zero (a .setting) (now (a .packet)) (c .before .before .before .before .before .if1 .left) (c .before .before .before .before .if2 .left) (c .before .before .if3 .left) (c .before .if4 .taken))
+    (as-zero (a .setting) (now (a .packet)) (b .before .before .before .if1 .left) (b .before .before .if2 .left) (b .if3 .left) (c .before .if4 .taken))
 
 returns-5 : tie.Need-returns-5
 returns-5 c =
-    let a = c .before .before .before .before .before .before .before .args in
-    as-stays (a .page) (a .index)
-    (as-over (a .setting) (now (a .packet)) (c .before .before .before .before .before .if1 .left) (c .before .before .before .before .if2 .left) (c .before .before .if3 .left) (omega arith))
+    let b = c .before .before in
+    let a = b .before .before .before .before .before .args in
+    as-stays (a .page) (a .index) (as-over (a .setting) (now (a .packet)) (b .before .before .before .if1 .left) (b .before .before .if2 .left) (b .if3 .left) (omega arith))
 
 judge-y-requires : tie.Need-judge-y-requires
 judge-y-requires c κs = omega arith
 
 returns-6 : tie.Need-returns-6
 returns-6 c =
-    let a = c .before .before .before .before .before .before .before .before .args in
+    let b = c .before .before .before in
+    let a = b .before .before .before .before .before .args in
     as-numbered (a .page) (a .index) (c .judge-y .ensures)
-    (as-packet (a .setting) (now (a .packet)) (c .before .before .before .before .before .before .if1 .left) (c .before .before .before .before .before .if2 .left) (c .before .before .before .if3 .left) (c .before .before .if4 .left) (c .before .if5 .left))
+    (as-packet (a .setting) (now (a .packet)) (b .before .before .before .if1 .left) (b .before .before .if2 .left) (b .if3 .left) (c .before .before .if4 .left) (c .before .if5 .left))
 
 pub judge-spec : {M : Type 1} → statement M
 judge-spec =

@@ -1,13 +1,22 @@
 -- `state::in_range` meets its contract: its tests in order. Assumes nothing.
-use mathlib.Core.Path.{_∙_, sym}
+use mathlib.Core.Path.{_≡_, _∙_, sym}
+use mathlib.Core.Bool.{true}
 use native.Mathlib.Omega.{arith}
+use lib.Dec.{leb}
 use borrow.Author.Needs.{needs}
 use borrow.Author.Tests.{lt-leb, le-leb, not-true, not-false}
 use Rattle.blocks.specs.Block.{sizeOf}
-use Rattle.state.specs.State.{readerInRange}
+use Rattle.state.specs.State.{pageInRange, readerInRange}
 use Rattle.state.proofs.Clearing.{untrue}
 use Rattle.state.proofs.in_range.Statement.{statement}
 use Rattle.state.proofs.in_range.Tie as tie
+
+-- past the first two tests page and index are in range
+page-fits : (c : tie.Else1) → pageInRange (c .before .before .before .args .page) ≡ true
+page-fits c = sym (c .before .is-page .ensures) ∙ not-false _ (c .if1 .left)
+
+index-fits : (c : tie.Else2) → leb (c .before .before .before .before .args .index) 15 ≡ true
+index-fits c = le-leb _ _ (c .if2 .left)
 
 is-page-requires : tie.Need-is-page-requires
 is-page-requires c κs = search needs
@@ -18,7 +27,7 @@ returns c = (rw (sym (c .before .is-page .ensures) ∙ not-true _ (c .if1 .taken
 
 returns-2 : tie.Need-returns-2
 unfolding readerInRange
-returns-2 c = (rw (sym (c .before .before .is-page .ensures) ∙ not-false _ (c .before .if1 .left), lt-leb _ _ (c .if2 .taken)), λ e. untrue e)
+returns-2 c = (rw (page-fits (c .before), lt-leb _ _ (c .if2 .taken)), λ e. untrue e)
 
 enum-told : tie.Need-enum-told
 enum-told c = search needs
@@ -34,7 +43,10 @@ is-head-requires c κs = search needs
 
 returns-3 : tie.Need-returns-3
 unfolding readerInRange
-returns-3 c = (rw (sym (c .before .before .before .before .before .before .before .is-page .ensures) ∙ not-false _ (c .before .before .before .before .before .before .if1 .left), le-leb _ _ (c .before .before .before .before .before .if2 .left), c .before .before .before .run .given .1, sym (c .before .is-head .ensures) ∙ not-true _ (c .if3 .taken)), λ e. untrue e)
+returns-3 c =
+    let run = c .before .before .before .run .given in
+    let lost = sym (c .before .is-head .ensures) ∙ not-true _ (c .if3 .taken) in
+    (rw (page-fits (c .before .before .before .before .before .before), index-fits (c .before .before .before .before .before), run .1, lost), λ e. untrue e)
 
 is-clear-requires-2 : tie.Need-is-clear-requires-2
 is-clear-requires-2 c κs = search needs
@@ -47,22 +59,33 @@ cast-if4 c = search needs
 
 returns-4 : tie.Need-returns-4
 unfolding readerInRange
-returns-4 c = (rw (sym (c .before .before .before .before .before .before .is-page .ensures) ∙ not-false _ (c .before .before .before .before .before .if1 .left), le-leb _ _ (c .before .before .before .before .if2 .left), c .before .before .run2 .given .1, lt-leb (c .before .before .run2 .given .0 .1 .0) (sizeOf (c .before .before .run2 .given .0 .0)) (omega arith)), λ e. untrue e)
+returns-4 c =
+    let run = c .before .before .run2 .given in
+    (rw (page-fits (c .before .before .before .before .before), index-fits (c .before .before .before .before), run .1, lt-leb (run .0 .1 .0) (sizeOf (run .0 .0)) (omega arith)), λ e. untrue e)
 
 is-clear-requires-3 : tie.Need-is-clear-requires-3
 is-clear-requires-3 c κs = search needs
 
 returns-5 : tie.Need-returns-5
 unfolding readerInRange
-returns-5 c = (rw (sym (c .before .before .before .before .before .is-page .ensures) ∙ not-false _ (c .before .before .before .before .if1 .left), le-leb _ _ (c .before .before .before .if2 .left), c .before .enum-told .given .1) (c .is-clear .ensures), λ e. rw (c .before .enum-told .given .1) tt)
+returns-5 c =
+    let run = c .before .enum-told .given in
+    (rw (page-fits (c .before .before .before .before), index-fits (c .before .before .before), run .1) (c .is-clear .ensures), λ e. rw (run .1) tt)
 
 returns-6 : tie.Need-returns-6
 unfolding readerInRange
-returns-6 c = (rw (sym (c .before .before .before .before .before .before .before .before .is-page .ensures) ∙ not-false _ (c .before .before .before .before .before .before .before .if1 .left), le-leb _ _ (c .before .before .before .before .before .before .if2 .left), c .before .before .before .before .run .given .1, sym (c .before .before .is-head .ensures) ∙ not-false _ (c .before .if3 .left)) (c .is-clear2 .ensures), λ e. rw (c .before .before .before .before .run .given .1) (omega arith))
+returns-6 c =
+    let b = c .before .before .before .before in
+    let run = b .run .given in
+    let fits = sym (c .before .before .is-head .ensures) ∙ not-false _ (c .before .if3 .left) in
+    (rw (page-fits (b .before .before .before), index-fits (b .before .before), run .1, fits) (c .is-clear2 .ensures), λ e. rw (run .1) (omega arith))
 
 returns-7 : tie.Need-returns-7
 unfolding readerInRange
-returns-7 c = (rw (sym (c .before .before .before .before .before .before .before .is-page .ensures) ∙ not-false _ (c .before .before .before .before .before .before .if1 .left), le-leb _ _ (c .before .before .before .before .before .if2 .left), c .before .before .before .run2 .given .1, le-leb _ _ (c .before .if4 .left)) (c .is-clear3 .ensures), λ e. rw (c .before .before .before .run2 .given .1) (omega arith))
+returns-7 c =
+    let run = c .before .before .before .run2 .given in
+    let fits = le-leb (run .0 .1 .0) (sizeOf (run .0 .0)) (omega arith) in
+    (rw (page-fits (c .before .before .before .before .before .before), index-fits (c .before .before .before .before .before), run .1, fits) (c .is-clear3 .ensures), λ e. rw (run .1) (omega arith))
 
 pub in-range-spec : {M : Type 1} → statement M
 in-range-spec =

@@ -34,12 +34,14 @@ page-nibbles c =
 -- past the second it is ours
 is-ours :
     (c : tie.After-decode6)
-    → seenZero (c .before .before .before .before .before .before .before .before .before .before .before .before .before .before .before .before .before .args .setting) (now (c .before .before .before .before .before .before .before .before .before .before .before .before .before .before .before .before .before .args .packet))
-    ≡ ours (c .before .before .before .before .decode4 .result) (c .before .before .decode5 .result % 8 + 8 * (c .decode6 .result % 4))
+    → (let a = c .before .before .before .before .before .before .before .before .before .before .before .before .before .before .before .before .before .args in
+    seenZero (a .setting) (now (a .packet)) ≡ ours (c .before .before .before .before .decode4 .result) (c .before .before .decode5 .result % 8 + 8 * (c .decode6 .result % 4)))
 is-ours c =
     let a = c .before .before .before .before .before .before .before .before .before .before .before .before .before .before .before .before .before .args in
-    zero-ours (a .setting) (now (a .packet)) (can-read (c .before .before .before .before .before .before .before .before .before .before .before .before .before .before)) (c .before .before .before .before .before .before .before .before .before .before .before .before .decode .ensures) (c .before .before .before .before .before .before .before .before .before .before .decode2 .ensures)
-    (c .before .before .before .before .before .before .before .before .decode3 .ensures) (c .before .before .before .before .before .before .before .is-ours .ensures) (not-false _ (c .before .before .before .before .before .before .if2 .left)) (c .before .before .before .before .decode4 .ensures)
+    let b = c .before .before .before .before .before .before in
+    zero-ours (a .setting) (now (a .packet)) (can-read (b .before .before .before .before .before .before .before .before))
+    (b .before .before .before .before .before .before .decode .ensures) (b .before .before .before .before .decode2 .ensures)
+    (b .before .before .decode3 .ensures) (b .before .is-ours .ensures) (not-false _ (b .if2 .left)) (c .before .before .before .before .decode4 .ensures)
     (c .before .before .decode5 .ensures) (c .decode6 .ensures)
 
 -- ---- the needs
@@ -88,9 +90,10 @@ is-incomplete-requires c κs = search needs
 returns-2 : tie.Need-returns-2
 returns-2 c =
     let a = c .before .before .before .before .before .before .before .before .before .before .before .before .args in
+    let b = c .before .before .before in
     as-foreign (a .page) (a .last) (c .is-incomplete .ensures)
-    (zero-foreign (a .setting) (now (a .packet)) (can-read (c .before .before .before .before .before .before .before .before .before)) (c .before .before .before .before .before .before .before .decode .ensures) (c .before .before .before .before .before .decode2 .ensures)
-    (c .before .before .before .decode3 .ensures) (c .before .before .is-ours .ensures) (not-true _ (c .before .if2 .taken)))
+    (zero-foreign (a .setting) (now (a .packet)) (can-read (b .before .before .before .before .before .before)) (b .before .before .before .before .decode .ensures)
+    (b .before .before .decode2 .ensures) (b .decode3 .ensures) (c .before .before .is-ours .ensures) (not-true _ (c .before .if2 .taken)))
 
 shared-slice-read-decode-4 : tie.Need-shared-slice-read-decode-4
 shared-slice-read-decode-4 c = let long = is-long (c .before .before .before .before .before .before .before .before .before) in search needs

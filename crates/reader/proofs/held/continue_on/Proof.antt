@@ -25,8 +25,9 @@ same-length c = search needs
 
 returns : tie.Need-returns
 returns c m l e t =
-    continued-on m l (c .before .before .before .before .before .before .before .before .before .before .args .got) t
-    (c .before .before .before .before .before .either .ensures ∙ rw (c .before .before .before .before .before .before .both .ensures, c .before .before .before .before .before .before .before .before .is-running .ensures, c .before .before .before .before .before .before .before .is-running2 .ensures, e))
+    let b = c .before .before .before .before .before in
+    continued-on m l (b .before .before .before .before .before .args .got) t
+    (b .either .ensures ∙ rw (b .before .both .ensures, b .before .before .before .is-running .ensures, b .before .before .is-running2 .ensures, e))
     (c .before .before .finish .ensures)
 
 pub continue-on-spec : {M : Type 1} → statement M

@@ -32,9 +32,10 @@ same-length c = search needs
 
 returns : tie.Need-returns
 returns c m e t =
-    let a = c .before .before .before .before .before .before .before .before .before .before .before .before .before .args in
-    continued-to m (now (a .s)) (a .got) t (c .before .before .before .before .before .before .before .before .before .before .falls .ensures) (c .before .before .before .before .before .before .before .before .drop-if .ensures)
-    (c .before .before .before .before .before .either .ensures ∙ rw (c .before .before .before .before .before .before .both .ensures, c .before .before .before .before .before .before .before .is-running .ensures, e))
+    let b = c .before .before .before .before .before in
+    let a = b .before .before .before .before .before .before .before .before .args in
+    continued-to m (now (a .s)) (a .got) t (b .before .before .before .before .before .falls .ensures) (b .before .before .before .drop-if .ensures)
+    (b .either .ensures ∙ rw (b .before .both .ensures, b .before .before .is-running .ensures, e))
     (c .before .before .finish .ensures)
 
 pub continue-to-spec : {M : Type 1} → statement M

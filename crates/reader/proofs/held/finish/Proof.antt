@@ -38,8 +38,9 @@ add-t18 c = search needs
 
 add-t19 : tie.Need-add-t19
 add-t19 c =
-    let k = kept-body (c .before .before .before .before .before .before .before .before .before .before .pre .0) (c .before .before .before .before .before .before .before .run .given .1) in
-    omega (arith, body-fits k, body-size k, c .before .before .before .before .before .before .before .before .before .before .pre, c .before .before .before .before .before .before .before .before .before .before .good)
+    let b = c .before .before .before .before .before .before .before in
+    let k = kept-body (b .before .before .before .pre .0) (b .run .given .1) in
+    omega (arith, body-fits k, body-size k, b .before .before .before .pre, b .before .before .before .good)
 
 returns-2 : tie.Need-returns-2
 returns-2 c =
@@ -56,9 +57,10 @@ same-length c = search needs
 
 returns-4 : tie.Need-returns-4
 returns-4 c =
-    let a = c .before .before .before .before .before .before .before .before .before .before .args in
+    let b = c .before .before .before .before .before .before .before in
+    let a = b .before .before .before .args in
     let o = c .before .before .hand-out .ensures in
-    goes-out (a .got) (now (a .out)) (c .before .before .before .before .before .before .before .before .before .before .pre .0) (c .before .before .before .before .before .before .before .run .given .1) (c .before .before .before .before .before .if1 .left) (o .0) (o .1)
+    goes-out (a .got) (now (a .out)) (b .before .before .before .pre .0) (b .run .given .1) (c .before .before .before .before .before .if1 .left) (o .0) (o .1)
 
 pub finish-spec : {M : Type 1} → statement M
 finish-spec =

@@ -32,7 +32,8 @@ loop-holds c = (omega arith, omega arith, c .before .before .pre .1 .1, refl, c 
 -- what `find` says of the bytes from the place on
 is-whole :
     (c : tie.After-head Inv-loop μ-loop)
-    → found (drop (c .before .before .before .loop .at) (now (c .before .before .before .before .before .before .args .s))) ≡ whole (c .head .given .0 .0) (drop (c .head .given .0 .1 .0) (now (c .before .before .before .before .before .before .args .s)))
+    → (let s = now (c .before .before .before .before .before .before .args .s) in
+    found (drop (c .before .before .before .loop .at) s) ≡ whole (c .head .given .0 .0) (drop (c .head .given .0 .1 .0) s))
 is-whole c = c .before .before .find .ensures .0 ∙ ap (aheadIn (now (c .before .before .before .before .before .before .args .s))) (c .head .given .1)
 
 -- the place past it lies within the bytes, at least five further on

@@ -71,11 +71,12 @@ part-flow-end c = search needs
 
 flow-requires : tie.Need-flow-requires
 flow-requires c κs =
-    let a = c .before .before .before .before .before .before .before .before .before .before .before .before .before .before .before .before .before .before .args in
-    let q = c .before .before .before .before .before .before .before .before .before .before .before .before .before .before .before .before .before .before .pre in
-    let x = c .before .before .before .before .before .continue-to .ensures _ (sym (runs-mode (a .got .run) (now (a .store)))) (c .before .before .before .before .before .before .before .before .before .before .take-in .ensures) in
+    let b = c .before .before .before .before .before .before .before .before .before .before in
+    let a = b .before .before .before .before .before .before .before .before .args in
+    let q = b .before .before .before .before .before .before .before .before .pre in
+    let x = c .before .before .before .before .before .continue-to .ensures _ (sym (runs-mode (a .got .run) (now (a .store)))) (b .take-in .ensures) in
     let p = now (a .packet) in
-    let n = 3 + c .before .before .before .before .before .before .before .before .before .before .before .before .before .before .pointed .result in
+    let n = 3 + b .before .before .before .before .pointed .result in
     let m = modeOf (a .got .run) (now (a .store)) in
     let g = carried-room true m (take (n - 3) (drop 3 p)) (q .0 .good) in
     let t = two-each (finished (continues true m (take (n - 3) (drop 3 p)))) in
@@ -88,11 +89,12 @@ same-length c = search needs
 
 returns-2 : tie.Need-returns-2
 returns-2 c =
-    let a = c .before .before .before .before .before .before .before .before .before .before .before .before .before .before .before .before .before .before .before .before .before .args in
-    read-pointed (modeOf (a .got .run) (now (a .store))) (nib (getD (now (a .packet)) 2 0)) (now (a .packet)) (a .got)
-    (c .before .before .before .before .before .before .before .before .before .before .before .before .before .before .before .before .before .pointed .ensures) (c .before .before .before .before .before .before .before .before .before .before .before .before .if2 .taken)
-    (c .before .before .before .before .before .before .before .before .continue-to .ensures _ (sym (runs-mode (a .got .run) (now (a .store)))) (c .before .before .before .before .before .before .before .before .before .before .before .before .before .take-in .ensures))
-    (c .before .before .flow .ensures)
+    let b = c .before .before .before .before .before .before .before .before .before .before .before .before .before in
+    let a = b .before .before .before .before .before .before .before .before .args in
+    let r = sym (runs-mode (a .got .run) (now (a .store))) in
+    read-pointed (modeOf (a .got .run) (now (a .store))) (nib (getD (now (a .packet)) 2 0)) (now (a .packet)) (a .got) (b .before .before .before .before .pointed .ensures)
+    (c .before .before .before .before .before .before .before .before .before .before .before .before .if2 .taken)
+    (c .before .before .before .before .before .before .before .before .continue-to .ensures _ r (b .take-in .ensures)) (c .before .before .flow .ensures)
 
 continue-on-requires : tie.Need-continue-on-requires
 continue-on-requires c κs =
@@ -104,10 +106,11 @@ same-length-2 c = search needs
 
 returns-3 : tie.Need-returns-3
 returns-3 c =
-    let a = c .before .before .before .before .before .before .before .before .before .before .before .before .before .before .args in
-    read-unpointed (modeOf (a .got .run) (now (a .store))) (nib (getD (now (a .packet)) 2 0)) (now (a .packet)) (a .got)
-    (c .before .before .before .before .before .before .before .before .before .before .pointed .ensures) (c .before .before .before .before .before .before .before .before .before .before .before .before .before .before .pre .1 .0) (omega arith)
-    (c .before .before .continue-on .ensures _ _ (sym (runs-mode (a .got .run) (now (a .store)))) (c .before .before .before .before .before .before .take-in .ensures))
+    let b = c .before .before .before .before .before .before in
+    let a = b .before .before .before .before .before .before .before .before .args in
+    let r = sym (runs-mode (a .got .run) (now (a .store))) in
+    read-unpointed (modeOf (a .got .run) (now (a .store))) (nib (getD (now (a .packet)) 2 0)) (now (a .packet)) (a .got) (b .before .before .before .before .pointed .ensures)
+    (b .before .before .before .before .before .before .before .before .pre .1 .0) (omega arith) (c .before .before .continue-on .ensures _ _ r (b .take-in .ensures))
 
 pub read-spec : {M : Type 1} → statement M
 read-spec =

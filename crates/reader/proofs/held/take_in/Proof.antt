@@ -63,10 +63,17 @@ returns-3 c =
     head-lost (now (b .args .s)) (h .head-on .result) (b .pre) (h .before .before .run .given .1) (h .head-on .ensures .0) (λ p. rw (c .enum-told3 .given .1))
 
 returns-4 : tie.Need-returns-4
-returns-4 c = head-cut (now (c .before .before .before .before .before .before .before .before .args .s)) (c .before .before .before .head-on .result) (c .before .before .before .before .before .before .before .before .pre) (c .before .before .before .before .before .run .given .1) (c .before .before .before .head-on .ensures .0) (c .before .g .given .1)
+returns-4 c =
+    let h = c .before .before .before in
+    let b = h .before .before .before .before .before in
+    head-cut (now (b .args .s)) (h .head-on .result) (b .pre) (h .before .before .run .given .1) (h .head-on .ensures .0) (c .before .g .given .1)
 
 returns-5 : tie.Need-returns-5
-returns-5 c = head-whole (now (c .before .before .before .before .before .before .before .before .before .before .args .s)) (c .before .before .before .before .before .head-on .result) (c .before .before .before .before .before .before .before .before .before .before .pre) (c .before .before .before .before .before .before .before .run .given .1) (c .before .before .before .before .before .head-on .ensures .0) (c .before .before .before .head .given .1) (c .body-in .ensures)
+returns-5 c =
+    let h = c .before .before .before .before .before in
+    let b = h .before .before .before .before .before in
+    head-whole (now (b .args .s)) (h .head-on .result) (b .pre) (h .before .before .run .given .1) (h .head-on .ensures .0) (c .before .before .before .head .given .1)
+    (c .body-in .ensures)
 
 returns-6 : tie.Need-returns-6
 returns-6 c =

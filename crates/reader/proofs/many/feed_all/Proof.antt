@@ -60,10 +60,11 @@ same-length c = search needs
 
 returns-4 : tie.Need-returns-4
 returns-4 c =
-    let a = c .before .before .before .before .before .before .before .before .before .before .before .before .before .before .before .before .args in
+    let b = c .before .before .before .before .before .before .before .before .before in
+    let a = b .before .before .before .before .before .before .before .args in
     let t = c .before .before .before .before .take-all .ensures in
-    taken-all (a .setting) (a .reader) (now (a .packets)) (now (a .out))
-    (c .before .before .before .before .before .before .before .before .before .before .is-ready .ensures .0) (not-false _ (c .before .before .before .before .before .before .before .before .before .if2 .left)) (omega arith) (omega arith) (c .before .before .before .before .before .before .before .start .ensures) (t .1) (t .0)
+    taken-all (a .setting) (a .reader) (now (a .packets)) (now (a .out)) (b .before .is-ready .ensures .0) (not-false _ (b .if2 .left)) (omega arith)
+    (omega arith) (c .before .before .before .before .before .before .before .start .ensures) (t .1) (t .0)
 
 pub feed-all-spec : {M : Type 1} → statement M
 feed-all-spec =

@@ -115,6 +115,7 @@ loop-less c = search needs
 
 loop-again : tie.Need-loop-again Inv-loop μ-loop
 loop-again c =
+    let b = c .before .before .before .before .before .before in
     let a = c .before .before .before .before .before .before .before .before .before .before .before .before .before .before .before .before .before .before .args in
     let l = c .before .before .before .before .before .before .before .before .before .before .before .before .before .before .before .loop in
     let w = l .inv .6 .1 in
@@ -122,7 +123,7 @@ loop-again c =
     let h : l .at + 42 ≤ length (now (a .packets)) = omega (arith, l .inv .0, l .inv .1, e) in
     let p = take (l .at + 42 - l .at) (drop (l .at) (now (a .packets))) in
     let k = packet-length (now (a .packets)) (l .at) h in
-    let x = acted (a .setting) p (stateIn (l .a) (l .store)) _ _ _ _ _ (c .before .before .before .before .before .before .before .before .before .before .address .ensures) (c .before .before .before .before .before .before .judge .ensures) (c .before .before .heed .ensures) in
+    let x = acted (a .setting) p (stateIn (l .a) (l .store)) _ _ _ _ _ (b .before .before .before .before .address .ensures) (b .judge .ensures) (c .before .before .heed .ensures) in
     let g = still-room (a .setting) p (stateIn (l .a) (l .store)) (holds-kept _ (w .holds) .good) k x (l .inv .4) in (
       h,
       omega (arith, l .inv .1, h),
