@@ -17,6 +17,7 @@ ghost use Rattle.forms.specs.Form.{form};
 ghost use Rattle.fields.specs.Compound.{compound};
 ghost use Rattle.table.specs.Control.{tableOf};
 ghost use Rattle.table.specs.Lengths.{lengthRules};
+ghost use Rattle.table.specs.Internal.{tableBits};
 
 // Where control_block_size begins in tables 15 and 17, in bits.
 const CONTROL: usize = 8;
@@ -41,7 +42,7 @@ pub(crate) fn judge_lengths(size: usize, body: &[u8]) -> Answer
 
 // The bits of the table that a block holds, by its counts as they stand.
 fn measure(body: &[u8]) -> usize
-    ensures { λ r. ⌜ (r ≡ bits (tableOf (compound (now (body .entry))))) × (r ≤ 46048) ⌝ }
+    ensures { λ r. ⌜ (r ≡ bits (tableOf (compound (now (body .entry))))) × (r ≤ tableBits) ⌝ }
 {
     let kind = fields::field_of(body, KIND, 6);
     let mut left = fields::field_of(body, COUNT, 6);
