@@ -37,10 +37,14 @@ mul-head : tie.Need-mul-head
 mul-head c = omega (arith, c .shared-slice-known2 .given (c .before .before .before .before .before .args .place + 1))
 
 add-head : tie.Need-add-head
-add-head c = omega (arith, c .shared-slice-known2 .given (c .before .before .before .before .before .args .place), c .shared-slice-known2 .given (c .before .before .before .before .before .args .place + 1))
+add-head c =
+    let place = c .before .before .before .before .before .args .place in
+    omega (arith, c .shared-slice-known2 .given place, c .shared-slice-known2 .given (place + 1))
 
 cast-size : tie.Need-cast-size
-cast-size c = omega (arith, c .shared-slice-known2 .given (c .before .before .before .before .before .args .place), c .shared-slice-known2 .given (c .before .before .before .before .before .args .place + 1))
+cast-size c =
+    let place = c .before .before .before .before .before .args .place in
+    omega (arith, c .shared-slice-known2 .given place, c .shared-slice-known2 .given (place + 1))
 
 returns-4 : tie.Need-returns-4
 returns-4 c = left-over _ _ (search needs) (c .if4 .taken)

@@ -1,6 +1,6 @@
 -- `packet::address` meets its contract: no two bytes, one that can't be decoded, or both nibbles. Assumes nothing.
 use mathlib.Core.List.{List}
-use Prim.Native.Nat.{ℕ}
+use Prim.Native.Nat.{ℕ, _<_}
 use native.Mathlib.Omega.{arith}
 use lib.ListN.{getD}
 use denote.Ref.{now}
@@ -32,7 +32,8 @@ returns-3 : tie.Need-returns-3
 returns-3 c =
     let p : List ℕ = now (c .before .before .before .before .before .before .before .before .args .packet) in
     let h = c .before .before .before .before .decode .ensures in
-    address-second p (c .before .before .before .before .before .before .if1 .left) h (c .before .decode2 .ensures) (omega (arith, h, nib-le (getD p 0 0), c .before .before .before .if2 .left)) (c .if3 .taken)
+    let first : c .before .before .before .before .decode .result < 16 = omega (arith, h, nib-le (getD p 0 0), c .before .before .before .if2 .left) in
+    address-second p (c .before .before .before .before .before .before .if1 .left) h (c .before .decode2 .ensures) first (c .if3 .taken)
 
 cast-result : tie.Need-cast-result
 cast-result c = search needs
@@ -51,7 +52,9 @@ returns-4 c =
     let p : List ℕ = now (c .before .before .before .before .before .before .before .before .args .packet) in
     let h = c .before .before .before .before .decode .ensures in
     let k = c .before .decode2 .ensures in
-    address-both p (c .before .before .before .before .before .before .if1 .left) h k (omega (arith, h, nib-le (getD p 0 0), c .before .before .before .if2 .left)) (omega (arith, k, nib-le (getD p 1 0), c .if3 .left))
+    let first : c .before .before .before .before .decode .result < 16 = omega (arith, h, nib-le (getD p 0 0), c .before .before .before .if2 .left) in
+    let second : c .before .decode2 .result < 16 = omega (arith, k, nib-le (getD p 1 0), c .if3 .left) in
+    address-both p (c .before .before .before .before .before .before .if1 .left) h k first second
 
 pub address-spec : {M : Type 1} → statement M
 address-spec =

@@ -24,13 +24,17 @@ returns-4 : tie.Need-returns-4
 unfolding inRange
 returns-4 c =
     let page : c .before .before .before .before .before .before .before .before .args .s .page ≤ 255 = omega arith in
-    simp (le-leb _ _ (c .before .before .before .before .before .before .if1 .left), le-leb _ _ (c .before .before .before .before .if2 .left), le-leb _ _ (c .before .before .if3 .left), le-leb _ 255 page, lt-leb _ _ (c .if4 .taken))
+    let one = c .before .before .before .before .before .before .if1 .left in
+    let two = c .before .before .before .before .if2 .left in
+    simp (le-leb _ _ one, le-leb _ _ two, le-leb _ _ (c .before .before .if3 .left), le-leb _ 255 page, lt-leb _ _ (c .if4 .taken))
 
 returns-5 : tie.Need-returns-5
 unfolding inRange
 returns-5 c =
     let page : c .before .before .before .before .before .before .before .before .args .s .page ≤ 255 = omega arith in
-    simp (le-leb _ _ (c .before .before .before .before .before .before .if1 .left), le-leb _ _ (c .before .before .before .before .if2 .left), le-leb _ _ (c .before .before .if3 .left), le-leb _ 255 page, le-leb _ _ (c .if4 .left))
+    let one = c .before .before .before .before .before .before .if1 .left in
+    let two = c .before .before .before .before .if2 .left in
+    simp (le-leb _ _ one, le-leb _ _ two, le-leb _ _ (c .before .before .if3 .left), le-leb _ 255 page, le-leb _ _ (c .if4 .left))
 
 pub is-in-range-spec : {M : Type 1} → statement M
 is-in-range-spec = tie.close (tie.spec returns returns-2 returns-3 returns-4 returns-5)
