@@ -1,18 +1,20 @@
 -- A call is accepted exactly when every rule holds, and has a rule's number exactly when it is the first that doesn't: judging
 -- goes down the list by one clause a rule. Assumes nothing.
-use mathlib.Core.Path.{_≡_, _∙_, refl, ap}
+use mathlib.Core.Path.{_≡_, _∙_, refl, sym, ap}
 use mathlib.Core.Bool.{Bool, true, false}
 use mathlib.Core.Logic.{_⊎_, inl, inr, _↔_}
 use mathlib.Core.List.{List, [], _∷_, _++_}
-use Prim.Native.Nat.{ℕ}
+use Prim.Native.Nat.{ℕ, _≤_, _<_}
 use native.Mathlib.Omega.{arith}
+use lib.Dec.{leb}
 use lib.ListN.{length, drop}
-use Rattle.answer.specs.declared.Refusal.{Refusal}
+use borrow.Author.Tests.{leb-true}
+use Rattle.laws.proofs.Tests.{both-first, both-second, both-true, both-holds}
 use Rattle.answer.specs.declared.Answer.{Answer}
-use Rattle.answer.specs.declared.Answer.the-variants.{Done, Refused}
-use Rattle.answer.specs.Values.{refusal, refused}
+use Rattle.answer.specs.declared.Answer.the-variants.{Done}
+use Rattle.answer.specs.Values.{numberOf, offsetOf, writtenOf, refused}
 use Rattle.answer.specs.Writing.{room, answered, after, left}
-use Rattle.answer.specs.Rules.{Rule, judged, Every, none, more, First, here, later}
+use Rattle.answer.specs.Rules.{Rule, judged, refusing, numbered, Every, none, more, First, here, later}
 
 pub passes {ℓ} : {A : Type ℓ} (f : ℕ → ℕ → A) {rs : List Rule} (a : A) → Every rs → judged f rs a ≡ a
 passes f a none = refl
@@ -48,43 +50,77 @@ pub first-after : {q : Rule} {rs qs : List Rule} → Every rs → First q qs →
 first-after none f = f
 first-after (more h d) f = later h (first-after d f)
 
+-- ---- by the number and the values that an answer stands for
+
+-- the first that doesn't hold has the number of a refusal
+first-number : {q : Rule} {rs : List Rule} → numbered rs ≡ true → First q rs → 1 ≤ q .number
+unfolding numbered
+first-number {q} n (here h) = leb-true 1 (q .number) (both-first (leb 1 (q .number)) (leb (q .number) 16) (both-first (refusing (q .number)) _ n))
+first-number n (later {r} h f) = first-number (both-second (refusing (r .number)) _ n) f
+
+pub numbered-append : (rs qs : List Rule) → numbered rs ≡ true → numbered qs ≡ true → numbered (rs ++ qs) ≡ true
+unfolding numbered
+numbered-append [] qs a b = b
+numbered-append (r ∷ rs) qs a b =
+    let p = both-true (refusing (r .number)) (numbered rs) a in
+    both-holds (refusing (r .number)) _ (p .0) (numbered-append rs qs (p .1) b)
+
 module _ (rules : List Rule) (bytes old : List ℕ) where
   abbrev all-rules : List Rule
   all-rules = rules ++ room bytes old ∷ []
 
-  -- accepted exactly when every rule holds, the room's among them; the answer is then how many bytes were written
-  pub accepted-exactly : (n : ℕ) → (answered rules bytes old ≡ Done n) ↔ (Every all-rules × (length bytes ≡ n))
-  accepted-exactly n = (to, from)
+  abbrev answer : Answer
+  answer = answered rules bytes old
+
+  all-numbered : numbered rules ≡ true → numbered all-rules ≡ true
+  unfolding numbered
+  all-numbered n = numbered-append rules (room bytes old ∷ []) n refl
+
+  -- accepted, which is number 0, exactly when every rule holds, the room's among them; what it reports is how many bytes were written
+  pub accepted-exactly :
+      numbered rules ≡ true → (n : ℕ)
+      → ((numberOf answer ≡ 0) × (writtenOf answer ≡ n)) ↔ (Every all-rules × (length bytes ≡ n))
+  accepted-exactly k n = (to, from)
     where
-      to : answered rules bytes old ≡ Done n → Every all-rules × (length bytes ≡ n)
+      to : (numberOf answer ≡ 0) × (writtenOf answer ≡ n) → Every all-rules × (length bytes ≡ n)
       to e = go (decided all-rules)
         where
           go : Every all-rules ⊎ ((q : Rule) × First q all-rules) → Every all-rules × (length bytes ≡ n)
-          go (inl d) = let f = passes refused (Done (length bytes)) d in (d, cc)
-          go (inr f) = let g = refuses refused (Done (length bytes)) (f .1) in let z : _≡_ {A = ℕ} 0 1 = cc in absurd (omega arith)
+          go (inl d) = let f = ap writtenOf (passes refused (Done (length bytes)) d) in (d, cc)
+          go (inr f) =
+              let g = ap numberOf (refuses refused (Done (length bytes)) (f .1)) in
+              absurd (omega (arith, first-number (all-numbered k) (f .1)))
 
-      from : Every all-rules × (length bytes ≡ n) → answered rules bytes old ≡ Done n
-      from d = passes refused (Done (length bytes)) (d .0) ∙ ap Done (d .1)
+      from : Every all-rules × (length bytes ≡ n) → (numberOf answer ≡ 0) × (writtenOf answer ≡ n)
+      from d = let f = passes refused (Done (length bytes)) (d .0) in (ap numberOf f, ap writtenOf f ∙ d .1)
 
   -- a refusal's number and offset are those of the first rule that doesn't hold
   pub refused-exactly :
-      (r : Refusal) → (answered rules bytes old ≡ Refused r) ↔ ((q : Rule) × First q all-rules × (refusal (q .number) (q .offset) ≡ r))
-  refused-exactly r = (to, from)
+      (number offset : ℕ) → 0 < number
+      → ((numberOf answer ≡ number) × (offsetOf answer ≡ offset))
+      ↔ ((q : Rule) × First q all-rules × (q .number ≡ number) × (q .offset ≡ offset))
+  refused-exactly number offset p = (to, from)
     where
-      to : answered rules bytes old ≡ Refused r → (q : Rule) × First q all-rules × (refusal (q .number) (q .offset) ≡ r)
+      to : (numberOf answer ≡ number) × (offsetOf answer ≡ offset) → (q : Rule) × First q all-rules × (q .number ≡ number) × (q .offset ≡ offset)
       to e = go (decided all-rules)
         where
-          go : Every all-rules ⊎ ((q : Rule) × First q all-rules) → (q : Rule) × First q all-rules × (refusal (q .number) (q .offset) ≡ r)
-          go (inl d) = let f = passes refused (Done (length bytes)) d in let z : _≡_ {A = ℕ} 0 1 = cc in absurd (omega arith)
-          go (inr f) = let g = refuses refused (Done (length bytes)) (f .1) in (f .0, f .1, cc)
+          go : Every all-rules ⊎ ((q : Rule) × First q all-rules) → (q : Rule) × First q all-rules × (q .number ≡ number) × (q .offset ≡ offset)
+          go (inl d) = let f = ap numberOf (passes refused (Done (length bytes)) d) in absurd (omega arith)
+          go (inr f) = let g = refuses refused (Done (length bytes)) (f .1) in (f .0, f .1, sym (ap numberOf g) ∙ e .0, sym (ap offsetOf g) ∙ e .1)
 
-      from : (q : Rule) × First q all-rules × (refusal (q .number) (q .offset) ≡ r) → answered rules bytes old ≡ Refused r
-      from f = refuses refused (Done (length bytes)) (f .1) ∙ ap Refused (f .2)
+      from : (q : Rule) × First q all-rules × (q .number ≡ number) × (q .offset ≡ offset) → (numberOf answer ≡ number) × (offsetOf answer ≡ offset)
+      from f = let g = refuses refused (Done (length bytes)) (f .1) in (ap numberOf g ∙ f .2, ap offsetOf g ∙ f .3)
 
   -- a refusal leaves every lent byte
-  pub refusal-leaves : (r : Refusal) → answered rules bytes old ≡ Refused r → left rules bytes old ≡ old
-  refusal-leaves r e = ap (λ (a : Answer). after a bytes old) e
+  pub refusal-leaves : 0 < numberOf answer → left rules bytes old ≡ old
+  refusal-leaves p = go (decided all-rules)
+    where
+      go : Every all-rules ⊎ ((q : Rule) × First q all-rules) → left rules bytes old ≡ old
+      go (inl d) = let f = ap numberOf (passes refused (Done (length bytes)) d) in absurd (omega arith)
+      go (inr f) = ap (λ (a : Answer). after a bytes old) (refuses refused (Done (length bytes)) (f .1))
 
   -- an accepted call writes its bytes to the front and leaves the rest
-  pub accepted-writes : (n : ℕ) → answered rules bytes old ≡ Done n → left rules bytes old ≡ bytes ++ drop (length bytes) old
-  accepted-writes n e = ap (λ (a : Answer). after a bytes old) e
+  pub accepted-writes : numbered rules ≡ true → numberOf answer ≡ 0 → left rules bytes old ≡ bytes ++ drop (length bytes) old
+  accepted-writes k e =
+      let d = (accepted-exactly k (writtenOf answer) .0 (e, refl)) .0 in
+      ap (λ (a : Answer). after a bytes old) (passes refused (Done (length bytes)) d)

@@ -4,7 +4,8 @@ use mathlib.Core.Path.{_≡_}
 use mathlib.Core.Bool.{Bool, true, false}
 use mathlib.Core.List.{List, [], _∷_}
 use Prim.Native.Nat.{ℕ}
-use Rattle.laws.specs.Pick.{pick}
+use lib.Dec.{leb}
+use Rattle.laws.specs.Pick.{pick, both}
 
 -- what must hold, and the number and the offset of the refusal where it doesn't
 pub record Rule : Type 0 where
@@ -19,6 +20,15 @@ rule h n o = record { holds = h; number = n; offset = o }
 abbrev pub judged {ℓ} : {A : Type ℓ} → (ℕ → ℕ → A) → List Rule → A → A
 judged refused [] a = a
 judged refused (r ∷ rs) a = pick (r .holds) (judged refused rs a) (refused (r .number) (r .offset))
+
+-- a refusal's number is 1 to 16; 0 stands for an acceptance (SCOPE 2.1)
+abbrev pub refusing : ℕ → Bool
+refusing n = both (leb 1 n) (leb n 16)
+
+-- every rule has such a number
+unfoldable pub numbered : List Rule → Bool
+numbered [] = true
+numbered (r ∷ rs) = both (refusing (r .number)) (numbered rs)
 
 -- every rule holds
 pub data Every : List Rule → Type 0 where

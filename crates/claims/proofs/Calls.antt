@@ -39,7 +39,8 @@ use Rattle.claims.specs.Noise.{Flipped, Aired, Came, Each, nil, and}
 use Rattle.claims.specs.Lists.{Among}
 use Rattle.claims.specs.Feeding.{packetsOf}
 use Rattle.claims.specs.Tables.{recordsOf, sent, taken, tablesOf}
-use Rattle.claims.specs.Calls.{Writes, write-block, Cuts, cut-pages, cut, Starts, fresh, Reads, read-block, reported, accepted, Written, no-table, table, ReadOut, no-block, block, Through, Delivers}
+use Rattle.claims.specs.Calls.{Writes, write-block, Cuts, cut-pages, cut, Starts, fresh, Reads, read-block, reported, accepted}
+use Rattle.claims.specs.Calls.{Written, no-table, table, ReadOut, no-block, block, Through, Delivers}
 use Rattle.claims.proofs.Losing.{each-first, each-split, each-all, came-each, came-map, came-exactly, came-among}
 use Rattle.claims.proofs.Blocks.{range, aired-long}
 use Rattle.claims.proofs.Tables.{all-fit, all-sized, records-same}

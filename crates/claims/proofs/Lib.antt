@@ -6,6 +6,7 @@ pub mod Hearing
 pub mod Sending
 pub mod Carried
 pub mod March
+pub mod Numbers
 pub mod Settled
 pub mod Fed
 pub mod Tables

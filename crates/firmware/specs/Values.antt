@@ -16,12 +16,12 @@ placeOf (DataUnit.Text next) = next
 placeOf (DataUnit.Stuffing next) = next
 placeOf (DataUnit.Refused r) = r .at
 
--- what is found, for C: 0 no byte, 254 a text unit, 255 stuffing, else the refusal's number
+-- what is found, for C: 254 a text unit, 255 stuffing, else the number: 0 where no byte is left, or the refusal's
 abbrev pub codeOf : DataUnit → ℕ
-codeOf DataUnit.End = 0
+codeOf DataUnit.End = numberOf DataUnit.End
 codeOf (DataUnit.Text next) = 254
 codeOf (DataUnit.Stuffing next) = 255
-codeOf (DataUnit.Refused r) = r .no
+codeOf (DataUnit.Refused r) = numberOf (DataUnit.Refused r)
 
 -- both in one number: the code in the 8 lowest bits, the place in the 56 above them, which hold every place of a packet
 unfoldable pub packed : DataUnit → ℕ

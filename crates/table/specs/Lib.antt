@@ -3,3 +3,4 @@
 pub mod Reading
 pub mod Lengths
 pub mod Control
+pub mod Internal

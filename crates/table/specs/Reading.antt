@@ -1,10 +1,11 @@
 -- Block reading: its rules in the order of SCOPE 3.6, and the table that it gives.
 use mathlib.Core.List.{List, [], _∷_, _++_}
-use Prim.Native.Nat.{ℕ, _+_, _/_, _%_}
+use Prim.Native.Nat.{ℕ, _+_, _%_}
 use lib.Dec.{eqb, ltb, leb}
 use lib.ListN.{length, take}
 use Rattle.laws.specs.Pick.{both}
 use Rattle.answer.specs.Rules.{Rule, rule, judged}
+use Rattle.blocks.specs.Block.{applicationOf, sizeOf}
 use Rattle.fields.specs.Fields.{whole}
 use Rattle.fields.specs.Opening.{openingIn}
 use Rattle.forms.specs.Tables.{Table, known}
@@ -17,9 +18,9 @@ use Rattle.sums.specs.Block.{headLength, headOf, nibblesOf}
 unfoldable pub frameRules : ℕ → ℕ → ℕ → List Rule
 frameRules application len head =
     rule (ltb application 32) 16 0
-    ∷ rule (eqb len (headLength + head / 32)) 13 0
-    ∷ rule (eqb (head % 32) application) 12 0
-    ∷ rule (leb 8 (head / 32)) 13 0
+    ∷ rule (eqb len (headLength + sizeOf head)) 13 0
+    ∷ rule (eqb (applicationOf head) application) 12 0
+    ∷ rule (leb 8 (sizeOf head)) 13 0
     ∷ []
 
 -- 10 in its first eight bytes, 12 for kind and access, 13 for an odd size: what can be said of a block before it is read whole
@@ -42,7 +43,7 @@ wholeRules head ns =
 abbrev pub bodyRules : ℕ → List ℕ → List Rule
 bodyRules head ns =
     let n = whole 4 ns in
-    frontRules (head / 32) ns ++ (wholeRules head ns ++ lengthRules (head / 32) (openingIn n) n)
+    frontRules (sizeOf head) ns ++ (wholeRules head ns ++ lengthRules (sizeOf head) (openingIn n) n)
 
 -- for a record of so many bytes, this head and these nibbles
 abbrev pub rulesFor : ℕ → ℕ → ℕ → List ℕ → List Rule

@@ -17,6 +17,7 @@ ghost use Rattle.fields.specs.Fields.{width};
 ghost use Rattle.fields.specs.Compound.{compound};
 ghost use Rattle.table.specs.Control.{tableBy, descriptorsOf};
 ghost use Rattle.table.specs.Lengths.{lengthRules};
+ghost use Rattle.table.specs.Internal.{tableBits};
 
 // 14: where loops, control size and fill fit, the bytes of the table's form. The block opens with these fields.
 pub(crate) fn judge_lengths(size: usize, opening: Opening, body: &[u8]) -> Answer
@@ -42,7 +43,7 @@ fn measure(kind: usize, count: usize, body: &[u8]) -> usize
     requires { ⌜ count < 256 ⌝ }
     ensures { λ r.
         ⌜ (r ≡ 58 + width (loops kind (descriptorsOf (per kind) count (compound (now (body .entry)) / 2 ^ 58))))
-        × (r ≤ 186208) ⌝ }
+        × (r ≤ tableBits) ⌝ }
 {
     let mut left = count;
     let mut at = LOOPS;

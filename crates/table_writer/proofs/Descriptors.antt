@@ -13,80 +13,85 @@ use Rattle.table_writer.specs.Internal.{ready, inked, moved, Fine}
 use Rattle.table_writer.proofs.Inking.{room-first, room-on, on-moved, on-inked, on-fine, pressed-moved, pressed-inked, pressed-ready}
 use Rattle.table_writer.proofs.Looped.{heading, heading-laid, heading-width, loops-on, fits-now}
 
-module _
-    (kind left i id c words : ℕ) (f : List ℕ) (h : 0 < left) (e₀ : id ≡ getD f i 0) (e₁ : c ≡ getD f (i + 1) 0)
-    (e₂ : words ≡ per kind * c) (fit : fitting (loops kind (descriptorsIn (per kind) left (drop i f))) ≡ true)
-  where
-    all : List Field
-    all = loops kind (descriptorsIn (per kind) left (drop i f))
+-- a descriptor is left, its id, its number of entries and their words are read, and what is left fits
+pub record Ahead (kind left i id c words : ℕ) (f : List ℕ) : Type 0 where
+  pub some : 0 < left
+  pub its-id : id ≡ getD f i 0
+  pub its-entries : c ≡ getD f (i + 1) 0
+  pub its-words : words ≡ per kind * c
+  pub fit : fitting (loops kind (descriptorsIn (per kind) left (drop i f))) ≡ true
 
-    words-laid : List Field
-    words-laid = alike 24 (wordsIn words (drop (i + 2) f))
+module _ {kind left i id c words : ℕ} {f : List ℕ} (a : Ahead kind left i id c words f) where
+  all : List Field
+  all = loops kind (descriptorsIn (per kind) left (drop i f))
 
-    rest : List Field
-    rest = loops kind (descriptorsIn (per kind) (left - 1) (drop (i + (2 + 3 * words)) f))
+  words-laid : List Field
+  words-laid = alike 24 (wordsIn words (drop (i + 2) f))
 
-    split : all ≡ heading id c ++ (words-laid ++ rest)
-    unfolding all words-laid rest
-    split = loops-on kind left i id c words f h e₀ e₁ e₂
+  rest : List Field
+  rest = loops kind (descriptorsIn (per kind) (left - 1) (drop (i + (2 + 3 * words)) f))
 
-    small : (id < 64) × (c < 16) × (fitting rest ≡ true)
-    unfolding rest
-    small = fits-now kind left i id c words f h e₀ e₁ e₂ fit
+  split : all ≡ heading id c ++ (words-laid ++ rest)
+  unfolding all words-laid rest
+  split = loops-on kind left i id c words f (a .some) (a .its-id) (a .its-entries) (a .its-words)
 
-    pub heading-lt : c * 64 + id < 1024
-    heading-lt = omega (arith, small .0, small .1)
+  small : (id < 64) × (c < 16) × (fitting rest ≡ true)
+  unfolding rest
+  small = fits-now kind left i id c words f (a .some) (a .its-id) (a .its-entries) (a .its-words) (a .fit)
 
-    pub few-words : c < 16
-    few-words = small .1
+  pub heading-lt : c * 64 + id < 1024
+  heading-lt = omega (arith, small .0, small .1)
 
-    pub fit-on : fitting (loops kind (descriptorsIn (per kind) (left - 1) (drop (i + (2 + 3 * words)) f))) ≡ true
-    unfolding rest
-    fit-on = small .2
+  pub few-words : c < 16
+  few-words = small .1
 
-    one : _≡_ {A = List Field} ((10, c * 64 + id) ∷ []) ((width (heading id c), laid (heading id c) 0) ∷ [])
-    one =
-        ap₂ (λ (w v : ℕ). (w, v) ∷ []) (sym (heading-width id c)) (heading-laid id c (small .0) (small .1))
+  pub fit-on : fitting (loops kind (descriptorsIn (per kind) (left - 1) (drop (i + (2 + 3 * words)) f))) ≡ true
+  unfolding rest
+  fit-on = small .2
 
-    module _ (p : Pen) (room : ℕ) (enough : p .at + ready p (loops kind (descriptorsIn (per kind) left (drop i f))) ≤ room) where
-      pub room-heading : p .at + ready p ((10, c * 64 + id) ∷ []) ≤ room
-      unfolding all
-      room-heading =
-          let r = room-first p (heading id c) (words-laid ++ rest) room (rw (← split) enough) in
-          rw (ap (ready p) one ∙ pressed-ready p (heading id c)) r
+  one : _≡_ {A = List Field} ((10, c * 64 + id) ∷ []) ((width (heading id c), laid (heading id c) 0) ∷ [])
+  one =
+      ap₂ (λ (w v : ℕ). (w, v) ∷ []) (sym (heading-width id c)) (heading-laid id c (small .0) (small .1))
 
-      module _ {q : Pen} (m : q ≡ moved p ((10, c * 64 + id) ∷ [])) where
-        laid-heading : q ≡ moved p (heading id c)
-        laid-heading = m ∙ ap (moved p) one ∙ pressed-moved p (heading id c)
+  module _ (p : Pen) (room : ℕ) (enough : p .at + ready p (loops kind (descriptorsIn (per kind) left (drop i f))) ≤ room) where
+    pub room-heading : p .at + ready p ((10, c * 64 + id) ∷ []) ≤ room
+    unfolding all
+    room-heading =
+        let r = room-first p (heading id c) (words-laid ++ rest) room (rw (← split) enough) in
+        rw (ap (ready p) one ∙ pressed-ready p (heading id c)) r
 
-        pub fine-heading : Fine q
-        fine-heading = on-fine p (heading id c) (words-laid ++ rest) all split laid-heading
+    module _ {q : Pen} (m : q ≡ moved p ((10, c * 64 + id) ∷ [])) where
+      laid-heading : q ≡ moved p (heading id c)
+      laid-heading = m ∙ ap (moved p) one ∙ pressed-moved p (heading id c)
 
-        on-heading : moved q (words-laid ++ rest) ≡ moved p all
-        on-heading = on-moved p (heading id c) (words-laid ++ rest) all split laid-heading
+      pub fine-heading : Fine q
+      fine-heading = on-fine p (heading id c) (words-laid ++ rest) all split laid-heading
 
-        pub room-words : q .at + ready q (alike 24 (wordsIn words (drop (i + 2) f))) ≤ room
-        unfolding words-laid all
-        room-words = room-first q words-laid rest room (room-on q p (words-laid ++ rest) all room on-heading enough)
+      on-heading : moved q (words-laid ++ rest) ≡ moved p all
+      on-heading = on-moved p (heading id c) (words-laid ++ rest) all split laid-heading
 
-        module _ {r : Pen} (m′ : r ≡ moved q (alike 24 (wordsIn words (drop (i + 2) f)))) where
-          pub fine-descriptor : Fine r
-          unfolding words-laid
-          fine-descriptor = on-fine q words-laid rest (words-laid ++ rest) refl m′
+      pub room-words : q .at + ready q (alike 24 (wordsIn words (drop (i + 2) f))) ≤ room
+      unfolding words-laid all
+      room-words = room-first q words-laid rest room (room-on q p (words-laid ++ rest) all room on-heading enough)
 
-          pub on-descriptor :
-              moved r (loops kind (descriptorsIn (per kind) (left - 1) (drop (i + (2 + 3 * words)) f)))
-              ≡ moved p (loops kind (descriptorsIn (per kind) left (drop i f)))
-          unfolding words-laid rest all
-          on-descriptor = on-moved q words-laid rest (words-laid ++ rest) refl m′ ∙ on-heading
+      module _ {r : Pen} (m′ : r ≡ moved q (alike 24 (wordsIn words (drop (i + 2) f)))) where
+        pub fine-descriptor : Fine r
+        unfolding words-laid
+        fine-descriptor = on-fine q words-laid rest (words-laid ++ rest) refl m′
 
-          pub inked-descriptor :
-              (out : List ℕ) {out₁ out₂ : List ℕ} → out₁ ≡ inked p ((10, c * 64 + id) ∷ []) out
-              → out₂ ≡ inked q (alike 24 (wordsIn words (drop (i + 2) f))) out₁
-              → inked r (loops kind (descriptorsIn (per kind) (left - 1) (drop (i + (2 + 3 * words)) f))) out₂
-              ≡ inked p (loops kind (descriptorsIn (per kind) left (drop i f))) out
-          unfolding words-laid rest all
-          inked-descriptor out {out₁} {out₂} k k′ =
-              on-inked q words-laid rest (words-laid ++ rest) refl m′ out₁ k′
-              ∙ on-inked p (heading id c) (words-laid ++ rest) all split laid-heading out
-              (k ∙ ap (λ (l : List Field). inked p l out) one ∙ pressed-inked p (heading id c) out)
+        pub on-descriptor :
+            moved r (loops kind (descriptorsIn (per kind) (left - 1) (drop (i + (2 + 3 * words)) f)))
+            ≡ moved p (loops kind (descriptorsIn (per kind) left (drop i f)))
+        unfolding words-laid rest all
+        on-descriptor = on-moved q words-laid rest (words-laid ++ rest) refl m′ ∙ on-heading
+
+        pub inked-descriptor :
+            (out : List ℕ) {out₁ out₂ : List ℕ} → out₁ ≡ inked p ((10, c * 64 + id) ∷ []) out
+            → out₂ ≡ inked q (alike 24 (wordsIn words (drop (i + 2) f))) out₁
+            → inked r (loops kind (descriptorsIn (per kind) (left - 1) (drop (i + (2 + 3 * words)) f))) out₂
+            ≡ inked p (loops kind (descriptorsIn (per kind) left (drop i f))) out
+        unfolding words-laid rest all
+        inked-descriptor out {out₁} {out₂} k k′ =
+            on-inked q words-laid rest (words-laid ++ rest) refl m′ out₁ k′
+            ∙ on-inked p (heading id c) (words-laid ++ rest) all split laid-heading out
+            (k ∙ ap (λ (l : List Field). inked p l out) one ∙ pressed-inked p (heading id c) out)

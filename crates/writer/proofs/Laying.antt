@@ -20,4 +20,6 @@ pub packet-laid :
     → set n (q + 2) p ≡ sets entry q (dataPacket s y ss)
 unfolding packetOf
 packet-laid s y ss entry m n q before p em en eb ep =
-    rw (en, em, ep, eb) (set-sets (sets entry q (address (s .magazine) y)) (q + 2) (q + 3) (image (beforeStart (grab perPacket ss) / 3)) (map byteOf (grab perPacket ss)) (omega arith) ∙ rw (add-two, add-three))
+    let row = grab perPacket ss in
+    let last = set-sets (sets entry q (address (s .magazine) y)) (q + 2) (q + 3) (image (beforeStart row / 3)) (map byteOf row) (omega arith) in
+    rw (en, em, ep, eb) (last ∙ rw (add-two, add-three))

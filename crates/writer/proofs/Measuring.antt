@@ -63,8 +63,10 @@ cells-within (suc f) l = go (begins l) refl (cells-within f (drop (recordLength 
         → length (streamOf (pick t (blockOf l ∷ blocksWithin f (drop (recordLength l) l)) [])) / cell ≤ length l
     go false e h = omega arith
     go true e h =
-        omega
-        (arith, stream-length (blockOf l) (blocksWithin f (drop (recordLength l) l)), length-drop (recordLength l) l, begins-fits l e, length-take-le (sizeOf (headOf l)) (drop headLength l) (omega (arith, begins-fits l e, length-drop headLength l)))
+        let fits = begins-fits l e in
+        let rest = drop (recordLength l) l in
+        let raw = length-take-le (sizeOf (headOf l)) (drop headLength l) (omega (arith, fits, length-drop headLength l)) in
+        omega (arith, stream-length (blockOf l) (blocksWithin f rest), length-drop (recordLength l) l, fits, raw)
 
 pub cells-bound : (l : List ℕ) → length (streamOf (blocks l)) / cell ≤ length l
 cells-bound l = cells-within (length l) l

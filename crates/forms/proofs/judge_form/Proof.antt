@@ -42,7 +42,8 @@ refuse-requires-3 c κs = search needs
 returns-3 : tie.Need-returns-3
 returns-3 c =
     let f : List ℕ = now (c .before .before .before .before .before .before .before .before .args .table) in
-    let k = ap known (sym (c .before .before .before .before .before .byte-at .ensures .0)) ∙ sym (c .before .before .before .before .known .ensures) ∙ not-false _ (c .before .before .before .if2 .left) in
+    let kind = ap known (sym (c .before .before .before .before .before .byte-at .ensures .0)) in
+    let k = kind ∙ sym (c .before .before .before .before .known .ensures) ∙ not-false _ (c .before .before .before .if2 .left) in
     c .refuse3 .ensures ∙ sym (form-13′ f _ (search needs) k (rw (c .before .before .form-size .ensures .0) at (c .before .if3 .taken)))
 
 judge-values-requires : tie.Need-judge-values-requires
@@ -55,7 +56,8 @@ judge-values-requires c κs = (
 returns-4 : tie.Need-returns-4
 returns-4 c =
     let f : List ℕ = now (c .before .before .before .before .before .before .before .before .args .table) in
-    let k = ap known (sym (c .before .before .before .before .before .byte-at .ensures .0)) ∙ sym (c .before .before .before .before .known .ensures) ∙ not-false _ (c .before .before .before .if2 .left) in
+    let kind = ap known (sym (c .before .before .before .before .before .byte-at .ensures .0)) in
+    let k = kind ∙ sym (c .before .before .before .before .known .ensures) ∙ not-false _ (c .before .before .before .if2 .left) in
     c .judge-values .ensures ∙ sym (form-values f _ (search needs) k (c .before .if3 .left ∙ c .before .before .form-size .ensures .0))
 
 pub judge-form-spec : {M : Type 1} → statement M

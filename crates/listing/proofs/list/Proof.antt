@@ -34,7 +34,9 @@ returns : tie.Need-returns
 returns c =
     let a = c .before .before .before .before .before .before .before .args in
     let f : List ℕ = now (a .table) in
-    lent-short (formRules f) (linesFrom (a .head) (tableIn f)) (now (a .out)) _ (c .before .before .before .before .judge-form .ensures) (c .before .before .enum-told .given .1) (ltb-true _ _ (sym (c .before .is-short .ensures) ∙ c .if1 .taken))
+    let short = ltb-true _ _ (sym (c .before .is-short .ensures) ∙ c .if1 .taken) in
+    lent-short (formRules f) (linesFrom (a .head) (tableIn f)) (now (a .out)) _ (c .before .before .before .before .judge-form .ensures)
+    (c .before .before .enum-told .given .1) short
 
 put-lines-requires : tie.Need-put-lines-requires
 put-lines-requires c κs = search needs
@@ -53,7 +55,10 @@ returns-3 c =
     let a = c .before .before .before .before .before .before .before .before .before .before .before .args in
     let f : List ℕ = now (a .table) in
     let w = c .before .before .put-lines .ensures in
-    let p = lent-done (formRules f) (linesFrom (a .head) (tableIn f)) (now (a .out)) _ (c .before .before .before .before .before .before .before .before .judge-form .ensures) (c .before .before .before .before .before .before .enum-told .given .1) (ltb-false _ _ (sym (c .before .before .before .before .before .is-short .ensures) ∙ c .before .before .before .before .if1 .left)) in
+    let b = c .before .before .before .before in
+    let room = ltb-false _ _ (sym (b .before .is-short .ensures) ∙ b .if1 .left) in
+    let judged = b .before .before .before .before .judge-form .ensures in
+    let p = lent-done (formRules f) (linesFrom (a .head) (tableIn f)) (now (a .out)) _ judged (b .before .before .enum-told .given .1) room in
     (ap Done (w .moved ∙ zero-add _) ∙ p .0, w .stored ∙ p .1)
 
 pub list-spec : {M : Type 1} → statement M

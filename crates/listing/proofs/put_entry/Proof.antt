@@ -46,7 +46,9 @@ returns-2 c =
     let l = c .before .before .before .before .before .before .before .before .put-language in
     let x = c .before .before .before .before .word-at2 in
     let p = c .before .before .put-page in
-    (put-as (entry-ti (a .kind) (a .i) (w .result) f (w .ensures .0) (x .result) (x .ensures .0) (c .before .before .before .before .before .if1 .left)) (then (put-there (search needs) (l .ensures .0)) (put-there (search needs) (p .ensures .0))), omega (arith, l .ensures .1, p .ensures .1))
+    let same = entry-ti (a .kind) (a .i) (w .result) f (w .ensures .0) (x .result) (x .ensures .0) (c .before .before .before .before .before .if1 .left) in
+    let both = then (put-there (search needs) (l .ensures .0)) (put-there (search needs) (p .ensures .0)) in
+    (put-as same both, omega (arith, l .ensures .1, p .ensures .1))
 
 pub put-entry-spec : {M : Type 1} → statement M
 put-entry-spec =

@@ -17,7 +17,9 @@ same-length c = search needs
 
 returns : tie.Need-returns
 unfolding kindLine
-returns c = (put-as {xs = kindTI} (simp (eq-eqb _ _ (c .before .before .before .before .before .if1 .taken))) (put-at (search needs) (c .before .before .put .ensures .0)), c .before .before .put .ensures .1)
+returns c =
+    let p = c .before .before .put .ensures in
+    (put-as {xs = kindTI} (simp (eq-eqb _ _ (c .before .before .before .before .before .if1 .taken))) (put-at (search needs) (p .0)), p .1)
 
 slice-aggregate-put-2 : tie.Need-slice-aggregate-put-2
 slice-aggregate-put-2 c = search needs
@@ -30,7 +32,9 @@ same-length-2 c = search needs
 
 returns-2 : tie.Need-returns-2
 unfolding kindLine
-returns-2 c = (put-as {xs = kindLI} (simp (ne-eqb _ _ (c .before .before .before .before .before .if1 .left))) (put-at (search needs) (c .before .before .put2 .ensures .0)), c .before .before .put2 .ensures .1)
+returns-2 c =
+    let p = c .before .before .put2 .ensures in
+    (put-as {xs = kindLI} (simp (ne-eqb _ _ (c .before .before .before .before .before .if1 .left))) (put-at (search needs) (p .0)), p .1)
 
 pub put-kind-spec : {M : Type 1} → statement M
 put-kind-spec =

@@ -26,7 +26,9 @@ letter-requires-3 c κs = search needs
 returns-3 : tie.Need-returns-3
 returns-3 c =
     let w = c .before .before .before .before .before .args .w in
-    c .letter3 .ensures ∙ sym (letters-3 w (sym (c .before .before .before .before .letter .ensures) ∙ not-false _ (c .before .before .before .if1 .left)) (sym (c .before .before .letter2 .ensures) ∙ not-false _ (c .before .if2 .left)))
+    let first = sym (c .before .before .before .before .letter .ensures) ∙ not-false _ (c .before .before .before .if1 .left) in
+    let second = sym (c .before .before .letter2 .ensures) ∙ not-false _ (c .before .if2 .left) in
+    c .letter3 .ensures ∙ sym (letters-3 w first second)
 
 pub letters-spec : {M : Type 1} → statement M
 letters-spec =

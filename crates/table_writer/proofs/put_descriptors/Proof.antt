@@ -4,7 +4,7 @@ use borrow.Author.Needs.{needs}
 use mathlib.Core.Path.{_≡_, _∙_, refl, sym, ap}
 use mathlib.Core.Bool.{true}
 use mathlib.Core.List.{List}
-use Prim.Native.Nat.{ℕ, _+_, _*_, _≤_, _<_}
+use Prim.Native.Nat.{ℕ, _+_, _*_, _≤_}
 use native.Mathlib.Nat.{le-trans, le-of-eq}
 use native.Mathlib.Omega.{arith}
 use lib.ListN.{length, drop}
@@ -17,7 +17,7 @@ use Rattle.forms.specs.Internal.{descriptorMost, formMost}
 use Rattle.forms.proofs.Measures.{words-counted}
 use Rattle.table_writer.specs.Internal.{inked, moved, Fine}
 use Rattle.table_writer.proofs.Inking.{room-on, none-left, none-inked}
-use Rattle.table_writer.proofs.Descriptors.{heading-lt, few-words, fit-on, room-heading, fine-heading, room-words, fine-descriptor, on-descriptor, inked-descriptor}
+use Rattle.table_writer.proofs.Descriptors.{Ahead, heading-lt, few-words, fit-on, room-heading, fine-heading, room-words, fine-descriptor, on-descriptor, inked-descriptor}
 use Rattle.table_writer.proofs.put_descriptors.Statement.{statement}
 use Rattle.table_writer.proofs.put_descriptors.Tie as tie
 
@@ -72,14 +72,21 @@ put-requires c κs =
     let d = c .before .before .before .byte-at3 in
     let n = c .before .before .byte-at4 in
     let w = c .before .words-of in
-    let e₂ = words-counted _ _ _ _ (w .ensures .0) (n .ensures .1) refl in
+    let ahead : Ahead kind (l .left) (l .i) (d .result) (n .result) (w .result) f =
+    record {
+      some = search needs;
+      its-id = d .ensures .0;
+      its-entries = n .ensures .0;
+      its-words = words-counted _ _ _ _ (w .ensures .0) (n .ensures .1) refl;
+      fit = l .inv .3;
+    } in
     let room =
     room-on (l .p) (s .args .pen) (loops kind (descriptorsIn (per kind) (l .left) (drop (l .i) f)))
     (loops (tableIn f .kind) (tableIn f .descriptors)) (length (now (s .args .out))) (l .inv .4) (s .pre .2) in (
       l .inv .0,
       search needs,
-      heading-lt kind (l .left) (l .i) (d .result) (n .result) (w .result) f (search needs) (d .ensures .0) (n .ensures .0) e₂ (l .inv .3),
-      room-heading kind (l .left) (l .i) (d .result) (n .result) (w .result) f (search needs) (d .ensures .0) (n .ensures .0) e₂ (l .inv .3) (l .p) _ (rw (l .inv .1) room),
+      heading-lt ahead,
+      room-heading ahead (l .p) _ (rw (l .inv .1) room),
     )
 
 add-put-words : tie.Need-add-put-words Inv-loop μ-loop
@@ -95,15 +102,21 @@ put-words-requires c κs =
     let n = c .before .before .before .before .before .before .byte-at4 in
     let w = c .before .before .before .before .before .words-of in
     let q = c .before .before .before .put in
-    let e₂ = words-counted _ _ _ _ (w .ensures .0) (n .ensures .1) refl in
-    let pos : 0 < l .left = c .before .before .before .before .before .before .before .before .loop-test .taken in
+    let ahead : Ahead kind (l .left) (l .i) (d .result) (n .result) (w .result) f =
+    record {
+      some = c .before .before .before .before .before .before .before .before .loop-test .taken;
+      its-id = d .ensures .0;
+      its-entries = n .ensures .0;
+      its-words = words-counted _ _ _ _ (w .ensures .0) (n .ensures .1) refl;
+      fit = l .inv .3;
+    } in
     let room =
     room-on (l .p) (s .args .pen) (loops kind (descriptorsIn (per kind) (l .left) (drop (l .i) f)))
     (loops (tableIn f .kind) (tableIn f .descriptors)) (length (now (s .args .out))) (l .inv .4) (s .pre .2) in (
-      fine-heading kind (l .left) (l .i) (d .result) (n .result) (w .result) f pos (d .ensures .0) (n .ensures .0) e₂ (l .inv .3) (l .p) _ room (q .ensures .0),
+      fine-heading ahead (l .p) _ room (q .ensures .0),
       omega (arith, l .inv .2, w .ensures .1, n .ensures .1),
       le-trans
-          (room-words kind (l .left) (l .i) (d .result) (n .result) (w .result) f pos (d .ensures .0) (n .ensures .0) e₂ (l .inv .3) (l .p) _ room (q .ensures .0))
+          (room-words ahead (l .p) _ room (q .ensures .0))
           (le-of-eq (sym (q .kept .1 .1 .1 .0 ∙ l .inv .1))),
     )
 
@@ -114,7 +127,9 @@ add-i : tie.Need-add-i Inv-loop μ-loop
 add-i c = omega (arith, c .before .before .before .before .before .before .before .before .words-of .ensures .1)
 
 add-i-2 : tie.Need-add-i-2 Inv-loop μ-loop
-add-i-2 c = omega (arith, c .before .before .before .before .before .before .before .before .words-of .ensures .1, c .before .before .before .before .before .before .before .before .before .before .before .before .loop .inv .2)
+add-i-2 c =
+    let w = c .before .before .before .before .before .before .before .before in
+    omega (arith, w .words-of .ensures .1, w .before .before .before .before .loop .inv .2)
 
 sub-left : tie.Need-sub-left Inv-loop μ-loop
 sub-left c = search needs
@@ -133,17 +148,23 @@ loop-again c =
     let w = c .before .before .before .before .before .before .before .before .words-of in
     let q = c .before .before .before .before .before .before .put in
     let r = c .before .before .put-words in
-    let e₂ = words-counted _ _ _ _ (w .ensures .0) (n .ensures .1) refl in
-    let pos : 0 < l .left = c .before .before .before .before .before .before .before .before .before .before .before .loop-test .taken in
+    let ahead : Ahead kind (l .left) (l .i) (d .result) (n .result) (w .result) f =
+    record {
+      some = c .before .before .before .before .before .before .before .before .before .before .before .loop-test .taken;
+      its-id = d .ensures .0;
+      its-entries = n .ensures .0;
+      its-words = words-counted _ _ _ _ (w .ensures .0) (n .ensures .1) refl;
+      fit = l .inv .3;
+    } in
     let room =
     room-on (l .p) (s .args .pen) (loops kind (descriptorsIn (per kind) (l .left) (drop (l .i) f)))
     (loops (tableIn f .kind) (tableIn f .descriptors)) (length (now (s .args .out))) (l .inv .4) (s .pre .2) in (
-      fine-descriptor kind (l .left) (l .i) (d .result) (n .result) (w .result) f pos (d .ensures .0) (n .ensures .0) e₂ (l .inv .3) (l .p) _ room (q .ensures .0) (r .ensures .0),
+      fine-descriptor ahead (l .p) _ room (q .ensures .0) (r .ensures .0),
       r .kept .1 .1 .1 .1 .0 ∙ q .kept .1 .1 .1 .0 ∙ l .inv .1,
-      omega (arith, l .inv .2, w .ensures .1, few-words kind (l .left) (l .i) (d .result) (n .result) (w .result) f pos (d .ensures .0) (n .ensures .0) e₂ (l .inv .3)),
-      fit-on kind (l .left) (l .i) (d .result) (n .result) (w .result) f pos (d .ensures .0) (n .ensures .0) e₂ (l .inv .3),
-      on-descriptor kind (l .left) (l .i) (d .result) (n .result) (w .result) f pos (d .ensures .0) (n .ensures .0) e₂ (l .inv .3) (l .p) _ room (q .ensures .0) (r .ensures .0) ∙ l .inv .4,
-      inked-descriptor kind (l .left) (l .i) (d .result) (n .result) (w .result) f pos (d .ensures .0) (n .ensures .0) e₂ (l .inv .3) (l .p) _ room (q .ensures .0) (r .ensures .0) (l .out) (q .ensures .1) (r .ensures .1) ∙ l .inv .5,
+      omega (arith, l .inv .2, w .ensures .1, few-words ahead),
+      fit-on ahead,
+      on-descriptor ahead (l .p) _ room (q .ensures .0) (r .ensures .0) ∙ l .inv .4,
+      inked-descriptor ahead (l .p) _ room (q .ensures .0) (r .ensures .0) (l .out) (q .ensures .1) (r .ensures .1) ∙ l .inv .5,
     )
 
 same-length : tie.Need-same-length Inv-loop μ-loop

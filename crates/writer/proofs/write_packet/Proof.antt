@@ -46,11 +46,12 @@ returns : tie.Need-returns
 returns c =
     let w = c .before .before .before .before .before in
     let v = w .before .before .before .before in
-    let a = v .before .before .before .before .args in (
-      packet-laid (a .s) (a .y) (restOf (a .records .now) (a .pen)) (a .out .now) (v .write-address .last .1 .1 .0) (w .write-symbols .last .1 .1 .0) (a .q) (w .write-symbols .result .before) (c .before .image .result) (written (a .out .now) _ _ (a .q) 2 (search needs) (v .write-address .ensures))
-          (w .write-symbols .ensures .0) (w .write-symbols .ensures .1 .0) (c .before .image .ensures),
-      w .write-symbols .ensures .1 .1,
-    )
+    let a = v .before .before .before .before .args in
+    let ss = restOf (a .records .now) (a .pen) in
+    let row = w .write-symbols in
+    let head = written (a .out .now) _ _ (a .q) 2 (search needs) (v .write-address .ensures) in
+    let laid = packet-laid (a .s) (a .y) ss (a .out .now) (v .write-address .last .1 .1 .0) (row .last .1 .1 .0) (a .q) (row .result .before) in
+    (laid (c .before .image .result) head (row .ensures .0) (row .ensures .1 .0) (c .before .image .ensures), row .ensures .1 .1)
 
 pub write-packet-spec : {M : Type 1} → statement M
 write-packet-spec =

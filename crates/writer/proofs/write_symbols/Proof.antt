@@ -38,8 +38,9 @@ loop-less c = search needs
 loop-again : tie.Need-loop-again Inv-loop μ-loop
 loop-again c =
     let s = c .before .before .step in
-    stored-more (c .before .before .before .before .loop .inv) (c .before .before .before .loop-test .taken) (s .result) (sends _ _ (c .before .before .before .before .loop .inv .goes .stands) (s .result) (s .ensures))
-    (c .before .first .result) (c .before .first .ensures)
+    let inv = c .before .before .before .before .loop .inv in
+    let sent = sends _ _ (inv .goes .stands) (s .result) (s .ensures) in
+    stored-more inv (c .before .before .before .loop-test .taken) (s .result) sent (c .before .first .result) (c .before .first .ensures)
 
 same-length : tie.Need-same-length Inv-loop μ-loop
 same-length c = search needs

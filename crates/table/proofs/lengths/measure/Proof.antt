@@ -9,6 +9,7 @@ use Rattle.fields.specs.Fields.{width}
 use Rattle.forms.specs.Tables.{per, loops}
 use Rattle.fields.specs.Compound.{compound}
 use Rattle.table.specs.Control.{descriptorsOf}
+use Rattle.table.specs.Internal.{descriptorBits, tableBits}
 use Rattle.forms.proofs.Measures.{words-counted}
 use Rattle.table.proofs.Loops.{walk-on, walk-end}
 use Rattle.table.proofs.lengths.measure.Statement.{statement}
@@ -16,7 +17,7 @@ use Rattle.table.proofs.lengths.measure.Tie as tie
 
 abbrev Inv-loop : tie.InvT-loop
 Inv-loop kind count body left₀ at₀ left at =
-    (at + 730 * left ≤ 186208)
+    (at + descriptorBits * left ≤ tableBits)
     × (at + width (loops kind (descriptorsOf (per kind) left (compound body / 2 ^ at))) ≡ 58 + width (loops kind (descriptorsOf (per kind) count (compound body / 2 ^ 58))))
 
 abbrev μ-loop : tie.MeasureT-loop

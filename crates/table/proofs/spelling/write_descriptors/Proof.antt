@@ -11,13 +11,14 @@ use Rattle.forms.specs.Tables.{per}
 use Rattle.forms.specs.Form.{listed}
 use Rattle.fields.specs.Compound.{compound}
 use Rattle.table.specs.Control.{descriptorsOf}
+use Rattle.table.specs.Internal.{descriptorBits, tableBits, descriptorBytes, formBytes}
 use Rattle.table.proofs.Written.{descriptor-on, descriptors-end}
 use Rattle.table.proofs.spelling.write_descriptors.Statement.{statement}
 use Rattle.table.proofs.spelling.write_descriptors.Tie as tie
 
 abbrev Inv-loop : tie.InvT-loop
 Inv-loop kind count body out₀ left₀ at₀ q₀ out left at q =
-    (length out ≡ length out₀) × (q + 92 * left ≤ 23466) × (at + 730 * left ≤ 186208)
+    (length out ≡ length out₀) × (q + descriptorBytes * left ≤ formBytes) × (at + descriptorBits * left ≤ tableBits)
     × (sets out q (listed kind (descriptorsOf (per kind) left (compound body / 2 ^ at)))
     ≡ sets out₀ 6 (listed kind (descriptorsOf (per kind) count (compound body / 2 ^ 58))))
 

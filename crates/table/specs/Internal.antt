@@ -1,0 +1,18 @@
+-- What only private calls cite; nothing here needs to be believed. How long a table and its form can be, by its counts: four bits of
+-- entries, and a byte of descriptors.
+use Prim.Native.Nat.{ℕ, _+_, _*_}
+
+-- the bits of a descriptor: its id, its number of entries, and 15 entries of two words
+abbrev pub descriptorBits : ℕ
+descriptorBits = 10 + 24 * (2 * 15)
+
+-- of a table: 255 descriptors behind its opening fields, as many as a byte counts
+abbrev pub tableBits : ℕ
+tableBits = 58 + 255 * descriptorBits
+
+-- the bytes of a descriptor in a form, and of the form
+abbrev pub descriptorBytes : ℕ
+descriptorBytes = 2 + 3 * (2 * 15)
+
+abbrev pub formBytes : ℕ
+formBytes = 6 + 255 * descriptorBytes
