@@ -20,6 +20,7 @@ use Rattle.wanted.proofs.stages.start.Reads as wanted·start
 use Rattle.wanted.proofs.next.Reads as wanted·next
 use Rattle.wanted.proofs.is_name.Reads as wanted·is-name
 use Rattle.wanted.proofs.stages.is_good.Reads as wanted·is-good
+use Rattle.wanted.proofs.names.plain.Reads as wanted·plain
 use Rattle.units.proofs.unit_at.Reads as units·unit-at
 use Rattle.units.proofs.marks.is_text.Reads as units·is-text
 use Rattle.units.proofs.marks.line_fits.Reads as units·line-fits
@@ -318,3 +319,6 @@ wanted·is-name-settled κs a x y s t p q = same p q
 
 pub wanted·is-good-settled : (κs : _) (a : _) (x y : _) (s t : _) → wanted·is-good.Post κs a x s → wanted·is-good.Post κs a y t → x ≡ y
 wanted·is-good-settled κs a x y s t p q = same p q
+
+pub wanted·plain-settled : (κs : _) (a : _) (x y : _) (s t : _) → wanted·plain.Post κs a x s → wanted·plain.Post κs a y t → now (s .0) ≡ now (t .0)
+wanted·plain-settled κs a x y s t p q = same p q

@@ -2,9 +2,9 @@
 // are listed. Counts that a room hands back are held against the space that they count in, so that no
 // proof here has to know the room's definitions; a count that doesn't fit never comes.
 use crate::front;
+use crate::says;
 use answer::Answer;
 use blocks::Found;
-use libc::STDOUT_FILENO;
 use packet::Setting;
 use reader::HeardAll;
 use reader::Reader;
@@ -63,11 +63,13 @@ pub fn list(fd: i32, name: &[u8], is_titled: bool, setting: Setting) -> bool {
         turns -= 1;
         let got = fill(fd, &mut piece);
         let Got::Bytes(n) = got else {
-            os::fail(name);
+            says::tell(name);
             return end(desk.tally, &text);
         };
         if is_due {
-            title(name);
+            if !says::put_title(name) {
+                return false;
+            }
             is_due = false;
         }
         desk = feed(setting, desk, &piece, n, &mut records, &mut text, &mut form);
@@ -91,12 +93,6 @@ fn fresh() -> Desk {
             sound: true,
         },
     }
-}
-
-fn title(name: &[u8]) {
-    io::write_all(STDOUT_FILENO, b"file=");
-    io::write_all(STDOUT_FILENO, name);
-    io::write_all(STDOUT_FILENO, b"\n");
 }
 
 fn fill(fd: i32, piece: &mut [u8; PIECE]) -> Got {
@@ -336,17 +332,12 @@ fn flush(tally: Tally, text: &[u8]) -> Tally
     }
 }
 
-// Writes to standard output where that is sound, and answers whether it still is. The first failure is
-// told.
+// Writes to standard output where that is sound, and answers whether it still is.
 fn write(is_sound: bool, bytes: &[u8]) -> bool {
     if !is_sound {
         return false;
     }
-    let is_written = io::write_all(STDOUT_FILENO, bytes);
-    if !is_written {
-        os::fail(b"standard output");
-    }
-    is_written
+    says::put(bytes)
 }
 
 // Writes what is left of a list that a read ended.
@@ -361,11 +352,5 @@ fn end_with(tally: Tally, text: &[u8; TEXT], short: usize) -> bool {
     if !tally.sound {
         return false;
     }
-    io::write_all(STDOUT_FILENO, b"blocks=");
-    io::print_decimal(STDOUT_FILENO, tally.accepted);
-    io::write_all(STDOUT_FILENO, b" refused=");
-    io::print_decimal(STDOUT_FILENO, tally.refused);
-    io::write_all(STDOUT_FILENO, b" short=");
-    io::print_decimal(STDOUT_FILENO, short as u64);
-    write(true, b"\n")
+    says::put_last(tally.accepted, tally.refused, short as u64)
 }

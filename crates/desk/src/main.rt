@@ -2,7 +2,11 @@
 // each file that is named. Every capture gets a fresh reader and its own list (SCOPE 10.7, 13).
 //
 // Words that the program is called with are heard twice: first all are judged, then the files are listed.
+//
+// A line on standard error that tells of a failure begins `desk: `. Once standard output has failed, nothing more goes out: a list that
+// lacks something in its middle is what nobody could see.
 mod capture;
+mod says;
 
 use libc::STDERR_FILENO;
 use libc::STDIN_FILENO;
@@ -24,7 +28,7 @@ fn main() {
     } else {
         io::write_all(
             STDERR_FILENO,
-            b"usage: desk [-m 1..8] [-p 00..FF] [-s 0..15] [-a 0..31] [--] [FILE ...]\n",
+            b"desk: usage: desk [-m 1..8] [-p 00..FF] [-s 0..15] [-a 0..31] [--] [FILE ...]\n",
         );
     }
 }
@@ -96,18 +100,19 @@ fn visit(heard: Heard, i: usize, setting: Setting) -> Heard {
     Heard {
         words,
         named: true,
-        sound: list_file(front(&word, n), setting),
+        sound: list_file(&mut word, n, setting),
     }
 }
 
-// Answers whether standard output took all.
-fn list_file(name: &[u8], setting: Setting) -> bool {
-    let fd = os::open_read(name);
+// Lists the file of a name, which is told with a `?` for each byte that isn't printed. Answers whether standard output took all.
+fn list_file(word: &mut [u8; 4096], n: usize, setting: Setting) -> bool {
+    let fd = os::open_read(front(word, n));
+    wanted::plain(word);
     if fd < 0 {
-        os::fail(name);
+        says::tell(front(word, n));
         return true;
     }
-    let sound = capture::list(fd, name, true, setting);
+    let sound = capture::list(fd, front(word, n), true, setting);
     libc::close(fd);
     sound
 }

@@ -4,6 +4,9 @@ use borrow.Author.Needs.{needs}
 use Rattle.desk.proofs.capture.list.Statement.{statement}
 use Rattle.desk.proofs.capture.list.Tie as tie
 
+-- `desk::capture::list` is safe and ends. The measure is the number of turns that are left; nothing has to hold from turn to turn.
+-- Assumes nothing.
+
 abbrev Inv-loop : tie.InvT-loop
 Inv-loop fd name is-titled setting piece₀ records₀ text₀ form₀ desk₀ is-due₀ turns₀ piece records text form desk is-due turns = Unit {0}
 
@@ -28,8 +31,8 @@ enum-known-got c = search needs
 enum-told : tie.Need-enum-told Inv-loop μ-loop
 enum-told c = search needs
 
-fail-requires : tie.Need-fail-requires Inv-loop μ-loop
-fail-requires c κs = search needs
+tell-requires : tie.Need-tell-requires Inv-loop μ-loop
+tell-requires c κs = search needs
 
 end-requires : tie.Need-end-requires Inv-loop μ-loop
 end-requires c κs = search needs
@@ -37,20 +40,23 @@ end-requires c κs = search needs
 returns : tie.Need-returns Inv-loop μ-loop
 returns c = search needs
 
-title-requires : tie.Need-title-requires Inv-loop μ-loop
-title-requires c κs = search needs
-
-feed-requires : tie.Need-feed-requires Inv-loop μ-loop
-feed-requires c κs = search needs
+put-title-requires : tie.Need-put-title-requires Inv-loop μ-loop
+put-title-requires c κs = search needs
 
 returns-2 : tie.Need-returns-2 Inv-loop μ-loop
 returns-2 c = search needs
 
-end-with-requires : tie.Need-end-with-requires Inv-loop μ-loop
-end-with-requires c κs = search needs
+feed-requires : tie.Need-feed-requires Inv-loop μ-loop
+feed-requires c κs = search needs
 
 returns-3 : tie.Need-returns-3 Inv-loop μ-loop
 returns-3 c = search needs
+
+end-with-requires : tie.Need-end-with-requires Inv-loop μ-loop
+end-with-requires c κs = search needs
+
+returns-4 : tie.Need-returns-4 Inv-loop μ-loop
+returns-4 c = search needs
 
 loop-less : tie.Need-loop-less Inv-loop μ-loop
 loop-less c = search needs
@@ -58,8 +64,8 @@ loop-less c = search needs
 loop-again : tie.Need-loop-again Inv-loop μ-loop
 loop-again c = search needs
 
-returns-4 : tie.Need-returns-4 Inv-loop μ-loop
-returns-4 c = search needs
+returns-5 : tie.Need-returns-5 Inv-loop μ-loop
+returns-5 c = search needs
 
 pub list-spec : {M : Type 1} → statement M
 list-spec =
@@ -73,14 +79,15 @@ list-spec =
     fill-requires
     enum-known-got
     enum-told
-    fail-requires
+    tell-requires
     end-requires
     returns
-    title-requires
-    feed-requires
+    put-title-requires
     returns-2
-    end-with-requires
+    feed-requires
     returns-3
+    end-with-requires
+    returns-4
     loop-less
     loop-again
-    returns-4)
+    returns-5)
