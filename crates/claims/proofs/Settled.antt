@@ -48,6 +48,11 @@ use Rattle.walk.proofs.starts.find.Reads as walk·find
 use Rattle.walk.proofs.head_on.Reads as walk·head-on
 use Rattle.walk.proofs.starts.falls.Reads as walk·falls
 use Rattle.pages.proofs.judge.Reads as pages·judge
+use Rattle.survey.proofs.count.Reads as survey·count
+use Rattle.survey.proofs.find.Reads as survey·find
+use Rattle.survey.proofs.turn_all.Reads as survey·turn-all
+use Rattle.survey.proofs.is_pes.Reads as survey·is-pes
+use Rattle.survey.proofs.seen.note.Reads as survey·note
 use Rattle.packet.proofs.address.Reads as packet·address
 use Rattle.packet.proofs.passes_by.Reads as packet·passes-by
 use Rattle.moves.proofs.copy.Reads as moves·copy
@@ -307,6 +312,21 @@ fields·field-of-settled κs a x y s t p q = same (p .0) (q .0)
 
 pub forms·words-of-settled : (κs : _) (a : _) (x y : _) (s t : _) → forms·words-of.Post κs a x s → forms·words-of.Post κs a y t → x ≡ y
 forms·words-of-settled κs a x y s t p q = same (p .0) (q .0)
+
+pub survey·count-settled : (κs : _) (a : _) (x y : _) (s t : _) → survey·count.Post κs a x s → survey·count.Post κs a y t → x ≡ y
+survey·count-settled κs a x y s t p q = same p q
+
+pub survey·find-settled : (κs : _) (a : _) (x y : _) (s t : _) → survey·find.Post κs a x s → survey·find.Post κs a y t → x ≡ y
+survey·find-settled κs a x y s t p q = same p q
+
+pub survey·turn-all-settled : (κs : _) (a : _) (x y : _) (s t : _) → survey·turn-all.Post κs a x s → survey·turn-all.Post κs a y t → now (s .0) ≡ now (t .0)
+survey·turn-all-settled κs a x y s t p q = same p q
+
+pub survey·is-pes-settled : (κs : _) (a : _) (x y : _) (s t : _) → survey·is-pes.Post κs a x s → survey·is-pes.Post κs a y t → x ≡ y
+survey·is-pes-settled κs a x y s t p q = same p q
+
+pub survey·note-settled : (κs : _) (a : _) (x y : _) (s t : _) → survey·note.Post κs a x s → survey·note.Post κs a y t → now (s .0) ≡ now (t .0)
+survey·note-settled κs a x y s t p q = same p q
 
 pub wanted·start-settled : (κs : _) (a : _) (x y : _) (s t : _) → wanted·start.Post κs a x s → wanted·start.Post κs a y t → x ≡ y
 wanted·start-settled κs a x y s t p q = same p q

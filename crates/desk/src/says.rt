@@ -2,6 +2,7 @@
 // stops. A line on standard error that tells of a failure begins `desk: `.
 use libc::STDERR_FILENO;
 use libc::STDOUT_FILENO;
+use packet::Setting;
 
 // Writes to standard output, and answers whether it took all. A failure is told.
 pub fn put(bytes: &[u8]) -> bool {
@@ -47,8 +48,64 @@ pub fn put_last(accepted: u64, refused: u64, short: u64) -> bool {
     put(b"\n")
 }
 
+// The line of counts (SCOPE 13.10).
+pub fn put_counts(packets: u64, ours: u64, unreadable: u64, dropped: u64) -> bool {
+    if !put_count(b"packets=", packets) {
+        return false;
+    }
+    if !put_count(b" ours=", ours) {
+        return false;
+    }
+    if !put_count(b" unreadable=", unreadable) {
+        return false;
+    }
+    if !put_count(b" dropped=", dropped) {
+        return false;
+    }
+    put(b"\n")
+}
+
 // Tells of a call that failed on what is named.
 pub fn tell(name: &[u8]) {
     io::write_all(STDERR_FILENO, b"desk: ");
     os::fail(name);
+}
+
+// Says a part of a line on standard error. Where that isn't taken, there is nobody to tell.
+pub fn say(text: &[u8]) {
+    io::write_all(STDERR_FILENO, text);
+}
+
+pub fn say_number(number: u64) {
+    io::print_decimal(STDERR_FILENO, number);
+}
+
+// Begins the line that no packet 0 of our page came.
+pub fn say_lack(name: &[u8], setting: Setting) {
+    say(b"desk: ");
+    say(name);
+    say(b": no packet 0 of magazine ");
+    say_number(setting.magazine as u64);
+    say(b", page ");
+    io::print_hex(STDERR_FILENO, setting.page as u64, 2);
+    say(b", stream ");
+    say_number(setting.stream as u64);
+    say(b" came");
+}
+
+// A page that came, as survey::note has it: magazine, page and stream, as in 1df/2.
+pub fn say_page(code: u16) {
+    say(b" ");
+    say_number(magazine(code / 4096) as u64);
+    io::print_hex(STDERR_FILENO, (code / 16 % 256) as u64, 2);
+    say(b"/");
+    say_number((code % 16) as u64);
+}
+
+// Magazine 8 is sent as 0.
+fn magazine(number: u16) -> u16 {
+    if number == 0 {
+        return 8;
+    }
+    number
 }
