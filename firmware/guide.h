@@ -1,8 +1,11 @@
 /*
- * guide.h: the guide loader's functions for the recorder's firmware.
+ * guide.h: the guide loader's functions for the recorder's firmware, in C99 or
+ * C++11.
  *
- * Link with libfirmware.a, which `rt staticlib firmware` writes to
- * target/staticlib/ for x86-64. It needs no other library.
+ * At the root of the repository, this makes the library for x86-64 (it needs no
+ * other), and compiles and links a program:
+ *     rt staticlib firmware
+ *     cc -std=c99 -Ifirmware -o example firmware/example.c target/staticlib/libfirmware.a
  *
  * Every function takes any value of its arguments and answers; there is no
  * input that stops it. Nothing is kept between calls: no state, no memory, no
@@ -17,6 +20,10 @@
 
 #include <stddef.h>
 #include <stdint.h>
+
+#ifdef __cplusplus
+extern "C" {
+#endif
 
 /* What guide_decode answers for a byte that can't be decoded. */
 #define GUIDE_UNDECODABLE 16
@@ -41,26 +48,60 @@ uint8_t guide_decode(uint8_t b);
  */
 uint8_t guide_turn(uint8_t b);
 
+/* Where the first unit of a PES packet begins. */
+#define GUIDE_FIRST_UNIT 46
+
 /*
- * What begins at a place of a PES packet (EN 300 472): one step of the walk
- * along its units, from place 46 on. Places and offsets count from the packet's
- * first byte.
- *
- * pes points to length bytes, and isn't NULL even where length is 0. Any place
- * may be asked for. The answer is one number of two parts. GUIDE_FOUND is
+ * Where things stand in a text unit, from its first byte on: the line byte, the
+ * framing byte, and the 42 bytes of a teletext packet. The last 43 want turning.
+ */
+#define GUIDE_UNIT_LINE 2
+#define GUIDE_UNIT_FRAMING 3
+#define GUIDE_UNIT_PACKET 4
+#define GUIDE_PACKET 42
+
+/*
+ * What guide_unit_at finds, GUIDE_FOUND of its answer:
  *   GUIDE_END       no byte is left at that place
- *   GUIDE_TEXT      a text unit of 46 bytes: id, length 2C, line byte, framing
- *                   byte E4, 42 bytes; the framing byte and the 42 want turning
+ *   GUIDE_TEXT      a text unit of 46 bytes, as above
  *   GUIDE_STUFFING  a stuffing unit, which gives nothing
- *   6, 7, 8 or 9    the unit is refused, with that number of the refusal list
- * and GUIDE_PLACE is the place where the next unit begins, the refusal's
- * offset, or 0 at the end. The packet's header isn't looked at.
+ * or the unit is refused, with a number of the refusal list (docs/SCOPE.md, 2):
+ *   GUIDE_OVER_END      only one byte is left, or the unit goes over the end
+ *   GUIDE_UNKNOWN_ID    its id is none of 02, 03 and FF
+ *   GUIDE_WRONG_LENGTH  a text unit of another length than 2C
+ *   GUIDE_WRONG_LINE    a text unit with a line offset that is none of 0 and 07
+ *                       to 16, or with another framing byte than E4
  */
 #define GUIDE_END 0
+#define GUIDE_OVER_END 6
+#define GUIDE_UNKNOWN_ID 7
+#define GUIDE_WRONG_LENGTH 8
+#define GUIDE_WRONG_LINE 9
 #define GUIDE_TEXT 254
 #define GUIDE_STUFFING 255
 #define GUIDE_FOUND(answer) ((int)((answer) & 0xFF))
+
+/*
+ * The place that goes with it: where the next unit begins after a text unit or
+ * stuffing; of a refusal its offset, which is where the unit begins, or with
+ * GUIDE_WRONG_LINE the line byte or the framing byte, whichever is at fault; 0
+ * with GUIDE_END.
+ */
 #define GUIDE_PLACE(answer) ((size_t)((answer) >> 8))
+
+/*
+ * What begins at a place of a PES packet (EN 300 472): one step of the walk
+ * along its units, from GUIDE_FIRST_UNIT on. Places and offsets count from the
+ * packet's first byte. The packet's header isn't looked at.
+ *
+ * pes points to length bytes. Any place may be asked for. Where length is 0
+ * nothing is read, pes may be NULL, and the answer is GUIDE_END for any place.
+ * The answer is one number: GUIDE_FOUND and GUIDE_PLACE are its two parts.
+ */
 uint64_t guide_unit_at(const uint8_t *pes, size_t length, size_t at);
+
+#ifdef __cplusplus
+}
+#endif
 
 #endif

@@ -1,7 +1,7 @@
 #!/usr/bin/env python3
-"""Captures in other settings, and longer ones than the samples: tests/desk/captures.py DIR
-writes for each NAME.t42, NAME.words (the desk's options, one word to a line) and NAME.txt,
-what the model's desk prints for it."""
+"""Captures in other settings, longer ones than the samples, and such as hold nothing of ours: tests/desk/captures.py DIR
+writes for each NAME.t42, NAME.words (the desk's options, one word to a line) and what the model has for it: NAME.txt, the list;
+NAME.counts, the line of -v; NAME.lack, what follows the name on standard error where no packet 0 of our page came."""
 
 import pathlib
 import sys
@@ -9,14 +9,14 @@ import sys
 sys.dont_write_bytecode = True
 sys.path.insert(0, str(pathlib.Path(__file__).resolve().parent.parent))
 
-from cases.form import Dice
+from cases.form import LOST, Dice, with_bytes
+from cases.reader import Air
 from cases.table import CASE_G, some_table
-from model import guide, listing, table
+from model import guide, listing, octet, survey, table
 from model.guide import PACKET, Setting
 from model.listing import DESK
-from samples import aired, night_list, record
-
-PIECE = 1560 * PACKET       # what the desk reads at once
+from model.survey import PIECE
+from samples import aired, night_list, night_pes, packets_in, record
 
 
 def sent(setting, tables):
@@ -51,6 +51,47 @@ def halves(dice):
     yield "second", "", DESK, whole[at:]
 
 
+def rough(dice):
+    """What the counts of -v tell apart: packets that can't be read, pages that are too long or broken off, blocks that are dropped."""
+    air = Air(dice, DESK)
+    packets = []
+    for _ in range(60):
+        page = air.stream(dice.between(1, 25), [dice.below(90) for _ in range(dice.between(1, 9))], dice.below(16))
+        page[0] = dice.pick([page[0], page[0], air.header(dice.below(16), dice.below(32)), with_bytes(page[0], (dice.between(2, 7), LOST))])
+        del page[dice.between(1, len(page)):]
+        packets += [p if dice.below(12) else dice.pick([with_bytes(p, (dice.below(2), LOST)), air.elsewhere("page"), air.elsewhere("stream"),
+                                                        air.elsewhere("magazine"), air.elsewhere("y"), dice.bytes(PACKET)]) for p in page]
+    yield "rough", "", DESK, b"".join(packets)
+
+
+def without(dice):
+    """Nothing of ours: PES packets, packets out of step, bits turned about, other pages; and ours after all, but late."""
+    clean = b"".join(aired(dice, night_list(dice, 12)))
+    others = b"".join(Air(dice, Setting(1 + i % 8, 16 * i % 256 + i, i % 16)).header(i % 16, 25) for i in range(40))
+    text = dice.bytes(3 * PIECE)
+    text = b"".join(guide.address(2, 1 + i % 24) + text[i:i + 40] for i in range(0, len(text), PACKET))   # no packet 0 at all
+    rows = b"".join(p for p in packets_in(clean) if octet.decode(p[1]) != 0 or octet.decode(p[0]) > 7)
+    for name, words, setting, data in (
+            ("pes", "", DESK, night_pes(packets_in(clean))),
+            ("pes-part", "", DESK, b"\x00\x00\x01\xBD"),
+            ("cut", "", DESK, clean[5:]),
+            ("step", "", DESK, clean[5:] + b"\x00" * 5),
+            ("far-step", "", DESK, text[:2 * PIECE] + clean[41:]),
+            ("turned", "", DESK, octet.turned(clean)),
+            ("turned-step", "", DESK, octet.turned(clean[17:])),
+            ("far-turned", "", DESK, text[:PIECE] + octet.turned(clean)),
+            ("stream", "-s 9", DESK._replace(stream=9), clean),
+            ("page", "-p FE -m 8", Setting(8, 0xFE, 1, 1), clean + b"\x15" * 3),
+            ("many-pages", "-p 00", DESK._replace(page=0), others * 2),
+            ("rows", "", DESK, rows),
+            ("text", "", DESK, text),
+            ("zeros", "", DESK, b"\x00" * 4200),
+            ("noise", "", DESK, b"\x16" * 4201),
+            ("late", "", DESK, text[:2 * PIECE] + clean),
+            ("later", "", DESK, text[:PIECE] + clean[3:] + b"\x15" * 3 + clean)):
+        yield name, words, setting, data
+
+
 def longest():
     """Many tables with the most lines, so that the text runs full again and again."""
     most = table.Table(table.LI, 1, 65535, 255, [(63, [0x010203] * 15)] * 20 + [(63, [])] * 42)
@@ -60,10 +101,12 @@ def longest():
 
 def main(folder):
     dice = Dice(11)
-    for name, words, setting, data in (*elsewhere(dice), *long(dice), *halves(dice), *longest()):
+    for name, words, setting, data in (*elsewhere(dice), *long(dice), *halves(dice), *longest(), *rough(dice), *without(dice)):
         (folder / f"{name}.t42").write_bytes(data)
         (folder / f"{name}.words").write_text("".join(word + "\n" for word in words.split()))
         (folder / f"{name}.txt").write_bytes(listing.desk(data, setting))
+        (folder / f"{name}.counts").write_text(survey.counts(data, setting))
+        (folder / f"{name}.lack").write_text(survey.lack(data, setting))
 
 
 main(pathlib.Path(sys.argv[1]))

@@ -23,6 +23,7 @@ use Rattle.wanted.proofs.stages.start.Reads as wanted·start
 use Rattle.wanted.proofs.next.Reads as wanted·next
 use Rattle.wanted.proofs.is_name.Reads as wanted·is-name
 use Rattle.wanted.proofs.stages.is_good.Reads as wanted·is-good
+use Rattle.wanted.proofs.names.plain.Reads as wanted·plain
 use Rattle.units.proofs.unit_at.Reads as units·unit-at
 use Rattle.units.proofs.marks.is_text.Reads as units·is-text
 use Rattle.units.proofs.marks.line_fits.Reads as units·line-fits
@@ -49,6 +50,11 @@ use Rattle.walk.proofs.starts.find.Reads as walk·find
 use Rattle.walk.proofs.head_on.Reads as walk·head-on
 use Rattle.walk.proofs.starts.falls.Reads as walk·falls
 use Rattle.pages.proofs.judge.Reads as pages·judge
+use Rattle.survey.proofs.count.Reads as survey·count
+use Rattle.survey.proofs.find.Reads as survey·find
+use Rattle.survey.proofs.turn_all.Reads as survey·turn-all
+use Rattle.survey.proofs.is_pes.Reads as survey·is-pes
+use Rattle.survey.proofs.seen.note.Reads as survey·note
 use Rattle.packet.proofs.address.Reads as packet·address
 use Rattle.packet.proofs.passes_by.Reads as packet·passes-by
 use Rattle.moves.proofs.copy.Reads as moves·copy
@@ -327,6 +333,21 @@ fields·opening-of-settled κs a x y s t p q = same p q
 pub forms·words-of-settled : (κs : _) (a : _) (x y : _) (s t : _) → forms·words-of.Post κs a x s → forms·words-of.Post κs a y t → x ≡ y
 forms·words-of-settled κs a x y s t p q = same (p .0) (q .0)
 
+pub survey·count-settled : (κs : _) (a : _) (x y : _) (s t : _) → survey·count.Post κs a x s → survey·count.Post κs a y t → x ≡ y
+survey·count-settled κs a x y s t p q = same p q
+
+pub survey·find-settled : (κs : _) (a : _) (x y : _) (s t : _) → survey·find.Post κs a x s → survey·find.Post κs a y t → x ≡ y
+survey·find-settled κs a x y s t p q = same p q
+
+pub survey·turn-all-settled : (κs : _) (a : _) (x y : _) (s t : _) → survey·turn-all.Post κs a x s → survey·turn-all.Post κs a y t → now (s .0) ≡ now (t .0)
+survey·turn-all-settled κs a x y s t p q = same p q
+
+pub survey·is-pes-settled : (κs : _) (a : _) (x y : _) (s t : _) → survey·is-pes.Post κs a x s → survey·is-pes.Post κs a y t → x ≡ y
+survey·is-pes-settled κs a x y s t p q = same p q
+
+pub survey·note-settled : (κs : _) (a : _) (x y : _) (s t : _) → survey·note.Post κs a x s → survey·note.Post κs a y t → now (s .0) ≡ now (t .0)
+survey·note-settled κs a x y s t p q = same p q
+
 pub wanted·start-settled : (κs : _) (a : _) (x y : _) (s t : _) → wanted·start.Post κs a x s → wanted·start.Post κs a y t → x ≡ y
 wanted·start-settled κs a x y s t p q = same p q
 
@@ -338,6 +359,9 @@ wanted·is-name-settled κs a x y s t p q = same p q
 
 pub wanted·is-good-settled : (κs : _) (a : _) (x y : _) (s t : _) → wanted·is-good.Post κs a x s → wanted·is-good.Post κs a y t → x ≡ y
 wanted·is-good-settled κs a x y s t p q = same p q
+
+pub wanted·plain-settled : (κs : _) (a : _) (x y : _) (s t : _) → wanted·plain.Post κs a x s → wanted·plain.Post κs a y t → now (s .0) ≡ now (t .0)
+wanted·plain-settled κs a x y s t p q = same p q
 
 -- ---- the test programs
 

@@ -2,12 +2,16 @@
 // are listed. Counts that a room hands back are held against the space that they count in, so that no
 // proof here has to know the room's definitions; a count that doesn't fit never comes.
 use crate::front;
+use crate::says;
+use crate::sight;
+use crate::sight::Sight;
 use answer::Answer;
 use blocks::Found;
-use libc::STDOUT_FILENO;
 use packet::Setting;
 use reader::HeardAll;
 use reader::Reader;
+use survey::Counts;
+use survey::seen::NO_PAGE;
 ghost use mathlib.Core.Path.{_≡_};
 ghost use Prim.Native.Nat.{_≤_, _<_};
 ghost use lib.ListN.{length};
@@ -28,17 +32,21 @@ const LINES: usize = 8192;
 // More than the longest table form.
 const FORM: usize = 2048;
 
+// So many pages are told where none is ours.
+const PAGES: usize = 10;
+
 // What was read: so many bytes, fewer than asked for only where the input ended.
 enum Got {
     Bytes(usize),
     Failed,
 }
 
-// How many blocks were accepted and refused, how many bytes of lines wait in the text, and whether
-// standard output took all that was written so far.
+// How many blocks were accepted and refused, how many calls of the reader told of a drop, how many bytes
+// of lines wait in the text, and whether standard output took all that was written so far.
 struct Tally {
     accepted: u64,
     refused: u64,
+    dropped: u64,
     used: usize,
     sound: bool,
 }
@@ -48,34 +56,57 @@ struct Desk {
     tally: Tally,
 }
 
+// After one call of the reader: how many bytes of packets it took.
+struct Turn {
+    desk: Desk,
+    taken: usize,
+}
+
 // Lists what comes from a descriptor, under a line with its name where that is asked for. A read that
 // fails is told with the name, and the list then lacks its last line. Answers whether standard output
 // took all.
-pub fn list(fd: i32, name: &[u8], is_titled: bool, setting: Setting) -> bool {
+pub fn list(fd: i32, name: &[u8], is_titled: bool, setting: Setting, is_verbose: bool) -> bool {
     let mut piece = [0u8; PIECE];
     let mut records = [0u8; RECORDS];
     let mut text = [0u8; TEXT];
     let mut form = [0u8; FORM];
+    let mut pages = [NO_PAGE; PAGES];
     let mut desk = fresh();
+    let mut sight = sight::none();
     let mut is_due = is_titled;
     let mut turns = u64::MAX;
     while turns > 0 {
         turns -= 1;
         let got = fill(fd, &mut piece);
         let Got::Bytes(n) = got else {
-            os::fail(name);
+            says::tell(name);
             return end(desk.tally, &text);
         };
-        if is_due {
-            title(name);
-            is_due = false;
+        if !title(is_due, name) {
+            return false;
         }
-        desk = feed(setting, desk, &piece, n, &mut records, &mut text, &mut form);
+        is_due = false;
+        let step = step_of(is_verbose);
+        desk = feed(
+            setting,
+            step,
+            desk,
+            &piece,
+            n,
+            &mut records,
+            &mut text,
+            &mut form,
+        );
         if !desk.tally.sound {
             return false;
         }
+        sight = look(setting, is_verbose, sight, &mut piece, n, &mut pages);
         if n < PIECE {
-            return end_with(desk.tally, &text, n % PACKET);
+            if !end_with(desk.tally, &text, sight.counts, is_verbose, n % PACKET) {
+                return false;
+            }
+            tell(name, setting, sight, &pages, n % PACKET);
+            return true;
         }
     }
     false
@@ -87,16 +118,11 @@ fn fresh() -> Desk {
         tally: Tally {
             accepted: 0,
             refused: 0,
+            dropped: 0,
             used: 0,
             sound: true,
         },
     }
-}
-
-fn title(name: &[u8]) {
-    io::write_all(STDOUT_FILENO, b"file=");
-    io::write_all(STDOUT_FILENO, name);
-    io::write_all(STDOUT_FILENO, b"\n");
 }
 
 fn fill(fd: i32, piece: &mut [u8; PIECE]) -> Got {
@@ -144,9 +170,37 @@ fn ahead(at: usize, more: usize, end: usize) -> usize
     at + more
 }
 
+fn title(is_due: bool, name: &[u8]) -> bool {
+    if !is_due {
+        return true;
+    }
+    says::put_title(name)
+}
+
+// How many bytes of packets go to the reader in one call: where the drops are counted, one packet, so that
+// each packet that drops a block counts.
+fn step_of(is_verbose: bool) -> usize {
+    if is_verbose {
+        return PACKET;
+    }
+    PIECE
+}
+
+fn look(
+    setting: Setting,
+    is_verbose: bool,
+    sight: Sight,
+    piece: &mut [u8; PIECE],
+    n: usize,
+    pages: &mut [u16; PAGES],
+) -> Sight {
+    sight::look(setting, is_verbose, sight, piece, n, pages)
+}
+
 // Feeds the whole packets among the first n bytes of the piece.
 fn feed(
     setting: Setting,
+    step: usize,
     desk: Desk,
     piece: &[u8; PIECE],
     n: usize,
@@ -156,6 +210,7 @@ fn feed(
 ) -> Desk {
     feed_packets(
         setting,
+        step,
         desk,
         front(piece, n - n % PACKET),
         records,
@@ -164,28 +219,68 @@ fn feed(
     )
 }
 
-// Feeds packets, and lists the blocks that they finish. One call takes all packets of a piece, since the
-// room for records is enough for them.
+// Feeds packets, so many bytes of them in a call, and lists the blocks that they finish.
 fn feed_packets(
     setting: Setting,
+    step: usize,
     desk: Desk,
     packets: &[u8],
     records: &mut [u8],
     text: &mut [u8],
     form: &mut [u8],
 ) -> Desk {
-    let mut reader = desk.reader;
-    let mut tally = desk.tally;
+    let mut desk = desk;
     let mut at = 0;
     while at < packets.len() {
-        let fed = reader::feed_all(setting, reader, &packets[at..], records);
-        reader = fed.reader;
-        let heard = fed.heard;
-        let finished = front(records, written(heard));
-        tally = list_records(tally, setting.application, finished, text, form);
-        at = ahead(at, taken(heard), packets.len());
+        let end = ahead(at, step, packets.len());
+        let turn = feed_once(setting, desk, &packets[at..end], records, text, form);
+        desk = turn.desk;
+        at = ahead(at, turn.taken, packets.len());
     }
-    Desk { reader, tally }
+    desk
+}
+
+// One call of the reader. It takes all packets of a piece, since the room for records is enough for them.
+fn feed_once(
+    setting: Setting,
+    desk: Desk,
+    packets: &[u8],
+    records: &mut [u8],
+    text: &mut [u8],
+    form: &mut [u8],
+) -> Turn {
+    let reader = desk.reader;
+    let tally = desk.tally;
+    let fed = reader::feed_all(setting, reader, packets, records);
+    let reader = fed.reader;
+    let heard = fed.heard;
+    let finished = front(records, written(heard));
+    let tally = drop(tally, heard);
+    let tally = list_records(tally, setting.application, finished, text, form);
+    let desk = Desk { reader, tally };
+    Turn {
+        desk,
+        taken: taken(heard),
+    }
+}
+
+// Counts a call that told of a drop.
+fn drop(tally: Tally, heard: HeardAll) -> Tally {
+    let mut tally = tally;
+    match heard {
+        HeardAll::TookAll {
+            packets: _,
+            blocks: _,
+            written: _,
+            dropped,
+        } => {
+            if dropped {
+                tally.dropped = one_more(tally.dropped);
+            }
+            tally
+        }
+        HeardAll::RefusedAll(_) => tally,
+    }
 }
 
 // How many bytes of records were written.
@@ -290,21 +385,16 @@ fn accept(tally: Tally, more: usize, room: usize) -> Tally
     if room - tally.used < more {
         return refuse(tally);
     }
-    Tally {
-        accepted: one_more(tally.accepted),
-        refused: tally.refused,
-        used: tally.used + more,
-        sound: tally.sound,
-    }
+    let mut tally = tally;
+    tally.accepted = one_more(tally.accepted);
+    tally.used = tally.used + more;
+    tally
 }
 
 fn refuse(tally: Tally) -> Tally {
-    Tally {
-        accepted: tally.accepted,
-        refused: one_more(tally.refused),
-        used: tally.used,
-        sound: tally.sound,
-    }
+    let mut tally = tally;
+    tally.refused = one_more(tally.refused);
+    tally
 }
 
 fn one_more(count: u64) -> u64 {
@@ -328,25 +418,18 @@ fn make_room(tally: Tally, text: &[u8]) -> Tally
 fn flush(tally: Tally, text: &[u8]) -> Tally
     ensures { λ r. ⌜ r .used ≡ 0 ⌝ }
 {
-    Tally {
-        accepted: tally.accepted,
-        refused: tally.refused,
-        used: 0,
-        sound: write(tally.sound, front(text, tally.used)),
-    }
+    let mut tally = tally;
+    tally.sound = write(tally.sound, front(text, tally.used));
+    tally.used = 0;
+    tally
 }
 
-// Writes to standard output where that is sound, and answers whether it still is. The first failure is
-// told.
+// Writes to standard output where that is sound, and answers whether it still is.
 fn write(is_sound: bool, bytes: &[u8]) -> bool {
     if !is_sound {
         return false;
     }
-    let is_written = io::write_all(STDOUT_FILENO, bytes);
-    if !is_written {
-        os::fail(b"standard output");
-    }
-    is_written
+    says::put(bytes)
 }
 
 // Writes what is left of a list that a read ended.
@@ -355,17 +438,32 @@ fn end(tally: Tally, text: &[u8; TEXT]) -> bool {
     tally.sound
 }
 
-// Writes what is left of a list, and its last line.
-fn end_with(tally: Tally, text: &[u8; TEXT], short: usize) -> bool {
+// Writes what is left of a list, its last line, and the line of counts where that is asked for.
+fn end_with(
+    tally: Tally,
+    text: &[u8; TEXT],
+    counts: Counts,
+    is_verbose: bool,
+    short: usize,
+) -> bool {
     let tally = flush(tally, text);
     if !tally.sound {
         return false;
     }
-    io::write_all(STDOUT_FILENO, b"blocks=");
-    io::print_decimal(STDOUT_FILENO, tally.accepted);
-    io::write_all(STDOUT_FILENO, b" refused=");
-    io::print_decimal(STDOUT_FILENO, tally.refused);
-    io::write_all(STDOUT_FILENO, b" short=");
-    io::print_decimal(STDOUT_FILENO, short as u64);
-    write(true, b"\n")
+    if !says::put_last(tally.accepted, tally.refused, short as u64) {
+        return false;
+    }
+    if !is_verbose {
+        return true;
+    }
+    says::put_counts(
+        counts.packets,
+        counts.ours,
+        counts.unreadable,
+        tally.dropped,
+    )
+}
+
+fn tell(name: &[u8], setting: Setting, sight: Sight, pages: &[u16; PAGES], short: usize) {
+    sight::tell(name, setting, sight, pages, short > 0);
 }

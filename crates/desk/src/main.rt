@@ -2,7 +2,12 @@
 // each file that is named. Every capture gets a fresh reader and its own list (SCOPE 10.7, 13).
 //
 // Words that the program is called with are heard twice: first all are judged, then the files are listed.
+//
+// A line on standard error that tells of a failure begins `desk: `. Once standard output has failed, nothing more goes out: a list that
+// lacks something in its middle is what nobody could see.
 mod capture;
+mod says;
+mod sight;
 
 use libc::STDERR_FILENO;
 use libc::STDIN_FILENO;
@@ -20,11 +25,11 @@ struct Heard {
 fn main() {
     let words = hear_all();
     if wanted::is_good(words) {
-        list_all(words.setting);
+        list_all(words.setting, words.verbose);
     } else {
         io::write_all(
             STDERR_FILENO,
-            b"usage: desk [-m 1..8] [-p 00..FF] [-s 0..15] [-a 0..31] [--] [FILE ...]\n",
+            b"desk: usage: desk [-v] [-m 1..8] [-p 00..FF] [-s 0..15] [-a 0..31] [--] [FILE ...]\n",
         );
     }
 }
@@ -57,7 +62,7 @@ fn argument(i: usize, word: &mut [u8]) -> usize {
 }
 
 // Lists each file that is named, or standard input where none is.
-fn list_all(setting: Setting) {
+fn list_all(setting: Setting, is_verbose: bool) {
     let count = os::arg_count();
     let mut heard = Heard {
         words: wanted::start(),
@@ -66,16 +71,16 @@ fn list_all(setting: Setting) {
     };
     let mut i = 1;
     while i < count {
-        heard = visit(heard, i, setting);
+        heard = visit(heard, i, setting, is_verbose);
         i += 1;
     }
     if !heard.named {
-        capture::list(STDIN_FILENO, b"standard input", false, setting);
+        capture::list(STDIN_FILENO, b"standard input", false, setting, is_verbose);
     }
 }
 
 // Hears a word again, and lists the file where it is a name.
-fn visit(heard: Heard, i: usize, setting: Setting) -> Heard {
+fn visit(heard: Heard, i: usize, setting: Setting, is_verbose: bool) -> Heard {
     let mut word = io::buffer();
     let n = argument(i, &mut word);
     let words = wanted::next(heard.words, front(&word, n));
@@ -96,18 +101,19 @@ fn visit(heard: Heard, i: usize, setting: Setting) -> Heard {
     Heard {
         words,
         named: true,
-        sound: list_file(front(&word, n), setting),
+        sound: list_file(&mut word, n, setting, is_verbose),
     }
 }
 
-// Answers whether standard output took all.
-fn list_file(name: &[u8], setting: Setting) -> bool {
-    let fd = os::open_read(name);
+// Lists the file of a name, which is told with a `?` for each byte that isn't printed. Answers whether standard output took all.
+fn list_file(word: &mut [u8; 4096], n: usize, setting: Setting, is_verbose: bool) -> bool {
+    let fd = os::open_read(front(word, n));
+    wanted::plain(word);
     if fd < 0 {
-        os::fail(name);
+        says::tell(front(word, n));
         return true;
     }
-    let sound = capture::list(fd, name, true, setting);
+    let sound = capture::list(fd, front(word, n), true, setting, is_verbose);
     libc::close(fd);
     sound
 }

@@ -42,6 +42,7 @@ fn start() -> Words {
     let setting = words.setting;
     Words {
         setting,
+        verbose: false,
         stage: Stage::Names,
     }
 }
@@ -121,7 +122,7 @@ fn unpack_file(word: &mut [u8; 4096], n: usize, tally: Tally, seen: &mut [u8; 17
         return tally;
     }
     let fd = os::open_read(front(word, n));
-    plain(word);
+    wanted::plain(word);
     if fd < 0 {
         capture::tell(front(word, n));
         return tally;
@@ -129,26 +130,6 @@ fn unpack_file(word: &mut [u8; 4096], n: usize, tally: Tally, seen: &mut [u8; 17
     let tally = capture::unpack(fd, front(word, n), tally, seen);
     libc::close(fd);
     tally
-}
-
-// A name as it is told: it can't imitate a line.
-fn plain(name: &mut [u8]) {
-    let mut i = 0;
-    while i < name.len() {
-        name[i] = printed(name[i]);
-        i += 1;
-    }
-}
-
-// A byte that isn't printed is `?`.
-fn printed(b: u8) -> u8 {
-    if b < 0x20 {
-        return b'?';
-    }
-    if b == 0x7F {
-        return b'?';
-    }
-    b
 }
 
 // The first n bytes; nothing where there are fewer.

@@ -46,19 +46,19 @@ field-within s Stream n w l m =
 field-within s Application n w l m =
     record { from = w .from; magazine = w .magazine; page = w .page; stream = w .stream; application = m }
 
-set-within : (s : Setting) (f : Field) (n : ℕ) → Within s → Within (setBy s f n .setting)
-set-within s f n w = go (isIn f n) refl
+set-within : (s : Setting) (v : Bool) (f : Field) (n : ℕ) → Within s → Within (setBy s v f n .setting)
+set-within s v f n w = go (isIn f n) refl
   where
-    go : (t : Bool) → isIn f n ≡ t → Within (pick t (words (withField s f n) Options) (words s Bad) .setting)
+    go : (t : Bool) → isIn f n ≡ t → Within (pick t (words (withField s f n) v Options) (words s v Bad) .setting)
     go true h =
         let b = both-true (leb (leastOf f) n) (leb n (mostOf f)) h in
         field-within s f n w (leb-true _ _ (b .0)) (leb-true _ _ (b .1))
     go false h = w
 
 -- one more word, and the setting stays in range
-pub heard-within : (s : Setting) (t : Stage) (word : List ℕ) → Within s → Within (heard s t word .setting)
-heard-within s Options word w = w
-heard-within s (Value f) word w = set-within s f (valueOf f word) w
-heard-within s Names word w = w
-heard-within s AllNames word w = w
-heard-within s Bad word w = w
+pub heard-within : (s : Setting) (v : Bool) (t : Stage) (word : List ℕ) → Within s → Within (heard s v t word .setting)
+heard-within s v Options word w = w
+heard-within s v (Value f) word w = set-within s v f (valueOf f word) w
+heard-within s v Names word w = w
+heard-within s v AllNames word w = w
+heard-within s v Bad word w = w

@@ -1,4 +1,5 @@
--- The words of a command line: what may come next, whether it may end, and the value of an option.
+-- The words of a command line: what may come next, whether it may end, the value of an option, and a name as it is told.
 pub mod Words
 pub mod Stages
 pub mod Values
+pub mod Names

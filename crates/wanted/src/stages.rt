@@ -19,13 +19,14 @@ pub enum Stage {
     Bad,
 }
 
-// The setting that the words heard so far ask for, and what may come next.
+// The setting that the words heard so far ask for, whether they ask for a line of counts, and what may come next.
 pub struct Words {
     pub setting: Setting,
+    pub verbose: bool,
     pub stage: Stage,
 }
 
-// Nothing is heard yet: the desk's own setting (SCOPE 13.1).
+// Nothing is heard yet: the desk's own setting (SCOPE 13.1), and no line of counts.
 pub fn start() -> Words
     ensures { λ r. ⌜ r ≡ startWords ⌝ }
 {
@@ -37,6 +38,7 @@ pub fn start() -> Words
     };
     Words {
         setting,
+        verbose: false,
         stage: Stage::Options,
     }
 }

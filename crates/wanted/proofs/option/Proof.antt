@@ -27,9 +27,14 @@ returns-5 c = ap optionOf (sym (c .match .keys5))
 
 returns-6 : tie.Need-returns-6
 unfolding optionOf
-returns-6 c =
+returns-6 c = ap optionOf (sym (c .match .keys6))
+
+returns-7 : tie.Need-returns-7
+unfolding optionOf
+returns-7 c =
     let r = c .match .rest in
-    simp (ne-eqb _ _ (r .0 .0 .0 .0 .1), ne-eqb _ _ (r .0 .0 .0 .1), ne-eqb _ _ (r .0 .0 .1), ne-eqb _ _ (r .0 .1), ne-eqb _ _ (r .1))
+    simp (ne-eqb _ _ (r .0 .0 .0 .0 .0 .1), ne-eqb _ _ (r .0 .0 .0 .0 .1), ne-eqb _ _ (r .0 .0 .0 .1), ne-eqb _ _ (r .0 .0 .1), ne-eqb _ _ (r .0 .1), ne-eqb _ _ (r .1))
 
 pub option-spec : {M : Type 1} → statement M
-option-spec = tie.close (tie.spec returns returns-2 returns-3 returns-4 returns-5 returns-6)
+option-spec =
+    tie.close (tie.spec returns returns-2 returns-3 returns-4 returns-5 returns-6 returns-7)

@@ -7,42 +7,31 @@ use Rattle.desk.proofs.capture.feed_packets.Statement.{statement}
 use Rattle.desk.proofs.capture.feed_packets.Tie as tie
 
 abbrev Inv-loop : tie.InvT-loop
-Inv-loop setting packets records₀ text₀ form₀ reader₀ tally₀ at₀ records text form reader tally at =
-    (at ≤ length packets) × (length records ≡ length records₀) × (length text ≡ length text₀) × (length form ≡ length form₀)
+Inv-loop setting step packets records₀ text₀ form₀ desk₀ at₀ records text form desk at = (at ≤ length packets) × (length records ≡ length records₀) × (length text ≡ length text₀) × (length form ≡ length form₀)
 
 abbrev μ-loop : tie.MeasureT-loop
-μ-loop setting packets records₀ text₀ form₀ reader₀ tally₀ at₀ records text form reader tally at =
-    length packets - at
+μ-loop setting step packets records₀ text₀ form₀ desk₀ at₀ records text form desk at = length packets - at
 
 loop-holds : tie.Need-loop-holds Inv-loop μ-loop
 loop-holds c = search needs
 
-sub-feed-all : tie.Need-sub-feed-all Inv-loop μ-loop
-sub-feed-all c = search needs
-
-part-feed-all-start : tie.Need-part-feed-all-start Inv-loop μ-loop
-part-feed-all-start c = search needs
-
-part-feed-all-end : tie.Need-part-feed-all-end Inv-loop μ-loop
-part-feed-all-end c = search needs
-
-feed-all-requires : tie.Need-feed-all-requires Inv-loop μ-loop
-feed-all-requires c κs = search needs
-
-written-requires : tie.Need-written-requires Inv-loop μ-loop
-written-requires c κs = search needs
-
-front-requires : tie.Need-front-requires Inv-loop μ-loop
-front-requires c κs = search needs
-
-list-records-requires : tie.Need-list-records-requires Inv-loop μ-loop
-list-records-requires c κs = search needs
-
-taken-requires : tie.Need-taken-requires Inv-loop μ-loop
-taken-requires c κs = search needs
-
 ahead-requires : tie.Need-ahead-requires Inv-loop μ-loop
 ahead-requires c κs = search needs
+
+sub-feed-once : tie.Need-sub-feed-once Inv-loop μ-loop
+sub-feed-once c = search needs
+
+part-feed-once-start : tie.Need-part-feed-once-start Inv-loop μ-loop
+part-feed-once-start c = search needs
+
+part-feed-once-end : tie.Need-part-feed-once-end Inv-loop μ-loop
+part-feed-once-end c = search needs
+
+feed-once-requires : tie.Need-feed-once-requires Inv-loop μ-loop
+feed-once-requires c κs = search needs
+
+ahead-requires-2 : tie.Need-ahead-requires-2 Inv-loop μ-loop
+ahead-requires-2 c κs = search needs
 
 loop-less : tie.Need-loop-less Inv-loop μ-loop
 loop-less c = search needs
@@ -69,15 +58,12 @@ feed-packets-spec =
     Inv-loop
     μ-loop
     loop-holds
-    sub-feed-all
-    part-feed-all-start
-    part-feed-all-end
-    feed-all-requires
-    written-requires
-    front-requires
-    list-records-requires
-    taken-requires
     ahead-requires
+    sub-feed-once
+    part-feed-once-start
+    part-feed-once-end
+    feed-once-requires
+    ahead-requires-2
     loop-less
     loop-again
     same-length

@@ -1,17 +1,21 @@
 -- `desk::capture::list` is safe and ends. The measure is the number of turns that are left; nothing has to hold from turn to turn.
 -- Assumes nothing.
 use borrow.Author.Needs.{needs}
+use native.Mathlib.Omega.{arith}
 use Rattle.desk.proofs.capture.list.Statement.{statement}
 use Rattle.desk.proofs.capture.list.Tie as tie
 
 abbrev Inv-loop : tie.InvT-loop
-Inv-loop fd name is-titled setting piece₀ records₀ text₀ form₀ desk₀ is-due₀ turns₀ piece records text form desk is-due turns = Unit {0}
+Inv-loop fd name is-titled setting is-verbose piece₀ records₀ text₀ form₀ pages₀ desk₀ sight₀ is-due₀ turns₀ piece records text form pages desk sight is-due turns = Unit {0}
 
 abbrev μ-loop : tie.MeasureT-loop
-μ-loop fd name is-titled setting piece₀ records₀ text₀ form₀ desk₀ is-due₀ turns₀ piece records text form desk is-due turns = turns
+μ-loop fd name is-titled setting is-verbose piece₀ records₀ text₀ form₀ pages₀ desk₀ sight₀ is-due₀ turns₀ piece records text form pages desk sight is-due turns = turns
 
 fresh-requires : tie.Need-fresh-requires Inv-loop μ-loop
 fresh-requires c κs = search needs
+
+none-requires : tie.Need-none-requires Inv-loop μ-loop
+none-requires c κs = search needs
 
 loop-holds : tie.Need-loop-holds Inv-loop μ-loop
 loop-holds c = search needs
@@ -28,8 +32,8 @@ enum-known-got c = search needs
 enum-told : tie.Need-enum-told Inv-loop μ-loop
 enum-told c = search needs
 
-fail-requires : tie.Need-fail-requires Inv-loop μ-loop
-fail-requires c κs = search needs
+tell-requires : tie.Need-tell-requires Inv-loop μ-loop
+tell-requires c κs = search needs
 
 end-requires : tie.Need-end-requires Inv-loop μ-loop
 end-requires c κs = search needs
@@ -40,26 +44,43 @@ returns c = search needs
 title-requires : tie.Need-title-requires Inv-loop μ-loop
 title-requires c κs = search needs
 
-feed-requires : tie.Need-feed-requires Inv-loop μ-loop
-feed-requires c κs = search needs
-
 returns-2 : tie.Need-returns-2 Inv-loop μ-loop
 returns-2 c = search needs
 
-end-with-requires : tie.Need-end-with-requires Inv-loop μ-loop
-end-with-requires c κs = search needs
+step-of-requires : tie.Need-step-of-requires Inv-loop μ-loop
+step-of-requires c κs = search needs
+
+feed-requires : tie.Need-feed-requires Inv-loop μ-loop
+feed-requires c κs = search needs
 
 returns-3 : tie.Need-returns-3 Inv-loop μ-loop
 returns-3 c = search needs
 
+look-requires : tie.Need-look-requires Inv-loop μ-loop
+look-requires c κs = search needs
+
+end-with-requires : tie.Need-end-with-requires Inv-loop μ-loop
+end-with-requires c κs = search needs
+
+returns-4 : tie.Need-returns-4 Inv-loop μ-loop
+returns-4 c = search needs
+
+tell-requires-2 : tie.Need-tell-requires-2 Inv-loop μ-loop
+tell-requires-2 c κs = search needs
+
+returns-5 : tie.Need-returns-5 Inv-loop μ-loop
+returns-5 c = search needs
+
 loop-less : tie.Need-loop-less Inv-loop μ-loop
-loop-less c = search needs
+loop-less c =
+    let l = c .before .before .before .before .before .before .before .before .before .before .before .before .before .before .before .before .before .before .before in
+    omega (arith, l .loop-test .taken)
 
 loop-again : tie.Need-loop-again Inv-loop μ-loop
 loop-again c = search needs
 
-returns-4 : tie.Need-returns-4 Inv-loop μ-loop
-returns-4 c = search needs
+returns-6 : tie.Need-returns-6 Inv-loop μ-loop
+returns-6 c = search needs
 
 pub list-spec : {M : Type 1} → statement M
 list-spec =
@@ -68,19 +89,25 @@ list-spec =
     Inv-loop
     μ-loop
     fresh-requires
+    none-requires
     loop-holds
     sub-turns
     fill-requires
     enum-known-got
     enum-told
-    fail-requires
+    tell-requires
     end-requires
     returns
     title-requires
-    feed-requires
     returns-2
-    end-with-requires
+    step-of-requires
+    feed-requires
     returns-3
+    look-requires
+    end-with-requires
+    returns-4
+    tell-requires-2
+    returns-5
     loop-less
     loop-again
-    returns-4)
+    returns-6)

@@ -1,6 +1,6 @@
 #!/usr/bin/env python3
-"""A pipe that fills up and doesn't wait: tests/unpes/full.py INPUT EXPECTED PAUSE COMMAND..
-Runs the command on INPUT with such a pipe as standard output, and reads it slowly, from so many seconds later on.
+"""A pipe that fills up and doesn't wait: tests/full.py INPUT EXPECTED PAUSE tests/start NAME..
+Runs the program on INPUT with such a pipe as standard output, and reads it slowly, from so many seconds later on.
 What comes is the first part of EXPECTED, less than all, and the failure is the only thing told."""
 
 import fcntl
@@ -28,5 +28,5 @@ if not whole.startswith(came):
     sys.exit("what came isn't the first part of what was to come")
 if len(came) == len(whole):
     sys.exit("the pipe never filled up")
-if said != "unpes: standard output: Resource temporarily unavailable\n":
+if said != f"{command[1]}: standard output: Resource temporarily unavailable\n":
     sys.exit(f"said: {said!r}")

@@ -1,0 +1,4 @@
+-- Laws that several proofs cite.
+pub mod Fitting
+pub mod Noting
+pub mod Telling

@@ -1,0 +1,70 @@
+-- What a verdict of the reader's rules tells of a packet. Assumes nothing.
+use mathlib.Core.Path.{_≡_, _∙_, refl, sym}
+use mathlib.Core.Bool.{Bool, true, false, not}
+use mathlib.Core.List.{List}
+use Prim.Native.Nat.{ℕ}
+use native.Mathlib.Nat.{le-refl}
+use native.Mathlib.Omega.{arith}
+use lib.Dec.{eqb, leb}
+use lib.ListN.{length}
+use borrow.Author.Tests.{le-ltb, ne-eqb, eqb-true, eqb-false}
+use Rattle.laws.specs.Pick.{pick}
+use Rattle.packet.specs.declared.Setting.{Setting}
+use Rattle.packet.specs.Packet.{packetLength}
+use Rattle.packet.specs.Address.{addressOf}
+use Rattle.pages.specs.declared.headers.Page.the-variants.{Shut, Open}
+use Rattle.pages.specs.Headers.{Seen, junk, other, foreign, ours, packetY}
+use Rattle.pages.specs.Judging.{wrongY}
+use Rattle.pages.specs.Seen.{see, seenAs}
+use Rattle.pages.proofs.Judged.{Shaped, shaped, as-seen, as-short}
+use Rattle.survey.specs.declared.Counts.{Counts}
+use Rattle.survey.specs.Counting.{seenIn, more, counted}
+use Rattle.survey.specs.Fitting.{isOurs}
+use Rattle.survey.specs.Internal.{noIndex, asked, rowsOf, heeded, heededAt}
+
+module _ (s : Setting) (p : List ℕ) where
+  -- with its own address a packet is what it is
+  pub seen-in : {x : ℕ} → x ≡ addressOf p → seenAs s x p ≡ seenIn s p
+  unfolding seenIn
+  seen-in {x} e = go (eqb (length p) packetLength) refl
+    where
+      go : (t : Bool) → eqb (length p) packetLength ≡ t → seenAs s x p ≡ pick t (see s p) junk
+      go true h = as-seen s p (eqb-true _ _ h) e
+      go false h = as-short s p x (eqb-false _ _ h)
+
+  pub shaped-in : Shaped p (seenIn s p)
+  unfolding seenIn
+  shaped-in = go (eqb (length p) packetLength)
+    where
+      go : (t : Bool) → Shaped p (pick t (see s p) junk)
+      go true = shaped s p
+      go false = tt
+
+-- a packet 0 of our page came, and packets up to r are read after it
+abbrev opened : Counts → ℕ → Counts
+opened c r = record { packets = more (c .packets); ours = more (c .ours); unreadable = c .unreadable; came = true; rows = r }
+
+module _ (p : List ℕ) where
+  -- to heed the verdict is to count the packet
+  pub heeds : (c : Counts) (x : Seen) → Shaped p x → heeded c (asked (c .rows) x) ≡ counted c x
+  heeds c junk h = refl
+  heeds c other h = refl
+  heeds c foreign h = rw (le-ltb (c .rows) (c .rows) (le-refl (c .rows)))
+  heeds c (ours i n) h = let far : i ≡ noIndex → ⊥ = λ e. omega (arith, h) in rw (ne-eqb i noIndex far) (go (leb n 25))
+    where
+      go : (t : Bool) → opened c (rowsOf (pick t (Open n 0) Shut)) ≡ opened c (pick t n 0)
+      go true = refl
+      go false = refl
+  heeds c (packetY y q l) h = go (wrongY (c .rows) (c .rows) y) (leb y (c .rows))
+    where
+      go : (d t : Bool) → heededAt c d t (pick t (Open (c .rows) y) (Open (c .rows) (c .rows))) ≡ heededAt c d t (Open (c .rows) y)
+      go d true = refl
+      go d false = refl
+
+  -- only a packet 0 of our page and stream has an index
+  pub index-tells : (rows : ℕ) (x : Seen) → Shaped p x → not (eqb (asked rows x .index) noIndex) ≡ isOurs x
+  index-tells rows junk h = refl
+  index-tells rows other h = refl
+  index-tells rows foreign h = refl
+  index-tells rows (ours i n) h = let far : i ≡ noIndex → ⊥ = λ e. omega (arith, h) in rw (ne-eqb i noIndex far)
+  index-tells rows (packetY y q l) h = refl

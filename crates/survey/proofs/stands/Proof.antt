@@ -1,0 +1,41 @@
+-- `survey::stands` meets its contract: there are 42 bytes, and the verdict on them has an index. Assumes nothing.
+use mathlib.Core.Path.{_∙_, ap}
+use mathlib.Core.Bool.{not}
+use lib.Dec.{eqb}
+use lib.ListN.{take}
+use denote.Ref.{now}
+use Rattle.pages.specs.declared.headers.Verdict.{Verdict}
+use Rattle.survey.specs.Counting.{seenIn}
+use Rattle.survey.specs.Fitting.{fits}
+use Rattle.survey.specs.Internal.{noIndex}
+use Rattle.survey.proofs.Fitting.{fits-short}
+use Rattle.survey.proofs.Telling.{shaped-in, index-tells}
+use borrow.Author.Needs.{needs}
+use Rattle.survey.proofs.stands.Statement.{statement}
+use Rattle.survey.proofs.stands.Tie as tie
+
+returns : tie.Need-returns
+returns c = fits-short _ _ (c .if1 .taken)
+
+sub-ask : tie.Need-sub-ask
+sub-ask c = search needs
+
+part-ask-start : tie.Need-part-ask-start
+part-ask-start c = search needs
+
+part-ask-end : tie.Need-part-ask-end
+part-ask-end c = search needs
+
+ask-requires : tie.Need-ask-requires
+ask-requires c κs = search needs
+
+returns-2 : tie.Need-returns-2
+unfolding fits
+returns-2 c =
+    let a = c .before .before .before .before .before .args in
+    let p = take 42 (now (a .bytes)) in
+    ap (λ (v : Verdict). not (eqb (v .index) noIndex)) (c .before .ask .ensures) ∙ index-tells p 0 (seenIn (a .setting) p) (shaped-in (a .setting) p)
+
+pub stands-spec : {M : Type 1} → statement M
+stands-spec =
+    tie.close (tie.spec returns sub-ask part-ask-start part-ask-end ask-requires returns-2)

@@ -1,0 +1,35 @@
+-- Where the bytes of a capture would fit (SCOPE 13.9).
+use mathlib.Core.Bool.{Bool, true, false}
+use mathlib.Core.List.{List, [], _∷_}
+use Prim.Native.Nat.{ℕ, suc}
+use lib.Dec.{eqb, leb}
+use lib.ListN.{length, getD, take}
+use Rattle.laws.specs.Pick.{pick, both}
+use Rattle.packet.specs.declared.Setting.{Setting}
+use Rattle.packet.specs.Packet.{packetLength}
+use Rattle.pages.specs.Headers.{Seen, junk, other, foreign, ours, packetY}
+use Rattle.survey.specs.Counting.{seenIn}
+use Rattle.survey.specs.declared.Place.{Place}
+
+-- a packet 0 of our page and stream
+abbrev pub isOurs : Seen → Bool
+isOurs junk = false
+isOurs other = false
+isOurs foreign = false
+isOurs (ours i n) = true
+isOurs (packetY y p l) = false
+
+-- one stands at the front of the bytes
+unfoldable pub fits : Setting → List ℕ → Bool
+fits s l = isOurs (seenIn s (take packetLength l))
+
+-- the first place where one stands, of bytes whose first stands at the place `at`
+unfoldable pub firstIn : Setting → List ℕ → ℕ → Place
+firstIn s [] at = Place.Nowhere
+firstIn s (b ∷ bs) at = pick (fits s (b ∷ bs)) (Place.At at) (firstIn s bs (suc at))
+
+-- bytes begin as a PES packet does: 00 00 01 BD
+unfoldable pub beginsPes : List ℕ → Bool
+beginsPes l =
+    both (leb 4 (length l))
+    (both (eqb (getD l 0 0) 0x00) (both (eqb (getD l 1 0) 0x00) (both (eqb (getD l 2 0) 0x01) (eqb (getD l 3 0) 0xBD))))
