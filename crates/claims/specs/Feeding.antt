@@ -10,28 +10,10 @@ use Rattle.laws.specs.Pick.{either}
 use Rattle.blocks.specs.Block.{Block, blocks, recordsOf}
 use Rattle.packet.specs.declared.Setting.{Setting}
 use Rattle.state.specs.declared.Reader.{Reader}
-use Rattle.reader.specs.declared.Heard.{Heard}
-use Rattle.reader.specs.declared.Heard.the-variants.{Took, Refused}
-use Rattle.reader.specs.declared.many.HeardAll.{HeardAll}
-use Rattle.reader.specs.declared.many.HeardAll.the-variants.{TookAll, RefusedAll}
 use Rattle.walk.specs.Reading.{room}
+pub use Rattle.reader.specs.Values.{numberOf, countOf, writtenOf, droppedOf, numberOfAll, packetsOfAll, writtenOfAll}
 use Rattle.reader.specs.Feeding.{feedHeard, feedReader, feedOut}
 use Rattle.reader.specs.Many.{feedAllHeard, feedAllReader, feedAllOut}
-
--- how many bytes an answer reports as written
-abbrev pub writtenOf : Heard → ℕ
-writtenOf (Took blocks written dropped) = written
-writtenOf (Refused r) = 0
-
--- its number: 0 is accepted
-abbrev pub numberOf : Heard → ℕ
-numberOf (Took blocks written dropped) = 0
-numberOf (Refused r) = r .no
-
--- how many blocks it reports
-abbrev pub countOf : Heard → ℕ
-countOf (Took blocks written dropped) = blocks
-countOf (Refused r) = 0
 
 -- a call: the packet, and the output lent to it, with room
 pub record Call : Type 0 where
@@ -52,24 +34,6 @@ comesOut s r (c ∷ cs) =
     ++ comesOut s (feedReader s r (c .packet) (c .lent)) cs
 
 -- ---- a list of packets in one call
-
--- the number of an answer for a list, how many packets it says were taken, and how many bytes it reports as written
-abbrev pub numberOfAll : HeardAll → ℕ
-numberOfAll (TookAll packets blocks written dropped) = 0
-numberOfAll (RefusedAll r) = r .no
-
-abbrev pub packetsOfAll : HeardAll → ℕ
-packetsOfAll (TookAll packets blocks written dropped) = packets
-packetsOfAll (RefusedAll r) = 0
-
-abbrev pub writtenOfAll : HeardAll → ℕ
-writtenOfAll (TookAll packets blocks written dropped) = written
-writtenOfAll (RefusedAll r) = 0
-
--- whether an answer says that a block was dropped
-abbrev pub droppedOf : Heard → Bool
-droppedOf (Took blocks written dropped) = dropped
-droppedOf (Refused r) = false
 
 -- the reader that the calls leave
 unfoldable pub leaves : Setting → Reader → List Call → Reader

@@ -1,4 +1,5 @@
 -- The reader's calls, for one packet and for a list of them: SCOPE 8 to 10. The state and what a packet does to it stand in `state`.
+pub mod Values
 pub mod Feeding
 pub mod Many
 pub mod Internal
