@@ -23,7 +23,7 @@ use Rattle.symbols.specs.Stream.{symbols, cellsOf, streamOf, grab, beforeStart}
 use Rattle.writer.specs.Cutting.{dataPackets, pages, packets}
 use Rattle.pages.specs.Headers.{seeZero}
 use Rattle.pages.specs.Seen.{see, seeY, seenAs}
-use Rattle.walk.specs.Mode.{carry, continues, emitted, ends, gives, spoiled, spoils, step}
+use Rattle.walk.specs.Mode.{goesOn, continues, emitted, ends, gives, spoiled, spoils, step}
 use Rattle.state.specs.Acting.{act, handed}
 use Rattle.sums.specs.Sums.{total, checksum, sound}
 use Rattle.sums.specs.Block.{nibbles, nibblesOf, checksumOf, recordWith}
@@ -156,7 +156,7 @@ unfolding
     seeY
     seenAs
     seeZero
-    carry
+    goesOn
     continues
     emitted
     ends

@@ -14,7 +14,7 @@ use Rattle.octet.specs.Decoding.{nib}
 use Rattle.octet.proofs.Laws.{nib-image}
 use Rattle.blocks.specs.Block.{Block}
 use Rattle.symbols.specs.Stream.{Symbol, start, fill, bits, raw, byteOf, beforeStart}
-use Rattle.walk.specs.Mode.{Mode, off, scan, heading, body, full, step, emitted, ends, gives, behind, carry, continues, finished, unfinished}
+use Rattle.walk.specs.Mode.{Mode, off, scan, heading, body, full, step, emitted, ends, gives, behind, goesOn, continues, finished, unfinished}
 use Rattle.claims.specs.Noise.{Hears, Near, none, more, over}
 use Rattle.claims.proofs.Losing.{near-snoc, lost-all}
 use Rattle.claims.proofs.Walking.{Fit, skips, opens, nibble, byte, Plain, sentEnds, sentGives, nib-sent, known, full-near, Blocks, same-block}
@@ -56,14 +56,14 @@ module _ (R : ℕ → ℕ → Type 0) (L : Type 0) (hears : Hears R L) (pointed 
 
   wait-fill :
       (h c : ℕ) {l m : List ℕ} → Near R l m → full h l ≡ true → R (image 3) c
-      → Carried R L (step scan (image 3)) (record { head = h; raw = l } ∷ emitted scan (image 3)) (carry pointed (body h m) c)
-  unfolding step emitted carry
+      → Carried R L (step scan (image 3)) (record { head = h; raw = l } ∷ emitted scan (image 3)) (goesOn pointed (body h m) c)
+  unfolding step emitted goesOn
   wait-fill h c n e f = rw (nib-image 3, full-near h n, e) (behind-fill h c n e f pointed)
 
   head-nibble :
       (g v n c : ℕ) → n < 16 → R (image n) c
-      → Carried R L (step (heading g v) (image n)) (emitted (heading g v) (image n)) (carry pointed (heading g v) c)
-  unfolding step emitted carry
+      → Carried R L (step (heading g v) (image n)) (emitted (heading g v) (image n)) (goesOn pointed (heading g v) c)
+  unfolding step emitted goesOn
   head-nibble g v n c h f =
       ⊎-elim (λ (e : nib c ≡ n). rw (nib-sent n h, e, known n h) (on (v / 16 + n * 4096) (ltb g 3) (full (v / 16 + n * 4096) []) refl)) (λ w. rw (w .0) (gone (w .1)))
       (hears n c h f)
@@ -80,8 +80,8 @@ module _ (R : ℕ → ℕ → Type 0) (L : Type 0) (hears : Hears R L) (pointed 
 
   body-byte :
       (h b c : ℕ) {l m : List ℕ} → R b c → Near R l m → full h l ≡ false
-      → Carried R L (step (body h l) b) (emitted (body h l) b) (carry pointed (body h m) c)
-  unfolding step emitted carry
+      → Carried R L (step (body h l) b) (emitted (body h l) b) (goesOn pointed (body h m) c)
+  unfolding step emitted goesOn
   body-byte h b c {l} {m} f n e = rw (full-near h n, e) (go (full h (l ++ b ∷ [])) refl)
     where
       go :
@@ -93,18 +93,18 @@ module _ (R : ℕ → ℕ → Type 0) (L : Type 0) (hears : Hears R L) (pointed 
       go true q = waits (near-snoc b c n f) q
       go false q = bodies (near-snoc b c n f) q
 
-  idle-fill : (c : ℕ) → Carried R L (step scan (image 3)) (emitted scan (image 3)) (carry pointed off c)
-  unfolding step emitted carry
+  idle-fill : (c : ℕ) → Carried R L (step scan (image 3)) (emitted scan (image 3)) (goesOn pointed off c)
+  unfolding step emitted goesOn
   idle-fill c = rw (nib-image 3) idle
 
-  gone-on : (m : Mode) (a : List Block) (c : ℕ) → L → Carried R L m a (carry pointed off c)
-  unfolding carry
+  gone-on : (m : Mode) (a : List Block) (c : ℕ) → L → Carried R L m a (goesOn pointed off c)
+  unfolding goesOn
   gone-on m a c x = gone x
 
   -- one byte that is no start; `a` is what the walk has given before
   carry-follows :
       {m k : Mode} {a : List Block} {s : Symbol} (c : ℕ) → Fit m s → (s ≡ start → ⊥) → R (byteOf s) c → Carried R L m a k
-      → Carried R L (step m (byteOf s)) (a ++ emitted m (byteOf s)) (carry pointed k c)
+      → Carried R L (step m (byteOf s)) (a ++ emitted m (byteOf s)) (goesOn pointed k c)
   carry-follows c skips z f idle = idle-fill c
   carry-follows c skips z f (waits {h} n e) = wait-fill h c n e f
   carry-follows c skips z f (gone x) = gone-on _ _ c x

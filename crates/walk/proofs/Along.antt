@@ -13,7 +13,7 @@ use Rattle.laws.specs.Pick.{pick}
 use Rattle.octet.specs.Decoding.{nib, undecodable}
 use Rattle.octet.proofs.Laws.{nib-le}
 use Rattle.blocks.specs.Block.{sizeOf}
-use Rattle.walk.specs.Mode.{Mode, off, scan, heading, body, shifted, full, headed, step, ends, behind, carriedHead, carry, continues, unfinished}
+use Rattle.walk.specs.Mode.{Mode, off, scan, heading, body, shifted, full, headed, step, ends, behind, nextHead, goesOn, continues, unfinished}
 use Rattle.walk.specs.Reading.{dropIf, pointed, readMode}
 use Rattle.walk.specs.Internal.{Bits, Good}
 
@@ -69,7 +69,7 @@ unfolding ends
 ends-along m [] r = r
 ends-along m (b ∷ l) r = ends-along (step m b) l (step-along m b r)
 
-continued-along : (g v b : ℕ) → Bits g v → (t : Bool) → eqb (nib b) undecodable ≡ t → Along (pick t off (carriedHead g (shifted v b)))
+continued-along : (g v b : ℕ) → Bits g v → (t : Bool) → eqb (nib b) undecodable ≡ t → Along (pick t off (nextHead g (shifted v b)))
 continued-along g v b r true e = tt
 continued-along g v b r false e = go (ltb g 3) refl
   where
@@ -92,17 +92,17 @@ waiting-along false h b held r true e = r
 waiting-along pointed h b held r false e =
     let f = leb-false (sizeOf h) (length held) e in (r .0, rw length-append (omega arith))
 
-carry-along : (pointed : Bool) (m : Mode) (b : ℕ) → Along m → Along (carry pointed m b)
-unfolding carry
-carry-along pointed off b r = tt
-carry-along pointed scan b r = tt
-carry-along pointed (heading g v) b r = continued-along g v b r (eqb (nib b) undecodable) refl
-carry-along pointed (body h held) b r = waiting-along pointed h b held r (full h held) refl
+goes-on-along : (pointed : Bool) (m : Mode) (b : ℕ) → Along m → Along (goesOn pointed m b)
+unfolding goesOn
+goes-on-along pointed off b r = tt
+goes-on-along pointed scan b r = tt
+goes-on-along pointed (heading g v) b r = continued-along g v b r (eqb (nib b) undecodable) refl
+goes-on-along pointed (body h held) b r = waiting-along pointed h b held r (full h held) refl
 
 pub continues-along : (pointed : Bool) (m : Mode) (l : List ℕ) → Along m → Along (continues pointed m l)
 unfolding continues
 continues-along pointed m [] r = r
-continues-along pointed m (b ∷ l) r = continues-along pointed (carry pointed m b) l (carry-along pointed m b r)
+continues-along pointed m (b ∷ l) r = continues-along pointed (goesOn pointed m b) l (goes-on-along pointed m b r)
 
 -- ---- between packets
 

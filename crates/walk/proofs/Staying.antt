@@ -9,25 +9,25 @@ use lib.ListN.{length}
 use borrow.Author.Tests.{le-leb}
 use Rattle.laws.specs.Pick.{pick}
 use Rattle.blocks.specs.Block.{sizeOf}
-use Rattle.walk.specs.Mode.{off, body, filler, carry, continues}
+use Rattle.walk.specs.Mode.{off, body, filler, goesOn, continues}
 use Rattle.walk.specs.Places.{fillers}
 
 -- nothing runs again before the pointed byte
 pub continues-off : (p : Bool) (l : List ℕ) → continues p off l ≡ off
-unfolding continues carry
+unfolding continues goesOn
 continues-off p [] = refl
 continues-off p (b ∷ bs) = continues-off p bs
 
 -- a block that is held whole stays where no start is pointed at
 pub stays : (h : ℕ) (held l : List ℕ) → sizeOf h ≤ length held → continues false (body h held) l ≡ body h held
-unfolding continues carry
+unfolding continues goesOn
 stays h held [] e = refl
 stays h held (b ∷ bs) e = rw (le-leb _ _ e) (stays h held bs e)
 
 -- where a start is pointed at it stays over filler alone
 pub waits :
     (h : ℕ) (held l : List ℕ) → sizeOf h ≤ length held → length l ≤ fillers l → continues true (body h held) l ≡ body h held
-unfolding continues carry fillers
+unfolding continues goesOn fillers
 waits h held [] e k = refl
 waits h held (b ∷ bs) e k = rw (le-leb _ _ e) (go (filler b) (waits h held bs e) k)
   where
@@ -39,7 +39,7 @@ waits h held (b ∷ bs) e k = rw (le-leb _ _ e) (go (filler b) (waits h held bs 
 
 pub breaks-off :
     (h : ℕ) (held l : List ℕ) → sizeOf h ≤ length held → fillers l < length l → continues true (body h held) l ≡ off
-unfolding continues carry fillers
+unfolding continues goesOn fillers
 breaks-off h held [] e k = absurd (omega arith)
 breaks-off h held (b ∷ bs) e k = rw (le-leb _ _ e) (go (filler b) (breaks-off h held bs e) k)
   where

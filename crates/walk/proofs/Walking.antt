@@ -13,7 +13,7 @@ use Rattle.laws.specs.Pick.{pick, either}
 use Rattle.laws.proofs.Picks.{agree}
 use Rattle.octet.specs.Decoding.{nib, undecodable}
 use Rattle.blocks.specs.Block.{Block, sizeOf}
-use Rattle.walk.specs.Mode.{Mode, off, scan, heading, body, filler, shifted, full, headed, step, emitted, spoiled, ends, gives, spoils, carry, continues, unfinished}
+use Rattle.walk.specs.Mode.{Mode, off, scan, heading, body, filler, shifted, full, headed, step, emitted, spoiled, ends, gives, spoils, goesOn, continues, unfinished}
 use Rattle.walk.specs.Places.{StartAhead, nothing, broken, cut, whole, heads, found}
 use Rattle.walk.proofs.Staying.{continues-off}
 
@@ -218,7 +218,7 @@ continued-by p (whole h l) = continues p (body h []) l
 
 pub heads-continued :
     (p : Bool) (k v : ℕ) (l : List ℕ) → k ≤ 3 → continues p (heading (3 - k) v) l ≡ continued-by p (heads (suc k) v l)
-unfolding continues carry heads
+unfolding continues goesOn heads
 heads-continued p k v [] h = refl
 heads-continued p zero v (b ∷ bs) h =
     agree (λ m. continues p m bs) (continued-by p) (eqb (nib b) undecodable) (continues-off p bs) refl
@@ -232,7 +232,7 @@ heads-continued p (suc k) v (b ∷ bs) h =
 pub chunk-continued :
     (p : Bool) (n h : ℕ) (held l : List ℕ) → length held + n ≤ sizeOf h → n ≤ length l
     → continues p (body h held) l ≡ continues p (body h (held ++ take n l)) (drop n l)
-unfolding continues carry
+unfolding continues goesOn
 chunk-continued p zero h held l e k = rw append-nil
 chunk-continued p (suc n) h held [] e k = absurd (omega arith)
 chunk-continued p (suc n) h held (b ∷ bs) e k =

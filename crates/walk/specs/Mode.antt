@@ -88,18 +88,18 @@ abbrev pub behind : Bool → ℕ → List ℕ → ℕ → Mode
 behind true h held b = pick (filler b) (body h held) off
 behind false h held b = body h held
 
-abbrev pub carriedHead : ℕ → ℕ → Mode
-carriedHead g v = pick (ltb g 3) (heading (suc g) v) (body v [])
+abbrev pub nextHead : ℕ → ℕ → Mode
+nextHead g v = pick (ltb g 3) (heading (suc g) v) (body v [])
 
-unfoldable pub carry : Bool → Mode → ℕ → Mode
-carry pointed off b = off
-carry pointed scan b = off
-carry pointed (heading g v) b = pick (eqb (nib b) undecodable) off (carriedHead g (shifted v b))
-carry pointed (body h held) b = pick (full h held) (behind pointed h held b) (body h (held ++ b ∷ []))
+unfoldable pub goesOn : Bool → Mode → ℕ → Mode
+goesOn pointed off b = off
+goesOn pointed scan b = off
+goesOn pointed (heading g v) b = pick (eqb (nib b) undecodable) off (nextHead g (shifted v b))
+goesOn pointed (body h held) b = pick (full h held) (behind pointed h held b) (body h (held ++ b ∷ []))
 
 unfoldable pub continues : Bool → Mode → List ℕ → Mode
 continues pointed m [] = m
-continues pointed m (b ∷ bs) = continues pointed (carry pointed m b) bs
+continues pointed m (b ∷ bs) = continues pointed (goesOn pointed m b) bs
 
 -- a block is held whole
 abbrev pub isFull : Mode → Bool
