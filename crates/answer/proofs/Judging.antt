@@ -14,7 +14,7 @@ use Rattle.answer.specs.declared.Answer.{Answer}
 use Rattle.answer.specs.declared.Answer.the-variants.{Done}
 use Rattle.answer.specs.Values.{numberOf, offsetOf, writtenOf, refused}
 use Rattle.answer.specs.Writing.{room, answered, after, left}
-use Rattle.answer.specs.Rules.{Rule, judged, refusing, numbered, Every, none, more, First, here, later}
+use Rattle.answer.specs.Rules.{Rule, judged, refusing, allRefusing, Every, none, more, First, here, later}
 
 pub passes {ℓ} : {A : Type ℓ} (f : ℕ → ℕ → A) {rs : List Rule} (a : A) → Every rs → judged f rs a ≡ a
 passes f a none = refl
@@ -53,17 +53,17 @@ first-after (more h d) f = later h (first-after d f)
 -- ---- by the number and the values that an answer stands for
 
 -- the first that doesn't hold has the number of a refusal
-first-number : {q : Rule} {rs : List Rule} → numbered rs ≡ true → First q rs → 1 ≤ q .number
-unfolding numbered
+first-number : {q : Rule} {rs : List Rule} → allRefusing rs ≡ true → First q rs → 1 ≤ q .number
+unfolding allRefusing
 first-number {q} n (here h) = leb-true 1 (q .number) (both-first (leb 1 (q .number)) (leb (q .number) 16) (both-first (refusing (q .number)) _ n))
 first-number n (later {r} h f) = first-number (both-second (refusing (r .number)) _ n) f
 
-pub numbered-append : (rs qs : List Rule) → numbered rs ≡ true → numbered qs ≡ true → numbered (rs ++ qs) ≡ true
-unfolding numbered
-numbered-append [] qs a b = b
-numbered-append (r ∷ rs) qs a b =
-    let p = both-true (refusing (r .number)) (numbered rs) a in
-    both-holds (refusing (r .number)) _ (p .0) (numbered-append rs qs (p .1) b)
+pub refusing-append : (rs qs : List Rule) → allRefusing rs ≡ true → allRefusing qs ≡ true → allRefusing (rs ++ qs) ≡ true
+unfolding allRefusing
+refusing-append [] qs a b = b
+refusing-append (r ∷ rs) qs a b =
+    let p = both-true (refusing (r .number)) (allRefusing rs) a in
+    both-holds (refusing (r .number)) _ (p .0) (refusing-append rs qs (p .1) b)
 
 module _ (rules : List Rule) (bytes old : List ℕ) where
   abbrev all-rules : List Rule
@@ -72,13 +72,13 @@ module _ (rules : List Rule) (bytes old : List ℕ) where
   abbrev answer : Answer
   answer = answered rules bytes old
 
-  all-numbered : numbered rules ≡ true → numbered all-rules ≡ true
-  unfolding numbered
-  all-numbered n = numbered-append rules (room bytes old ∷ []) n refl
+  all-refuse : allRefusing rules ≡ true → allRefusing all-rules ≡ true
+  unfolding allRefusing
+  all-refuse n = refusing-append rules (room bytes old ∷ []) n refl
 
   -- accepted, which is number 0, exactly when every rule holds, the room's among them; what it reports is how many bytes were written
   pub accepted-exactly :
-      numbered rules ≡ true → (n : ℕ)
+      allRefusing rules ≡ true → (n : ℕ)
       → ((numberOf answer ≡ 0) × (writtenOf answer ≡ n)) ↔ (Every all-rules × (length bytes ≡ n))
   accepted-exactly k n = (to, from)
     where
@@ -89,7 +89,7 @@ module _ (rules : List Rule) (bytes old : List ℕ) where
           go (inl d) = let f = ap writtenOf (passes refused (Done (length bytes)) d) in (d, cc)
           go (inr f) =
               let g = ap numberOf (refuses refused (Done (length bytes)) (f .1)) in
-              absurd (omega (arith, first-number (all-numbered k) (f .1)))
+              absurd (omega (arith, first-number (all-refuse k) (f .1)))
 
       from : Every all-rules × (length bytes ≡ n) → (numberOf answer ≡ 0) × (writtenOf answer ≡ n)
       from d = let f = passes refused (Done (length bytes)) (d .0) in (ap numberOf f, ap writtenOf f ∙ d .1)
@@ -120,7 +120,7 @@ module _ (rules : List Rule) (bytes old : List ℕ) where
       go (inr f) = ap (λ (a : Answer). after a bytes old) (refuses refused (Done (length bytes)) (f .1))
 
   -- an accepted call writes its bytes to the front and leaves the rest
-  pub accepted-writes : numbered rules ≡ true → numberOf answer ≡ 0 → left rules bytes old ≡ bytes ++ drop (length bytes) old
+  pub accepted-writes : allRefusing rules ≡ true → numberOf answer ≡ 0 → left rules bytes old ≡ bytes ++ drop (length bytes) old
   accepted-writes k e =
       let d = (accepted-exactly k (writtenOf answer) .0 (e, refl)) .0 in
       ap (λ (a : Answer). after a bytes old) (passes refused (Done (length bytes)) d)

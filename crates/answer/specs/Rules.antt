@@ -26,9 +26,9 @@ abbrev pub refusing : ℕ → Bool
 refusing n = both (leb 1 n) (leb n 16)
 
 -- every rule has such a number
-unfoldable pub numbered : List Rule → Bool
-numbered [] = true
-numbered (r ∷ rs) = both (refusing (r .number)) (numbered rs)
+unfoldable pub allRefusing : List Rule → Bool
+allRefusing [] = true
+allRefusing (r ∷ rs) = both (refusing (r .number)) (allRefusing rs)
 
 -- every rule holds
 pub data Every : List Rule → Type 0 where

@@ -5,8 +5,8 @@ use mathlib.Core.Bool.{Bool, true, false}
 use mathlib.Core.List.{List, [], _∷_, flatMap}
 use Prim.Native.Nat.{ℕ}
 use Rattle.laws.specs.Pick.{pick}
-use Rattle.answer.specs.Rules.{Rule, numbered}
-use Rattle.answer.proofs.Judging.{numbered-append}
+use Rattle.answer.specs.Rules.{Rule, allRefusing}
+use Rattle.answer.proofs.Judging.{refusing-append}
 use Rattle.packet.specs.declared.Setting.{Setting}
 use Rattle.units.specs.Units.{byteAt, stuffingId, unitRules, textRules, rulesAt}
 use Rattle.pes.specs.Header.{headerRules}
@@ -17,40 +17,40 @@ use Rattle.forms.specs.Writing.{formRules, writeRules as Form·writeRules}
 use Rattle.table.specs.Reading.{frameRules, frontRules, wholeRules, bodyRules, readRules as Table·readRules}
 use Rattle.table.specs.Lengths.{lengthRules}
 
-pub writes-pes : (d : ℕ) (rs : List ℕ) → numbered (writeRules d rs) ≡ true
-unfolding numbered writeRules
+pub writes-pes : (d : ℕ) (rs : List ℕ) → allRefusing (writeRules d rs) ≡ true
+unfolding allRefusing writeRules
 writes-pes d rs = refl
 
-pub cuts : (s : Setting) (index k : ℕ) (rs : List ℕ) → numbered (cutRules s index k rs) ≡ true
-unfolding numbered
+pub cuts : (s : Setting) (index k : ℕ) (rs : List ℕ) → allRefusing (cutRules s index k rs) ≡ true
+unfolding allRefusing
 cuts s index k rs = refl
 
-pub lists : (f : List ℕ) → numbered (formRules f) ≡ true
-unfolding numbered formRules
+pub lists : (f : List ℕ) → allRefusing (formRules f) ≡ true
+unfolding allRefusing formRules
 lists f = refl
 
-pub writes-block : (application : ℕ) (f : List ℕ) → numbered (Form·writeRules application f) ≡ true
-unfolding numbered formRules
+pub writes-block : (application : ℕ) (f : List ℕ) → allRefusing (Form·writeRules application f) ≡ true
+unfolding allRefusing formRules
 writes-block application f = refl
 
-pub reads-block : (application : ℕ) (r : List ℕ) → numbered (Table·readRules application r) ≡ true
-unfolding numbered frameRules frontRules wholeRules lengthRules
+pub reads-block : (application : ℕ) (r : List ℕ) → allRefusing (Table·readRules application r) ≡ true
+unfolding allRefusing frameRules frontRules wholeRules lengthRules
 reads-block application r = refl
 
 module _ (pes : List ℕ) where
-  unit : (at : ℕ) → numbered (rulesAt pes at) ≡ true
-  unfolding numbered unitRules textRules
+  unit : (at : ℕ) → allRefusing (rulesAt pes at) ≡ true
+  unfolding allRefusing unitRules textRules
   unit at = go (stuffingId (byteAt pes at))
     where
-      go : (t : Bool) → numbered (pick t [] (textRules pes at)) ≡ true
+      go : (t : Bool) → allRefusing (pick t [] (textRules pes at)) ≡ true
       go true = refl
       go false = refl
 
-  each : (ps : List ℕ) → numbered (flatMap (rulesAt pes) ps) ≡ true
-  unfolding numbered flatMap
+  each : (ps : List ℕ) → allRefusing (flatMap (rulesAt pes) ps) ≡ true
+  unfolding allRefusing flatMap
   each [] = refl
-  each (p ∷ ps) = numbered-append (rulesAt pes p) (flatMap (rulesAt pes) ps) (unit p) (each ps)
+  each (p ∷ ps) = refusing-append (rulesAt pes p) (flatMap (rulesAt pes) ps) (unit p) (each ps)
 
-  pub reads-pes : numbered (readRules pes) ≡ true
-  unfolding numbered readRules unitsRules headerRules
+  pub reads-pes : allRefusing (readRules pes) ≡ true
+  unfolding allRefusing readRules unitsRules headerRules
   reads-pes = each (places pes)
