@@ -1,9 +1,9 @@
--- `wanted::asks_counts` meets its contract: it was asked before, or each arm is one of the looks of a word. Assumes nothing.
+-- `wanted::counts::asks_counts` meets its contract: it was asked before, or each arm is one of the looks of a word. Assumes nothing.
 use mathlib.Core.Path.{_∙_, ap, sym}
 use Rattle.wanted.specs.Words.{asksCounts}
 use borrow.Author.Needs.{needs}
-use Rattle.wanted.proofs.asks_counts.Statement.{statement}
-use Rattle.wanted.proofs.asks_counts.Tie as tie
+use Rattle.wanted.proofs.counts.asks_counts.Statement.{statement}
+use Rattle.wanted.proofs.counts.asks_counts.Tie as tie
 
 returns : tie.Need-returns
 returns c = search needs
