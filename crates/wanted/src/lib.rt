@@ -111,15 +111,12 @@ fn looks_like_name(word: &[u8]) -> bool
 fn asks_counts(verbose: bool, word: &[u8]) -> bool
     ensures { λ r. ⌜ r ≡ either verbose (asksCounts (wordOf (now (word .entry)))) ⌝ }
 {
-    if verbose {
-        return true;
-    }
     match look(word) {
-        Word::Option(_) => false,
+        Word::Option(_) => verbose,
         Word::Verbose => true,
-        Word::Last => false,
-        Word::Name => false,
-        Word::Unknown => false,
+        Word::Last => verbose,
+        Word::Name => verbose,
+        Word::Unknown => verbose,
     }
 }
 
