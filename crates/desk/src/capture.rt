@@ -51,9 +51,11 @@ struct Tally {
     sound: bool,
 }
 
+// The reader, what it gave so far, and how many bytes of packets it gets in one call.
 struct Desk {
     reader: Reader,
     tally: Tally,
+    step: usize,
 }
 
 // After one call of the reader: how many bytes of packets it took.
@@ -71,7 +73,7 @@ pub fn list(fd: i32, name: &[u8], is_titled: bool, setting: Setting, is_verbose:
     let mut text = [0u8; TEXT];
     let mut form = [0u8; FORM];
     let mut pages = [NO_PAGE; PAGES];
-    let mut desk = fresh();
+    let mut desk = fresh(is_verbose);
     let mut sight = sight::none();
     let mut is_due = is_titled;
     let mut turns = u64::MAX;
@@ -86,17 +88,7 @@ pub fn list(fd: i32, name: &[u8], is_titled: bool, setting: Setting, is_verbose:
             return false;
         }
         is_due = false;
-        let step = step_of(is_verbose);
-        desk = feed(
-            setting,
-            step,
-            desk,
-            &piece,
-            n,
-            &mut records,
-            &mut text,
-            &mut form,
-        );
+        desk = feed(setting, desk, &piece, n, &mut records, &mut text, &mut form);
         if !desk.tally.sound {
             return false;
         }
@@ -112,7 +104,7 @@ pub fn list(fd: i32, name: &[u8], is_titled: bool, setting: Setting, is_verbose:
     false
 }
 
-fn fresh() -> Desk {
+fn fresh(is_verbose: bool) -> Desk {
     Desk {
         reader: reader::fresh(),
         tally: Tally {
@@ -122,6 +114,7 @@ fn fresh() -> Desk {
             used: 0,
             sound: true,
         },
+        step: step_of(is_verbose),
     }
 }
 
@@ -177,7 +170,7 @@ fn title(is_due: bool, name: &[u8]) -> bool {
     says::put_title(name)
 }
 
-// How many bytes of packets go to the reader in one call: where the drops are counted, one packet, so that
+// How many bytes of packets the reader gets in one call: where the drops are counted, one packet, so that
 // each packet that drops a block counts.
 fn step_of(is_verbose: bool) -> usize {
     if is_verbose {
@@ -200,7 +193,6 @@ fn look(
 // Feeds the whole packets among the first n bytes of the piece.
 fn feed(
     setting: Setting,
-    step: usize,
     desk: Desk,
     piece: &[u8; PIECE],
     n: usize,
@@ -210,7 +202,6 @@ fn feed(
 ) -> Desk {
     feed_packets(
         setting,
-        step,
         desk,
         front(piece, n - n % PACKET),
         records,
@@ -222,7 +213,6 @@ fn feed(
 // Feeds packets, so many bytes of them in a call, and lists the blocks that they finish.
 fn feed_packets(
     setting: Setting,
-    step: usize,
     desk: Desk,
     packets: &[u8],
     records: &mut [u8],
@@ -232,7 +222,7 @@ fn feed_packets(
     let mut desk = desk;
     let mut at = 0;
     while at < packets.len() {
-        let end = ahead(at, step, packets.len());
+        let end = ahead(at, desk.step, packets.len());
         let turn = feed_once(setting, desk, &packets[at..end], records, text, form);
         desk = turn.desk;
         at = ahead(at, turn.taken, packets.len());
@@ -257,7 +247,11 @@ fn feed_once(
     let finished = front(records, written(heard));
     let tally = drop(tally, heard);
     let tally = list_records(tally, setting.application, finished, text, form);
-    let desk = Desk { reader, tally };
+    let desk = Desk {
+        reader,
+        tally,
+        step: desk.step,
+    };
     Turn {
         desk,
         taken: taken(heard),

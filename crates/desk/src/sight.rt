@@ -87,7 +87,7 @@ fn count_all(setting: Setting, counts: Counts, packets: &[u8], pages: &mut [u16]
     counts
 }
 
-// The place after the packet at a place, or the end where that is fit_from.
+// The place after the packet at a place, or the end where that is nearer.
 fn after(at: usize, end: usize) -> usize
     requires { ⌜ at < end ⌝ }
     ensures { λ r. ⌜ (at < r) × (r ≤ end) ⌝ }

@@ -11,11 +11,11 @@ use borrow.Author.Tests.{ne-eqb}
 use Rattle.packet.specs.declared.Setting.{Setting}
 use Rattle.packet.specs.Packet.{packetLength}
 use Rattle.survey.specs.declared.Place.{Place}
-use Rattle.survey.specs.Counting.{seenIn}
+use Rattle.pages.specs.Seen.{see, seenAs}
 use Rattle.survey.specs.Fitting.{fits, firstIn}
 
 pub fits-short : (s : Setting) (l : List ℕ) → length l < packetLength → false ≡ fits s l
-unfolding fits seenIn
+unfolding fits see seenAs
 fits-short s l h =
     let n : length l ≡ packetLength → ⊥ = λ e. omega arith in
     let k : length l ≤ packetLength = omega arith in

@@ -1,44 +1,33 @@
 -- What a verdict of the reader's rules tells of a packet. Assumes nothing.
-use mathlib.Core.Path.{_≡_, _∙_, refl, sym}
+use mathlib.Core.Path.{_≡_, refl, ap}
 use mathlib.Core.Bool.{Bool, true, false, not}
 use mathlib.Core.List.{List}
 use Prim.Native.Nat.{ℕ}
 use native.Mathlib.Nat.{le-refl}
 use native.Mathlib.Omega.{arith}
 use lib.Dec.{eqb, leb}
-use lib.ListN.{length}
-use borrow.Author.Tests.{le-ltb, ne-eqb, eqb-true, eqb-false}
+use borrow.Author.Tests.{le-ltb, ne-eqb}
 use Rattle.laws.specs.Pick.{pick}
 use Rattle.packet.specs.declared.Setting.{Setting}
-use Rattle.packet.specs.Packet.{packetLength}
 use Rattle.packet.specs.Address.{addressOf}
 use Rattle.pages.specs.declared.headers.Page.the-variants.{Shut, Open}
 use Rattle.pages.specs.Headers.{Seen, junk, other, foreign, ours, packetY}
 use Rattle.pages.specs.Judging.{wrongY}
 use Rattle.pages.specs.Seen.{see, seenAs}
-use Rattle.pages.proofs.Judged.{Shaped, shaped, as-seen, as-short}
+use Rattle.pages.proofs.Judged.{Shaped, shaped}
 use Rattle.survey.specs.declared.Counts.{Counts}
-use Rattle.survey.specs.Counting.{seenIn, more, counted}
+use Rattle.survey.specs.Counting.{more, counted}
 use Rattle.survey.specs.Fitting.{isOurs}
 use Rattle.survey.specs.Internal.{noIndex, asked, rowsOf, heeded, heededAt}
 
 module _ (s : Setting) (p : List ℕ) where
   -- with its own address a packet is what it is
-  pub seen-in : {x : ℕ} → x ≡ addressOf p → seenAs s x p ≡ seenIn s p
-  unfolding seenIn
-  seen-in {x} e = go (eqb (length p) packetLength) refl
-    where
-      go : (t : Bool) → eqb (length p) packetLength ≡ t → seenAs s x p ≡ pick t (see s p) junk
-      go true h = as-seen s p (eqb-true _ _ h) e
-      go false h = as-short s p x (eqb-false _ _ h)
+  pub seen-in : {x : ℕ} → x ≡ addressOf p → seenAs s x p ≡ see s p
+  unfolding see
+  seen-in e = ap (λ (n : ℕ). seenAs s n p) e
 
-  pub shaped-in : Shaped p (seenIn s p)
-  unfolding seenIn
-  shaped-in = go (eqb (length p) packetLength)
-    where
-      go : (t : Bool) → Shaped p (pick t (see s p) junk)
-      go true = shaped s p
-      go false = tt
+  pub shaped-in : Shaped p (see s p)
+  shaped-in = shaped s p
 
 -- a packet 0 of our page came, and packets up to r are read after it
 abbrev opened : Counts → ℕ → Counts

@@ -5,13 +5,8 @@ use Prim.Native.Nat.{ℕ, _+_}
 use lib.Dec.{leb, ltb}
 use Rattle.laws.specs.Pick.{pick}
 use Rattle.packet.specs.declared.Setting.{Setting}
-use Rattle.pages.specs.Headers.{Seen, junk, other, foreign, ours, packetY, inFull}
-use Rattle.pages.specs.Seen.{see}
+use Rattle.pages.specs.Headers.{Seen, junk, other, foreign, ours, packetY}
 use Rattle.survey.specs.declared.Counts.{Counts}
-
--- what a packet is to a reader; one that isn't 42 bytes long can't be read
-unfoldable pub seenIn : Setting → List ℕ → Seen
-seenIn s p = inFull p (see s p)
 
 -- one more, up to the greatest number that a count can hold
 abbrev pub more : ℕ → ℕ

@@ -8,7 +8,7 @@ use Rattle.laws.specs.Pick.{pick, both}
 use Rattle.packet.specs.declared.Setting.{Setting}
 use Rattle.packet.specs.Packet.{packetLength}
 use Rattle.pages.specs.Headers.{Seen, junk, other, foreign, ours, packetY}
-use Rattle.survey.specs.Counting.{seenIn}
+use Rattle.pages.specs.Seen.{see}
 use Rattle.survey.specs.declared.Place.{Place}
 
 -- a packet 0 of our page and stream
@@ -21,7 +21,7 @@ isOurs (packetY y p l) = false
 
 -- one stands at the front of the bytes
 unfoldable pub fits : Setting → List ℕ → Bool
-fits s l = isOurs (seenIn s (take packetLength l))
+fits s l = isOurs (see s (take packetLength l))
 
 -- the first place where one stands, of bytes whose first stands at the place `at`
 unfoldable pub firstIn : Setting → List ℕ → ℕ → Place

@@ -10,7 +10,8 @@ pub use seen::note;
 ghost use mathlib.Core.Path.{_≡_};
 ghost use mathlib.Core.List.{map};
 ghost use Rattle.octet.specs.Turning.{turned};
-ghost use Rattle.survey.specs.Counting.{seenIn, more, moreIf, counted};
+ghost use Rattle.pages.specs.Seen.{see};
+ghost use Rattle.survey.specs.Counting.{more, moreIf, counted};
 ghost use Rattle.survey.specs.Fitting.{fits, firstIn, beginsPes};
 ghost use Rattle.survey.specs.Internal.{asked, rowsOf, heeded};
 
@@ -38,7 +39,7 @@ pub enum Place {
 
 // One more packet is counted. One that isn't 42 bytes long can't be read.
 pub fn count(setting: Setting, counts: Counts, packet: &[u8]) -> Counts
-    ensures { λ r. ⌜ r ≡ counted counts (seenIn setting (now (packet .entry))) ⌝ }
+    ensures { λ r. ⌜ r ≡ counted counts (see setting (now (packet .entry))) ⌝ }
 {
     heed(counts, ask(setting, counts.rows, packet))
 }
@@ -101,7 +102,7 @@ fn stands(setting: Setting, bytes: &[u8]) -> bool
 // What the reader's rules say of a packet where a page of so many packets is complete and our last index is none. So a verdict tells what
 // the packet is: only one of our page and stream has an index; of those that shut the page, one that can't be read drops.
 fn ask(setting: Setting, rows: u8, packet: &[u8]) -> Verdict
-    ensures { λ r. ⌜ r ≡ asked rows (seenIn setting (now (packet .entry))) ⌝ }
+    ensures { λ r. ⌜ r ≡ asked rows (see setting (now (packet .entry))) ⌝ }
 {
     let page = Page::Open {
         n: rows,

@@ -6,12 +6,14 @@ use Prim.Native.Nat.{ℕ}
 use native.Mathlib.Omega.{arith}
 use lib.ListN.{length}
 use Rattle.laws.specs.Pick.{pick, either}
+use Rattle.laws.proofs.Tests.{either-false}
 use Rattle.packet.specs.declared.Setting.{Setting}
 use Rattle.wanted.specs.declared.values.Field.{Field}
 use Rattle.wanted.specs.declared.values.Outcome.{Outcome}
 use Rattle.wanted.specs.Values.{isIn, withField, valueOf, outcomeOf}
 use Rattle.wanted.specs.declared.stages.Stage.{Stage}
 use Rattle.wanted.specs.declared.stages.Stage.the-variants.{Options, Value, Names, AllNames, Bad}
+use Rattle.wanted.specs.declared.Word.{Word}
 use Rattle.wanted.specs.declared.Word.the-variants.{Name}
 use Rattle.wanted.specs.declared.stages.Words.{Words}
 use Rattle.wanted.specs.Stages.{words}
@@ -45,6 +47,18 @@ pub value-set :
     → words (o .setting) v (stageOf g) ≡ setBy s v f n
 value-set s v f n {o} same good =
     ap (λ (b : Bool). words (o .setting) v (stageOf b)) (sym good) ∙ ap (λ (x : Outcome). after v x) same ∙ after-value s v f n
+
+module _ (v : Bool) {w x : Word} (same : x ≡ w) where
+  -- a word that doesn't ask for the line of counts leaves that as it was
+  pub not-asked : asksCounts x ≡ false → v ≡ either v (asksCounts w)
+  not-asked none = rw (← same, none) (sym (either-false v))
+
+  pub asked : asksCounts x ≡ true → true ≡ either v (asksCounts w)
+  asked some = rw (← same, some) (go v)
+    where
+      go : (v : Bool) → true ≡ either v true
+      go true = refl
+      go false = refl
 
 module _ (s : Setting) (v : Bool) (t : Stage) (w : List ℕ) where
   pub at-options :

@@ -1,7 +1,6 @@
 // The words that the desk is called with: options that set the magazine, the page, the stream and the
 // application, or ask for a line of counts, then names of files. One word is heard at a time. A program hears
 // them all, and asks is_good, before it reads or prints anything; then it goes through them again for the names.
-mod counts;
 pub mod names;
 pub mod stages;
 mod values;
@@ -14,11 +13,12 @@ pub use stages::is_good;
 pub use stages::start;
 use values::Field;
 ghost use mathlib.Core.Path.{_≡_};
-ghost use Rattle.wanted.specs.Words.{heard, setBy, takenAsName, wordOf, optionOf, looksLikeName, afterOptions, afterNames};
+ghost use Rattle.wanted.specs.Words.{heard, setBy, takenAsName, wordOf, optionOf, looksLikeName, asksCounts, afterOptions, afterNames};
 ghost use Rattle.wanted.specs.Values.{valueOf};
+ghost use Rattle.laws.specs.Pick.{either};
 
 // What a word looks like.
-pub(crate) enum Word {
+enum Word {
     Option(Field),
     // `-v`
     Verbose,
@@ -41,7 +41,7 @@ pub fn next(words: Words, word: &[u8]) -> Words
     match stage {
         Stage::Options => Words {
             setting,
-            verbose: counts::asks_counts(verbose, word),
+            verbose: asks_counts(verbose, word),
             stage: after_options(word),
         },
         Stage::Value(field) => set(setting, verbose, field, word),
@@ -107,7 +107,20 @@ fn looks_like_name(word: &[u8]) -> bool
     }
 }
 
-pub(crate) fn look(word: &[u8]) -> Word
+// Whether a line of counts is asked for, by this word or before.
+fn asks_counts(verbose: bool, word: &[u8]) -> bool
+    ensures { λ r. ⌜ r ≡ either verbose (asksCounts (wordOf (now (word .entry)))) ⌝ }
+{
+    match look(word) {
+        Word::Option(_) => verbose,
+        Word::Verbose => true,
+        Word::Last => verbose,
+        Word::Name => verbose,
+        Word::Unknown => verbose,
+    }
+}
+
+fn look(word: &[u8]) -> Word
     ensures { λ r. ⌜ r ≡ wordOf (now (word .entry)) ⌝ }
 {
     if word.len() == 0 {
