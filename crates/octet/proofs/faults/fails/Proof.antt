@@ -41,7 +41,8 @@ loop-again c =
     let k = c .before .before .before .args .k in
     let w : length (row k) ≡ 8 = row-length k (c .before .before .before .pre) in
     let i : l .i < length (row k) = omega arith in
-    (search needs, omega arith, ap (λ (x : ℕ). ((l .sum + x * (l .rest % 2)) % 2 + product (drop (l .i + 1) (row k)) (l .rest / 2)) % 2) (c .check .ensures .0) ∙ product-step (row k) (l .i) (l .sum) (l .rest) i ∙ l .inv .2)
+    let next : ℕ → ℕ = λ x. ((l .sum + x * (l .rest % 2)) % 2 + product (drop (l .i + 1) (row k)) (l .rest / 2)) % 2 in
+    (search needs, omega arith, ap next (c .check .ensures .0) ∙ product-step (row k) (l .i) (l .sum) (l .rest) i ∙ l .inv .2)
 
 returns : tie.Need-returns Inv-loop μ-loop
 returns c =

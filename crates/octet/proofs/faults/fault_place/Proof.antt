@@ -63,17 +63,19 @@ add-failing-3 c = omega arith
 
 returns : tie.Need-returns Inv-loop μ-loop
 returns c =
+    let first = c .before .before .before in
     none-fails _ _
-    (gathered _ _ _ _ _ (c .before .before .before .before .fails .ensures .0) (c .before .before .before .fails2 .ensures .0) (c .before .before .fails3 .ensures .0) (c .before .fails4 .ensures .0))
+    (gathered _ _ _ _ _ (first .before .fails .ensures .0) (first .fails2 .ensures .0) (c .before .before .fails3 .ensures .0) (c .before .fails4 .ensures .0))
     (c .if1 .taken)
 
 loop-holds : tie.Need-loop-holds Inv-loop μ-loop
-loop-holds c = (
-  search needs,
-  some-fails _ _
-      (gathered _ _ _ _ _ (c .before .before .before .before .fails .ensures .0) (c .before .before .before .fails2 .ensures .0) (c .before .before .fails3 .ensures .0) (c .before .fails4 .ensures .0))
-      (c .if1 .left),
-)
+loop-holds c =
+    let first = c .before .before .before in (
+      search needs,
+      some-fails _ _
+          (gathered _ _ _ _ _ (first .before .fails .ensures .0) (first .fails2 .ensures .0) (c .before .before .fails3 .ensures .0) (c .before .fails4 .ensures .0))
+          (c .if1 .left),
+    )
 
 column-requires : tie.Need-column-requires Inv-loop μ-loop
 column-requires c κs = search needs
