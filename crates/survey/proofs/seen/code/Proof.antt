@@ -40,8 +40,11 @@ are-nibbles-requires c κs = search needs
 
 returns-3 : tie.Need-returns-3
 returns-3 c =
-    code-broken (now (c .before .before .before .before .before .before .before .before .before .before .before .before .args .packet)) (c .before .before .before .before .before .before .before .before .before .before .if1 .left) (c .before .before .before .before .before .before .before .before .before .address .ensures) (omega arith)
-    (c .before .before .before .before .before .before .decode .ensures) (c .before .before .before .before .decode2 .ensures) (c .before .before .decode3 .ensures) (c .before .are-nibbles .ensures) (not-true _ (c .if3 .taken))
+    let third = c .before .before in
+    let first = third .before .before .before .before in
+    let asked = first .before .before .before in
+    code-broken (now (asked .before .before .before .args .packet)) (asked .before .if1 .left) (asked .address .ensures) (omega arith)
+    (first .decode .ensures) (third .before .before .decode2 .ensures) (third .decode3 .ensures) (c .before .are-nibbles .ensures) (not-true _ (c .if3 .taken))
 
 cast-result : tie.Need-cast-result
 cast-result c = search needs
@@ -63,7 +66,9 @@ mul-result-2 c = search needs
 
 add-result-2 : tie.Need-add-result-2
 add-result-2 c =
-    let n = nibbles (c .before .before .before .before .before .before .decode .result) (c .before .before .before .before .decode2 .result) (c .before .before .decode3 .result) (sym (c .before .are-nibbles .ensures) ∙ not-false _ (c .if3 .left)) in
+    let third = c .before .before in
+    let second = third .before .before in
+    let n = nibbles (second .before .before .decode .result) (second .decode2 .result) (third .decode3 .result) (sym (c .before .are-nibbles .ensures) ∙ not-false _ (c .if3 .left)) in
     omega arith
 
 cast-result-4 : tie.Need-cast-result-4
@@ -74,13 +79,18 @@ mul-result-3 c = search needs
 
 add-result-3 : tie.Need-add-result-3
 add-result-3 c =
-    let n = nibbles (c .before .before .before .before .before .before .decode .result) (c .before .before .before .before .decode2 .result) (c .before .before .decode3 .result) (sym (c .before .are-nibbles .ensures) ∙ not-false _ (c .if3 .left)) in
+    let third = c .before .before in
+    let second = third .before .before in
+    let n = nibbles (second .before .before .decode .result) (second .decode2 .result) (third .decode3 .result) (sym (c .before .are-nibbles .ensures) ∙ not-false _ (c .if3 .left)) in
     omega arith
 
 returns-4 : tie.Need-returns-4
 returns-4 c =
-    code-whole (now (c .before .before .before .before .before .before .before .before .before .before .before .before .args .packet)) (c .before .before .before .before .before .before .before .before .before .before .if1 .left) (c .before .before .before .before .before .before .before .before .before .address .ensures) (omega arith)
-    (c .before .before .before .before .before .before .decode .ensures) (c .before .before .before .before .decode2 .ensures) (c .before .before .decode3 .ensures) (c .before .are-nibbles .ensures) (not-false _ (c .if3 .left))
+    let third = c .before .before in
+    let first = third .before .before .before .before in
+    let asked = first .before .before .before in
+    code-whole (now (asked .before .before .before .args .packet)) (asked .before .if1 .left) (asked .address .ensures) (omega arith)
+    (first .decode .ensures) (third .before .before .decode2 .ensures) (third .decode3 .ensures) (c .before .are-nibbles .ensures) (not-false _ (c .if3 .left))
 
 pub code-spec : {M : Type 1} → statement M
 code-spec =
