@@ -114,7 +114,8 @@ module _ {M : Type 1} (𝓤 : URA M) (H : Heap 𝓤) (A : Atoms 𝓤) (W : Given
       use1 W (‵ (Own κ s) ⊛ ‵ (Own κ s)) (shr-slice-copy 𝓤 H A W (named 0) κ u8 .twice s (sliceOf s ∷ [])) $ split ! $
       -- [what s owns; the same; the token]
       nothing ! $ owned ! usize (Is usize) (uint-makes 𝓤 H A W w64) n _ (refl, ok) $ fjoin ! $ move ! (1 ∷ 0 ∷ []) $ fjoin ! $
-      move ! (2 ∷ 0 ∷ []) $ use2 W (raw (Begin 𝓤 H A mem run .pre (to-begin n))) (qed W (token κ q ∷ ‵ (owns (ShrSlice (named 0) κ u8 ∷ usize ∷ []) (s, (n, tt)) (sliceOf s ∷ [], (vint w64 n ∷ [], tt))) ∷ []) ∵ join ! $ frame ! $ done !) $ frame ! $ done !
+      move ! (2 ∷ 0 ∷ []) $
+      use2 W (raw (Begin 𝓤 H A mem run .pre (to-begin n))) (qed W (token κ q ∷ ‵ (owns (ShrSlice (named 0) κ u8 ∷ usize ∷ []) (s, (n, tt)) (sliceOf s ∷ [], (vint w64 n ∷ [], tt))) ∷ []) ∵ join ! $ frame ! $ done !) $ frame ! $ done !
 
   begin-said : (n : ℕ) (r : BitReader) → ent 𝓤 (ensured 𝓤 H A begin.ended (begin.clauses 𝓤 H A mem run) (κ, tt) (s, (n, tt)) tt r) (fact 𝓤 ((r .src ≡ s) × (r .at ≡ n)))
   begin-said n r = exE 𝓤 _ (λ ws. snd∗ 𝓤 (sem 𝓤 H A (lasts begin.ended (κ, tt) (s, (n, tt)) ws)) (fact 𝓤 ((r .src ≡ s) × (r .at ≡ n))))
@@ -132,7 +133,8 @@ module _ {M : Type 1} (𝓤 : URA M) (H : Heap 𝓤) (A : Atoms 𝓤) (W : Given
       use1 W (‵ (Has κ s n) ⊛ ‵ (Has κ s n)) (LL.copy (T.the-type (namedLft 1 0 tt (κ, tt))) (T′.the-copy (namedLft 1 0 tt (κ, tt))) 𝓤 H A W .twice (rd s n) (T′.lowered (rd s n) ∷ [])) $ split ! $
       -- [what the reader owns; the same; the token]
       nothing ! $ owned ! usize (Is usize) (uint-makes 𝓤 H A W w64) w _ (refl, ok) $ fjoin ! $ move ! (1 ∷ 0 ∷ []) $ fjoin ! $
-      move ! (2 ∷ 0 ∷ []) $ use2 W (raw (Take 𝓤 H A mem run .pre (to-take n w))) (qed W (token κ q ∷ ‵ (owns (B κ ∷ usize ∷ []) (rd s n, (w, tt)) (T′.lowered (rd s n) ∷ [], (vint w64 w ∷ [], tt))) ∷ []) ∵ join ! $ frame ! $ done !) $ frame ! $ done !
+      move ! (2 ∷ 0 ∷ []) $
+      use2 W (raw (Take 𝓤 H A mem run .pre (to-take n w))) (qed W (token κ q ∷ ‵ (owns (B κ ∷ usize ∷ []) (rd s n, (w, tt)) (T′.lowered (rd s n) ∷ [], (vint w64 w ∷ [], tt))) ∷ []) ∵ join ! $ frame ! $ done !) $ frame ! $ done !
 
   abbrev Took : ℕ → ℕ → ℕ → Type 0
   Took n w x = (x ≡ bitsOf s n w) × (x < 2 ^ min w 24)
@@ -154,9 +156,11 @@ module _ {M : Type 1} (𝓤 : URA M) (H : Heap 𝓤) (A : Atoms 𝓤) (W : Given
         use2 W (raw (Begin 𝓤 H A mem run .pre (to-begin n)) ⊛ ‵ (Own κ s)) (goes-begin n ok) $ split t $
         calls-at t fm (Begin 𝓤 H A mem run) known (to-begin n) os (λ u.
         use1 W (later (some (λ (r : BitReader). (token κ q ⊛ ‵ (B κ .own r (u ∷ []))) ⊛ raw (ensured 𝓤 H A begin.ended (begin.clauses 𝓤 H A mem run) (κ, tt) (s, (n, tt)) tt r)))) (id⊢ 𝓤 _) $ await t tt $ pick t (λ r.
-        split t $ move t (1 ∷ []) $ use1 W (raw (fact 𝓤 ((r .src ≡ s) × (r .at ≡ n)))) (begin-said n r) $ heard t ((r .src ≡ s) × (r .at ≡ n)) (λ e. split t $ move t (1 ∷ []) $
+        split t $ move t (1 ∷ []) $ use1 W (raw (fact 𝓤 ((r .src ≡ s) × (r .at ≡ n)))) (begin-said n r) $ heard t ((r .src ≡ s) × (r .at ≡ n)) (λ e. split t $
+        move t (1 ∷ []) $
         peeks t (B κ) (Is (B κ)) (shows 𝓤 H A (B κ)) r (u ∷ []) (λ is.
-        use1 W (‵ (Has κ s n)) (same r n (e .0) (e .1) (tells r is)) $ known-as t (ap only (tells r is) ∙ ap₂ (λ (y : RefT (List ℕ)) (a : ℕ). T′.lowered (rd y a)) (e .0) (e .1)) $ k)))))
+        use1 W (‵ (Has κ s n)) (same r n (e .0) (e .1) (tells r is)) $
+        known-as t (ap only (tells r is) ∙ ap₂ (λ (y : RefT (List ℕ)) (a : ℕ). T′.lowered (rd y a)) (e .0) (e .1)) $ k)))))
 
     pub takes : Triple 𝓤 (C #fields·take) (Take 𝓤 H A mem run) → K → (n w : ℕ) → w < 2 ^ 64
         → Opds K W (raw (Take 𝓤 H A mem run .pre (to-take n w)) ∷ ‵ (Has κ s n) ∷ Γ) E xs (T′.lowered (rd s n) ∷ vint w64 w ∷ [])
@@ -178,4 +182,5 @@ module _ {M : Type 1} (𝓤 : URA M) (H : Heap 𝓤) (A : Atoms 𝓤) (W : Given
         use1 W (later (some (λ (r : BitReader). (token κ q ⊛ ‵ (B κ .own r (u ∷ []))) ⊛ raw (ensured 𝓤 H A step-on.ended (step-on.clauses 𝓤 H A mem run) (κ, tt) (rd s n, (w, tt)) tt r)))) (id⊢ 𝓤 _) $ await t tt $ pick t (λ r.
         split t $ move t (1 ∷ []) $ use1 W (raw (fact 𝓤 (Stepped n w r))) (step-said n w r) $ heard t (Stepped n w r) (λ e. split t $ move t (1 ∷ []) $
         peeks t (B κ) (Is (B κ)) (shows 𝓤 H A (B κ)) r (u ∷ []) (λ is. move t (2 ∷ []) $ drop t $
-        use1 W (‵ (Has κ s m)) (same r m (e .0) (e .1 ∙ on) (tells r is)) $ known-as t (ap only (tells r is) ∙ ap₂ (λ (y : RefT (List ℕ)) (a : ℕ). T′.lowered (rd y a)) (e .0) (e .1 ∙ on)) $ k)))))
+        use1 W (‵ (Has κ s m)) (same r m (e .0) (e .1 ∙ on) (tells r is)) $
+        known-as t (ap only (tells r is) ∙ ap₂ (λ (y : RefT (List ℕ)) (a : ℕ). T′.lowered (rd y a)) (e .0) (e .1 ∙ on)) $ k)))))

@@ -62,21 +62,25 @@ module _ {M : Type 1} (𝓤 : URA M) (H : Heap 𝓤) (A : Atoms 𝓤) (W : Given
   exits =
       qed W (‵ (Has κ s n) ∷ token κ q ∷ ‵ (Own κ s) ∷ []) ∵
       suffices ! _ (ends-at 𝓤 H A field-of.ended stayed (field-of.clauses 𝓤 H A mem run) W (((κ, tt), (q, tt), tt, (s, (n, (w, tt))), given′), tt) (vint w64 (bitsOf s n w)) (bitsOf s n w) (tt, (tt, (tt, tt))) (tt, (tt, (tt, tt)))) $ says ! (refl, field-lt n (min w 24) (compound (now s))) $
-      drop ! $ frame ! $ nothing ! $ owned ! usize (Is usize) (uint-makes 𝓤 H A W w64) w _ (refl, okw) $ fjoin ! $ owned ! usize (Is usize) (uint-makes 𝓤 H A W w64) n _ (refl, ok) $ fjoin ! $ move ! (1 ∷ 0 ∷ []) $ fjoin ! $ frame ! $
+      drop ! $ frame ! $ nothing ! $ owned ! usize (Is usize) (uint-makes 𝓤 H A W w64) w _ (refl, okw) $ fjoin ! $
+      owned ! usize (Is usize) (uint-makes 𝓤 H A W w64) n _ (refl, ok) $ fjoin ! $ move ! (1 ∷ 0 ∷ []) $ fjoin ! $ frame ! $
       owned ! usize (Is usize) (uint-makes 𝓤 H A W w64) (bitsOf s n w) _ (refl, bits-fit s n w) $ done !
 
   module _ (C : Calls 𝓤 H) (Λ : Loops 𝓤 H) (fm : FmC 𝓤 H (W .laws) C) (known-begin : Triple 𝓤 (C #fields·begin) (Begin 𝓤 H A mem run)) (known-take : Triple 𝓤 (C #fields·take) (Take 𝓤 H A mem run)) where
     walk : Is (ShrSlice (named 0) κ u8) s (v ∷ []) → ent 𝓤 (onEntry 𝓤 H A field-of.signature (κ, tt) (q, tt) (s, (n, (w, tt))) given′) (WpFn 𝓤 H C Λ code.function (v ∷ vint w64 n ∷ vint w64 w ∷ []) Post)
     walk p =
         qed W (token κ q ∷ ‵ (owns (ShrSlice (named 0) κ u8 ∷ usize ∷ usize ∷ []) (s, (n, (w, tt))) given′) ∷ []) ∵ enter ! C Λ code.function (v ∷ vint w64 n ∷ vint w64 w ∷ []) _ $
-        alloc1 ! (λ l₀. alloc1 ! (λ l₁. alloc1 ! (λ l₂. alloc1 ! (λ l₃. alloc1 ! (λ l₄. alloc0 ! $ params1 ! $ pass1 ! (init ! 6 refl (shr-slice-lawful 𝓤 H A W (named 0) κ u8 .typed s (v ∷ []) p .0)) $ pass1 ! (init ! 4 refl (tt, record { fits = ok })) $ pass1 ! (init ! 2 refl (tt, record { fits = okw })) $ pass0 ! $
+        alloc1 ! (λ l₀. alloc1 ! (λ l₁. alloc1 ! (λ l₂. alloc1 ! (λ l₃. alloc1 ! (λ l₄. alloc0 ! $ params1 ! $
+        pass1 ! (init ! 6 refl (shr-slice-lawful 𝓤 H A W (named 0) κ u8 .typed s (v ∷ []) p .0)) $ pass1 ! (init ! 4 refl (tt, record { fits = ok })) $
+        pass1 ! (init ! 2 refl (tt, record { fits = okw })) $ pass0 ! $
         move ! (11 ∷ []) $ fsplit ! $ move ! (1 ∷ []) $ drop ! $ move ! (0 ∷ 11 ∷ []) $
         -- [what s owns; the token; room for _4; …; _3; …; _2; …; _1; …; room for _0; …]
         begins 𝓤 H A W mem run κ q s fm known-begin ! n ok (and-then ! (load ! (from ! (stop !)) (look ! 8 refl)) (and-then ! (load ! (from ! (stop !)) (look ! 6 refl)) (no-more !))) $ land ! (from ! (stop !)) (init ! 3 refl (typed 𝓤 H A W κ s p n ok)) $
         -- [what the reader owns; the token; what s owns; _4; …; _3; …; _2; …; _1; …; room for _0; …]
         takes 𝓤 H A W mem run κ q s fm known-take ! n w okw (and-then ! (load ! (from ! (stop !)) (look ! 3 refl)) (and-then ! (load ! (from ! (stop !)) (look ! 5 refl)) (no-more !))) $ land ! (from ! (stop !)) (init ! 11 refl (tt, record { fits = bits-fit s n w })) $
         returns ! (look ! 11 refl) $ forget ! 3 refl $ forget ! 5 refl $ forget ! 7 refl $ forget ! 9 refl $ forget ! 11 refl $
-        move ! (11 ∷ 12 ∷ []) $ free1 ! $ move ! (9 ∷ 10 ∷ []) $ free1 ! $ move ! (7 ∷ 8 ∷ []) $ free1 ! $ move ! (5 ∷ 6 ∷ []) $ free1 ! $ move ! (3 ∷ 4 ∷ []) $ free1 ! $ free0 ! $ by ! exits)))))
+        move ! (11 ∷ 12 ∷ []) $ free1 ! $ move ! (9 ∷ 10 ∷ []) $ free1 ! $ move ! (7 ∷ 8 ∷ []) $ free1 ! $ move ! (5 ∷ 6 ∷ []) $ free1 ! $ move ! (3 ∷ 4 ∷ []) $ free1 ! $
+        free0 ! $ by ! exits)))))
 
 module _ {M : Type 1} (𝓤 : URA M) (H : Heap 𝓤) (A : Atoms 𝓤) (W : Given 𝓤 H A) (mem : Memory → SProp 𝓤) (run : Routine → Fun 𝓤) where
   field-of-walks : (C : Calls 𝓤 H) (Λ : Loops 𝓤 H) → FmC 𝓤 H (W .laws) C → Triple 𝓤 (C #fields·begin) (Begin 𝓤 H A mem run) → Triple 𝓤 (C #fields·take) (Take 𝓤 H A mem run)

@@ -1,5 +1,6 @@
 -- `fields::opening_of` meets its contract: a walk of its MIR, by hand. One reader moves over the slice: it takes a field's bits, and steps on by its width.
--- Each of these calls is one step of the walk (`Moves.antt`). Before a call the reader is copied into a local of its own. What was taken goes to `opened`, of which no more is known than that it meets its contract.
+-- Each of these calls is one step of the walk (`Moves.antt`). Before a call the reader is copied into a local of its own.
+-- What was taken goes to `opened`, of which no more is known than that it meets its contract.
 -- Assumes nothing.
 use mathlib.Core.Path.{_≡_, _∙_, refl}
 use Prim.Native.Nat.{ℕ, _%_, _<_, _^_}
@@ -115,7 +116,14 @@ module _ {M : Type 1} (𝓤 : URA M) (H : Heap 𝓤) (A : Atoms 𝓤) (W : Given
   asked : ent 𝓤 (emp 𝓤) (Opened 𝓤 H A mem run .pre to)
   asked =
       qed W [] ∵
-      nothing ! $ owned ! usize (Is usize) (uint-makes 𝓤 H A W w64) (bitsOf s 52 6) _ (refl, bits-fit s 52 6) $ fjoin ! $ owned ! usize (Is usize) (uint-makes 𝓤 H A W w64) (bitsOf s 44 8) _ (refl, bits-fit s 44 8) $ fjoin ! $ owned ! usize (Is usize) (uint-makes 𝓤 H A W w64) (bitsOf s 28 16) _ (refl, bits-fit s 28 16) $ fjoin ! $ owned ! usize (Is usize) (uint-makes 𝓤 H A W w64) (bitsOf s 26 1) _ (refl, bits-fit s 26 1) $ fjoin ! $ owned ! usize (Is usize) (uint-makes 𝓤 H A W w64) (bitsOf s 24 2) _ (refl, bits-fit s 24 2) $ fjoin ! $ owned ! usize (Is usize) (uint-makes 𝓤 H A W w64) (bitsOf s 18 6) _ (refl, bits-fit s 18 6) $ fjoin ! $ owned ! usize (Is usize) (uint-makes 𝓤 H A W w64) (bitsOf s 8 10) _ (refl, bits-fit s 8 10) $ fjoin ! $ owned ! usize (Is usize) (uint-makes 𝓤 H A W w64) (bitsOf s 0 8) _ (refl, bits-fit s 0 8) $ fjoin ! $ nothing ! $ join ! $ frame ! $ done !
+      nothing ! $ owned ! usize (Is usize) (uint-makes 𝓤 H A W w64) (bitsOf s 52 6) _ (refl, bits-fit s 52 6) $ fjoin ! $
+      owned ! usize (Is usize) (uint-makes 𝓤 H A W w64) (bitsOf s 44 8) _ (refl, bits-fit s 44 8) $ fjoin ! $
+      owned ! usize (Is usize) (uint-makes 𝓤 H A W w64) (bitsOf s 28 16) _ (refl, bits-fit s 28 16) $ fjoin ! $
+      owned ! usize (Is usize) (uint-makes 𝓤 H A W w64) (bitsOf s 26 1) _ (refl, bits-fit s 26 1) $ fjoin ! $
+      owned ! usize (Is usize) (uint-makes 𝓤 H A W w64) (bitsOf s 24 2) _ (refl, bits-fit s 24 2) $ fjoin ! $
+      owned ! usize (Is usize) (uint-makes 𝓤 H A W w64) (bitsOf s 18 6) _ (refl, bits-fit s 18 6) $ fjoin ! $
+      owned ! usize (Is usize) (uint-makes 𝓤 H A W w64) (bitsOf s 8 10) _ (refl, bits-fit s 8 10) $ fjoin ! $
+      owned ! usize (Is usize) (uint-makes 𝓤 H A W w64) (bitsOf s 0 8) _ (refl, bits-fit s 0 8) $ fjoin ! $ nothing ! $ join ! $ frame ! $ done !
 
   said : (o : Opening) → ent 𝓤 (ensured 𝓤 H A opened.ended (opened.clauses 𝓤 H A mem run) tt (given′ .0) tt o) (fact 𝓤 (o ≡ made s))
   said o = exE 𝓤 _ (λ ws. snd∗ 𝓤 (sem 𝓤 H A (lasts opened.ended tt (given′ .0) ws)) (fact 𝓤 (o ≡ made s)))
@@ -123,7 +131,8 @@ module _ {M : Type 1} (𝓤 : URA M) (H : Heap 𝓤) (A : Atoms 𝓤) (W : Given
   exits : (o : Opening) (u : Val) → o ≡ made s → ent 𝓤 (⋆ 𝓤 H A (‵ (S.the-row .own o (u ∷ [])) ∷ ‵ (Has κ s 52) ∷ token κ q ∷ ‵ (Own κ s) ∷ [])) (Post u)
   exits o u e =
       qed W (‵ (S.the-row .own o (u ∷ [])) ∷ ‵ (Has κ s 52) ∷ token κ q ∷ ‵ (Own κ s) ∷ []) ∵
-      suffices ! _ (ends-at 𝓤 H A opening-of.ended stayed (opening-of.clauses 𝓤 H A mem run) W (((κ, tt), (q, tt), tt, (s, tt), (v ∷ [], tt)), tt) u o (tt, tt) (tt, tt)) $ says ! (e ∙ right s) $
+      suffices ! _ (ends-at 𝓤 H A opening-of.ended stayed (opening-of.clauses 𝓤 H A mem run) W (((κ, tt), (q, tt), tt, (s, tt), (v ∷ [], tt)), tt) u o (tt, tt) (tt, tt)) $
+      says ! (e ∙ right s) $
       move ! (1 ∷ []) $ drop ! $ move ! (1 ∷ []) $ frame ! $ nothing ! $ move ! (2 ∷ 0 ∷ []) $ fjoin ! $ frame ! $ done !
 
   ty : Is (ShrSlice (named 0) κ u8) s (v ∷ []) → (n : ℕ) → Holds (ltb n (2 ^ 64)) → Holds (hasTy (T′.mir erased) (T′.lowered (rd s n))) × WT (T′.lowered (rd s n))
@@ -136,24 +145,57 @@ module _ {M : Type 1} (𝓤 : URA M) (H : Heap 𝓤) (A : Atoms 𝓤) (W : Given
         alloc1 ! (λ l₀. alloc1 ! (λ l₁. alloc1 ! (λ l₂. alloc1 ! (λ l₃. alloc1 ! (λ l₄. alloc1 ! (λ l₅. alloc1 ! (λ l₆. alloc1 ! (λ l₇. alloc1 ! (λ l₈. alloc1 ! (λ l₉. alloc1 ! (λ l₁₀. alloc1 ! (λ l₁₁. alloc1 ! (λ l₁₂. alloc1 ! (λ l₁₃. alloc1 ! (λ l₁₄. alloc1 ! (λ l₁₅. alloc1 ! (λ l₁₆. alloc1 ! (λ l₁₇. alloc1 ! (λ l₁₈. alloc1 ! (λ l₁₉. alloc1 ! (λ l₂₀. alloc1 ! (λ l₂₁. alloc1 ! (λ l₂₂. alloc1 ! (λ l₂₃. alloc1 ! (λ l₂₄. alloc1 ! (λ l₂₅. alloc1 ! (λ l₂₆. alloc0 ! $ params1 ! $ pass1 ! (init ! 50 refl (shr-slice-lawful 𝓤 H A W (named 0) κ u8 .typed s (v ∷ []) p .0)) $ pass0 ! $
         move ! (55 ∷ []) $ fsplit ! $ move ! (1 ∷ []) $ drop ! $ move ! (0 ∷ 55 ∷ []) $
         -- [what s owns; the token; room for _26; …; _1; …; room for _0; …]
-        begins 𝓤 H A W mem run κ q s fm known-begin ! 0 (ok 0 tt) (and-then ! (load ! (from ! (stop !)) (look ! 52 refl)) (and-then ! (lit ! tt) (no-more !))) $ land ! (from ! (stop !)) (init ! 51 refl (ty p 0 tt)) $
+        begins 𝓤 H A W mem run κ q s fm known-begin ! 0 (ok 0 tt) (and-then ! (load ! (from ! (stop !)) (look ! 52 refl)) (and-then ! (lit ! tt) (no-more !))) $
+        land ! (from ! (stop !)) (init ! 51 refl (ty p 0 tt)) $
         -- [what the reader owns; the token; what s owns; room for _26; …; _1; …; room for _0; …]
-        assigns ! (of-opd ! (load ! (from ! (stop !)) (look ! 51 refl))) (from ! (stop !)) (init ! 33 refl (ty p 0 tt)) $ takes 𝓤 H A W mem run κ q s fm known-take ! 0 8 (ok 8 tt) (and-then ! (load ! (from ! (stop !)) (look ! 33 refl)) (and-then ! (lit ! tt) (no-more !))) $ land ! (from ! (stop !)) (init ! 49 refl (tt, record { fits = bits-fit s 0 8 })) $
-        assigns ! (of-opd ! (load ! (from ! (stop !)) (look ! 51 refl))) (from ! (stop !)) (init ! 31 refl (ty p 0 tt)) $ forget ! 51 refl $ steps 𝓤 H A W mem run κ q s fm known-step ! 0 8 8 (ok 8 tt) refl (and-then ! (load ! (from ! (stop !)) (look ! 31 refl)) (and-then ! (lit ! tt) (no-more !))) $ land ! (from ! (stop !)) (init ! 51 refl (ty p 8 tt)) $
-        assigns ! (of-opd ! (load ! (from ! (stop !)) (look ! 51 refl))) (from ! (stop !)) (init ! 29 refl (ty p 8 tt)) $ takes 𝓤 H A W mem run κ q s fm known-take ! 8 10 (ok 10 tt) (and-then ! (load ! (from ! (stop !)) (look ! 29 refl)) (and-then ! (lit ! tt) (no-more !))) $ land ! (from ! (stop !)) (init ! 47 refl (tt, record { fits = bits-fit s 8 10 })) $
-        assigns ! (of-opd ! (load ! (from ! (stop !)) (look ! 51 refl))) (from ! (stop !)) (init ! 27 refl (ty p 8 tt)) $ forget ! 51 refl $ steps 𝓤 H A W mem run κ q s fm known-step ! 8 10 18 (ok 10 tt) refl (and-then ! (load ! (from ! (stop !)) (look ! 27 refl)) (and-then ! (lit ! tt) (no-more !))) $ land ! (from ! (stop !)) (init ! 51 refl (ty p 18 tt)) $
-        assigns ! (of-opd ! (load ! (from ! (stop !)) (look ! 51 refl))) (from ! (stop !)) (init ! 25 refl (ty p 18 tt)) $ takes 𝓤 H A W mem run κ q s fm known-take ! 18 6 (ok 6 tt) (and-then ! (load ! (from ! (stop !)) (look ! 25 refl)) (and-then ! (lit ! tt) (no-more !))) $ land ! (from ! (stop !)) (init ! 45 refl (tt, record { fits = bits-fit s 18 6 })) $
-        assigns ! (of-opd ! (load ! (from ! (stop !)) (look ! 51 refl))) (from ! (stop !)) (init ! 23 refl (ty p 18 tt)) $ forget ! 51 refl $ steps 𝓤 H A W mem run κ q s fm known-step ! 18 6 24 (ok 6 tt) refl (and-then ! (load ! (from ! (stop !)) (look ! 23 refl)) (and-then ! (lit ! tt) (no-more !))) $ land ! (from ! (stop !)) (init ! 51 refl (ty p 24 tt)) $
-        assigns ! (of-opd ! (load ! (from ! (stop !)) (look ! 51 refl))) (from ! (stop !)) (init ! 21 refl (ty p 24 tt)) $ takes 𝓤 H A W mem run κ q s fm known-take ! 24 2 (ok 2 tt) (and-then ! (load ! (from ! (stop !)) (look ! 21 refl)) (and-then ! (lit ! tt) (no-more !))) $ land ! (from ! (stop !)) (init ! 43 refl (tt, record { fits = bits-fit s 24 2 })) $
-        assigns ! (of-opd ! (load ! (from ! (stop !)) (look ! 51 refl))) (from ! (stop !)) (init ! 19 refl (ty p 24 tt)) $ forget ! 51 refl $ steps 𝓤 H A W mem run κ q s fm known-step ! 24 2 26 (ok 2 tt) refl (and-then ! (load ! (from ! (stop !)) (look ! 19 refl)) (and-then ! (lit ! tt) (no-more !))) $ land ! (from ! (stop !)) (init ! 51 refl (ty p 26 tt)) $
-        assigns ! (of-opd ! (load ! (from ! (stop !)) (look ! 51 refl))) (from ! (stop !)) (init ! 17 refl (ty p 26 tt)) $ takes 𝓤 H A W mem run κ q s fm known-take ! 26 1 (ok 1 tt) (and-then ! (load ! (from ! (stop !)) (look ! 17 refl)) (and-then ! (lit ! tt) (no-more !))) $ land ! (from ! (stop !)) (init ! 41 refl (tt, record { fits = bits-fit s 26 1 })) $
-        assigns ! (of-opd ! (load ! (from ! (stop !)) (look ! 51 refl))) (from ! (stop !)) (init ! 15 refl (ty p 26 tt)) $ forget ! 51 refl $ steps 𝓤 H A W mem run κ q s fm known-step ! 26 1 27 (ok 1 tt) refl (and-then ! (load ! (from ! (stop !)) (look ! 15 refl)) (and-then ! (lit ! tt) (no-more !))) $ land ! (from ! (stop !)) (init ! 51 refl (ty p 27 tt)) $
-        assigns ! (of-opd ! (load ! (from ! (stop !)) (look ! 51 refl))) (from ! (stop !)) (init ! 13 refl (ty p 27 tt)) $ forget ! 51 refl $ steps 𝓤 H A W mem run κ q s fm known-step ! 27 1 28 (ok 1 tt) refl (and-then ! (load ! (from ! (stop !)) (look ! 13 refl)) (and-then ! (lit ! tt) (no-more !))) $ land ! (from ! (stop !)) (init ! 51 refl (ty p 28 tt)) $
-        assigns ! (of-opd ! (load ! (from ! (stop !)) (look ! 51 refl))) (from ! (stop !)) (init ! 11 refl (ty p 28 tt)) $ takes 𝓤 H A W mem run κ q s fm known-take ! 28 16 (ok 16 tt) (and-then ! (load ! (from ! (stop !)) (look ! 11 refl)) (and-then ! (lit ! tt) (no-more !))) $ land ! (from ! (stop !)) (init ! 39 refl (tt, record { fits = bits-fit s 28 16 })) $
-        assigns ! (of-opd ! (load ! (from ! (stop !)) (look ! 51 refl))) (from ! (stop !)) (init ! 9 refl (ty p 28 tt)) $ forget ! 51 refl $ steps 𝓤 H A W mem run κ q s fm known-step ! 28 16 44 (ok 16 tt) refl (and-then ! (load ! (from ! (stop !)) (look ! 9 refl)) (and-then ! (lit ! tt) (no-more !))) $ land ! (from ! (stop !)) (init ! 51 refl (ty p 44 tt)) $
-        assigns ! (of-opd ! (load ! (from ! (stop !)) (look ! 51 refl))) (from ! (stop !)) (init ! 7 refl (ty p 44 tt)) $ takes 𝓤 H A W mem run κ q s fm known-take ! 44 8 (ok 8 tt) (and-then ! (load ! (from ! (stop !)) (look ! 7 refl)) (and-then ! (lit ! tt) (no-more !))) $ land ! (from ! (stop !)) (init ! 37 refl (tt, record { fits = bits-fit s 44 8 })) $
-        assigns ! (of-opd ! (load ! (from ! (stop !)) (look ! 51 refl))) (from ! (stop !)) (init ! 5 refl (ty p 44 tt)) $ forget ! 51 refl $ steps 𝓤 H A W mem run κ q s fm known-step ! 44 8 52 (ok 8 tt) refl (and-then ! (load ! (from ! (stop !)) (look ! 5 refl)) (and-then ! (lit ! tt) (no-more !))) $ land ! (from ! (stop !)) (init ! 51 refl (ty p 52 tt)) $
-        assigns ! (of-opd ! (load ! (from ! (stop !)) (look ! 51 refl))) (from ! (stop !)) (init ! 3 refl (ty p 52 tt)) $ takes 𝓤 H A W mem run κ q s fm known-take ! 52 6 (ok 6 tt) (and-then ! (load ! (from ! (stop !)) (look ! 3 refl)) (and-then ! (lit ! tt) (no-more !))) $ land ! (from ! (stop !)) (init ! 35 refl (tt, record { fits = bits-fit s 52 6 })) $
+        assigns ! (of-opd ! (load ! (from ! (stop !)) (look ! 51 refl))) (from ! (stop !)) (init ! 33 refl (ty p 0 tt)) $
+        takes 𝓤 H A W mem run κ q s fm known-take ! 0 8 (ok 8 tt) (and-then ! (load ! (from ! (stop !)) (look ! 33 refl)) (and-then ! (lit ! tt) (no-more !))) $
+        land ! (from ! (stop !)) (init ! 49 refl (tt, record { fits = bits-fit s 0 8 })) $
+        assigns ! (of-opd ! (load ! (from ! (stop !)) (look ! 51 refl))) (from ! (stop !)) (init ! 31 refl (ty p 0 tt)) $ forget ! 51 refl $
+        steps 𝓤 H A W mem run κ q s fm known-step ! 0 8 8 (ok 8 tt) refl (and-then ! (load ! (from ! (stop !)) (look ! 31 refl)) (and-then ! (lit ! tt) (no-more !))) $
+        land ! (from ! (stop !)) (init ! 51 refl (ty p 8 tt)) $
+        assigns ! (of-opd ! (load ! (from ! (stop !)) (look ! 51 refl))) (from ! (stop !)) (init ! 29 refl (ty p 8 tt)) $
+        takes 𝓤 H A W mem run κ q s fm known-take ! 8 10 (ok 10 tt) (and-then ! (load ! (from ! (stop !)) (look ! 29 refl)) (and-then ! (lit ! tt) (no-more !))) $
+        land ! (from ! (stop !)) (init ! 47 refl (tt, record { fits = bits-fit s 8 10 })) $
+        assigns ! (of-opd ! (load ! (from ! (stop !)) (look ! 51 refl))) (from ! (stop !)) (init ! 27 refl (ty p 8 tt)) $ forget ! 51 refl $
+        steps 𝓤 H A W mem run κ q s fm known-step ! 8 10 18 (ok 10 tt) refl (and-then ! (load ! (from ! (stop !)) (look ! 27 refl)) (and-then ! (lit ! tt) (no-more !))) $
+        land ! (from ! (stop !)) (init ! 51 refl (ty p 18 tt)) $
+        assigns ! (of-opd ! (load ! (from ! (stop !)) (look ! 51 refl))) (from ! (stop !)) (init ! 25 refl (ty p 18 tt)) $
+        takes 𝓤 H A W mem run κ q s fm known-take ! 18 6 (ok 6 tt) (and-then ! (load ! (from ! (stop !)) (look ! 25 refl)) (and-then ! (lit ! tt) (no-more !))) $
+        land ! (from ! (stop !)) (init ! 45 refl (tt, record { fits = bits-fit s 18 6 })) $
+        assigns ! (of-opd ! (load ! (from ! (stop !)) (look ! 51 refl))) (from ! (stop !)) (init ! 23 refl (ty p 18 tt)) $ forget ! 51 refl $
+        steps 𝓤 H A W mem run κ q s fm known-step ! 18 6 24 (ok 6 tt) refl (and-then ! (load ! (from ! (stop !)) (look ! 23 refl)) (and-then ! (lit ! tt) (no-more !))) $
+        land ! (from ! (stop !)) (init ! 51 refl (ty p 24 tt)) $
+        assigns ! (of-opd ! (load ! (from ! (stop !)) (look ! 51 refl))) (from ! (stop !)) (init ! 21 refl (ty p 24 tt)) $
+        takes 𝓤 H A W mem run κ q s fm known-take ! 24 2 (ok 2 tt) (and-then ! (load ! (from ! (stop !)) (look ! 21 refl)) (and-then ! (lit ! tt) (no-more !))) $
+        land ! (from ! (stop !)) (init ! 43 refl (tt, record { fits = bits-fit s 24 2 })) $
+        assigns ! (of-opd ! (load ! (from ! (stop !)) (look ! 51 refl))) (from ! (stop !)) (init ! 19 refl (ty p 24 tt)) $ forget ! 51 refl $
+        steps 𝓤 H A W mem run κ q s fm known-step ! 24 2 26 (ok 2 tt) refl (and-then ! (load ! (from ! (stop !)) (look ! 19 refl)) (and-then ! (lit ! tt) (no-more !))) $
+        land ! (from ! (stop !)) (init ! 51 refl (ty p 26 tt)) $
+        assigns ! (of-opd ! (load ! (from ! (stop !)) (look ! 51 refl))) (from ! (stop !)) (init ! 17 refl (ty p 26 tt)) $
+        takes 𝓤 H A W mem run κ q s fm known-take ! 26 1 (ok 1 tt) (and-then ! (load ! (from ! (stop !)) (look ! 17 refl)) (and-then ! (lit ! tt) (no-more !))) $
+        land ! (from ! (stop !)) (init ! 41 refl (tt, record { fits = bits-fit s 26 1 })) $
+        assigns ! (of-opd ! (load ! (from ! (stop !)) (look ! 51 refl))) (from ! (stop !)) (init ! 15 refl (ty p 26 tt)) $ forget ! 51 refl $
+        steps 𝓤 H A W mem run κ q s fm known-step ! 26 1 27 (ok 1 tt) refl (and-then ! (load ! (from ! (stop !)) (look ! 15 refl)) (and-then ! (lit ! tt) (no-more !))) $
+        land ! (from ! (stop !)) (init ! 51 refl (ty p 27 tt)) $
+        assigns ! (of-opd ! (load ! (from ! (stop !)) (look ! 51 refl))) (from ! (stop !)) (init ! 13 refl (ty p 27 tt)) $ forget ! 51 refl $
+        steps 𝓤 H A W mem run κ q s fm known-step ! 27 1 28 (ok 1 tt) refl (and-then ! (load ! (from ! (stop !)) (look ! 13 refl)) (and-then ! (lit ! tt) (no-more !))) $
+        land ! (from ! (stop !)) (init ! 51 refl (ty p 28 tt)) $
+        assigns ! (of-opd ! (load ! (from ! (stop !)) (look ! 51 refl))) (from ! (stop !)) (init ! 11 refl (ty p 28 tt)) $
+        takes 𝓤 H A W mem run κ q s fm known-take ! 28 16 (ok 16 tt) (and-then ! (load ! (from ! (stop !)) (look ! 11 refl)) (and-then ! (lit ! tt) (no-more !))) $
+        land ! (from ! (stop !)) (init ! 39 refl (tt, record { fits = bits-fit s 28 16 })) $
+        assigns ! (of-opd ! (load ! (from ! (stop !)) (look ! 51 refl))) (from ! (stop !)) (init ! 9 refl (ty p 28 tt)) $ forget ! 51 refl $
+        steps 𝓤 H A W mem run κ q s fm known-step ! 28 16 44 (ok 16 tt) refl (and-then ! (load ! (from ! (stop !)) (look ! 9 refl)) (and-then ! (lit ! tt) (no-more !))) $
+        land ! (from ! (stop !)) (init ! 51 refl (ty p 44 tt)) $
+        assigns ! (of-opd ! (load ! (from ! (stop !)) (look ! 51 refl))) (from ! (stop !)) (init ! 7 refl (ty p 44 tt)) $
+        takes 𝓤 H A W mem run κ q s fm known-take ! 44 8 (ok 8 tt) (and-then ! (load ! (from ! (stop !)) (look ! 7 refl)) (and-then ! (lit ! tt) (no-more !))) $
+        land ! (from ! (stop !)) (init ! 37 refl (tt, record { fits = bits-fit s 44 8 })) $
+        assigns ! (of-opd ! (load ! (from ! (stop !)) (look ! 51 refl))) (from ! (stop !)) (init ! 5 refl (ty p 44 tt)) $ forget ! 51 refl $
+        steps 𝓤 H A W mem run κ q s fm known-step ! 44 8 52 (ok 8 tt) refl (and-then ! (load ! (from ! (stop !)) (look ! 5 refl)) (and-then ! (lit ! tt) (no-more !))) $
+        land ! (from ! (stop !)) (init ! 51 refl (ty p 52 tt)) $
+        assigns ! (of-opd ! (load ! (from ! (stop !)) (look ! 51 refl))) (from ! (stop !)) (init ! 3 refl (ty p 52 tt)) $
+        takes 𝓤 H A W mem run κ q s fm known-take ! 52 6 (ok 6 tt) (and-then ! (load ! (from ! (stop !)) (look ! 3 refl)) (and-then ! (lit ! tt) (no-more !))) $
+        land ! (from ! (stop !)) (init ! 35 refl (tt, record { fits = bits-fit s 52 6 })) $
         use0 W (raw (Opened 𝓤 H A mem run .pre to)) asked $
         calls-at ! fm (Opened 𝓤 H A mem run) known-opened to (and-then ! (load ! (from ! (stop !)) (look ! 50 refl)) (and-then ! (load ! (from ! (stop !)) (look ! 48 refl)) (and-then ! (load ! (from ! (stop !)) (look ! 46 refl)) (and-then ! (load ! (from ! (stop !)) (look ! 44 refl)) (and-then ! (load ! (from ! (stop !)) (look ! 42 refl)) (and-then ! (load ! (from ! (stop !)) (look ! 40 refl)) (and-then ! (load ! (from ! (stop !)) (look ! 38 refl)) (and-then ! (load ! (from ! (stop !)) (look ! 36 refl)) (no-more !))))))))) (λ u.
         use1 W (later (some (λ (o : Opening). (‵ ftrue ⊛ ‵ (S.the-row .own o (u ∷ []))) ⊛ raw (ensured 𝓤 H A opened.ended (opened.clauses 𝓤 H A mem run) tt (given′ .0) tt o)))) (id⊢ 𝓤 _) $ await ! tt $ pick ! (λ o.
@@ -161,8 +203,17 @@ module _ {M : Type 1} (𝓤 : URA M) (H : Heap 𝓤) (A : Atoms 𝓤) (W : Given
         -- [the result; what the reader owns; the token; what s owns; _26; …; _1; …; room for _0; …]
         peeks ! S.the-row (Is S.the-row) (shows 𝓤 H A S.the-row) o (u ∷ []) (λ is.
         land ! (from ! (stop !)) (init ! 56 refl (LL.lawful S.the-type S′.the-laws 𝓤 H A W .typed o _ is .0)) $
-        returns ! (look ! 56 refl) $ forget ! 4 refl $ forget ! 6 refl $ forget ! 8 refl $ forget ! 10 refl $ forget ! 12 refl $ forget ! 14 refl $ forget ! 16 refl $ forget ! 18 refl $ forget ! 20 refl $ forget ! 22 refl $ forget ! 24 refl $ forget ! 26 refl $ forget ! 28 refl $ forget ! 30 refl $ forget ! 32 refl $ forget ! 34 refl $ forget ! 36 refl $ forget ! 38 refl $ forget ! 40 refl $ forget ! 42 refl $ forget ! 44 refl $ forget ! 46 refl $ forget ! 48 refl $ forget ! 50 refl $ forget ! 52 refl $ forget ! 54 refl $ forget ! 56 refl $
-        move ! (56 ∷ 57 ∷ []) $ free1 ! $ move ! (54 ∷ 55 ∷ []) $ free1 ! $ move ! (52 ∷ 53 ∷ []) $ free1 ! $ move ! (50 ∷ 51 ∷ []) $ free1 ! $ move ! (48 ∷ 49 ∷ []) $ free1 ! $ move ! (46 ∷ 47 ∷ []) $ free1 ! $ move ! (44 ∷ 45 ∷ []) $ free1 ! $ move ! (42 ∷ 43 ∷ []) $ free1 ! $ move ! (40 ∷ 41 ∷ []) $ free1 ! $ move ! (38 ∷ 39 ∷ []) $ free1 ! $ move ! (36 ∷ 37 ∷ []) $ free1 ! $ move ! (34 ∷ 35 ∷ []) $ free1 ! $ move ! (32 ∷ 33 ∷ []) $ free1 ! $ move ! (30 ∷ 31 ∷ []) $ free1 ! $ move ! (28 ∷ 29 ∷ []) $ free1 ! $ move ! (26 ∷ 27 ∷ []) $ free1 ! $ move ! (24 ∷ 25 ∷ []) $ free1 ! $ move ! (22 ∷ 23 ∷ []) $ free1 ! $ move ! (20 ∷ 21 ∷ []) $ free1 ! $ move ! (18 ∷ 19 ∷ []) $ free1 ! $ move ! (16 ∷ 17 ∷ []) $ free1 ! $ move ! (14 ∷ 15 ∷ []) $ free1 ! $ move ! (12 ∷ 13 ∷ []) $ free1 ! $ move ! (10 ∷ 11 ∷ []) $ free1 ! $ move ! (8 ∷ 9 ∷ []) $ free1 ! $ move ! (6 ∷ 7 ∷ []) $ free1 ! $ move ! (4 ∷ 5 ∷ []) $ free1 ! $ free0 ! $ by ! (exits o u e))))))))))))))))))))))))))))))))
+        returns ! (look ! 56 refl) $ forget ! 4 refl $ forget ! 6 refl $ forget ! 8 refl $ forget ! 10 refl $ forget ! 12 refl $ forget ! 14 refl $ forget ! 16 refl $
+        forget ! 18 refl $ forget ! 20 refl $ forget ! 22 refl $ forget ! 24 refl $ forget ! 26 refl $ forget ! 28 refl $ forget ! 30 refl $ forget ! 32 refl $
+        forget ! 34 refl $ forget ! 36 refl $ forget ! 38 refl $ forget ! 40 refl $ forget ! 42 refl $ forget ! 44 refl $ forget ! 46 refl $ forget ! 48 refl $
+        forget ! 50 refl $ forget ! 52 refl $ forget ! 54 refl $ forget ! 56 refl $
+        move ! (56 ∷ 57 ∷ []) $ free1 ! $ move ! (54 ∷ 55 ∷ []) $ free1 ! $ move ! (52 ∷ 53 ∷ []) $ free1 ! $ move ! (50 ∷ 51 ∷ []) $ free1 ! $ move ! (48 ∷ 49 ∷ []) $
+        free1 ! $ move ! (46 ∷ 47 ∷ []) $ free1 ! $ move ! (44 ∷ 45 ∷ []) $ free1 ! $ move ! (42 ∷ 43 ∷ []) $ free1 ! $ move ! (40 ∷ 41 ∷ []) $ free1 ! $
+        move ! (38 ∷ 39 ∷ []) $ free1 ! $ move ! (36 ∷ 37 ∷ []) $ free1 ! $ move ! (34 ∷ 35 ∷ []) $ free1 ! $ move ! (32 ∷ 33 ∷ []) $ free1 ! $ move ! (30 ∷ 31 ∷ []) $
+        free1 ! $ move ! (28 ∷ 29 ∷ []) $ free1 ! $ move ! (26 ∷ 27 ∷ []) $ free1 ! $ move ! (24 ∷ 25 ∷ []) $ free1 ! $ move ! (22 ∷ 23 ∷ []) $ free1 ! $
+        move ! (20 ∷ 21 ∷ []) $ free1 ! $ move ! (18 ∷ 19 ∷ []) $ free1 ! $ move ! (16 ∷ 17 ∷ []) $ free1 ! $ move ! (14 ∷ 15 ∷ []) $ free1 ! $ move ! (12 ∷ 13 ∷ []) $
+        free1 ! $ move ! (10 ∷ 11 ∷ []) $ free1 ! $ move ! (8 ∷ 9 ∷ []) $ free1 ! $ move ! (6 ∷ 7 ∷ []) $ free1 ! $ move ! (4 ∷ 5 ∷ []) $ free1 ! $ free0 ! $
+        by ! (exits o u e))))))))))))))))))))))))))))))))
 
 module _ {M : Type 1} (𝓤 : URA M) (H : Heap 𝓤) (A : Atoms 𝓤) (W : Given 𝓤 H A) (mem : Memory → SProp 𝓤) (run : Routine → Fun 𝓤) where
   opening-of-walks : (C : Calls 𝓤 H) (Λ : Loops 𝓤 H) → FmC 𝓤 H (W .laws) C → Triple 𝓤 (C #fields·begin) (Begin 𝓤 H A mem run) → Triple 𝓤 (C #fields·take) (Take 𝓤 H A mem run) → Triple 𝓤 (C #fields·step) (Step-on 𝓤 H A mem run) → Triple 𝓤 (C #fields·opened) (Opened 𝓤 H A mem run)

@@ -1,4 +1,5 @@
--- `fields::step` meets its contract: a walk of its MIR, by hand. The struct is taken apart, `further` is called on the number, and a struct is made anew of the slice and what it returns. All that the proof knows of `further` is that it meets its contract.
+-- `fields::step` meets its contract: a walk of its MIR, by hand. The struct is taken apart, `further` is called on the number, and
+-- a struct is made anew of the slice and what it returns. All that the proof knows of `further` is that it meets its contract.
 -- The struct is Copy: what it owns is had twice, one copy is kept whole for the exit, and the other, with the facts of the new number in the place of at's, is what the result owns.
 -- Assumes nothing.
 use mathlib.Core.Path.{_≡_, refl, ap}
@@ -99,7 +100,8 @@ module _ {M : Type 1} (𝓤 : URA M) (H : Heap 𝓤) (A : Atoms 𝓤) (W : Given
   asked : d .at < 2 ^ 64 → ent 𝓤 (emp 𝓤) (Further 𝓤 H A mem run .pre to)
   asked fits =
       qed W [] ∵
-      nothing ! $ owned ! usize (Is usize) (uint-makes 𝓤 H A W w64) w _ (refl, ok) $ fjoin ! $ owned ! usize (Is usize) (uint-makes 𝓤 H A W w64) (d .at) _ (refl, fits) $ fjoin ! $ nothing ! $ join ! $ frame ! $ done !
+      nothing ! $ owned ! usize (Is usize) (uint-makes 𝓤 H A W w64) w _ (refl, ok) $ fjoin ! $ owned ! usize (Is usize) (uint-makes 𝓤 H A W w64) (d .at) _ (refl, fits) $
+      fjoin ! $ nothing ! $ join ! $ frame ! $ done !
 
   said : (n : ℕ) → ent 𝓤 (ensured 𝓤 H A further.ended (further.clauses 𝓤 H A mem run) tt (d .at, (w, tt)) tt n) (fact 𝓤 (On n))
   said n = exE 𝓤 _ (λ ws. snd∗ 𝓤 (sem 𝓤 H A (lasts further.ended tt (d .at, (w, tt)) ws)) (fact 𝓤 (On n)))
@@ -108,15 +110,18 @@ module _ {M : Type 1} (𝓤 : URA M) (H : Heap 𝓤) (A : Atoms 𝓤) (W : Given
   exits n fits e =
       qed W ((‵ (flft κ q) ⊛ ‵ ftrue) ∷ ‵ (owns (B (κ, tt) ∷ usize ∷ []) (d, (w, tt)) given′) ∷ []) ∵
       suffices ! _ (ends-at 𝓤 H A step.ended stayed (step.clauses 𝓤 H A mem run) W (((κ, tt), (q, tt), tt, (d, (w, tt)), given′), tt) (T′.lowered (moved n)) (moved n) (tt, (tt, tt)) (tt, (tt, tt))) $ says ! (refl, e) $
-      frame ! $ fsplit ! $ use1 W (‵ Own ⊛ ‵ Own) (LL.copy (T.the-type (namedLft 1 0 tt (κ, tt))) (T′.the-copy (namedLft 1 0 tt (κ, tt))) 𝓤 H A W .twice d (mach ∷ [])) $ split ! $ move ! (0 ∷ 2 ∷ []) $ fjoin ! $ frame ! $
+      frame ! $ fsplit ! $ use1 W (‵ Own ⊛ ‵ Own) (LL.copy (T.the-type (namedLft 1 0 tt (κ, tt))) (T′.the-copy (namedLft 1 0 tt (κ, tt))) 𝓤 H A W .twice d (mach ∷ [])) $
+      split ! $ move ! (0 ∷ 2 ∷ []) $ fjoin ! $ frame ! $
       -- [what the struct owns]: the new number's facts take the place of at's
-      owned ! usize (Is usize) (uint-makes 𝓤 H A W w64) n _ (refl, fits) $ move ! (1 ∷ 0 ∷ []) $ by ! (own-put 𝓤 H A W (T.the-type (namedLft 1 0 tt (κ, tt))) (T′.the-laws (namedLft 1 0 tt (κ, tt))) 1 (d .src, (d .at, tt)) n mach)
+      owned ! usize (Is usize) (uint-makes 𝓤 H A W w64) n _ (refl, fits) $ move ! (1 ∷ 0 ∷ []) $
+      by ! (own-put 𝓤 H A W (T.the-type (namedLft 1 0 tt (κ, tt))) (T′.the-laws (namedLft 1 0 tt (κ, tt))) 1 (d .src, (d .at, tt)) n mach)
 
   module _ (C : Calls 𝓤 H) (Λ : Loops 𝓤 H) (fm : FmC 𝓤 H (W .laws) C) (known : Triple 𝓤 (C #fields·further) (Further 𝓤 H A mem run)) where
     walk : Holds (hasTy (T′.mir (named 0)) mach) × WT mach → ent 𝓤 (onEntry 𝓤 H A step.signature (κ, tt) (q, tt) (d, (w, tt)) given′) (WpFn 𝓤 H C Λ code.function (mach ∷ vint w64 w ∷ []) Post)
     walk wt =
         qed W (raw (onEntry 𝓤 H A step.signature (κ, tt) (q, tt) (d, (w, tt)) given′) ∷ []) ∵ enter ! C Λ code.function (mach ∷ vint w64 w ∷ []) _ $
-        alloc1 ! (λ l₀. alloc1 ! (λ l₁. alloc1 ! (λ l₂. alloc1 ! (λ l₃. alloc1 ! (λ l₄. alloc1 ! (λ l₅. alloc0 ! $ params1 ! $ pass1 ! (init ! 8 refl wt) $ pass1 ! (init ! 6 refl (tt, record { fits = ok })) $ pass0 ! $
+        alloc1 ! (λ l₀. alloc1 ! (λ l₁. alloc1 ! (λ l₂. alloc1 ! (λ l₃. alloc1 ! (λ l₄. alloc1 ! (λ l₅. alloc0 ! $ params1 ! $ pass1 ! (init ! 8 refl wt) $
+        pass1 ! (init ! 6 refl (tt, record { fits = ok })) $ pass0 ! $
         assigns ! (of-opd ! (load ! (from ! (fld ! refl (stop !))) (look-in ! 8 (sub ! 0 refl (whole !))))) (from ! (stop !)) (init ! 4 refl (tt, wt .1 .0)) $
         assigns ! (of-opd ! (load ! (from ! (fld ! refl (stop !))) (look-in ! 8 (sub ! 1 refl (whole !))))) (from ! (stop !)) (init ! 0 refl (tt, wt .1 .1 .0)) $
         use0 W (raw (Further 𝓤 H A mem run .pre to)) (asked (wt .1 .1 .0 .fits)) $
@@ -128,7 +133,8 @@ module _ {M : Type 1} (𝓤 : URA M) (H : Heap 𝓤) (A : Atoms 𝓤) (W : Given
         known-as ! (ap only (is .0)) $ land ! (from ! (stop !)) (init ! 2 refl (tt, record { fits = is .1 })) $
         assigns ! (agg ! (and-then ! (load ! (from ! (stop !)) (look ! 4 refl)) (and-then ! (load ! (from ! (stop !)) (look ! 2 refl)) (no-more !)))) (from ! (stop !)) (init ! 10 refl (tt, (wt .1 .0, (record { fits = is .1 }, tt)))) $
         returns ! (look ! 10 refl) $ forget ! 0 refl $ forget ! 2 refl $ forget ! 4 refl $ forget ! 6 refl $ forget ! 8 refl $ forget ! 10 refl $
-        move ! (10 ∷ 11 ∷ []) $ free1 ! $ move ! (8 ∷ 9 ∷ []) $ free1 ! $ move ! (6 ∷ 7 ∷ []) $ free1 ! $ move ! (4 ∷ 5 ∷ []) $ free1 ! $ move ! (2 ∷ 3 ∷ []) $ free1 ! $ free1 ! $ free0 ! $
+        move ! (10 ∷ 11 ∷ []) $ free1 ! $ move ! (8 ∷ 9 ∷ []) $ free1 ! $ move ! (6 ∷ 7 ∷ []) $ free1 ! $ move ! (4 ∷ 5 ∷ []) $ free1 ! $ move ! (2 ∷ 3 ∷ []) $ free1 ! $
+        free1 ! $ free0 ! $
         by ! (exits n (is .1) e)))))))))))
 
 module _ {M : Type 1} (𝓤 : URA M) (H : Heap 𝓤) (A : Atoms 𝓤) (W : Given 𝓤 H A) (mem : Memory → SProp 𝓤) (run : Routine → Fun 𝓤) where
