@@ -45,24 +45,28 @@ returns : tie.Need-returns
 returns c =
     let a = c .before .before .before .before .before .args in
     let ns = map nib (now (a .body)) in
-    ends (frontRules (a .head / 32) ns) (wholeRules (a .head) ns ++ lengthRules (a .head / 32) (openingIn (whole 4 ns)) (whole 4 ns)) 0 (c .before .before .before .judge-front .ensures) _ (c .before .why .given .1)
+    let lengths = lengthRules (a .head / 32) (openingIn (whole 4 ns)) (whole 4 ns) in
+    ends (frontRules (a .head / 32) ns) (wholeRules (a .head) ns ++ lengths) 0 (c .before .before .before .judge-front .ensures) _ (c .before .why .given .1)
 
 returns-2 : tie.Need-returns-2
 returns-2 c =
     let a = c .before .before .before .before .before .before .before .before .args in
     let ns = map nib (now (a .body)) in
-    ends (wholeRules (a .head) ns) (lengthRules (a .head / 32) (openingIn (whole 4 ns)) (whole 4 ns)) 0 (c .before .before .before .judge-whole .ensures) _ (c .before .why2 .given .1)
-    ∙ goes-on (frontRules (a .head / 32) ns) (wholeRules (a .head) ns ++ lengthRules (a .head / 32) (openingIn (whole 4 ns)) (whole 4 ns)) 0 (c .before .before .before .before .before .before .judge-front .ensures) _ (c .before .before .before .before .enum-told .given .1)
+    let lengths = lengthRules (a .head / 32) (openingIn (whole 4 ns)) (whole 4 ns) in
+    ends (wholeRules (a .head) ns) lengths 0 (c .before .before .before .judge-whole .ensures) _ (c .before .why2 .given .1)
+    ∙ goes-on (frontRules (a .head / 32) ns) (wholeRules (a .head) ns ++ lengths) 0 (c .before .before .before .before .before .before .judge-front .ensures) _ (c .before .before .before .before .enum-told .given .1)
 
 returns-3 : tie.Need-returns-3
 unfolding tableOf
 returns-3 c =
     let a = c .before .before .before .before .before .before .before .before .args in
+    let opens = c .before .before .before .before .before .before .before .before .pre .1 in
     let ns = map nib (now (a .body)) in
+    let lengths = lengthRules (a .head / 32) (openingIn (whole 4 ns)) (whole 4 ns) in
     c .judge-lengths .ensures
-    ∙ ap (λ (o : Opening). judged refused (lengthRules (a .head / 32) o (whole 4 ns)) (Done (length (form (tableBy o (whole 4 ns)))))) (c .before .before .before .before .before .before .before .before .pre .1)
-    ∙ goes-on (wholeRules (a .head) ns) (lengthRules (a .head / 32) (openingIn (whole 4 ns)) (whole 4 ns)) 0 (c .before .before .before .judge-whole .ensures) _ (c .before .enum-told2 .given .1)
-    ∙ goes-on (frontRules (a .head / 32) ns) (wholeRules (a .head) ns ++ lengthRules (a .head / 32) (openingIn (whole 4 ns)) (whole 4 ns)) 0 (c .before .before .before .before .before .before .judge-front .ensures) _ (c .before .before .before .before .enum-told .given .1)
+    ∙ ap (λ (o : Opening). judged refused (lengthRules (a .head / 32) o (whole 4 ns)) (Done (length (form (tableBy o (whole 4 ns)))))) opens
+    ∙ goes-on (wholeRules (a .head) ns) lengths 0 (c .before .before .before .judge-whole .ensures) _ (c .before .enum-told2 .given .1)
+    ∙ goes-on (frontRules (a .head / 32) ns) (wholeRules (a .head) ns ++ lengths) 0 (c .before .before .before .before .before .before .judge-front .ensures) _ (c .before .before .before .before .enum-told .given .1)
 
 pub judge-body-spec : {M : Type 1} → statement M
 judge-body-spec =

@@ -63,9 +63,12 @@ returns-3 : tie.Need-returns-3
 returns-3 c =
     let s : List ℕ = now (c .before .before .before .before .before .before .before .before .before .before .args .body) in
     let p = c .before .before .before .before .before .before .before .before .before .before .pre .1 in
-    let e : c .before .before .before .before .before .before .before .sound .result ≡ sound (take 8 (map nib s)) = c .before .before .before .before .before .before .before .sound .ensures ∙ ap sound (map-take nib 8 s) in
+    let b = c .before .before .before .before .before .before .before in
+    let e : b .sound .result ≡ sound (take 8 (map nib s)) = b .sound .ensures ∙ ap sound (map-take nib 8 s) in
     let k = c .before .before .before .before .known .ensures ∙ ap (λ (o : Opening). known (o .kind)) p in
-    c .refuse3 .ensures ∙ sym (front-12′ _ (map nib s) _ (sym e ∙ c .before .before .before .before .before .before .if1 .left) (sym k ∙ not-false _ (c .before .before .before .if2 .left)) (rw (ap (λ (o : Opening). o .access) p) at (c .before .if3 .taken)))
+    let eight = sym e ∙ c .before .before .before .before .before .before .if1 .left in
+    let kind = sym k ∙ not-false _ (c .before .before .before .if2 .left) in
+    c .refuse3 .ensures ∙ sym (front-12′ _ (map nib s) _ eight kind (rw (ap (λ (o : Opening). o .access) p) at (c .before .if3 .taken)))
 
 refuse-requires-4 : tie.Need-refuse-requires-4
 refuse-requires-4 c κs = search needs
@@ -74,17 +77,25 @@ returns-4 : tie.Need-returns-4
 returns-4 c =
     let s : List ℕ = now (c .before .before .before .before .before .before .before .before .before .before .before .args .body) in
     let p = c .before .before .before .before .before .before .before .before .before .before .before .pre .1 in
-    let e : c .before .before .before .before .before .before .before .before .sound .result ≡ sound (take 8 (map nib s)) = c .before .before .before .before .before .before .before .before .sound .ensures ∙ ap sound (map-take nib 8 s) in
+    let b = c .before .before .before .before .before .before .before .before in
+    let e : b .sound .result ≡ sound (take 8 (map nib s)) = b .sound .ensures ∙ ap sound (map-take nib 8 s) in
     let k = c .before .before .before .before .before .known .ensures ∙ ap (λ (o : Opening). known (o .kind)) p in
-    c .refuse4 .ensures ∙ sym (front-13 _ (map nib s) _ (sym e ∙ c .before .before .before .before .before .before .before .if1 .left) (sym k ∙ not-false _ (c .before .before .before .before .if2 .left)) (sym (ap (λ (o : Opening). o .access) p) ∙ c .before .before .if3 .left) (c .before .if4 .taken))
+    let eight = sym e ∙ c .before .before .before .before .before .before .before .if1 .left in
+    let kind = sym k ∙ not-false _ (c .before .before .before .before .if2 .left) in
+    let access = sym (ap (λ (o : Opening). o .access) p) ∙ c .before .before .if3 .left in
+    c .refuse4 .ensures ∙ sym (front-13 _ (map nib s) _ eight kind access (c .before .if4 .taken))
 
 returns-5 : tie.Need-returns-5
 returns-5 c =
     let s : List ℕ = now (c .before .before .before .before .before .before .before .before .before .before .args .body) in
     let p = c .before .before .before .before .before .before .before .before .before .before .pre .1 in
-    let e : c .before .before .before .before .before .before .before .sound .result ≡ sound (take 8 (map nib s)) = c .before .before .before .before .before .before .before .sound .ensures ∙ ap sound (map-take nib 8 s) in
+    let b = c .before .before .before .before .before .before .before in
+    let e : b .sound .result ≡ sound (take 8 (map nib s)) = b .sound .ensures ∙ ap sound (map-take nib 8 s) in
     let k = c .before .before .before .before .known .ensures ∙ ap (λ (o : Opening). known (o .kind)) p in
-    sym (front-done _ (map nib s) _ (sym e ∙ c .before .before .before .before .before .before .if1 .left) (sym k ∙ not-false _ (c .before .before .before .if2 .left)) (sym (ap (λ (o : Opening). o .access) p) ∙ c .before .if3 .left) (c .if4 .left))
+    let eight = sym e ∙ c .before .before .before .before .before .before .if1 .left in
+    let kind = sym k ∙ not-false _ (c .before .before .before .if2 .left) in
+    let access = sym (ap (λ (o : Opening). o .access) p) ∙ c .before .if3 .left in
+    sym (front-done _ (map nib s) _ eight kind access (c .if4 .left))
 
 pub judge-front-spec : {M : Type 1} → statement M
 judge-front-spec =

@@ -50,7 +50,9 @@ add-write-words-2 c = search needs
 
 write-words-requires : tie.Need-write-words-requires
 write-words-requires c κs =
-    omega (arith, c .before .before .before .before .before .before .before .before .before .words-of .ensures .1, c .before .before .before .before .before .before .before .before .before .before .field-of2 .ensures .1, c .before .before .before .before .before .before .before .before .before .before .before .before .before .before .pre)
+    let each = c .before .before .before .before .before .before .before .before .before .words-of .ensures .1 in
+    let many = c .before .before .before .before .before .before .before .before .before .before .field-of2 .ensures .1 in
+    omega (arith, each, many, c .before .before .before .before .before .before .before .before .before .before .before .before .before .before .pre)
 
 same-length : tie.Need-same-length
 same-length c = search needs

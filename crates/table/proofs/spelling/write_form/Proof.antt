@@ -28,7 +28,8 @@ returns : tie.Need-returns
 returns c =
     let a = c .before .before .before .before .before .before .before .before .before .before .before .before .args in
     let n = compound (now (a .body)) in
-    form-stored (tableBy (a .opening) n) (now (a .out)) _ _ (c .before .before .before .before .before .before .before .before .write-opening .ensures ∙ ap (sets (now (a .out)) 0) (opened (a .opening) n))
+    let front = c .before .before .before .before .before .before .before .before .write-opening .ensures ∙ ap (sets (now (a .out)) 0) (opened (a .opening) n) in
+    form-stored (tableBy (a .opening) n) (now (a .out)) _ _ front
     (c .before .before .write-descriptors .ensures)
 
 pub write-form-spec : {M : Type 1} → statement M
