@@ -11,6 +11,7 @@ use Rattle.blocks.specs.Block.{Block, blocks, recordsOf}
 use Rattle.packet.specs.declared.Setting.{Setting}
 use Rattle.state.specs.declared.Reader.{Reader}
 use Rattle.walk.specs.Reading.{room}
+use Rattle.reader.specs.declared.many.HeardAll.the-variants.{TookAll}
 pub use Rattle.reader.specs.Values.{numberOf, countOf, writtenOf, droppedOf, numberOfAll, packetsOfAll, writtenOfAll}
 use Rattle.reader.specs.Feeding.{feedHeard, feedReader, feedOut}
 use Rattle.reader.specs.Many.{feedAllHeard, feedAllReader, feedAllOut}
