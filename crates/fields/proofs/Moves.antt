@@ -32,6 +32,7 @@ use denote.Steps.{only, owned, peeks, facts, heard, nothing}
 use denote.Struct.Laws as LL
 use denote.Triple.Statement.{Contract, Triple}
 use denote.Triple.Call.{calls-at}
+use denote.Triple.Entry.{onEntry}
 use denote.Triple.Spec.{tripleOf}
 use denote.Triple.Clauses.{ensured, lasts}
 use Rattle.fields.specs.Fields.{field}
@@ -108,6 +109,9 @@ module _ {M : Type 1} (𝓤 : URA M) (H : Heap 𝓤) (A : Atoms 𝓤) (W : Given
   abbrev pub to-begin : ℕ → Begin 𝓤 H A mem run .Ghost
   to-begin n = (((κ, tt), (q, tt), tt, (s, (n, tt)), (sliceOf s ∷ [], (vint w64 n ∷ [], tt))), tt)
 
+  asks-begin : (n : ℕ) → ent 𝓤 (onEntry 𝓤 H A begin.signature (κ, tt) (q, tt) (s, (n, tt)) (sliceOf s ∷ [], (vint w64 n ∷ [], tt))) (Begin 𝓤 H A mem run .pre (to-begin n))
+  asks-begin n = qed W (token κ q ∷ ‵ (owns (ShrSlice (named 0) κ u8 ∷ usize ∷ []) (s, (n, tt)) (sliceOf s ∷ [], (vint w64 n ∷ [], tt))) ∷ []) ∵ join ! $ frame ! $ done !
+
   goes-begin : (n : ℕ) → n < 2 ^ 64 → ent 𝓤 (⋆ 𝓤 H A (‵ (Own κ s) ∷ token κ q ∷ [])) (sep 𝓤 (Begin 𝓤 H A mem run .pre (to-begin n)) (sem 𝓤 H A (Own κ s)))
   goes-begin n ok =
       qed W (‵ (Own κ s) ∷ token κ q ∷ []) ∵
@@ -115,7 +119,11 @@ module _ {M : Type 1} (𝓤 : URA M) (H : Heap 𝓤) (A : Atoms 𝓤) (W : Given
       -- [what s owns; the same; the token]
       nothing ! $ owned ! usize (Is usize) (uint-makes 𝓤 H A W w64) n _ (refl, ok) $ fjoin ! $ move ! (1 ∷ 0 ∷ []) $ fjoin ! $
       move ! (2 ∷ 0 ∷ []) $
-      use2 W (raw (Begin 𝓤 H A mem run .pre (to-begin n))) (qed W (token κ q ∷ ‵ (owns (ShrSlice (named 0) κ u8 ∷ usize ∷ []) (s, (n, tt)) (sliceOf s ∷ [], (vint w64 n ∷ [], tt))) ∷ []) ∵ join ! $ frame ! $ done !) $ frame ! $ done !
+      use2 W (raw (Begin 𝓤 H A mem run .pre (to-begin n))) (asks-begin n) $ frame ! $ done !
+
+  -- what the call left: the token, what its result owns, and what it says of it
+  abbrev Begun : ℕ → Val → BitReader → Item 𝓤
+  Begun n u r = (token κ q ⊛ ‵ (B κ .own r (u ∷ []))) ⊛ raw (ensured 𝓤 H A begin.ended (begin.clauses 𝓤 H A mem run) (κ, tt) (s, (n, tt)) tt r)
 
   begin-said : (n : ℕ) (r : BitReader) → ent 𝓤 (ensured 𝓤 H A begin.ended (begin.clauses 𝓤 H A mem run) (κ, tt) (s, (n, tt)) tt r) (fact 𝓤 ((r .src ≡ s) × (r .at ≡ n)))
   begin-said n r = exE 𝓤 _ (λ ws. snd∗ 𝓤 (sem 𝓤 H A (lasts begin.ended (κ, tt) (s, (n, tt)) ws)) (fact 𝓤 ((r .src ≡ s) × (r .at ≡ n))))
@@ -127,6 +135,9 @@ module _ {M : Type 1} (𝓤 : URA M) (H : Heap 𝓤) (A : Atoms 𝓤) (W : Given
   abbrev pub to-step : ℕ → ℕ → Step-on 𝓤 H A mem run .Ghost
   to-step n w = (((κ, tt), (q, tt), tt, (rd s n, (w, tt)), (T′.lowered (rd s n) ∷ [], (vint w64 w ∷ [], tt))), tt)
 
+  asks-take : (n w : ℕ) → ent 𝓤 (onEntry 𝓤 H A take.signature (κ, tt) (q, tt) (rd s n, (w, tt)) (T′.lowered (rd s n) ∷ [], (vint w64 w ∷ [], tt))) (Take 𝓤 H A mem run .pre (to-take n w))
+  asks-take n w = qed W (token κ q ∷ ‵ (owns (B κ ∷ usize ∷ []) (rd s n, (w, tt)) (T′.lowered (rd s n) ∷ [], (vint w64 w ∷ [], tt))) ∷ []) ∵ join ! $ frame ! $ done !
+
   goes : (n w : ℕ) → w < 2 ^ 64 → ent 𝓤 (⋆ 𝓤 H A (‵ (Has κ s n) ∷ token κ q ∷ [])) (sep 𝓤 (Take 𝓤 H A mem run .pre (to-take n w)) (sem 𝓤 H A (Has κ s n)))
   goes n w ok =
       qed W (‵ (Has κ s n) ∷ token κ q ∷ []) ∵
@@ -134,16 +145,24 @@ module _ {M : Type 1} (𝓤 : URA M) (H : Heap 𝓤) (A : Atoms 𝓤) (W : Given
       -- [what the reader owns; the same; the token]
       nothing ! $ owned ! usize (Is usize) (uint-makes 𝓤 H A W w64) w _ (refl, ok) $ fjoin ! $ move ! (1 ∷ 0 ∷ []) $ fjoin ! $
       move ! (2 ∷ 0 ∷ []) $
-      use2 W (raw (Take 𝓤 H A mem run .pre (to-take n w))) (qed W (token κ q ∷ ‵ (owns (B κ ∷ usize ∷ []) (rd s n, (w, tt)) (T′.lowered (rd s n) ∷ [], (vint w64 w ∷ [], tt))) ∷ []) ∵ join ! $ frame ! $ done !) $ frame ! $ done !
+      use2 W (raw (Take 𝓤 H A mem run .pre (to-take n w))) (asks-take n w) $ frame ! $ done !
 
   abbrev Took : ℕ → ℕ → ℕ → Type 0
   Took n w x = (x ≡ bitsOf s n w) × (x < 2 ^ min w 24)
+
+  -- what the call left: the token, what its result owns, and what it says of it
+  abbrev Taken : ℕ → ℕ → Val → ℕ → Item 𝓤
+  Taken n w u x = (token κ q ⊛ ‵ (usize .own x (u ∷ []))) ⊛ raw (ensured 𝓤 H A take.ended (take.clauses 𝓤 H A mem run) (κ, tt) (rd s n, (w, tt)) tt x)
 
   take-said : (n w x : ℕ) → ent 𝓤 (ensured 𝓤 H A take.ended (take.clauses 𝓤 H A mem run) (κ, tt) (rd s n, (w, tt)) tt x) (fact 𝓤 (Took n w x))
   take-said n w x = exE 𝓤 _ (λ ws. snd∗ 𝓤 (sem 𝓤 H A (lasts take.ended (κ, tt) (rd s n, (w, tt)) ws)) (fact 𝓤 (Took n w x)))
 
   abbrev Stepped : ℕ → ℕ → BitReader → Type 0
   Stepped n w r = (r .src ≡ s) × (r .at ≡ min (n + w) (2 ^ 64 - 1))
+
+  -- what the call left: the token, what its result owns, and what it says of it
+  abbrev Moved : ℕ → ℕ → Val → BitReader → Item 𝓤
+  Moved n w u r = (token κ q ⊛ ‵ (B κ .own r (u ∷ []))) ⊛ raw (ensured 𝓤 H A step-on.ended (step-on.clauses 𝓤 H A mem run) (κ, tt) (rd s n, (w, tt)) tt r)
 
   step-said : (n w : ℕ) (r : BitReader) → ent 𝓤 (ensured 𝓤 H A step-on.ended (step-on.clauses 𝓤 H A mem run) (κ, tt) (rd s n, (w, tt)) tt r) (fact 𝓤 (Stepped n w r))
   step-said n w r = exE 𝓤 _ (λ ws. snd∗ 𝓤 (sem 𝓤 H A (lasts step-on.ended (κ, tt) (rd s n, (w, tt)) ws)) (fact 𝓤 (Stepped n w r)))
@@ -155,7 +174,7 @@ module _ {M : Type 1} (𝓤 : URA M) (H : Heap 𝓤) (A : Atoms 𝓤) (W : Given
     begins known t n ok os = step (λ k.
         use2 W (raw (Begin 𝓤 H A mem run .pre (to-begin n)) ⊛ ‵ (Own κ s)) (goes-begin n ok) $ split t $
         calls-at t fm (Begin 𝓤 H A mem run) known (to-begin n) os (λ u.
-        use1 W (later (some (λ (r : BitReader). (token κ q ⊛ ‵ (B κ .own r (u ∷ []))) ⊛ raw (ensured 𝓤 H A begin.ended (begin.clauses 𝓤 H A mem run) (κ, tt) (s, (n, tt)) tt r)))) (id⊢ 𝓤 _) $ await t tt $ pick t (λ r.
+        use1 W (later (some (Begun n u))) (id⊢ 𝓤 _) $ await t tt $ pick t (λ r.
         split t $ move t (1 ∷ []) $ use1 W (raw (fact 𝓤 ((r .src ≡ s) × (r .at ≡ n)))) (begin-said n r) $ heard t ((r .src ≡ s) × (r .at ≡ n)) (λ e. split t $
         move t (1 ∷ []) $
         peeks t (B κ) (Is (B κ)) (shows 𝓤 H A (B κ)) r (u ∷ []) (λ is.
@@ -168,7 +187,7 @@ module _ {M : Type 1} (𝓤 : URA M) (H : Heap 𝓤) (A : Atoms 𝓤) (W : Given
     takes known t n w ok os = step (λ k.
         use2 W (raw (Take 𝓤 H A mem run .pre (to-take n w)) ⊛ ‵ (Has κ s n)) (goes n w ok) $ split t $
         calls-at t fm (Take 𝓤 H A mem run) known (to-take n w) os (λ u.
-        use1 W (later (some (λ (x : ℕ). (token κ q ⊛ ‵ (usize .own x (u ∷ []))) ⊛ raw (ensured 𝓤 H A take.ended (take.clauses 𝓤 H A mem run) (κ, tt) (rd s n, (w, tt)) tt x)))) (id⊢ 𝓤 _) $ await t tt $ pick t (λ x.
+        use1 W (later (some (Taken n w u))) (id⊢ 𝓤 _) $ await t tt $ pick t (λ x.
         split t $ move t (1 ∷ []) $ use1 W (raw (fact 𝓤 (Took n w x))) (take-said n w x) $ heard t (Took n w x) (λ e. split t $ move t (1 ∷ []) $
         facts t usize (Is usize) (shows 𝓤 H A usize) x (u ∷ []) (λ is.
         move t (1 ∷ 0 ∷ []) $ known-as t (ap only (is .0) ∙ ap (vint w64) (e .0)) $ k)))))
@@ -179,7 +198,7 @@ module _ {M : Type 1} (𝓤 : URA M) (H : Heap 𝓤) (A : Atoms 𝓤) (W : Given
     steps known t n w m ok on os = step (λ k.
         use2 W (raw (Step-on 𝓤 H A mem run .pre (to-step n w)) ⊛ ‵ (Has κ s n)) (goes n w ok) $ split t $
         calls-at t fm (Step-on 𝓤 H A mem run) known (to-step n w) os (λ u.
-        use1 W (later (some (λ (r : BitReader). (token κ q ⊛ ‵ (B κ .own r (u ∷ []))) ⊛ raw (ensured 𝓤 H A step-on.ended (step-on.clauses 𝓤 H A mem run) (κ, tt) (rd s n, (w, tt)) tt r)))) (id⊢ 𝓤 _) $ await t tt $ pick t (λ r.
+        use1 W (later (some (Moved n w u))) (id⊢ 𝓤 _) $ await t tt $ pick t (λ r.
         split t $ move t (1 ∷ []) $ use1 W (raw (fact 𝓤 (Stepped n w r))) (step-said n w r) $ heard t (Stepped n w r) (λ e. split t $ move t (1 ∷ []) $
         peeks t (B κ) (Is (B κ)) (shows 𝓤 H A (B κ)) r (u ∷ []) (λ is. move t (2 ∷ []) $ drop t $
         use1 W (‵ (Has κ s m)) (same r m (e .0) (e .1 ∙ on) (tells r is)) $

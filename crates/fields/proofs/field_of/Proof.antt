@@ -61,7 +61,8 @@ module _ {M : Type 1} (𝓤 : URA M) (H : Heap 𝓤) (A : Atoms 𝓤) (W : Given
   exits : ent 𝓤 (⋆ 𝓤 H A (‵ (Has κ s n) ∷ token κ q ∷ ‵ (Own κ s) ∷ [])) (Post (vint w64 (bitsOf s n w)))
   exits =
       qed W (‵ (Has κ s n) ∷ token κ q ∷ ‵ (Own κ s) ∷ []) ∵
-      suffices ! _ (ends-at 𝓤 H A field-of.ended stayed (field-of.clauses 𝓤 H A mem run) W (((κ, tt), (q, tt), tt, (s, (n, (w, tt))), given′), tt) (vint w64 (bitsOf s n w)) (bitsOf s n w) (tt, (tt, (tt, tt))) (tt, (tt, (tt, tt)))) $ says ! (refl, field-lt n (min w 24) (compound (now s))) $
+      suffices ! _ (ends-at 𝓤 H A field-of.ended stayed (field-of.clauses 𝓤 H A mem run) W (((κ, tt), (q, tt), tt, (s, (n, (w, tt))), given′), tt) (vint w64 (bitsOf s n w)) (bitsOf s n w) (tt, (tt, (tt, tt))) (tt, (tt, (tt, tt)))) $
+      says ! (refl, field-lt n (min w 24) (compound (now s))) $
       drop ! $ frame ! $ nothing ! $ owned ! usize (Is usize) (uint-makes 𝓤 H A W w64) w _ (refl, okw) $ fjoin ! $
       owned ! usize (Is usize) (uint-makes 𝓤 H A W w64) n _ (refl, ok) $ fjoin ! $ move ! (1 ∷ 0 ∷ []) $ fjoin ! $ frame ! $
       owned ! usize (Is usize) (uint-makes 𝓤 H A W w64) (bitsOf s n w) _ (refl, bits-fit s n w) $ done !
@@ -75,9 +76,11 @@ module _ {M : Type 1} (𝓤 : URA M) (H : Heap 𝓤) (A : Atoms 𝓤) (W : Given
         pass1 ! (init ! 2 refl (tt, record { fits = okw })) $ pass0 ! $
         move ! (11 ∷ []) $ fsplit ! $ move ! (1 ∷ []) $ drop ! $ move ! (0 ∷ 11 ∷ []) $
         -- [what s owns; the token; room for _4; …; _3; …; _2; …; _1; …; room for _0; …]
-        begins 𝓤 H A W mem run κ q s fm known-begin ! n ok (and-then ! (load ! (from ! (stop !)) (look ! 8 refl)) (and-then ! (load ! (from ! (stop !)) (look ! 6 refl)) (no-more !))) $ land ! (from ! (stop !)) (init ! 3 refl (typed 𝓤 H A W κ s p n ok)) $
+        begins 𝓤 H A W mem run κ q s fm known-begin ! n ok (and-then ! (load ! (from ! (stop !)) (look ! 8 refl)) (and-then ! (load ! (from ! (stop !)) (look ! 6 refl)) (no-more !))) $
+        land ! (from ! (stop !)) (init ! 3 refl (typed 𝓤 H A W κ s p n ok)) $
         -- [what the reader owns; the token; what s owns; _4; …; _3; …; _2; …; _1; …; room for _0; …]
-        takes 𝓤 H A W mem run κ q s fm known-take ! n w okw (and-then ! (load ! (from ! (stop !)) (look ! 3 refl)) (and-then ! (load ! (from ! (stop !)) (look ! 5 refl)) (no-more !))) $ land ! (from ! (stop !)) (init ! 11 refl (tt, record { fits = bits-fit s n w })) $
+        takes 𝓤 H A W mem run κ q s fm known-take ! n w okw (and-then ! (load ! (from ! (stop !)) (look ! 3 refl)) (and-then ! (load ! (from ! (stop !)) (look ! 5 refl)) (no-more !))) $
+        land ! (from ! (stop !)) (init ! 11 refl (tt, record { fits = bits-fit s n w })) $
         returns ! (look ! 11 refl) $ forget ! 3 refl $ forget ! 5 refl $ forget ! 7 refl $ forget ! 9 refl $ forget ! 11 refl $
         move ! (11 ∷ 12 ∷ []) $ free1 ! $ move ! (9 ∷ 10 ∷ []) $ free1 ! $ move ! (7 ∷ 8 ∷ []) $ free1 ! $ move ! (5 ∷ 6 ∷ []) $ free1 ! $ move ! (3 ∷ 4 ∷ []) $ free1 ! $
         free0 ! $ by ! exits)))))
@@ -85,13 +88,19 @@ module _ {M : Type 1} (𝓤 : URA M) (H : Heap 𝓤) (A : Atoms 𝓤) (W : Given
 module _ {M : Type 1} (𝓤 : URA M) (H : Heap 𝓤) (A : Atoms 𝓤) (W : Given 𝓤 H A) (mem : Memory → SProp 𝓤) (run : Routine → Fun 𝓤) where
   field-of-walks : (C : Calls 𝓤 H) (Λ : Loops 𝓤 H) → FmC 𝓤 H (W .laws) C → Triple 𝓤 (C #fields·begin) (Begin 𝓤 H A mem run) → Triple 𝓤 (C #fields·take) (Take 𝓤 H A mem run)
       → Walks 𝓤 H A field-of.ended stayed (WpFn 𝓤 H C Λ code.function) (field-of.clauses 𝓤 H A mem run)
-  field-of-walks C Λ fm known-begin known-take = walked 𝓤 H A field-of.ended stayed (field-of.clauses 𝓤 H A mem run) (WpFn 𝓤 H C Λ code.function) (λ κs. (slice-vals, (uint-vals w64, (uint-vals w64, tt)))) (λ κs. (shr-slice-tells (named 0) (κs .0) u8, (uint-tells w64, (uint-tells w64, tt))))
+  field-of-walks C Λ fm known-begin known-take =
+      walked 𝓤 H A field-of.ended stayed (field-of.clauses 𝓤 H A mem run) (WpFn 𝓤 H C Λ code.function)
+      (λ κs. (slice-vals, (uint-vals w64, (uint-vals w64, tt))))
+      (λ κs. (shr-slice-tells (named 0) (κs .0) u8, (uint-tells w64, (uint-tells w64, tt))))
       (λ κs qs bounds a g are. via 𝓤 _ (fst∗ 𝓤 _ (emp 𝓤)) (walk 𝓤 H A W mem run (κs .0) (qs .0) (a .0) (a .1 .0) (are .1 .0 .1) (a .1 .1 .0) (are .1 .1 .0 .1) C Λ fm known-begin known-take (are .0)))
 
 field-of-meets : {M : Type 1} (𝓤 : URA M) (H : Heap 𝓤) (A : Atoms 𝓤) (W : Given 𝓤 H A) (mem : Memory → SProp 𝓤) (run : Routine → Fun 𝓤) (𝓣 : Tables 𝓤 H)
     → Triple 𝓤 (𝓣 .C #fields·begin) (Begin 𝓤 H A mem run) → Triple 𝓤 (𝓣 .C #fields·take) (Take 𝓤 H A mem run)
     → Meets 𝓤 H A field-of.signature (WpFn 𝓤 H (𝓣 .C) (𝓣 .Λ) code.function) (field-of.spec 𝓤 H A mem run)
-field-of-meets 𝓤 H A W mem run 𝓣 known-begin known-take = walk-meets 𝓤 H A field-of.ended stayed W (goes-none-slice 𝓤 H A W 1 (0 ∷ []) tt (plain (λ _. u8)) yes, (goes-none 𝓤 H A W 1 (λ _. usize) yes (λ κs x f. refl), (goes-none 𝓤 H A W 1 (λ _. usize) yes (λ κs x f. refl), tt))) (field-of.clauses 𝓤 H A mem run) (WpFn 𝓤 H (𝓣 .C) (𝓣 .Λ) code.function) (WpFn-mono 𝓤 H (W .laws) 𝓣 code.function)
+field-of-meets 𝓤 H A W mem run 𝓣 known-begin known-take =
+    walk-meets 𝓤 H A field-of.ended stayed W
+    (goes-none-slice 𝓤 H A W 1 (0 ∷ []) tt (plain (λ _. u8)) yes, (goes-none 𝓤 H A W 1 (λ _. usize) yes (λ κs x f. refl), (goes-none 𝓤 H A W 1 (λ _. usize) yes (λ κs x f. refl), tt)))
+    (field-of.clauses 𝓤 H A mem run) (WpFn 𝓤 H (𝓣 .C) (𝓣 .Λ) code.function) (WpFn-mono 𝓤 H (W .laws) 𝓣 code.function)
     (field-of-walks 𝓤 H A W mem run (𝓣 .C) (𝓣 .Λ) (fmOf 𝓤 H (W .laws) 𝓣) known-begin known-take)
 
 pub field-of-spec : {M : Type 1} → stated.statement M

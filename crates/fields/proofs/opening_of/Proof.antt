@@ -18,7 +18,7 @@ use prog.Wp.{Heap, Calls, Loops, WpFn, Tables}
 use ghost.Atoms.{Atoms, sem}
 use contract.Monad.{Fun, fact}
 use contract.Running.{givenOf, tables, tablesOf}
-use types.Kit.{Given, ‵, raw, _⊛_, ⋆, some, later, _$_, _∵_, !, qed, by, move, drop, use0, use1, split, join, pick, fsplit, fjoin, suffices, frame, await, done}
+use types.Kit.{Given, Item, ‵, raw, _⊛_, ⋆, some, later, _$_, _∵_, !, qed, by, move, drop, use0, use1, split, join, pick, fsplit, fjoin, suffices, frame, await, done}
 use types.Run.{look, init, forget, stop, from, load, lit, of-opd, and-then, no-more, assigns, land, returns, enter, alloc1, alloc0, params1, pass1, pass0, free1, free0}
 use sound.WpLaws.{FmC, fmOf, WpFn-mono}
 use denote.RattleType.{owns}
@@ -125,6 +125,10 @@ module _ {M : Type 1} (𝓤 : URA M) (H : Heap 𝓤) (A : Atoms 𝓤) (W : Given
       owned ! usize (Is usize) (uint-makes 𝓤 H A W w64) (bitsOf s 8 10) _ (refl, bits-fit s 8 10) $ fjoin ! $
       owned ! usize (Is usize) (uint-makes 𝓤 H A W w64) (bitsOf s 0 8) _ (refl, bits-fit s 0 8) $ fjoin ! $ nothing ! $ join ! $ frame ! $ done !
 
+  -- what the call left: what its result owns, and what it says of it
+  abbrev Left : Val → Opening → Item 𝓤
+  Left u o = (‵ ftrue ⊛ ‵ (S.the-row .own o (u ∷ []))) ⊛ raw (ensured 𝓤 H A opened.ended (opened.clauses 𝓤 H A mem run) tt (given′ .0) tt o)
+
   said : (o : Opening) → ent 𝓤 (ensured 𝓤 H A opened.ended (opened.clauses 𝓤 H A mem run) tt (given′ .0) tt o) (fact 𝓤 (o ≡ made s))
   said o = exE 𝓤 _ (λ ws. snd∗ 𝓤 (sem 𝓤 H A (lasts opened.ended tt (given′ .0) ws)) (fact 𝓤 (o ≡ made s)))
 
@@ -198,7 +202,7 @@ module _ {M : Type 1} (𝓤 : URA M) (H : Heap 𝓤) (A : Atoms 𝓤) (W : Given
         land ! (from ! (stop !)) (init ! 35 refl (tt, record { fits = bits-fit s 52 6 })) $
         use0 W (raw (Opened 𝓤 H A mem run .pre to)) asked $
         calls-at ! fm (Opened 𝓤 H A mem run) known-opened to (and-then ! (load ! (from ! (stop !)) (look ! 50 refl)) (and-then ! (load ! (from ! (stop !)) (look ! 48 refl)) (and-then ! (load ! (from ! (stop !)) (look ! 46 refl)) (and-then ! (load ! (from ! (stop !)) (look ! 44 refl)) (and-then ! (load ! (from ! (stop !)) (look ! 42 refl)) (and-then ! (load ! (from ! (stop !)) (look ! 40 refl)) (and-then ! (load ! (from ! (stop !)) (look ! 38 refl)) (and-then ! (load ! (from ! (stop !)) (look ! 36 refl)) (no-more !))))))))) (λ u.
-        use1 W (later (some (λ (o : Opening). (‵ ftrue ⊛ ‵ (S.the-row .own o (u ∷ []))) ⊛ raw (ensured 𝓤 H A opened.ended (opened.clauses 𝓤 H A mem run) tt (given′ .0) tt o)))) (id⊢ 𝓤 _) $ await ! tt $ pick ! (λ o.
+        use1 W (later (some (Left u))) (id⊢ 𝓤 _) $ await ! tt $ pick ! (λ o.
         split ! $ move ! (1 ∷ []) $ use1 W (raw (fact 𝓤 (o ≡ made s))) (said o) $ heard ! (o ≡ made s) (λ e. split ! $ drop ! $
         -- [the result; what the reader owns; the token; what s owns; _26; …; _1; …; room for _0; …]
         peeks ! S.the-row (Is S.the-row) (shows 𝓤 H A S.the-row) o (u ∷ []) (λ is.
@@ -218,13 +222,19 @@ module _ {M : Type 1} (𝓤 : URA M) (H : Heap 𝓤) (A : Atoms 𝓤) (W : Given
 module _ {M : Type 1} (𝓤 : URA M) (H : Heap 𝓤) (A : Atoms 𝓤) (W : Given 𝓤 H A) (mem : Memory → SProp 𝓤) (run : Routine → Fun 𝓤) where
   opening-of-walks : (C : Calls 𝓤 H) (Λ : Loops 𝓤 H) → FmC 𝓤 H (W .laws) C → Triple 𝓤 (C #fields·begin) (Begin 𝓤 H A mem run) → Triple 𝓤 (C #fields·take) (Take 𝓤 H A mem run) → Triple 𝓤 (C #fields·step) (Step-on 𝓤 H A mem run) → Triple 𝓤 (C #fields·opened) (Opened 𝓤 H A mem run)
       → Walks 𝓤 H A opening-of.ended stayed (WpFn 𝓤 H C Λ code.function) (opening-of.clauses 𝓤 H A mem run)
-  opening-of-walks C Λ fm known-begin known-take known-step known-opened = walked 𝓤 H A opening-of.ended stayed (opening-of.clauses 𝓤 H A mem run) (WpFn 𝓤 H C Λ code.function) (λ κs. (slice-vals, tt)) (λ κs. (shr-slice-tells (named 0) (κs .0) u8, tt))
+  opening-of-walks C Λ fm known-begin known-take known-step known-opened =
+      walked 𝓤 H A opening-of.ended stayed (opening-of.clauses 𝓤 H A mem run) (WpFn 𝓤 H C Λ code.function)
+      (λ κs. (slice-vals, tt))
+      (λ κs. (shr-slice-tells (named 0) (κs .0) u8, tt))
       (λ κs qs bounds a g are. via 𝓤 _ (fst∗ 𝓤 _ (emp 𝓤)) (walk 𝓤 H A W mem run (κs .0) (qs .0) (a .0) C Λ fm known-begin known-take known-step known-opened (are .0)))
 
 opening-of-meets : {M : Type 1} (𝓤 : URA M) (H : Heap 𝓤) (A : Atoms 𝓤) (W : Given 𝓤 H A) (mem : Memory → SProp 𝓤) (run : Routine → Fun 𝓤) (𝓣 : Tables 𝓤 H)
     → Triple 𝓤 (𝓣 .C #fields·begin) (Begin 𝓤 H A mem run) → Triple 𝓤 (𝓣 .C #fields·take) (Take 𝓤 H A mem run) → Triple 𝓤 (𝓣 .C #fields·step) (Step-on 𝓤 H A mem run) → Triple 𝓤 (𝓣 .C #fields·opened) (Opened 𝓤 H A mem run)
     → Meets 𝓤 H A opening-of.signature (WpFn 𝓤 H (𝓣 .C) (𝓣 .Λ) code.function) (opening-of.spec 𝓤 H A mem run)
-opening-of-meets 𝓤 H A W mem run 𝓣 known-begin known-take known-step known-opened = walk-meets 𝓤 H A opening-of.ended stayed W (goes-none-slice 𝓤 H A W 1 (0 ∷ []) tt (plain (λ _. u8)) yes, tt) (opening-of.clauses 𝓤 H A mem run) (WpFn 𝓤 H (𝓣 .C) (𝓣 .Λ) code.function) (WpFn-mono 𝓤 H (W .laws) 𝓣 code.function)
+opening-of-meets 𝓤 H A W mem run 𝓣 known-begin known-take known-step known-opened =
+    walk-meets 𝓤 H A opening-of.ended stayed W
+    (goes-none-slice 𝓤 H A W 1 (0 ∷ []) tt (plain (λ _. u8)) yes, tt)
+    (opening-of.clauses 𝓤 H A mem run) (WpFn 𝓤 H (𝓣 .C) (𝓣 .Λ) code.function) (WpFn-mono 𝓤 H (W .laws) 𝓣 code.function)
     (opening-of-walks 𝓤 H A W mem run (𝓣 .C) (𝓣 .Λ) (fmOf 𝓤 H (W .laws) 𝓣) known-begin known-take known-step known-opened)
 
 pub opening-of-spec : {M : Type 1} → stated.statement M
