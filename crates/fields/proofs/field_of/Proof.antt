@@ -48,7 +48,8 @@ use Rattle.fields.proofs.field_of.Code as code
 abbrev stayed : Stays (field-of.ended .signature .params) (field-of.ended .kept)
 stayed = (stay-none-slice (0 ∷ []) tt (plain (λ _. u8)) yes, (stay-none (λ _. usize) yes, (stay-none (λ _. usize) yes, tt)))
 
-module _ {M : Type 1} (𝓤 : URA M) (H : Heap 𝓤) (A : Atoms 𝓤) (W : Given 𝓤 H A) (mem : Memory → SProp 𝓤) (run : Routine → Fun 𝓤) (κ : Lft) (q : Share) (s : RefT (List ℕ)) (n : ℕ) (ok : n < 2 ^ 64) (w : ℕ) (okw : w < 2 ^ 64) where
+module _ {M : Type 1} (𝓤 : URA M) (H : Heap 𝓤) (A : Atoms 𝓤) (W : Given 𝓤 H A) (mem : Memory → SProp 𝓤) (run : Routine → Fun 𝓤)
+    (κ : Lft) (q : Share) (s : RefT (List ℕ)) (n : ℕ) (ok : n < 2 ^ 64) (w : ℕ) (okw : w < 2 ^ 64) where
   abbrev v : Val
   v = sliceOf s
 
@@ -60,15 +61,18 @@ module _ {M : Type 1} (𝓤 : URA M) (H : Heap 𝓤) (A : Atoms 𝓤) (W : Given
 
   exits : ent 𝓤 (⋆ 𝓤 H A (‵ (Has κ s n) ∷ token κ q ∷ ‵ (Own κ s) ∷ [])) (Post (vint w64 (bitsOf s n w)))
   exits =
+      let x = bitsOf s n w in
       qed W (‵ (Has κ s n) ∷ token κ q ∷ ‵ (Own κ s) ∷ []) ∵
-      suffices ! _ (ends-at 𝓤 H A field-of.ended stayed (field-of.clauses 𝓤 H A mem run) W (((κ, tt), (q, tt), tt, (s, (n, (w, tt))), given′), tt) (vint w64 (bitsOf s n w)) (bitsOf s n w) (tt, (tt, (tt, tt))) (tt, (tt, (tt, tt)))) $
+      suffices ! _ (ends-at 𝓤 H A field-of.ended stayed (field-of.clauses 𝓤 H A mem run) W (((κ, tt), (q, tt), tt, (s, (n, (w, tt))), given′), tt) (vint w64 x) x (tt, (tt, (tt, tt))) (tt, (tt, (tt, tt)))) $
       says ! (refl, field-lt n (min w 24) (compound (now s))) $
       drop ! $ frame ! $ nothing ! $ owned ! usize (Is usize) (uint-makes 𝓤 H A W w64) w _ (refl, okw) $ fjoin ! $
       owned ! usize (Is usize) (uint-makes 𝓤 H A W w64) n _ (refl, ok) $ fjoin ! $ move ! (1 ∷ 0 ∷ []) $ fjoin ! $ frame ! $
       owned ! usize (Is usize) (uint-makes 𝓤 H A W w64) (bitsOf s n w) _ (refl, bits-fit s n w) $ done !
 
-  module _ (C : Calls 𝓤 H) (Λ : Loops 𝓤 H) (fm : FmC 𝓤 H (W .laws) C) (known-begin : Triple 𝓤 (C #fields·begin) (Begin 𝓤 H A mem run)) (known-take : Triple 𝓤 (C #fields·take) (Take 𝓤 H A mem run)) where
-    walk : Is (ShrSlice (named 0) κ u8) s (v ∷ []) → ent 𝓤 (onEntry 𝓤 H A field-of.signature (κ, tt) (q, tt) (s, (n, (w, tt))) given′) (WpFn 𝓤 H C Λ code.function (v ∷ vint w64 n ∷ vint w64 w ∷ []) Post)
+  module _ (C : Calls 𝓤 H) (Λ : Loops 𝓤 H) (fm : FmC 𝓤 H (W .laws) C)
+      (known-begin : Triple 𝓤 (C #fields·begin) (Begin 𝓤 H A mem run)) (known-take : Triple 𝓤 (C #fields·take) (Take 𝓤 H A mem run)) where
+    walk : Is (ShrSlice (named 0) κ u8) s (v ∷ [])
+        → ent 𝓤 (onEntry 𝓤 H A field-of.signature (κ, tt) (q, tt) (s, (n, (w, tt))) given′) (WpFn 𝓤 H C Λ code.function (v ∷ vint w64 n ∷ vint w64 w ∷ []) Post)
     walk p =
         qed W (token κ q ∷ ‵ (owns (ShrSlice (named 0) κ u8 ∷ usize ∷ usize ∷ []) (s, (n, (w, tt))) given′) ∷ []) ∵ enter ! C Λ code.function (v ∷ vint w64 n ∷ vint w64 w ∷ []) _ $
         alloc1 ! (λ l₀. alloc1 ! (λ l₁. alloc1 ! (λ l₂. alloc1 ! (λ l₃. alloc1 ! (λ l₄. alloc0 ! $ params1 ! $

@@ -103,11 +103,15 @@ module _ {M : Type 1} (𝓤 : URA M) (H : Heap 𝓤) (A : Atoms 𝓤) (W : Given
   abbrev Post : Val → SProp 𝓤
   Post = walkOf 𝓤 H A opening-of.ended stayed (opening-of.clauses 𝓤 H A mem run) .post (((κ, tt), (q, tt), tt, (s, tt), (v ∷ [], tt)), tt)
 
+  -- the machine value of the w bits from n on
+  abbrev num : ℕ → ℕ → List Val
+  num n w = vint w64 (bitsOf s n w) ∷ []
+
   -- the call of `opened`: what it is passed, what it asks, and what is known of its result
   abbrev given′ : Args opened.signature tt × Vals opened.signature tt
   given′ = (
     (bitsOf s 0 8, (bitsOf s 8 10, (bitsOf s 18 6, (bitsOf s 24 2, (bitsOf s 26 1, (bitsOf s 28 16, (bitsOf s 44 8, (bitsOf s 52 6, tt)))))))),
-    (vint w64 (bitsOf s 0 8) ∷ [], (vint w64 (bitsOf s 8 10) ∷ [], (vint w64 (bitsOf s 18 6) ∷ [], (vint w64 (bitsOf s 24 2) ∷ [], (vint w64 (bitsOf s 26 1) ∷ [], (vint w64 (bitsOf s 28 16) ∷ [], (vint w64 (bitsOf s 44 8) ∷ [], (vint w64 (bitsOf s 52 6) ∷ [], tt)))))))),
+    (num 0 8, (num 8 10, (num 18 6, (num 24 2, (num 26 1, (num 28 16, (num 44 8, (num 52 6, tt)))))))),
   )
 
   abbrev to : Opened 𝓤 H A mem run .Ghost
@@ -142,11 +146,16 @@ module _ {M : Type 1} (𝓤 : URA M) (H : Heap 𝓤) (A : Atoms 𝓤) (W : Given
   ty : Is (ShrSlice (named 0) κ u8) s (v ∷ []) → (n : ℕ) → Holds (ltb n (2 ^ 64)) → Holds (hasTy (T′.mir erased) (T′.lowered (rd s n))) × WT (T′.lowered (rd s n))
   ty p n h = typed 𝓤 H A W κ s p n (ok n h)
 
-  module _ (C : Calls 𝓤 H) (Λ : Loops 𝓤 H) (fm : FmC 𝓤 H (W .laws) C) (known-begin : Triple 𝓤 (C #fields·begin) (Begin 𝓤 H A mem run)) (known-take : Triple 𝓤 (C #fields·take) (Take 𝓤 H A mem run)) (known-step : Triple 𝓤 (C #fields·step) (Step-on 𝓤 H A mem run)) (known-opened : Triple 𝓤 (C #fields·opened) (Opened 𝓤 H A mem run)) where
+  module _ (C : Calls 𝓤 H) (Λ : Loops 𝓤 H) (fm : FmC 𝓤 H (W .laws) C)
+      (known-begin : Triple 𝓤 (C #fields·begin) (Begin 𝓤 H A mem run)) (known-take : Triple 𝓤 (C #fields·take) (Take 𝓤 H A mem run))
+      (known-step : Triple 𝓤 (C #fields·step) (Step-on 𝓤 H A mem run)) (known-opened : Triple 𝓤 (C #fields·opened) (Opened 𝓤 H A mem run)) where
     walk : Is (ShrSlice (named 0) κ u8) s (v ∷ []) → ent 𝓤 (onEntry 𝓤 H A opening-of.signature (κ, tt) (q, tt) (s, tt) (v ∷ [], tt)) (WpFn 𝓤 H C Λ code.function (v ∷ []) Post)
     walk p =
         qed W (token κ q ∷ ‵ (owns (ShrSlice (named 0) κ u8 ∷ []) (s, tt) (v ∷ [], tt)) ∷ []) ∵ enter ! C Λ code.function (v ∷ []) _ $
-        alloc1 ! (λ l₀. alloc1 ! (λ l₁. alloc1 ! (λ l₂. alloc1 ! (λ l₃. alloc1 ! (λ l₄. alloc1 ! (λ l₅. alloc1 ! (λ l₆. alloc1 ! (λ l₇. alloc1 ! (λ l₈. alloc1 ! (λ l₉. alloc1 ! (λ l₁₀. alloc1 ! (λ l₁₁. alloc1 ! (λ l₁₂. alloc1 ! (λ l₁₃. alloc1 ! (λ l₁₄. alloc1 ! (λ l₁₅. alloc1 ! (λ l₁₆. alloc1 ! (λ l₁₇. alloc1 ! (λ l₁₈. alloc1 ! (λ l₁₉. alloc1 ! (λ l₂₀. alloc1 ! (λ l₂₁. alloc1 ! (λ l₂₂. alloc1 ! (λ l₂₃. alloc1 ! (λ l₂₄. alloc1 ! (λ l₂₅. alloc1 ! (λ l₂₆. alloc0 ! $ params1 ! $ pass1 ! (init ! 50 refl (shr-slice-lawful 𝓤 H A W (named 0) κ u8 .typed s (v ∷ []) p .0)) $ pass0 ! $
+        alloc1 ! (λ l₀. alloc1 ! (λ l₁. alloc1 ! (λ l₂. alloc1 ! (λ l₃. alloc1 ! (λ l₄. alloc1 ! (λ l₅. alloc1 ! (λ l₆. alloc1 ! (λ l₇. alloc1 ! (λ l₈. alloc1 ! (λ l₉.
+        alloc1 ! (λ l₁₀. alloc1 ! (λ l₁₁. alloc1 ! (λ l₁₂. alloc1 ! (λ l₁₃. alloc1 ! (λ l₁₄. alloc1 ! (λ l₁₅. alloc1 ! (λ l₁₆. alloc1 ! (λ l₁₇. alloc1 ! (λ l₁₈.
+        alloc1 ! (λ l₁₉. alloc1 ! (λ l₂₀. alloc1 ! (λ l₂₁. alloc1 ! (λ l₂₂. alloc1 ! (λ l₂₃. alloc1 ! (λ l₂₄. alloc1 ! (λ l₂₅. alloc1 ! (λ l₂₆. alloc0 ! $ params1 ! $
+        pass1 ! (init ! 50 refl (shr-slice-lawful 𝓤 H A W (named 0) κ u8 .typed s (v ∷ []) p .0)) $ pass0 ! $
         move ! (55 ∷ []) $ fsplit ! $ move ! (1 ∷ []) $ drop ! $ move ! (0 ∷ 55 ∷ []) $
         -- [what s owns; the token; room for _26; …; _1; …; room for _0; …]
         begins 𝓤 H A W mem run κ q s fm known-begin ! 0 (ok 0 tt) (and-then ! (load ! (from ! (stop !)) (look ! 52 refl)) (and-then ! (lit ! tt) (no-more !))) $
@@ -201,7 +210,11 @@ module _ {M : Type 1} (𝓤 : URA M) (H : Heap 𝓤) (A : Atoms 𝓤) (W : Given
         takes 𝓤 H A W mem run κ q s fm known-take ! 52 6 (ok 6 tt) (and-then ! (load ! (from ! (stop !)) (look ! 3 refl)) (and-then ! (lit ! tt) (no-more !))) $
         land ! (from ! (stop !)) (init ! 35 refl (tt, record { fits = bits-fit s 52 6 })) $
         use0 W (raw (Opened 𝓤 H A mem run .pre to)) asked $
-        calls-at ! fm (Opened 𝓤 H A mem run) known-opened to (and-then ! (load ! (from ! (stop !)) (look ! 50 refl)) (and-then ! (load ! (from ! (stop !)) (look ! 48 refl)) (and-then ! (load ! (from ! (stop !)) (look ! 46 refl)) (and-then ! (load ! (from ! (stop !)) (look ! 44 refl)) (and-then ! (load ! (from ! (stop !)) (look ! 42 refl)) (and-then ! (load ! (from ! (stop !)) (look ! 40 refl)) (and-then ! (load ! (from ! (stop !)) (look ! 38 refl)) (and-then ! (load ! (from ! (stop !)) (look ! 36 refl)) (no-more !))))))))) (λ u.
+        calls-at ! fm (Opened 𝓤 H A mem run) known-opened to
+        (and-then ! (load ! (from ! (stop !)) (look ! 50 refl)) (and-then ! (load ! (from ! (stop !)) (look ! 48 refl))
+        (and-then ! (load ! (from ! (stop !)) (look ! 46 refl)) (and-then ! (load ! (from ! (stop !)) (look ! 44 refl))
+        (and-then ! (load ! (from ! (stop !)) (look ! 42 refl)) (and-then ! (load ! (from ! (stop !)) (look ! 40 refl))
+        (and-then ! (load ! (from ! (stop !)) (look ! 38 refl)) (and-then ! (load ! (from ! (stop !)) (look ! 36 refl)) (no-more !))))))))) (λ u.
         use1 W (later (some (Left u))) (id⊢ 𝓤 _) $ await ! tt $ pick ! (λ o.
         split ! $ move ! (1 ∷ []) $ use1 W (raw (fact 𝓤 (o ≡ made s))) (said o) $ heard ! (o ≡ made s) (λ e. split ! $ drop ! $
         -- [the result; what the reader owns; the token; what s owns; _26; …; _1; …; room for _0; …]
@@ -220,7 +233,8 @@ module _ {M : Type 1} (𝓤 : URA M) (H : Heap 𝓤) (A : Atoms 𝓤) (W : Given
         by ! (exits o u e))))))))))))))))))))))))))))))))
 
 module _ {M : Type 1} (𝓤 : URA M) (H : Heap 𝓤) (A : Atoms 𝓤) (W : Given 𝓤 H A) (mem : Memory → SProp 𝓤) (run : Routine → Fun 𝓤) where
-  opening-of-walks : (C : Calls 𝓤 H) (Λ : Loops 𝓤 H) → FmC 𝓤 H (W .laws) C → Triple 𝓤 (C #fields·begin) (Begin 𝓤 H A mem run) → Triple 𝓤 (C #fields·take) (Take 𝓤 H A mem run) → Triple 𝓤 (C #fields·step) (Step-on 𝓤 H A mem run) → Triple 𝓤 (C #fields·opened) (Opened 𝓤 H A mem run)
+  opening-of-walks : (C : Calls 𝓤 H) (Λ : Loops 𝓤 H) → FmC 𝓤 H (W .laws) C → Triple 𝓤 (C #fields·begin) (Begin 𝓤 H A mem run)
+      → Triple 𝓤 (C #fields·take) (Take 𝓤 H A mem run) → Triple 𝓤 (C #fields·step) (Step-on 𝓤 H A mem run) → Triple 𝓤 (C #fields·opened) (Opened 𝓤 H A mem run)
       → Walks 𝓤 H A opening-of.ended stayed (WpFn 𝓤 H C Λ code.function) (opening-of.clauses 𝓤 H A mem run)
   opening-of-walks C Λ fm known-begin known-take known-step known-opened =
       walked 𝓤 H A opening-of.ended stayed (opening-of.clauses 𝓤 H A mem run) (WpFn 𝓤 H C Λ code.function)
@@ -229,7 +243,8 @@ module _ {M : Type 1} (𝓤 : URA M) (H : Heap 𝓤) (A : Atoms 𝓤) (W : Given
       (λ κs qs bounds a g are. via 𝓤 _ (fst∗ 𝓤 _ (emp 𝓤)) (walk 𝓤 H A W mem run (κs .0) (qs .0) (a .0) C Λ fm known-begin known-take known-step known-opened (are .0)))
 
 opening-of-meets : {M : Type 1} (𝓤 : URA M) (H : Heap 𝓤) (A : Atoms 𝓤) (W : Given 𝓤 H A) (mem : Memory → SProp 𝓤) (run : Routine → Fun 𝓤) (𝓣 : Tables 𝓤 H)
-    → Triple 𝓤 (𝓣 .C #fields·begin) (Begin 𝓤 H A mem run) → Triple 𝓤 (𝓣 .C #fields·take) (Take 𝓤 H A mem run) → Triple 𝓤 (𝓣 .C #fields·step) (Step-on 𝓤 H A mem run) → Triple 𝓤 (𝓣 .C #fields·opened) (Opened 𝓤 H A mem run)
+    → Triple 𝓤 (𝓣 .C #fields·begin) (Begin 𝓤 H A mem run) → Triple 𝓤 (𝓣 .C #fields·take) (Take 𝓤 H A mem run)
+    → Triple 𝓤 (𝓣 .C #fields·step) (Step-on 𝓤 H A mem run) → Triple 𝓤 (𝓣 .C #fields·opened) (Opened 𝓤 H A mem run)
     → Meets 𝓤 H A opening-of.signature (WpFn 𝓤 H (𝓣 .C) (𝓣 .Λ) code.function) (opening-of.spec 𝓤 H A mem run)
 opening-of-meets 𝓤 H A W mem run 𝓣 known-begin known-take known-step known-opened =
     walk-meets 𝓤 H A opening-of.ended stayed W
