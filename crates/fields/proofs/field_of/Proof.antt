@@ -63,7 +63,8 @@ module _ {M : Type 1} (𝓤 : URA M) (H : Heap 𝓤) (A : Atoms 𝓤) (W : Given
   exits =
       let x = bitsOf s n w in
       qed W (‵ (Has κ s n) ∷ token κ q ∷ ‵ (Own κ s) ∷ []) ∵
-      suffices ! _ (ends-at 𝓤 H A field-of.ended stayed (field-of.clauses 𝓤 H A mem run) W (((κ, tt), (q, tt), tt, (s, (n, (w, tt))), given′), tt) (vint w64 x) x (tt, (tt, (tt, tt))) (tt, (tt, (tt, tt)))) $
+      suffices ! _ (ends-at 𝓤 H A field-of.ended stayed (field-of.clauses 𝓤 H A mem run) W
+      (((κ, tt), (q, tt), tt, (s, (n, (w, tt))), given′), tt) (vint w64 x) x (tt, (tt, (tt, tt))) (tt, (tt, (tt, tt)))) $
       says ! (refl, field-lt n (min w 24) (compound (now s))) $
       drop ! $ frame ! $ nothing ! $ owned ! usize (Is usize) (uint-makes 𝓤 H A W w64) w _ (refl, okw) $ fjoin ! $
       owned ! usize (Is usize) (uint-makes 𝓤 H A W w64) n _ (refl, ok) $ fjoin ! $ move ! (1 ∷ 0 ∷ []) $ fjoin ! $ frame ! $
