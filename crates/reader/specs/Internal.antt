@@ -3,16 +3,22 @@
 use mathlib.Core.Path.{_≡_}
 use mathlib.Core.Bool.{Bool, false}
 use mathlib.Core.List.{List}
-use Prim.Native.Nat.{ℕ}
-use lib.ListN.{length}
+use Prim.Native.Nat.{ℕ, _/_}
+use lib.ListN.{length, getD, drop}
 use lib.Seq.{sets}
+use Rattle.octet.specs.Decoding.{nib}
 use Rattle.blocks.specs.Block.{Block, recordsOf}
+use Rattle.packet.specs.declared.Setting.{Setting}
+use Rattle.packet.specs.Packet.{packetLength}
 use Rattle.pages.specs.declared.headers.Page.{Page}
 use Rattle.pages.specs.declared.headers.Verdict.{Verdict}
 use Rattle.pages.specs.Headers.{Seen}
 use Rattle.walk.specs.declared.Run.{Run}
+use Rattle.walk.specs.declared.Got.{Got}
+use Rattle.walk.specs.declared.Taken.{Taken}
+use Rattle.walk.specs.Mode.{Mode, running}
 use Rattle.walk.specs.Store.{modeOf}
-use Rattle.walk.specs.Internal.{Holds, Went}
+use Rattle.walk.specs.Internal.{Holds, Went, TookIn, ContinuedTo, ContinuedOn, ReadPacket, runs}
 use Rattle.state.specs.Acting.{State, heeded, heededBlocks, heededDrops, act, handed, dropped}
 use Rattle.reader.specs.declared.Heard.{Heard}
 use Rattle.reader.specs.declared.Heard.the-variants.{Took, Refused}
@@ -20,7 +26,23 @@ use Rattle.reader.specs.declared.many.HeardAll.{HeardAll}
 use Rattle.reader.specs.declared.many.HeardAll.the-variants.{TookAll, RefusedAll}
 use Rattle.reader.specs.declared.many.Going.{Going}
 use Rattle.reader.specs.declared.many.Taking.{Taking}
-use Rattle.reader.specs.Many.{Ran}
+use Rattle.reader.specs.Many.{Ran, begun, run}
+
+-- ---- one packet of our page
+
+-- the packet p is read, with the block that runs in this store
+abbrev pub ReadFrom : List ℕ → List ℕ → Got → Got → List ℕ → List ℕ → List ℕ → Type 0
+ReadFrom store p got = ReadPacket (modeOf (got .run) store) (nib (getD p 2 0)) (drop 3 p) got
+
+-- a block that has taken its own of the bytes l before the pointed one has gone on to it
+abbrev pub GoneTo : List ℕ → Got → Taken → List ℕ → Got → List ℕ → List ℕ → List ℕ → Type 0
+GoneTo l got taken was r store old new =
+    (m : Mode) → runs (got .run) ≡ running m → TookIn m l l taken was → ContinuedTo m l got r store old new
+
+-- a block that has taken what it wants of some bytes has gone on over them
+abbrev pub GoneOn : Got → Taken → List ℕ → Got → List ℕ → List ℕ → List ℕ → Type 0
+GoneOn got taken was r store old new =
+    (m : Mode) (l : List ℕ) → runs (got .run) ≡ running m → TookIn m l l taken was → ContinuedOn m l got r store old new
 
 -- ---- one packet more
 
@@ -47,6 +69,10 @@ Acted x st = Stepped (act st x) (handed st x) (dropped st x)
 -- no packet has come yet
 abbrev pub started : Page → ℕ → Run → Going
 started page index run = record { page = page; index = index; got = record { run = run; blocks = 0; written = 0; dropped = false } }
+
+-- what the packets of l come to from a, with so much room
+abbrev pub ranFrom : Setting → ℕ → Going → List ℕ → List ℕ → Ran
+ranFrom s long a store l = run s long (length l / packetLength) (begun (stateIn a store)) l
 
 -- packets taken one after the other have come to b
 pub record RanTo (b : Ran) (r : Taking) (store old new : List ℕ) : Type 0 where

@@ -6,17 +6,17 @@ use walk::Taken;
 ghost use mathlib.Core.Path.{_≡_};
 ghost use mathlib.Core.List.{List, []};
 ghost use Prim.Native.Nat.{ℕ, _+_, _*_, _≤_};
-ghost use lib.ListN.{length, getD, take, drop};
+ghost use lib.ListN.{length, take, drop};
 ghost use lib.Seq.{sets};
 ghost use Rattle.laws.specs.Pick.{both as Pick·both, either as Pick·either};
-ghost use Rattle.octet.specs.Decoding.{nib};
 ghost use Rattle.blocks.specs.Block.{recordOf};
 ghost use Rattle.packet.specs.Packet.{packetLength};
 ghost use Rattle.walk.specs.declared.Run.the-variants.{Body};
-ghost use Rattle.walk.specs.Mode.{Mode, body, running};
+ghost use Rattle.walk.specs.Mode.{body, running};
 ghost use Rattle.walk.specs.Store.{zeroed, modeOf};
 ghost use Rattle.walk.specs.Reading.{dropIf};
-ghost use Rattle.walk.specs.Internal.{blockWith, Holds, Kept, TookIn, Room, Finished, ContinuedTo, ContinuedOn, Flowed, PacketRoom, ReadPacket, Lost, runs};
+ghost use Rattle.walk.specs.Internal.{blockWith, Holds, Kept, TookIn, Room, Finished, Flowed, PacketRoom, Lost, runs};
+ghost use Rattle.reader.specs.Internal.{ReadFrom, GoneTo, GoneOn};
 
 // The 39 bytes of a packet of our page, by its pointer: the running block goes on or is dropped, and the records of the blocks that
 // they finish stand in the output behind what is written.
@@ -24,7 +24,7 @@ pub(crate) fn read(got: Got, store: &mut [u8; 2047], packet: &[u8], out: &mut [u
     requires { ⌜ Kept (got .run) (now store) ⌝ }
     requires { ⌜ length (now packet) ≡ packetLength ⌝ }
     requires { ⌜ PacketRoom got (now out) ⌝ }
-    ensures { λ r. ⌜ ReadPacket (modeOf (got .run) (now (store .entry))) (nib (getD (now (packet .entry)) 2 0)) (drop 3 (now (packet .entry))) got r (now (store .exit)) (now (out .entry)) (now (out .exit)) ⌝ }
+    ensures { λ r. ⌜ ReadFrom (now (store .entry)) (now (packet .entry)) got r (now (store .exit)) (now (out .entry)) (now (out .exit)) ⌝ }
 {
     let before = walk::pointed(packet[2]);
     if before > 39 {
@@ -61,7 +61,7 @@ pub(crate) fn lose(t: bool, got: Got, store: &mut [u8; 2047]) -> Got
 fn continue_to(got: Got, taken: Taken, store: &mut [u8; 2047], s: &[u8], out: &mut [u8]) -> Got
     requires { ⌜ Kept (taken .run) (now store) ⌝ }
     requires { ⌜ Room got (now out) ⌝ }
-    ensures { λ r. ⌜ ((m : Mode) → runs (got .run) ≡ running m → TookIn m (now (s .entry)) (now (s .entry)) taken (now (store .entry)) → ContinuedTo m (now (s .entry)) got r (now (store .exit)) (now (out .entry)) (now (out .exit))) ⌝ }
+    ensures { λ r. ⌜ GoneTo (now (s .entry)) got taken (now (store .entry)) r (now (store .exit)) (now (out .entry)) (now (out .exit)) ⌝ }
 {
     let run = taken.run;
     let lost = walk::falls(run, s, taken.next);
@@ -84,7 +84,7 @@ fn continue_to(got: Got, taken: Taken, store: &mut [u8; 2047], s: &[u8], out: &m
 fn continue_on(got: Got, taken: Taken, store: &mut [u8; 2047], out: &mut [u8]) -> Got
     requires { ⌜ Kept (taken .run) (now store) ⌝ }
     requires { ⌜ Room got (now out) ⌝ }
-    ensures { λ r. ⌜ ((m : Mode) (l : List ℕ) → runs (got .run) ≡ running m → TookIn m l l taken (now (store .entry)) → ContinuedOn m l got r (now (store .exit)) (now (out .entry)) (now (out .exit))) ⌝ }
+    ensures { λ r. ⌜ GoneOn got taken (now (store .entry)) r (now (store .exit)) (now (out .entry)) (now (out .exit)) ⌝ }
 {
     let run = taken.run;
     let was = got.run;

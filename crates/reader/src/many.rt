@@ -10,7 +10,7 @@ use walk::Got;
 use walk::Run;
 ghost use mathlib.Core.Path.{_≡_};
 ghost use mathlib.Core.Bool.{true, false};
-ghost use Prim.Native.Nat.{_/_, _%_, _≤_};
+ghost use Prim.Native.Nat.{_%_, _≤_};
 ghost use lib.ListN.{length, getD, drop};
 ghost use Rattle.laws.specs.Pick.{both};
 ghost use Rattle.packet.specs.Setting.{inRange};
@@ -18,8 +18,8 @@ ghost use Rattle.packet.specs.Packet.{packetLength};
 ghost use Rattle.octet.specs.Decoding.{nib};
 ghost use Rattle.walk.specs.Internal.{Kept, PacketRoom};
 ghost use Rattle.state.specs.State.{readerInRange, Sixteen};
-ghost use Rattle.reader.specs.Many.{begun, run, refusedAll, feedAllHeard, feedAllReader, feedAllOut};
-ghost use Rattle.reader.specs.Internal.{stateIn, Heeded, started, RanTo};
+ghost use Rattle.reader.specs.Many.{refusedAll, feedAllHeard, feedAllReader, feedAllOut};
+ghost use Rattle.reader.specs.Internal.{stateIn, Heeded, started, ranFrom, RanTo};
 
 // What a list of packets gave: how many of them were taken, how many blocks they finished, as how many
 // bytes of records at the front of the output, and whether a block was dropped.
@@ -107,7 +107,7 @@ fn take_all(
     requires { ⌜ Kept (from .got .run) (now store) ⌝ }
     requires { ⌜ length (now packets) % packetLength ≡ 0 ⌝ }
     requires { ⌜ (from .got .blocks ≡ 0) × (from .got .written ≡ 0) × (from .got .dropped ≡ false) ⌝ }
-    ensures { λ r. ⌜ RanTo (run setting (length (now (out .entry))) (length (now (packets .entry)) / packetLength) (begun (stateIn from (now (store .entry)))) (now (packets .entry))) r (now (store .exit)) (now (out .entry)) (now (out .exit)) ⌝ }
+    ensures { λ r. ⌜ RanTo (ranFrom setting (length (now (out .entry))) from (now (store .entry)) (now (packets .entry))) r (now (store .exit)) (now (out .entry)) (now (out .exit)) ⌝ }
     ensures { λ r. ⌜ r .going .got .written ≤ length (now (out .entry)) ⌝ }
 {
     let mut a = from;
