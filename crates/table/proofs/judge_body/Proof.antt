@@ -53,8 +53,9 @@ returns-2 c =
     let a = c .before .before .before .before .before .before .before .before .args in
     let ns = map nib (now (a .body)) in
     let lengths = lengthRules (a .head / 32) (openingIn (whole 4 ns)) (whole 4 ns) in
+    let front = c .before .before .before .before .before .before .judge-front .ensures in
     ends (wholeRules (a .head) ns) lengths 0 (c .before .before .before .judge-whole .ensures) _ (c .before .why2 .given .1)
-    ∙ goes-on (frontRules (a .head / 32) ns) (wholeRules (a .head) ns ++ lengths) 0 (c .before .before .before .before .before .before .judge-front .ensures) _ (c .before .before .before .before .enum-told .given .1)
+    ∙ goes-on (frontRules (a .head / 32) ns) (wholeRules (a .head) ns ++ lengths) 0 front _ (c .before .before .before .before .enum-told .given .1)
 
 returns-3 : tie.Need-returns-3
 unfolding tableOf
@@ -63,10 +64,11 @@ returns-3 c =
     let opens = c .before .before .before .before .before .before .before .before .pre .1 in
     let ns = map nib (now (a .body)) in
     let lengths = lengthRules (a .head / 32) (openingIn (whole 4 ns)) (whole 4 ns) in
+    let front = c .before .before .before .before .before .before .judge-front .ensures in
     c .judge-lengths .ensures
     ∙ ap (λ (o : Opening). judged refused (lengthRules (a .head / 32) o (whole 4 ns)) (Done (length (form (tableBy o (whole 4 ns)))))) opens
     ∙ goes-on (wholeRules (a .head) ns) lengths 0 (c .before .before .before .judge-whole .ensures) _ (c .before .enum-told2 .given .1)
-    ∙ goes-on (frontRules (a .head / 32) ns) (wholeRules (a .head) ns ++ lengths) 0 (c .before .before .before .before .before .before .judge-front .ensures) _ (c .before .before .before .before .enum-told .given .1)
+    ∙ goes-on (frontRules (a .head / 32) ns) (wholeRules (a .head) ns ++ lengths) 0 front _ (c .before .before .before .before .enum-told .given .1)
 
 pub judge-body-spec : {M : Type 1} → statement M
 judge-body-spec =

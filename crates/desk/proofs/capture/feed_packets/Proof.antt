@@ -7,7 +7,8 @@ use Rattle.desk.proofs.capture.feed_packets.Statement.{statement}
 use Rattle.desk.proofs.capture.feed_packets.Tie as tie
 
 abbrev Inv-loop : tie.InvT-loop
-Inv-loop setting packets records₀ text₀ form₀ desk₀ at₀ records text form desk at = (at ≤ length packets) × (length records ≡ length records₀) × (length text ≡ length text₀) × (length form ≡ length form₀)
+Inv-loop setting packets records₀ text₀ form₀ desk₀ at₀ records text form desk at =
+    (at ≤ length packets) × (length records ≡ length records₀) × (length text ≡ length text₀) × (length form ≡ length form₀)
 
 abbrev μ-loop : tie.MeasureT-loop
 μ-loop setting packets records₀ text₀ form₀ desk₀ at₀ records text form desk at = length packets - at
