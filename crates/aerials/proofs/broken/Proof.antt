@@ -19,7 +19,7 @@ Inv-loop packet n₀ i₀ n i =
     (i ≤ judgedBytes) × (n ≤ i) × (n + brokenIn (judgedBytes - i) (drop i packet) ≡ brokenIn judgedBytes packet)
 
 abbrev μ-loop : tie.MeasureT-loop
-μ-loop packet n₀ i₀ n i = judgedBytes - i
+μ-loop packet n₀ i₀ n i = packetLength - i
 
 loop-holds : tie.Need-loop-holds Inv-loop μ-loop
 loop-holds c = (search needs, search needs, zero-add _)
