@@ -27,7 +27,7 @@ pub fn none() -> Sight {
             ours: 0,
             unreadable: 0,
             came: false,
-            rows: 0,
+            most: 0,
         },
         any: false,
         pes: false,

@@ -13,27 +13,27 @@ use Rattle.pages.specs.Headers.{Seen, junk, other, foreign, ours, packetY}
 use Rattle.pages.specs.Judging.{verdictOf}
 use Rattle.survey.specs.declared.Counts.{Counts}
 use Rattle.survey.specs.Counting.{moreIf, counted}
-use Rattle.survey.specs.Internal.{rowsOf}
+use Rattle.survey.specs.Internal.{mostOf}
 
-opens : (n : ℕ) (t : Bool) → rowsOf (pick t (Open n 0) Shut) ≡ pick t n 0
+opens : (n : ℕ) (t : Bool) → mostOf (pick t (Open n 0) Shut) ≡ pick t n 0
 opens n true = refl
 opens n false = refl
 
-stays : (n y last : ℕ) (t : Bool) → rowsOf (pick t (Open n y) (Open n last)) ≡ n
+stays : (n y last : ℕ) (t : Bool) → mostOf (pick t (Open n y) (Open n last)) ≡ n
 stays n y last true = refl
 stays n y last false = refl
 
 module _ (index : ℕ) (c : Counts) where
-  pub rows-follow : (page : Page) (x : Seen) → rowsOf page ≡ c .rows → rowsOf (verdictOf page index x .page) ≡ counted c x .rows
-  rows-follow page junk e = refl
-  rows-follow page other e = e
-  rows-follow page foreign e = refl
-  rows-follow page (ours i n) e = opens n (leb n 25)
-  rows-follow Shut (packetY y p l) e = e
-  rows-follow (Open n last) (packetY y p l) e = rw (stays n y last (leb y n)) e
+  pub most-follows : (page : Page) (x : Seen) → mostOf page ≡ c .most → mostOf (verdictOf page index x .page) ≡ counted c x .most
+  most-follows page junk e = refl
+  most-follows page other e = e
+  most-follows page foreign e = refl
+  most-follows page (ours i n) e = opens n (leb n 25)
+  most-follows Shut (packetY y p l) e = e
+  most-follows (Open n last) (packetY y p l) e = rw (stays n y last (leb y n)) e
 
   pub ours-read :
-      (page : Page) (y p : ℕ) (l : List ℕ) → rowsOf page ≡ c .rows → 1 ≤ y
+      (page : Page) (y p : ℕ) (l : List ℕ) → mostOf page ≡ c .most → 1 ≤ y
       → counted c (packetY y p l) .ours ≡ moreIf (verdictOf page index (packetY y p l) .reads) (c .ours)
   ours-read Shut y p l e h = rw (← e, lt-leb y 0 h)
   ours-read (Open n last) y p l e h = rw (← e)

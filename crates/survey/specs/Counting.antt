@@ -19,17 +19,17 @@ moreIf t n = pick t (more n) n
 -- that can't be read and with a packet 0 of another page or stream of our magazine (SCOPE 8.2, 8.6, 8.9)
 abbrev pub counted : Counts → Seen → Counts
 counted c junk =
-    record { packets = more (c .packets); ours = c .ours; unreadable = more (c .unreadable); came = c .came; rows = 0 }
+    record { packets = more (c .packets); ours = c .ours; unreadable = more (c .unreadable); came = c .came; most = 0 }
 counted c other =
-    record { packets = more (c .packets); ours = c .ours; unreadable = c .unreadable; came = c .came; rows = c .rows }
-counted c foreign = record { packets = more (c .packets); ours = c .ours; unreadable = c .unreadable; came = c .came; rows = 0 }
+    record { packets = more (c .packets); ours = c .ours; unreadable = c .unreadable; came = c .came; most = c .most }
+counted c foreign = record { packets = more (c .packets); ours = c .ours; unreadable = c .unreadable; came = c .came; most = 0 }
 counted c (ours i n) =
-    record { packets = more (c .packets); ours = more (c .ours); unreadable = c .unreadable; came = true; rows = pick (leb n 25) n 0 }
+    record { packets = more (c .packets); ours = more (c .ours); unreadable = c .unreadable; came = true; most = pick (leb n 25) n 0 }
 counted c (packetY y p l) =
     record {
       packets = more (c .packets);
-      ours = moreIf (leb y (c .rows)) (c .ours);
+      ours = moreIf (leb y (c .most)) (c .ours);
       unreadable = c .unreadable;
       came = c .came;
-      rows = c .rows;
+      most = c .most;
     }

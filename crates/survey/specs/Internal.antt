@@ -17,20 +17,20 @@ noIndex = 16
 
 -- the verdict where a page of so many packets is complete, and our last index is none
 abbrev pub asked : ℕ → Seen → Verdict
-asked rows x = verdictOf (Open rows rows) noIndex x
+asked most x = verdictOf (Open most most) noIndex x
 
-abbrev pub rowsOf : Page → ℕ
-rowsOf Shut = 0
-rowsOf (Open n last) = n
+abbrev pub mostOf : Page → ℕ
+mostOf Shut = 0
+mostOf (Open n last) = n
 
 -- a packet that is no packet 0 of our page and stream, by the page that it leaves, and whether it drops or is read
 abbrev pub heededAt : Counts → Bool → Bool → Page → Counts
 heededAt c drops reads Shut =
-    record { packets = more (c .packets); ours = c .ours; unreadable = moreIf drops (c .unreadable); came = c .came; rows = 0 }
+    record { packets = more (c .packets); ours = c .ours; unreadable = moreIf drops (c .unreadable); came = c .came; most = 0 }
 heededAt c drops reads (Open n last) =
-    record { packets = more (c .packets); ours = moreIf reads (c .ours); unreadable = c .unreadable; came = c .came; rows = c .rows }
+    record { packets = more (c .packets); ours = moreIf reads (c .ours); unreadable = c .unreadable; came = c .came; most = c .most }
 
 abbrev pub heeded : Counts → Verdict → Counts
 heeded c v =
     pick (eqb (v .index) noIndex) (heededAt c (v .drops) (v .reads) (v .page))
-    (record { packets = more (c .packets); ours = more (c .ours); unreadable = c .unreadable; came = true; rows = rowsOf (v .page) })
+    (record { packets = more (c .packets); ours = more (c .ours); unreadable = c .unreadable; came = true; most = mostOf (v .page) })

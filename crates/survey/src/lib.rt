@@ -13,7 +13,7 @@ ghost use Rattle.octet.specs.Turning.{turned};
 ghost use Rattle.pages.specs.Seen.{see};
 ghost use Rattle.survey.specs.Counting.{more, moreIf, counted};
 ghost use Rattle.survey.specs.Fitting.{fits, firstIn, beginsPes};
-ghost use Rattle.survey.specs.Internal.{asked, rowsOf, heeded};
+ghost use Rattle.survey.specs.Internal.{asked, mostOf, heeded};
 
 // The bytes of a packet.
 const PACKET: usize = 42;
@@ -28,7 +28,7 @@ pub struct Counts {
     pub ours: u64,
     pub unreadable: u64,
     pub came: bool,
-    pub rows: u8,
+    pub most: u8,
 }
 
 // Where a packet 0 of our page stands.
@@ -41,7 +41,7 @@ pub enum Place {
 pub fn count(setting: Setting, counts: Counts, packet: &[u8]) -> Counts
     ensures { λ r. ⌜ r ≡ counted counts (see setting (now (packet .entry))) ⌝ }
 {
-    heed(counts, ask(setting, counts.rows, packet))
+    heed(counts, ask(setting, counts.most, packet))
 }
 
 // The first place of the bytes where a packet 0 of our page and stream stands, all 42 bytes of it.
@@ -101,12 +101,12 @@ fn stands(setting: Setting, bytes: &[u8]) -> bool
 
 // What the reader's rules say of a packet where a page of so many packets is complete and our last index is none. So a verdict tells what
 // the packet is: only one of our page and stream has an index; of those that shut the page, one that can't be read drops.
-fn ask(setting: Setting, rows: u8, packet: &[u8]) -> Verdict
-    ensures { λ r. ⌜ r ≡ asked rows (see setting (now (packet .entry))) ⌝ }
+fn ask(setting: Setting, most: u8, packet: &[u8]) -> Verdict
+    ensures { λ r. ⌜ r ≡ asked most (see setting (now (packet .entry))) ⌝ }
 {
     let page = Page::Open {
-        n: rows,
-        last: rows,
+        n: most,
+        last: most,
     };
     pages::judge(setting, page, NO_INDEX, packet::address(packet), packet)
 }
@@ -122,7 +122,7 @@ fn heed(counts: Counts, verdict: Verdict) -> Counts
             ours: one_more(counts.ours),
             unreadable: counts.unreadable,
             came: true,
-            rows: rows_of(page),
+            most: most_of(page),
         };
     }
     match page {
@@ -131,21 +131,21 @@ fn heed(counts: Counts, verdict: Verdict) -> Counts
             ours: counts.ours,
             unreadable: more_if(verdict.drops, counts.unreadable),
             came: counts.came,
-            rows: 0,
+            most: 0,
         },
         Page::Open { n: _, last: _ } => Counts {
             packets,
             ours: more_if(verdict.reads, counts.ours),
             unreadable: counts.unreadable,
             came: counts.came,
-            rows: counts.rows,
+            most: counts.most,
         },
     }
 }
 
 // Up to which number the packets of a page are read.
-fn rows_of(page: Page) -> u8
-    ensures { λ r. ⌜ r ≡ rowsOf page ⌝ }
+fn most_of(page: Page) -> u8
+    ensures { λ r. ⌜ r ≡ mostOf page ⌝ }
 {
     match page {
         Page::Shut => 0,

@@ -112,9 +112,9 @@ fn pages_for(cells: usize, k: u8) -> usize
     requires { ⌜ (1 ≤ k) × (cells < 2 ^ 63) ⌝ }
     ensures { λ r. ⌜ r ≡ pagesFor k (cells * cell) ⌝ }
 {
-    let rows = (cells + CELLS - 1) / CELLS;
+    let packets = (cells + CELLS - 1) / CELLS;
     let per_page = k as usize;
-    (rows + (per_page - 1)) / per_page
+    (packets + (per_page - 1)) / per_page
 }
 
 // Writes so many pages, where they have room. The room is divided, since the need may be more than
@@ -183,9 +183,9 @@ fn write_packet(s: Setting, y: u8, records: &[u8], pen: Pen, out: &mut [u8], q: 
     ensures { λ r. ⌜ Goes (now (records .entry)) pen perPacket r ⌝ }
 {
     zero::write_address(s.magazine, y, out, q);
-    let row = write_symbols(records, pen, out, q + 3);
-    out[q + 2] = octet::image((row.before / CELL) as u8);
-    row.pen
+    let sent = write_symbols(records, pen, out, q + 3);
+    out[q + 2] = octet::image((sent.before / CELL) as u8);
+    sent.pen
 }
 
 // Writes the 39 bytes that follow a packet's pointer, at q.

@@ -16,7 +16,7 @@ judge-requires c κs = search needs
 returns : tie.Need-returns
 returns c =
     let a = c .before .before .before .args in
-    c .judge .ensures ∙ ap (asked (a .rows)) (seen-in (a .setting) (now (a .packet)) (c .before .address .ensures))
+    c .judge .ensures ∙ ap (asked (a .most)) (seen-in (a .setting) (now (a .packet)) (c .before .address .ensures))
 
 pub ask-spec : {M : Type 1} → statement M
 ask-spec = tie.close (tie.spec address-requires judge-requires returns)

@@ -10,13 +10,13 @@ one-more-requires c κs = search needs
 one-more-requires-2 : tie.Need-one-more-requires-2
 one-more-requires-2 c κs = search needs
 
-rows-of-requires : tie.Need-rows-of-requires
-rows-of-requires c κs = search needs
+most-of-requires : tie.Need-most-of-requires
+most-of-requires c κs = search needs
 
 returns : tie.Need-returns
 returns c =
     let d = c .before .before in
-    rw (d .before .before .one-more .ensures, c .before .one-more2 .ensures, c .rows-of .ensures, ne-eqb _ _ (d .if1 .taken))
+    rw (d .before .before .one-more .ensures, c .before .one-more2 .ensures, c .most-of .ensures, ne-eqb _ _ (d .if1 .taken))
 
 enum-told : tie.Need-enum-told
 enum-told c = search needs
@@ -46,7 +46,7 @@ heed-spec =
     (tie.spec
     one-more-requires
     one-more-requires-2
-    rows-of-requires
+    most-of-requires
     returns
     enum-told
     more-if-requires

@@ -6,11 +6,11 @@ use native.Mathlib.Omega.{arith}
 use Rattle.writer.proofs.pages_for.Statement.{statement}
 use Rattle.writer.proofs.pages_for.Tie as tie
 
-add-rows : tie.Need-add-rows
-add-rows c = search needs
+add-packets : tie.Need-add-packets
+add-packets c = search needs
 
-sub-rows : tie.Need-sub-rows
-sub-rows c = search needs
+sub-packets : tie.Need-sub-packets
+sub-packets c = search needs
 
 sub-result : tie.Need-sub-result
 sub-result c = search needs
@@ -25,4 +25,4 @@ returns : tie.Need-returns
 returns c = ap (λ (n : ℕ). (n + (c .args .k - 1)) / c .args .k) (omega arith)
 
 pub pages-for-spec : {M : Type 1} → statement M
-pages-for-spec = tie.close (tie.spec add-rows sub-rows sub-result add-result div-result returns)
+pages-for-spec = tie.close (tie.spec add-packets sub-packets sub-result add-result div-result returns)
