@@ -41,6 +41,7 @@ int main(int argc, char **argv)
     while (fread(front, 1, sizeof front, stdin) == sizeof front) {
         unsigned op = front[0];
         size_t room = number(front + 1), length = number(front + 5), written, at;
+        unsigned mended;
         room = room < sizeof out ? room : sizeof out;
         if (length > sizeof payload || fread(payload, 1, length, stdin) != length)
             break;
@@ -54,8 +55,9 @@ int main(int argc, char **argv)
             line(21, heard.no, 0, heard.written);
             printf(" blocks=%u dropped=%s", heard.blocks, heard.dropped ? "yes" : "no");
         } else if (table && op == 30 && length >= 1) {
-            unsigned no = plain_read_block(payload[0], payload + 1, length - 1, out, room, &written, &at);
+            unsigned no = plain_read_block(payload[0], payload + 1, length - 1, out, room, &written, &at, &mended);
             line(30, no, at, written);
+            printf(" mended=%u", mended);
         } else {
             continue;
         }

@@ -26,12 +26,13 @@ static int flush(void)
 static int list(const struct plain_setting *setting, size_t written)
 {
     for (size_t at = 0; at < written;) {
-        size_t length = 2 + ((size_t)records[at] + 256 * records[at + 1]) / 32, got, where;
-        if (plain_read_block(setting->application, records + at, length, form, sizeof form, &got, &where)) {
+        size_t length = PLAIN_HEAD + ((size_t)records[at] + 256 * records[at + 1]) / 32, got, where;
+        unsigned mended;
+        if (plain_read_block(setting->application, records + at, length, form, sizeof form, &got, &where, &mended)) {
             refused++;
         } else {
             accepted++;
-            held += plain_lines(form, got, out + held);
+            held += plain_lines(form, got, mended, out + held);
             if (held >= sizeof out / 2 && !flush())
                 return 0;
         }

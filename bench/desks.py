@@ -1,18 +1,19 @@
 #!/usr/bin/env python3
 """Times desks on one file: bench/desks.py FILE NAME=PROGRAM ..
 
-A program is what tests/start takes: the name of one of ours, or a path. Each reads
-the file from standard input and prints to a file. The best of five runs counts, in
-CPU time. The outputs must be the same."""
+A program is a path; BENCH_START, or tests/start, starts it. Each reads the file from standard
+input and prints to a file, in turn with the others. The best of ten runs counts, in CPU time.
+The outputs must be the same."""
 
 import os
 import pathlib
 import subprocess
 import sys
 import tempfile
+import time
 
-START = pathlib.Path(__file__).resolve().parent.parent / "tests" / "start"
-RUNS = 5
+START = os.environ.get("BENCH_START", "tests/start")
+RUNS = 10
 
 
 def memory(pid, before):
@@ -33,6 +34,7 @@ def run(program, source, out):
     most, pid = (0, 0), 0
     while not pid:
         most = memory(child.pid, most)
+        time.sleep(0.001)
         pid, status, used = os.wait4(child.pid, os.WNOHANG)
     if status:
         sys.exit(f"{program}: status {status}")
@@ -41,22 +43,24 @@ def run(program, source, out):
 
 def main():
     name, *desks = sys.argv[1:]
-    packets, printed, first = os.path.getsize(name) // 42, None, None
-    print(f"A file of {packets} packets:\n\n| desk | time | a packet | times the first | most memory | of it its own |\n|---|---|---|---|---|---|")
-    for desk in desks:
-        title, program = desk.split("=", 1)
-        best, most = None, (0, 0)
-        for _ in range(RUNS):
+    packets, printed = os.path.getsize(name) // 42, None
+    named = [desk.split("=", 1) for desk in desks]
+    best, most = {}, {}
+    for _ in range(RUNS):
+        for title, program in named:
             with open(name, "rb") as source, tempfile.TemporaryFile() as out:
                 seconds, held = run(program, source, out)
                 out.seek(0)
                 text = out.read()
-            best, most = min(best or seconds, seconds), tuple(map(max, most, held))
-        printed = printed or text
-        if text != printed:
-            sys.exit(f"{title} prints otherwise")
-        first = first or best
-        print(f"| {title} | {best:.2f} s | {best * 1e9 / packets:.0f} ns | {best / first:.2f} | {most[0]} kB | {most[1]} kB |")
+            printed = printed or text
+            if text != printed:
+                sys.exit(f"{title} prints otherwise")
+            best[title] = min(best.get(title, seconds), seconds)
+            most[title] = tuple(map(max, most.get(title, (0, 0)), held))
+    first = best[named[0][0]]
+    print(f"A file of {packets} packets:\n\n| desk | time | a packet | times the first | most memory | of it its own |\n|---|---|---|---|---|---|")
+    for title, took in best.items():
+        print(f"| {title} | {took * 1e3:.0f} ms | {took * 1e9 / packets:.0f} ns | {took / first:.2f} | {most[title][0]} kB | {most[title][1]} kB |")
 
 
 if __name__ == "__main__":

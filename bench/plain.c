@@ -5,7 +5,7 @@
 enum { IDLE, HEAD, BODY };
 enum { FILLER = 3, START = 12, NONE = 13, UNDECODABLE = 16, DATA = 40, MOST_ROWS = 25 };
 
-static uint8_t nibble[256];
+static uint8_t nibble[256], harm[256];      /* what a byte decodes to; 1 where it isn't an image */
 static const uint8_t image[16] = {
     0x15, 0x02, 0x49, 0x5E, 0x64, 0x73, 0x38, 0x2F, 0xD0, 0xC7, 0x8C, 0x9B, 0xA1, 0xB6, 0xFD, 0xEA,
 };
@@ -13,8 +13,10 @@ static const uint8_t image[16] = {
 void plain_begin(void)
 {
     memset(nibble, UNDECODABLE, sizeof nibble);
+    memset(harm, 1, sizeof harm);
     for (unsigned n = 0; n < 16; n++) {
         nibble[image[n]] = (uint8_t)n;
+        harm[image[n]] = 0;
         for (unsigned bit = 0; bit < 8; bit++)
             nibble[image[n] ^ 1u << bit] = (uint8_t)n;
     }
@@ -46,8 +48,10 @@ static void hand_out(struct plain_reader *r, struct plain_heard *heard, uint8_t 
     uint8_t *to = out + heard->written;
     to[0] = (uint8_t)r->head;
     to[1] = (uint8_t)(r->head >> 8);
-    memcpy(to + 2, r->store, r->held);
-    heard->written += (uint16_t)(2 + r->held);
+    to[2] = r->part;
+    to[3] = 0;
+    memcpy(to + PLAIN_HEAD, r->store, r->held);
+    heard->written += (uint16_t)(PLAIN_HEAD + r->held);
     heard->blocks++;
     r->run = IDLE;
 }
@@ -62,6 +66,7 @@ static unsigned fill(struct plain_reader *r, struct plain_heard *heard, const ui
             return at;
         }
         r->head = (uint16_t)(r->head >> 4 | n << 12);
+        r->part = (uint8_t)(r->part + harm[d[at]]);
         if (++r->got == 4) {
             r->run = BODY;
             r->held = 0;
@@ -105,6 +110,7 @@ static void starts(struct plain_reader *r, struct plain_heard *heard, const uint
         r->run = HEAD;
         r->got = 0;
         r->head = 0;
+        r->part = harm[d[at]];
         at = fill(r, heard, d, at + 1, DATA);
         if (!finished(r))
             return;
@@ -198,16 +204,18 @@ static unsigned field(const uint8_t *control, unsigned at, unsigned width)
 }
 
 /* 0, or 10 with the offset of the first byte that can't be decoded. Two nibbles make a byte of control data. */
-static unsigned control_of(const uint8_t *record, unsigned from, unsigned to, uint8_t *control, unsigned *sum, size_t *at)
+static unsigned control_of(const uint8_t *raw, unsigned from, unsigned to, uint8_t *control, unsigned *sum,
+                           unsigned *mended, size_t *at)
 {
     for (unsigned i = from; i < to; i += 2) {
-        unsigned low = nibble[record[2 + i]], high = nibble[record[3 + i]];
+        unsigned low = nibble[raw[i]], high = nibble[raw[i + 1]];
         if ((low | high) & UNDECODABLE) {
-            *at = low == UNDECODABLE ? 2 + i : 3 + i;
+            *at = PLAIN_HEAD + i + (low != UNDECODABLE);
             return 10;
         }
         control[i / 2] = (uint8_t)(low | high << 4);
         *sum += low + high;
+        *mended += harm[raw[i]] + (unsigned)harm[raw[i + 1]];
     }
     return 0;
 }
@@ -250,37 +258,43 @@ static size_t form_of(const uint8_t *control, unsigned words, uint8_t *form)
 }
 
 unsigned plain_read_block(uint8_t application, const uint8_t *record, size_t length,
-                          uint8_t *form, size_t room, size_t *written, size_t *at)
+                          uint8_t *form, size_t room, size_t *written, size_t *at, unsigned *mended)
 {
     static uint8_t result[PLAIN_FORM];
     uint8_t control[1024 + 8] = { 0 };
-    unsigned head, size, kind, words, whole, bits, sum = 0;
+    const uint8_t *raw = record + PLAIN_HEAD;
+    unsigned head, size, kind, words, whole, bits, sum = 0, count = 0;
     *written = *at = 0;
+    *mended = 0;
     if (application > 31)
         return 16;
-    if (length < 2)
+    if (length < PLAIN_HEAD)
         return 13;
     head = record[0] | record[1] << 8;
     size = head >> 5;
-    if (length != 2 + size)
+    if (length != PLAIN_HEAD + size)
         return 13;
+    if (record[2] > 5 || record[3] != 0)
+        return 16;
     if (head % 32 != application)
         return 12;
     if (size < 8)
         return 13;
-    if (control_of(record, 0, 8, control, &sum, at))
+    if (control_of(raw, 0, 8, control, &sum, &count, at))
         return 10;
     kind = field(control, 18, 6);
     if ((kind != TI && kind != LI) || field(control, 24, 2) != 0)
         return 12;
     if (size % 2)
         return 13;
-    if (control_of(record, 8, size, control, &sum, at))
+    if (control_of(raw, 8, size, control, &sum, &count, at))
         return 10;
     sum += head % 16 + head / 16 % 16 + head / 256 % 16 + head / 4096;
     sum -= control[0] % 16 + control[0] / 16;
     if ((uint8_t)(control[0] + sum) != 0)
         return 11;
+    if (size >= 12 && field(control, 28, 16) % 0x8000 != 0)     /* a number of a later edition */
+        return 22;
     words = kind == TI ? 2 : 1;
     bits = 4 * size;
     whole = loops(control, bits, words);
@@ -292,6 +306,7 @@ unsigned plain_read_block(uint8_t application, const uint8_t *record, size_t len
         return 1;
     }
     memcpy(form, result, *written);
+    *mended = record[2] + count;
     return 0;
 }
 
@@ -337,13 +352,14 @@ static char *language(char *to, const uint8_t *word)
     return to + 4;
 }
 
-size_t plain_lines(const uint8_t *form, size_t length, char *out)
+size_t plain_lines(const uint8_t *form, size_t length, unsigned mended, char *out)
 {
     char *to = out;
     size_t at = 6;
     to = text(to, form[0] == TI ? "kind=TI\n" : "kind=LI\n");
     to = decimal(text(to, "block="), form[2] + 256u * form[3]);
     to = decimal(text(to, "network="), form[4]);
+    to = decimal(text(to, "mended="), mended);
     while (at < length) {
         unsigned entries = form[at + 1];
         to = decimal(text(to, "descriptor="), form[at]);

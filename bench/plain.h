@@ -12,6 +12,7 @@
 enum {
     PLAIN_PACKET = 42,
     PLAIN_ROOM = 2112,      /* what one packet can hand out, at the most */
+    PLAIN_HEAD = 4,         /* how many bytes of a record stand before its raw bytes */
     PLAIN_FORM = 4096,      /* what one table form can take, at the most */
     PLAIN_LINES = 65536,    /* what one table's lines can take, at the most */
 };
@@ -25,6 +26,7 @@ struct plain_reader {
     uint8_t index;                  /* our last continuity index */
     uint8_t run, got;               /* the running block: PLAIN_IDLE .., nibbles of its 16 bits */
     uint16_t head, held;
+    uint8_t part;                   /* its start and header bytes that weren't images */
     uint8_t store[2047];
 };
 
@@ -43,11 +45,12 @@ void plain_fresh(struct plain_reader *reader);
 struct plain_heard plain_feed(struct plain_reader *reader, const struct plain_setting *setting,
                               const uint8_t *packet, size_t length, uint8_t *out, size_t room);
 
-/* A record's table form in form, and its length in *written. Answers the number (SCOPE 2); *at is its offset. */
+/* A record's table form in form, its length in *written, and how many of its block's bytes were mended in *mended.
+   Answers the number (SCOPE 2); *at is its offset. */
 unsigned plain_read_block(uint8_t application, const uint8_t *record, size_t length,
-                          uint8_t *form, size_t room, size_t *written, size_t *at);
+                          uint8_t *form, size_t room, size_t *written, size_t *at, unsigned *mended);
 
-/* The desk's lines of a form that plain_read_block gave; their length. */
-size_t plain_lines(const uint8_t *form, size_t length, char *text);
+/* The desk's lines of a form and a count that plain_read_block gave; their length. */
+size_t plain_lines(const uint8_t *form, size_t length, unsigned mended, char *text);
 
 #endif

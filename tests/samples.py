@@ -4,7 +4,7 @@ stream 1, application 1). Made by the model's writer; nothing is off the air."""
 from cases.form import LOST, Dice, with_bytes
 from cases.reader import Air
 from cases.table import CASE_G
-from model import Refused, guide, listing, pes, table, unpes
+from model import Refused, guide, listing, pes, sheet, table, unpes
 from model.listing import DESK
 from model.table import LI, TI, Table
 
@@ -119,7 +119,7 @@ def handed_out(reader, packets):
 def form(r):
     """A record's table form; nothing where it is refused."""
     try:
-        return table.read_block(DESK.application, r)
+        return table.read_block(DESK.application, r).form
     except Refused:
         return None
 
@@ -138,6 +138,30 @@ def night_pes(packets):
     return b"".join(out)
 
 
+# --- the day sheet --------------------------------------------------------------------
+
+EVENING, MORNING = 1794780000, 1794812400       # the seconds at which the two captures began
+
+
+def day():
+    """Two captures of a day, the second with some tables sent anew, and the sheet that they give in either order."""
+    dice = Dice(8)
+    evening, morning = (b"".join(aired(dice, night_list(dice, networks), 20)) for networks in (5, 7))
+    text, _ = sheet.fed(b"", [(EVENING, evening), (MORNING, morning)])
+    assert text == sheet.fed(b"", [(MORNING, morning), (EVENING, evening)])[0]
+    assert {entry.stamp for entry in sheet.read(text)} == {EVENING, MORNING}
+    return {"evening.t42": evening, "morning.t42": morning, "day.sheet": text}
+
+
+def sheet_run():
+    """What the gate runs `sheet` on, and what it prints."""
+    made = day()
+    yield "args", f"add\nday\n{EVENING}\nevening.t42\n{MORNING}\nmorning.t42\n".encode()
+    for name in ("evening.t42", "morning.t42"):
+        yield f"data/{name}", made[name]
+    yield "stdout", sheet.fed(b"", [(EVENING, made["evening.t42"]), (MORNING, made["morning.t42"])])[1].encode()
+
+
 def make():
     """Each file of samples/ and its bytes."""
     dice = Dice(7)
@@ -154,3 +178,4 @@ def make():
         yield name, captures[name]
         yield name[:-4] + ".txt", listing.desk(fed[name])
     yield "night.err", said.encode()        # what unpes says last on standard error
+    yield from day().items()

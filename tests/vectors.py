@@ -10,14 +10,16 @@ fills the output with A5 before each call and prints a line for each case:
 
 no and at are the refusal's number and offset, both 0 where it is accepted; out
 is what the call reports as written; kept is whether every other byte is still
-A5. Op 21 adds blocks=N dropped=yes or no. An op that isn't known, or a payload
-that is too short for it: op=N unknown. A case that the end cuts short: short=N.
+A5. Op 21 adds blocks=N dropped=yes or no, ops 30 and 32 mended=N (0 where refused). An op that
+isn't known, or a payload that is too short for it: op=N unknown. A case that the end cuts short: short=N.
 
     op  program      payload                                  out
     1   try_octet    a byte                                   its nibble, or 16
     2   try_octet    a byte                                   its image
     3   try_octet    a byte                                   it turned
     4   try_octet    a byte                                   its fault place
+    5   try_octet    a byte                                   its nibble and whether it was mended (1) or is an
+                                                              image (0); 16 and 0 where it can't be decoded
     10  try_pes      a PES packet                             records of 44 bytes
     11  try_pes      data_identifier, records                 a PES packet
     20  try_guide    magazine, page, stream, application      nothing; a fresh reader
@@ -27,20 +29,46 @@ that is too short for it: op=N unknown. A case that the end cuts short: short=N.
     23  try_guide    two packets, each half of it              40 bytes of one
     30  try_table    application, a record                    a table form
     31  try_table    application, a table form                a record
-    40  try_listing  a table form                             the desk's lines
+    32  try_menu     application, a record                    an NI form
+    33  try_menu     application, an NI form                  a record
+    40  try_listing  how many bytes were mended (2 bytes,     the desk's lines
+                     low first), a table form
+    41  try_menu     application, a block number (2 bytes,    the listing
+                     low first), records
+    50  try_sheet    a sheet                                  the sheet, written again
+    51  try_sheet    stamp (4 bytes, low first), the sheet's  the sheet with the table added
+                     length (4, low first), it, a table form
+    52  try_sheet    the first sheet's length (4, low first), the two joined
+                     it, the second
 """
 
-from cases import guide, listing, octet, pes, table, unpes
+from cases import guide, listing, menu, octet, pes, sheet, table, unpes
 from cases.form import Dice
 from model import unpes as model_unpes
 
-CASES = {"octet": octet, "pes": pes, "guide": guide, "table": table, "listing": listing}
+CASES = {"octet": octet, "pes": pes, "guide": guide, "table": table, "listing": listing, "menu": menu, "sheet": sheet}
+
+# Of a program that doesn't have all its ops yet, those that it has; cases of the others are left out.
+STANDING = {"menu": {33}}
 
 
 def make(name, seed=1, size=1):
     """stdin and stdout of program try_NAME, as bytes."""
     script = CASES[name].script_of(Dice(seed), size)
-    return bytes(script.stdin), script.stdout().encode()
+    stdin, stdout = bytes(script.stdin), script.stdout().encode()
+    return standing(stdin, stdout, STANDING[name]) if name in STANDING else (stdin, stdout)
+
+
+def standing(stdin, stdout, ops):
+    """Of cases and their lines, one to a case, those of these ops."""
+    cases, lines, at = bytearray(), bytearray(), 0
+    for line in stdout.splitlines(keepends=True):
+        end = at + 9 + int.from_bytes(stdin[at + 5 : at + 9], "little")
+        if end <= len(stdin) and stdin[at] in ops:
+            cases += stdin[at:end]
+            lines += line
+        at = end
+    return bytes(cases), bytes(lines)
 
 
 def make_unpes(seed=1, size=1):

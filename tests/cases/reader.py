@@ -286,6 +286,66 @@ def pointer_cases(hear, dice, size):
               air.row(3, 8, left[78:] + bytes([FILL]) * (24 - len(left[78:])) + air.block(1) + air.block(2)))
 
 
+def mended_cases(hear, dice, size):
+    """The part of a block: its start and header bytes that aren't images, wherever they stand; nothing else counts."""
+    hit = lambda byte: byte ^ 1 << dice.below(8)
+
+    def damaged(block, which):
+        """Its first five bytes with one flipped bit where the bits of a number say so."""
+        return bytes(hit(b) if i < 5 and which >> i & 1 else b for i, b in enumerate(block))
+
+    for which in range(32):                     # each choice of the five, all in one packet
+        air = Air(dice)
+        hear.fresh(air)
+        hear.feed(air.header(0, 1), air.row(1, 0, damaged(air.block(dice.below(9)), which) + damaged(air.block(2), 31 - which)))
+    for begin in range(34, 40):                 # .. over two packets of one page, and over two pages
+        for which in (1, 2, 4, 8, 16, 31, dice.below(32), dice.below(32)):
+            for n in (1, 2):
+                air = Air(dice)
+                block = damaged(air.block(dice.pick([0, 1, 5, 30])), which)
+                lead = (begin - 1) // 3
+                hear.fresh(air)
+                hear.feed(air.header(0, n), air.row(1, lead, bytes([FILL ^ 1]) * (begin - 1) + block))
+                rest = block[40 - begin:]
+                rest += bytes([FILL ^ 1 << dice.below(8)]) * (-len(rest) % 3)
+                if n == 1:
+                    hear.feed(air.header(1, 1))
+                hear.feed(air.row(2 if n == 2 else 1, len(rest) // 3, rest + damaged(air.block(0), dice.below(32))))
+    for between in ("pointer", "stray", "lost", "index", "header"):     # a block with mended bytes is dropped, the next has its own part
+        air = Air(dice)
+        first, second = damaged(air.block(90), 31), damaged(air.block(3), dice.pick([0, 1, 16]))
+        hear.fresh(air)
+        hear.feed(air.header(0, 3 if between != "index" else 1), air.row(1, 0, first))
+        if between == "header":
+            first = with_bytes(damaged(air.block(5), 15), (4, LOST))
+            hear.feed(air.row(2, 0, first))
+        if between == "lost":
+            hear.feed(with_bytes(air.row(2, 13), (1, LOST)), air.header(1, 3), air.row(1, 13))
+        if between == "index":
+            hear.feed(air.header(9, 3), air.row(1, 13))
+        hear.feed(air.row(2 if between != "header" else 3, 16 if between == "pointer" else 1, octet.images([2, 3, 3]) + second))
+        hear.feed(air.row(3, 0, second))
+    for most in (1, 1, 2):                      # noise in fillers, pointers, addresses and packets 0 only
+        air = Air(dice)
+        hear.fresh(air)
+        block = air.block(50)
+        rest = block[36:] + bytes([FILL]) * 2
+        for packet, keep in ((air.header(3, 1), 42), (air.row(1, 1, bytes([FILL]) * 3 + block), 6),
+                             (air.header(4, 1), 42), (air.row(1, 7, rest + air.block(0) + bytes([FILL]) * 4), 3)):
+            hear.feed(air.noised(packet[:keep], 1) + packet[keep:])
+        hear.feed(air.noised(air.header(5, 2), most), air.noised(air.row(1, 0, air.block(20) + air.block(4)), most),
+                  air.noised(air.row(2, 0, air.block(0) * 7), most))
+    air = Air(dice)                             # eight in one packet, each with its own part
+    hear.fresh(air)
+    blocks = [damaged(air.block(0), which) for which in (31, 0, 1, 2, 7, 30, 21, 16)]
+    hear.feed(air.header(0, 2), air.row(1, 12, bytes(36) + blocks[0]), air.row(2, 1, blocks[0][3:] + bytes([FILL]) + b"".join(blocks[1:])))
+    for _ in range(4 * size):                   # at random, with two flips seldom
+        air = Air(dice)
+        hear.fresh(air)
+        for packet in air.stream(dice.pick([1, 2, 3]), [dice.below(40) for _ in range(12)], dice.below(16)):
+            hear.feed(air.noised(packet, 1) if dice.below(9) else air.noised(packet, 2))
+
+
 def refused_cases(hear, dice, size):
     """16 and 1; the state comes back equal, so what follows is as if they weren't."""
     air = Air(dice)
@@ -359,5 +419,5 @@ def wild_row(dice):
 
 def all_cases(script, dice, size):
     hear = Hearing(script)
-    for cases in (clean_cases, noise_cases, running_cases, pointer_cases, refused_cases, wild_cases):
+    for cases in (clean_cases, noise_cases, running_cases, pointer_cases, mended_cases, refused_cases, wild_cases):
         cases(hear, dice, size)

@@ -1,6 +1,7 @@
 """TI and LI blocks both ways, and what is wrong with them."""
 
 from model import guide, octet, table
+from model.guide import HEAD
 from model.table import Table
 
 from .form import LOST, Script, line, room_tried, with_bytes
@@ -13,7 +14,7 @@ def some_table(dice, kind=None, descriptors=None, most=6):
     kind = kind or dice.pick([table.TI, table.LI])
     count = dice.below(5) if descriptors is None else descriptors
     loop = [(dice.below(64), [some_word(dice) for _ in range(table.WORDS[kind] * dice.below(most + 1))]) for _ in range(count)]
-    return Table(kind, dice.below(2), dice.below(65536), dice.below(256), loop)
+    return Table(kind, dice.below(2), dice.pick(table.NUMBERS), dice.below(256), loop)
 
 
 def some_word(dice):
@@ -36,7 +37,7 @@ def spread(entries, descriptors):
 
 
 def nibbles_in(record):
-    return [octet.decode(b) for b in record[2:]]
+    return [octet.decode(b) for b in record[HEAD:]]
 
 
 def with_field(nibbles, name, value):
@@ -54,8 +55,7 @@ def with_field(nibbles, name, value):
 def extreme_tables():
     """Every field at its least and most; tables at the limit of 8,184 bits."""
     for kind in (table.TI, table.LI):
-        for copyright, block_no, network in ((0, 0, 0), (1, 65535, 255), (0, 0x8000, 1), (1, 1, 0x80),
-                                             (0, 0x00FF, 0), (1, 0xFF00, 127)):
+        for copyright, block_no, network in ((0, 0, 0), (1, 0x8000, 255), (0, 0x8000, 1), (1, 0, 0x80), (1, 0x8000, 127)):
             yield Table(kind, copyright, block_no, network, [])
             for id, word in ((0, 0), (63, 0xFFFFFF), (5, 0x000001), (32, 0x800000), (1, 0x123456)):
                 yield Table(kind, copyright, block_no, network, [(id, [word] * table.WORDS[kind])])
@@ -86,19 +86,38 @@ def l1_records():
     printed = guide.record_of(head, L1_PRINTED[4:])
     whole = octet.images([L1_SUM % 16, L1_SUM // 16]) + L1_PRINTED[4:]
     mended = guide.record_of(guide.head_of(1, len(whole)), whole)
-    control = nibbles_in(mended[:2 + 60])           # control_block_size 0x1E: 60 nibbles
+    control = nibbles_in(mended[:HEAD + 60])        # control_block_size 0x1E: 60 nibbles
     sizes = with_field(control, "control_block_size", 0x1E)
-    return printed, guide.record_of(head, whole), mended, mended[:2] + octet.images(sizes) + mended[62:]
+    return printed, guide.record_of(head, whole), mended, mended[:HEAD] + octet.images(sizes) + mended[HEAD + 60:]
+
+
+def read_line(payload, room):
+    mended = 0
+
+    def call():
+        nonlocal mended
+        form, mended = table.read_block(payload[0], payload[1:], room)
+        return form
+    return line(call) + f" mended={mended}"
+
+
+def hit(dice, record, count):
+    """A record with one flipped bit in so many of its raw bytes."""
+    places = list(range(HEAD, len(record)))
+    for _ in range(count):
+        at = places.pop(dice.below(len(places)))
+        record = with_bytes(record, (at, record[at] ^ 1 << dice.below(8)))
+    return record
 
 
 def script_of(dice, size):
     script = Script({
-        30: (1, lambda payload, room: line(table.read_block, payload[0], payload[1:], room)),
+        30: (1, read_line),
         31: (1, lambda payload, room: line(table.write_block, payload[0], payload[1:], room)),
     })
     read = lambda record, application=1, room=4096: script.case(30, room, bytes([application]) + record)
     write = lambda form, application=1, room=4096: script.case(31, room, bytes([application]) + form)
-    read_call = lambda payload: table.read_block(payload[0], payload[1:])
+    read_call = lambda payload: table.read_block(payload[0], payload[1:]).form
     write_call = lambda payload: table.write_block(payload[0], payload[1:])
 
     def both(t, application):
@@ -114,34 +133,35 @@ def script_of(dice, size):
         form = table.form_of(within)
         record = table.write_block(1, form)
         write(form, room=len(record)), read(record, room=len(form)), write(table.form_of(over)), write(form, room=len(record) - 1)
-    # reading: 16, 13, 12, 13, 10, 12, 13, 10, 11, 14, 1
+    # reading: 16, 13, 16, 12, 13, 10, 12, 13, 10, 11, 22, 14, 1
     good = table.write_block(1, table.form_of(CASE_G))
     for application in (0, 1, 2, 30, 31, 32, 33, 255):
         read(good, application)
         read(good[:-1], application)
     for length in range(len(good)):
         read(good[:length])
-    read(good + b"\x15"), read(b""), read(b"\x01"), read(b"\x01\x00"), read(b"\x02\x00")
-    read(b"\x00\x00", 0), read(b"\xe1\xff" + bytes(2047))
+    read(good + b"\x15"), read(b""), read(b"\x01"), read(b"\x01\x00"), read(b"\x01\x00\x00"), read(b"\x01\x00\x06\x01")
+    read(b"\x01\x00\x00\x00"), read(b"\x02\x00\x00\x00"), read(b"\x00\x00\x00\x00", 0), read(b"\xe1\xff\x00\x00" + bytes(2047))
+    mended_cases(read, dice, good, size)
     for length in range(21):                            # sizes 0 to 20
         head = guide.head_of(1, length)
         for raw in (bytes([LOST]) * length, bytes([0x15]) * length, dice.bytes(length),
-                    (good[2:] + good[2:])[:length], table.write_block(1, table.form_of(shaped(table.LI, [])))[2:][:length]):
+                    (good[HEAD:] + good[HEAD:])[:length], table.write_block(1, table.form_of(shaped(table.LI, [])))[HEAD:][:length]):
             read(guide.record_of(head, raw))
             read(guide.record_of(head, raw), 2)
         if length >= 8:
             blank = with_field([0] * length, "datatype_id", dice.pick([7, 8]))
             read(table.summed(1, with_field(blank, "control_block_size", length // 2)))
-            read(with_bytes(table.summed(1, blank), (length + 1, LOST)))
+            read(with_bytes(table.summed(1, blank), (HEAD + length - 1, LOST)))
     for t in (CASE_G, some_table(dice, descriptors=2, most=2)):
         record = table.write_block(1, table.form_of(t))
         nibbles = nibbles_in(record)
-        for at in range(2, len(record)):                # damaged bytes at each place
+        for at in range(HEAD, len(record)):             # damaged bytes at each place
             read(with_bytes(record, (at, record[at] ^ 1 << dice.below(8))))
             bits = dice.below(8)
             read(with_bytes(record, (at, record[at] ^ 1 << bits ^ 1 << (bits + dice.between(1, 7)) % 8)))
             read(with_bytes(record, (at, octet.image(octet.decode(record[at]) ^ 1 << dice.below(4)))))
-        for first in (3, 9, 10, len(record) - 1):       # the first such byte
+        for first in (5, 11, 12, len(record) - 1):      # the first such byte
             read(with_bytes(record, (first, LOST), (len(record) - 1, LOST)))
         for kind in (0, 1, 2, 3, 4, 5, 6, 7, 8, 9, 10, 0x3E, 0x3F):
             for access in (0, 1, 2, 3):
@@ -149,9 +169,9 @@ def script_of(dice, size):
                 read(table.summed(1, other))
                 if kind in (2, 8) and access < 2:       # 10 in front, 12, odd size, 10 behind, 11
                     odd = table.summed(1, other + [0])
-                    read(odd), read(with_bytes(odd, (4, LOST))), read(with_bytes(odd, (12, LOST)))
-                    read(with_bytes(odd, (2, odd[2] ^ 0xFF)))
-                    read(with_bytes(table.summed(1, other), (12, LOST)))
+                    read(odd), read(with_bytes(odd, (6, LOST))), read(with_bytes(odd, (14, LOST)))
+                    read(with_bytes(odd, (HEAD, odd[HEAD] ^ 0xFF)))
+                    read(with_bytes(table.summed(1, other), (14, LOST)))
         half = len(nibbles) // 2
         for control in (0, 1, half - 1, half + 1, 2 * half, half ^ 512, 1023):      # control size off
             read(table.summed(1, with_field(nibbles, "control_block_size", control)))
@@ -166,14 +186,14 @@ def script_of(dice, size):
         for off in (1, 15, 16, 128, 255):               # the sum off, and off where lengths don't fit either
             for control in (half, half + 1):
                 record = table.summed(1, with_field(nibbles, "control_block_size", control))
-                sum_ = (octet.decode(record[2]) + 16 * octet.decode(record[3]) + off) % 256
-                read(with_bytes(record, (2, octet.image(sum_ % 16)), (3, octet.image(sum_ // 16))), room=0)
+                sum_ = (octet.decode(record[HEAD]) + 16 * octet.decode(record[HEAD + 1]) + off) % 256
+                read(with_bytes(record, (HEAD, octet.image(sum_ % 16)), (HEAD + 1, octet.image(sum_ // 16))), room=0)
         read(table.summed(1, with_field(nibbles, "control_block_size", half + 1)), room=0)
     for descriptors in range(9):                        # reserved and fill bits set
         t = some_table(dice, descriptors=descriptors, most=2)
         record = table.write_block(1, table.form_of(t))
-        fill = 4 * (len(record) - 2) - table.width(t)
-        half = len(record) // 2 - 1
+        fill = 4 * (len(record) - HEAD) - table.width(t)
+        half = (len(record) - HEAD) // 2
         grown = with_field(nibbles_in(record) + [0, 0], "control_block_size", half + 1)
         read(table.summed(1, grown))                    # fill of eight more
         for filled in sorted({0, 1, (1 << fill) - 1, dice.below(1 << fill)}):
@@ -182,11 +202,12 @@ def script_of(dice, size):
             nibbles[-1] |= (filled << (8 - fill)) >> 4 if fill else 0
             read(table.summed(1, nibbles))
     most = table.write_block(1, table.form_of(shaped(table.TI, spread(162, 35))))
-    for at in (9, 10, 1000, len(most) - 1):
+    for at in (11, 12, 1000, len(most) - 1):
         read(with_bytes(most, (at, LOST)))
     for record in l1_records():
         read(record)
-    # writing: 16, 13, 15, 1
+    number_cases(read, write, dice)
+    # writing: 16, 22, 13, 15, 1
     form = table.form_of(some_table(dice, table.TI, 2, 2)._replace(descriptors=[(9, [1, 2]), (3, [4, 5, 6, 7])]))
     for application in (0, 31, 32, 255):
         write(form, application), write(form[:-1], application, 0), write(b"", application)
@@ -221,3 +242,61 @@ def script_of(dice, size):
     script.case(30, 99, b""), script.case(31, 99, b"")
     script.cut_short(b"\x1e\x40\x00\x00")
     return script
+
+
+LATER = (0x0001, 0x0003, 0x0010, 0x007F, 0x0080, 0x00FF, 0x0100, 0x7FFF, 0x8001, 0x8080, 0x80FF, 0xC000, 0xFF00, 0xFFFF)
+
+
+def later(t, block_no):
+    """A table's record with another number, its sum right."""
+    return table.summed(1, with_field(nibbles_in(table.write_block(1, table.form_of(t))), "block_no", block_no))
+
+
+def number_cases(read, write, dice):
+    """Numbers of a later edition: 22 after 11 and before 14, by the block's size; in writing right after 16."""
+    for t in (CASE_G, shaped(table.LI, []), some_table(dice, table.LI, 2, 3)):
+        for block_no in (*table.NUMBERS, *LATER):
+            record = later(t, block_no)
+            half = (len(record) - HEAD) // 2
+            read(record), read(record, room=0), read(hit(dice, record, 4))
+            if block_no in (0, 3, 0x8000, 0x8001):
+                nibbles = nibbles_in(record)
+                off = with_field(nibbles, "control_block_size", half + 1)           # .. where lengths don't fit either
+                read(table.summed(1, off)), read(table.summed(1, with_field(nibbles, "descr_no", 63))), read(table.summed(1, nibbles + [0, 0]))
+                read(table.summed(1, nibbles + [0])), read(table.summed(1, with_field(nibbles, "datatype_id", 3)))
+                read(with_bytes(record, (HEAD, octet.image(octet.decode(record[HEAD]) ^ 1))))       # 11 before it
+                read(with_bytes(record, (len(record) - 1, LOST))), read(record, 2), read(with_bytes(record, (2, 6))), read(record[:-1])
+            form = with_bytes(table.form_of(t), (2, block_no % 256), (3, block_no // 256))
+            write(form), write(form, 32), write(form, room=0), write(form[:-1]), write(form + b"\x00")
+            for length in range(7):
+                write(form[:length]), write(form[:length], 255)
+            write(with_bytes(form, (0, 3))), write(with_bytes(form, (1, 2))), write(with_bytes(form, (5, 64))), write(with_bytes(form, (5, 255))[:6])
+    for size in range(8, 15):                           # sizes with and without a number
+        for block_no in (0, 3, 0x8000, 0xFFFF):
+            blank = with_field([0] * max(size, 12), "block_no", block_no)[:size]
+            blank = with_field(blank, "datatype_id", dice.pick([7, 8]))
+            read(table.summed(1, blank)), read(table.summed(1, with_field(blank, "control_block_size", size // 2)))
+
+
+def mended_cases(read, dice, good, size):
+    """What was mended: the part and the byte behind it, and the count that an accepted block carries."""
+    for part in (0, 1, 4, 5, 6, 7, 128, 255):
+        for second in (0, 1, 2, 255):
+            record = with_bytes(good, (2, part), (3, second))
+            read(record), read(hit(dice, record, 3))
+            if part in (5, 6) or second == 1:           # each other fault with it, in front and behind
+                read(record, 32), read(record, 2), read(record[:-1]), read(record + b"\x15"), read(record, room=0)
+                read(record[:3]), read(guide.record_of(guide.head_of(1, 7), bytes(7), part, second))
+                read(with_bytes(record, (HEAD, LOST))), read(with_bytes(record, (len(record) - 1, LOST)))
+                read(with_bytes(record, (HEAD, record[HEAD] ^ 0xFF))), read(table.summed(1, nibbles_in(good) + [0])[:2] + record[2:HEAD] + good[HEAD:] + b"\x15")
+    for count in range(len(good) - HEAD + 1):           # every number of mended bytes
+        read(with_bytes(hit(dice, good, count), (2, dice.below(6))))
+    for at in range(HEAD, len(good)):                   # each byte, by each of its bits
+        for bit in range(8):
+            read(with_bytes(good, (at, good[at] ^ 1 << bit)))
+    most = table.write_block(1, table.form_of(shaped(table.LI, spread(329, 23))))
+    read(with_bytes(hit(dice, most, len(most) - HEAD), (2, guide.MOST_PART)))      # 2,051, the most there can be
+    for _ in range(20 * size):
+        record = table.write_block(1, table.form_of(some_table(dice)))
+        record = with_bytes(hit(dice, record, dice.below(len(record) - HEAD)), (2, dice.below(7)), (3, dice.chance(9)))
+        read(record), read(record, room=dice.below(40))

@@ -37,8 +37,12 @@ def all_cases(script, dice, size):
     for block in (0, 1, 2, 3, 32, 33, 34, 35, 36, 37, 73, 74):
         rooms(some_setting(dice), dice.below(16), dice.pick([1, 2]), some_list(dice, [block]))
         cut(some_setting(dice), dice.below(16), 1, some_list(dice, [block, 0]))
-    for k in (1, 7, 0):
+    for k in (1, 7, 0, 20, 25):
         cut(some_setting(dice), dice.below(16), k, some_list(dice, [2047]))
+    for rows in (19, 20, 21, 25, 26):           # none named is 20, and 25 is what it says
+        whole, setting, index = some_list(dice, [34] * rows), some_setting(dice), dice.below(16)
+        for k in (0, 20, 25):
+            cut(setting, index, k, whole)
     for sizes in ([34, 34], [34, 34, 0], [28, 1], [28, 2], [28, 5], [73, 34], [0] * 6, [0] * 7, [0] * 13,
                   [1] * 7, [4] * 5, [31, 34], [32, 33], [33, 34]):
         for k in (1, 2, 3):
@@ -59,8 +63,13 @@ def all_cases(script, dice, size):
                 script.case(22, room, bytes(payload) + tail)
     for length in range(len(small)):            # not a list of whole records
         cut(good, 1, 1, small[:length], 0 if length % 2 else 500)
-    cut(good, 1, 1, small + b"\x00"), cut(good, 1, 1, small + b"\xff\xff"), cut(good, 1, 1, b"\xe0\xff" + bytes(2046))
-    cut(good, 0, 1, b"\x01\x00" * 5100)         # needs more than 65,536 bytes
+    for tail in (b"\x00", b"\x01\x00", b"\x01\x00\x00", b"\xff\xff", b"\xff\xff\x00\x00"):
+        cut(good, 1, 1, small + tail)
+    cut(good, 1, 1, b"\xe0\xff\x00\x00" + bytes(2046)), cut(good, 1, 1, b"\xe0\xff" + bytes(2047))
+    cut(good, 0, 1, b"\x01\x00\x00\x00" * 5100) # needs more than 65,536 bytes
+    for part, second in ((1, 0), (5, 0), (6, 0), (255, 0), (0, 1), (0, 255), (255, 255), (0x16, 0x16)):     # neither sent nor judged
+        other = guide.record_of(guide.head_of(31, 3), dice.bytes(3), part, second)
+        cut(good, 2, 1, other + small + other), cut(good, 2, 1, other[:-1]), rooms(good, 2, 1, other)
     for _ in range(8 * size):
         sizes = [dice.pick([0, 1, 2, 8, 16, 22, 30, 34, 35, 77, 150]) for _ in range(dice.between(1, 6))]
         cut(some_setting(dice), dice.below(16), dice.between(0, 25), some_list(dice, sizes))

@@ -11,7 +11,7 @@ sys.path.insert(0, str(pathlib.Path(__file__).resolve().parent.parent))
 
 from cases.form import LOST, Dice, with_bytes
 from cases.reader import Air
-from cases.table import CASE_G, some_table
+from cases.table import CASE_G, later, some_table
 from model import guide, listing, octet, survey, table
 from model.guide import PACKET, Setting
 from model.listing import DESK
@@ -94,14 +94,19 @@ def without(dice):
 
 def longest():
     """Many tables with the most lines, so that the text runs full again and again."""
-    most = table.Table(table.LI, 1, 65535, 255, [(63, [0x010203] * 15)] * 20 + [(63, [])] * 42)
+    most = table.Table(table.LI, 1, 0x8000, 255, [(63, [0x010203] * 15)] * 20 + [(63, [])] * 42)
     assert len(listing.list_table(table.form_of(most))) > 5400
     yield "full", "", DESK, guide.cut(DESK, 0, 25, record(most) * 200)
 
 
+def editions():
+    """Tables of a later edition between ours: they count as refused."""
+    yield "editions", "", DESK, guide.cut(DESK, 0, 20, b"".join(later(CASE_G, n) for n in (0, 3, 0x8000, 1, 0x8001, 0xFFFF, 0)))
+
+
 def main(folder):
     dice = Dice(11)
-    for name, words, setting, data in (*elsewhere(dice), *long(dice), *halves(dice), *longest(), *rough(dice), *without(dice)):
+    for name, words, setting, data in (*elsewhere(dice), *long(dice), *halves(dice), *longest(), *editions(), *rough(dice), *without(dice)):
         (folder / f"{name}.t42").write_bytes(data)
         (folder / f"{name}.words").write_text("".join(word + "\n" for word in words.split()))
         (folder / f"{name}.txt").write_bytes(listing.desk(data, setting))

@@ -1,6 +1,6 @@
 #!/usr/bin/env python3
 """Holds the model to what SCOPE and EN 300 707 print: the sixteen images, cases
-A to K, annex L.1, and the third demand under random noise."""
+A to K, annex L.1, and the third demand, counts included, under random noise."""
 
 import pathlib
 import sys
@@ -10,8 +10,10 @@ sys.path.insert(0, str(pathlib.Path(__file__).resolve().parent.parent))
 
 from cases.form import Dice, with_bytes
 from cases.reader import Air
-from cases.table import CASE_G, L1_PRINTED, L1_SUM, l1_records, shaped, some_table
-from model import Refused, guide, listing, octet, pes, table, unpes
+from cases.menu import EMPTY, SAMPLE, filled, linked, listed, some_menu, worded
+from cases.sheet import largest, sized, some_sheet
+from cases.table import CASE_G, L1_PRINTED, L1_SUM, l1_records, later, shaped, some_table
+from model import Refused, guide, listing, menu, octet, pes, sheet, table, unpes
 from model.listing import DESK
 
 
@@ -36,6 +38,8 @@ def images():
         else:
             assert octet.image(nibble) == (byte if place == 8 else byte ^ 1 << place)
         assert octet.turn(octet.turn(byte)) == byte
+        assert octet.mended(byte) == (place < 8)
+    assert sum(octet.mended(byte) for byte in range(256)) == 128
 
 
 def cases_a_to_f():
@@ -49,20 +53,20 @@ def cases_a_to_f():
 def case_g():
     assert table.width(CASE_G) == 116
     record = table.write_block(1, table.form_of(CASE_G))
-    assert len(record) == 2 + 30 and 4 * 30 - 116 == 4
+    assert len(record) == guide.HEAD + 30 and 4 * 30 - 116 == 4 and record[:guide.HEAD] == bytes.fromhex("C1030000")
     packets = guide.cut(DESK, 0, 1, record)
     assert len(packets) == 84
     assert packets[:42] == bytes.fromhex("0215EAB6150202151515") + b"\x20" * 32
     assert packets[42:46] == bytes.fromhex("C71515A1")
     assert listing.desk(packets).decode() == (
-        "kind=TI\nblock=0\nnetwork=2\ndescriptor=5\nlanguage=dut\npage=000888\nblocks=1 refused=0 short=0\n")
+        "kind=TI\nblock=0\nnetwork=2\nmended=0\ndescriptor=5\nlanguage=dut\npage=000888\nblocks=1 refused=0 short=0\n")
 
 
 def cases_h_to_k():
     none = shaped(table.TI, [])                                             # H
-    assert table.width(none) == 58 and len(table.write_block(1, table.form_of(none))) == 2 + 16
+    assert table.width(none) == 58 and len(table.write_block(1, table.form_of(none))) == guide.HEAD + 16
     eleven, twelve = shaped(table.TI, [15] * 11), shaped(table.TI, [15] * 12)    # I
-    assert table.width(eleven) == 8088 and len(table.write_block(1, table.form_of(eleven))) == 2 + 2022
+    assert table.width(eleven) == 8088 and len(table.write_block(1, table.form_of(eleven))) == guide.HEAD + 2022
     assert number(table.write_block, 1, table.form_of(twelve)) == (15, 0)
     one = pes.write(0x10, b"")                                              # J
     assert len(one) == 184 and one[4:6] == (178).to_bytes(2, "big") and (len(one) - 46) // pes.UNIT == 3
@@ -75,7 +79,17 @@ def annex_l1():
     nibbles = [octet.decode(byte) for byte in L1_PRINTED[:4 + 58]]
     assert octet.images(nibbles) == L1_PRINTED[:4 + 58] and -sum(nibbles) % 256 == L1_SUM
     assert [number(table.read_block, 1, record)[0] for record in l1_records()] == [13, 13, 12, 12]
-    assert [len(record) - 2 for record in l1_records()] == [73, 75, 75, 75]
+    assert [len(record) - guide.HEAD for record in l1_records()] == [73, 75, 75, 75]
+
+
+def editions():
+    """22 for a number other than 0 and 8000 hex: after 11, before 14, by the block's size."""
+    assert [number(table.read_block, 1, later(CASE_G, n))[0] for n in (0, 0x8000, 1, 3, 0x7FFF, 0x8001, 0xFFFF)] == [0, 0] + [22] * 5
+    other = table.form_of(CASE_G._replace(block_no=3))
+    assert [number(table.write_block, 1, other[:n])[0] for n in range(len(other) + 1)] == [13] * 4 + [22] * (len(other) - 3)
+    assert number(table.write_block, 32, other) == (16, 0) and number(listing.list_table, other) == (22, 0) and number(sheet.add, 0, b"x", other) == (22, 0)
+    text = sheet.written([sheet.Entry(0, CASE_G._replace(block_no=3))])
+    assert number(sheet.rewrite, text) == (20, len(text) - 1)
 
 
 def lost_pes():
@@ -95,40 +109,106 @@ def lost_pes():
     assert unpes.run(good, good[:7], good) == (packet + gone * 3 + packet, "read=2 refused=0 numbers= left=7\n")
 
 
+def pages():
+    """Where no number is named pages have 20 packets; 25 is named."""
+    records = guide.record_of(guide.head_of(1, 34), bytes(34)) * 20
+    assert guide.cut(DESK, 0, 0, records) == guide.cut(DESK, 0, 20, records) and len(guide.cut(DESK, 0, 0, records)) == 21 * guide.PACKET
+    assert len(guide.cut(DESK, 0, 25, records)) == 26 * guide.PACKET
+
+
+def day_sheet():
+    """Reading and writing come back; joining goes in either order and grouping, and a sheet joined with itself is itself."""
+    text = sheet.add(7, b"", table.form_of(CASE_G._replace(copyright=1)))
+    assert text == b"stamp=7\nkind=TI\nnetwork=2\nblock=0\ndescriptor=5\nlanguage=dut\npage=000888\n\n"
+    assert [number(sheet.rewrite, text[:n])[0] for n in range(len(text) + 1)] == [0] + [20] * (len(text) - 1) + [0]
+    assert number(sheet.rewrite, text[:-1]) == (20, len(text) - 1) and number(sheet.rewrite, text + text) == (20, 2 * len(text) - 1)
+    assert number(sheet.rewrite, sheet.written(sized(16385))) == (21, 0) and len(sheet.rewrite(sheet.written(sized(16384)))) == 16384
+    dice = Dice(3)
+    for _ in range(100):
+        sheets = [some_sheet(dice, dice.below(9), 3) for _ in range(3)]
+        a, b, c = map(sheet.written, sheets)
+        assert [sheet.read(one) for one in (a, b, c)] == sheets and sheet.rewrite(a) == a
+        assert sheet.join(a, b) == sheet.join(b, a) and sheet.join(a, a) == a
+        assert sheet.join(sheet.join(a, b), c) == sheet.join(a, sheet.join(b, c))
+        came = sheet.joined(*sheets)
+        for entry in (entry for one in sheets for entry in one):        # never back, and nothing made up
+            assert max(e.stamp for e in came if sheet.key(e) == sheet.key(entry)) >= entry.stamp
+        assert all(any(entry in one for one in sheets) for entry in came)
+    # "together" can't be the joined sheet's size: three of the largest, the third outdone by an empty table, joined in two groupings
+    one, two, three = ([largest()._replace(stamp=5, table=largest().table._replace(network=n))] for n in (1, 2, 3))
+    last = [sheet.Entry(6, three[0].table._replace(descriptors=[]))]
+    wide, thin, late = sheet.written(sheet.joined(one, two)), sheet.written(three), sheet.written(last)
+    assert number(sheet.join, wide, thin) == (21, 0) and len(sheet.join(wide, sheet.join(thin, late))) < 16384
+
+
+def menus():
+    """What is written reads back, nothing is ever left to fill, the listing is the one printed, and a menu that links to itself is bounded."""
+    dice = Dice(4)
+    for made in (EMPTY, SAMPLE, filled(1023, 1), worded(2047), *(some_menu(dice) for _ in range(200))):
+        form = menu.form_of(made)
+        record = menu.write_menu(1, form)
+        assert menu.menu_of(form) == made and menu.read_menu(1, record) == (form, 0)
+        assert menu.width(made) % 8 == 0 and len(record) == guide.HEAD + menu.block_size(made)
+        assert number(table.read_block, 1, record)[0] == 12
+    assert number(menu.read_menu, 1, table.write_block(1, table.form_of(CASE_G)))[0] == 12
+    golf = linked(5, header=b"Themes")._replace(events=[menu.Event(0, 2, [], menu.String([], b"Golf"))])
+    assert menu.list_menu(1, 0, listed(1, SAMPLE, golf)).decode() == (
+        "level=1\nmenu=0\nheader=TV Guide\nlevel=1\nevent=Themes\nlink=1,5\nlevel=2\nmenu=5\nheader=Themes\nlevel=2\nevent=Golf\nlink=2,0\n"
+        "level=1\nevent=More\nlink=1,9\nmissing=9\n")
+    itself = EMPTY._replace(events=[menu.Event(0, 1, [], menu.String([], b""))] * 15)
+    assert menu.block_size(itself) == 172 and number(menu.list_menu, 1, 0, listed(1, itself)) == (1, 0)
+    need = 0
+    for _ in range(8):                                  # a menu's own lines, and of each event its lines and what it links to
+        need = 23 + 15 * (24 + (need or 9))
+    assert need // 10 ** 9 == 93
+    letter = menu.write_menu(1, menu.form_of(linked(1, header=b"A")))       # why demand 3 can't speak of menus: two flips, another letter
+    assert menu.read_menu(1, with_bytes(letter, (len(letter) - 1, letter[-1] ^ 6))).form == menu.form_of(linked(1, header=b"G"))
+
+
 def subsequence(some, whole):
     rest = iter(whole)
     return all(thing in rest for thing in some)
 
 
+def damage(records, sent, arrived):
+    """How many bytes of each block, start and header included, arrived other than they were sent, from the packets themselves: the
+    blocks stand one after the other, each from a whole cell on, in the bytes behind the pointers."""
+    sent, arrived = (b"".join(packet[3:] for packet in packets) for packets in (sent, arrived))
+    at = 0
+    for record in records:
+        end = at + 1 + 4 + len(record) - guide.HEAD
+        yield sum(a != b for a, b in zip(sent[at:end], arrived[at:end]))
+        at = end + -end % guide.CELL
+
+
 def noise(rounds, most):
-    """Demand 3: one flip in each byte gives exactly the list, two a subsequence."""
+    """Demand 3: one flip in each byte gives exactly the list, two a subsequence, each table with its count of damaged bytes."""
     dice = Dice(most)
     kept = sent = 0
     for _ in range(rounds):
         air = Air(dice)
         forms = [table.form_of(some_table(dice)) for _ in range(dice.between(1, 12))]
         application = air.setting.application
-        records = b"".join(table.write_block(application, form) for form in forms)
-        packets = guide.cut(air.setting, dice.below(16), dice.between(1, 25), records)
-        arrived = b""
-        for at in range(0, len(packets), guide.PACKET):
-            if dice.chance(4):
-                arrived += air.noised(air.elsewhere("magazine"), most)
-            hit = most if dice.chance(6) else 1     # two flips everywhere leave nothing to see
-            arrived += air.noised(packets[at:at + guide.PACKET], hit)
+        records = [table.write_block(application, form) for form in forms]
+        packets = guide.cut(air.setting, dice.below(16), dice.between(1, 25), b"".join(records))
+        packets = [packets[at:at + guide.PACKET] for at in range(0, len(packets), guide.PACKET)]
+        hit = [air.noised(packet, most if dice.chance(6) else 1) for packet in packets]     # two flips everywhere leave nothing to see
+        arrived = b"".join((air.noised(air.elsewhere("magazine"), most) if dice.chance(4) else b"") + packet for packet in hit)
+        rows = [i for i, packet in enumerate(packets) if packet[:2] != guide.address(air.setting.magazine, 0)]
+        truth = list(zip(forms, damage(records, [packets[i] for i in rows], [hit[i] for i in rows])))
         came = []
         for record in guide.read_all(air.setting, arrived):
             try:
                 came.append(table.read_block(application, record))
             except Refused:
                 assert most == 2
-        assert came == forms if most == 1 else subsequence(came, forms)
-        kept, sent = kept + len(came), sent + len(forms)
+        assert came == truth if most == 1 else subsequence(came, truth)
+        kept, sent = kept + len(came), sent + len(truth)
     return f"{kept} of {sent} tables with up to {most} flips a byte"
 
 
 def main():
-    for check in (images, cases_a_to_f, case_g, cases_h_to_k, annex_l1, lost_pes):
+    for check in (images, cases_a_to_f, case_g, cases_h_to_k, annex_l1, editions, lost_pes, pages, day_sheet, menus):
         check()
         print(f"{check.__name__}: ok")
     for most in (1, 2):

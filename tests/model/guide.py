@@ -3,13 +3,14 @@
 from typing import NamedTuple
 
 from . import need
-from .octet import UNDECODABLE, decode, images
+from .octet import UNDECODABLE, decode, images, mended
 
 PACKET, DATA = 42, 40           # an address, then 40 bytes
 CELL, CELLS = 3, 13             # starts stand at bytes 1 + 3p, p up to 12 (SCOPE 9.2)
 NONE = 13                       # the pointer where no block starts
 FILLER, START = 0x3, 0xC
 MOST_ROWS = 25
+USUAL_ROWS = 20                 # where no number is named (SCOPE 7.6)
 LAST_Y = 25                     # Y above it are no concern of ours (SCOPE 8.4)
 ROOM = 2112                     # what the reader must be lent (SCOPE 3.5)
 
@@ -26,7 +27,11 @@ class Setting(NamedTuple):
                 and self.stream <= 15 and self.application <= 31)
 
 
-# --- records: 16 bits, low byte first, then the block's raw bytes --------------
+# --- records: 16 bits, low byte first, the part, a byte 0, the block's raw bytes ---
+
+HEAD = 4                        # the bytes before the raw ones
+MOST_PART = 5                   # the part counts start and header bytes
+
 
 def head_of(application, size):
     """The size stands above five bits of application (SCOPE 9.7)."""
@@ -37,16 +42,20 @@ def size_of(head):
     return head >> 5
 
 
-def record_of(head, raw):
-    return head.to_bytes(2, "little") + bytes(raw)
+def record_of(head, raw, part=0, second=0):
+    return head.to_bytes(2, "little") + bytes([part, second]) + bytes(raw)
+
+
+def head_in(record):
+    return int.from_bytes(record[:2], "little")
 
 
 def records_in(data):
     """The whole records of a list; 13 where it isn't one."""
     records, at = [], 0
     while at < len(data):
-        need(len(data) - at >= 2, 13)
-        end = at + 2 + size_of(int.from_bytes(data[at:at + 2], "little"))
+        need(len(data) - at >= HEAD, 13)
+        end = at + HEAD + size_of(head_in(data[at:]))
         need(end <= len(data), 13)
         records.append(data[at:end])
         at = end
@@ -72,9 +81,8 @@ def packet_0(setting, index, n):
 
 
 def cells_of(record):
-    """A block's bytes, filled up to whole cells, where the next may start (SCOPE 11.1)."""
-    head = int.from_bytes(record[:2], "little")
-    block = images([START] + nibbles_of(head)) + record[2:]
+    """A block's bytes, filled up to whole cells, where the next may start (SCOPE 11.1). The part and the byte behind it aren't sent."""
+    block = images([START] + nibbles_of(head_in(record))) + record[HEAD:]
     block += images([FILLER]) * (-len(block) % CELL)
     return [block[i:i + CELL] for i in range(0, len(block), CELL)]
 
@@ -87,8 +95,8 @@ def row(setting, y, cells):
 
 
 def cut(setting, first_index, k, records, room=2 ** 32):
-    """The packets of a list of records, in pages of k packets (0: 25)."""
-    k = k or MOST_ROWS          # 25 where no number is given (SCOPE 7.6)
+    """The packets of a list of records, in pages of k packets (0: none named)."""
+    k = k or USUAL_ROWS
     need(setting.in_range() and first_index <= 15 and 1 <= k <= MOST_ROWS, 16)
     cells = []                  # each with whether a block starts in it
     for record in records_in(records):
@@ -107,10 +115,10 @@ def cut(setting, first_index, k, records, room=2 ** 32):
 # --- the reader ----------------------------------------------------------------
 
 class Block:
-    """A block that has started: its header's nibbles, then its raw bytes."""
+    """A block that has started: its header's nibbles, then its raw bytes; the part is how many of start and header were mended."""
 
-    def __init__(self):
-        self.nibbles, self.raw = [], bytearray()
+    def __init__(self, start):
+        self.nibbles, self.raw, self.part = [], bytearray(), int(mended(start))
 
     def head(self):
         return sum(n << 4 * i for i, n in enumerate(self.nibbles))
@@ -124,6 +132,7 @@ class Block:
             self.raw.append(byte)
             return True
         self.nibbles.append(decode(byte))
+        self.part += mended(byte)
         return self.nibbles[-1] != UNDECODABLE
 
 
@@ -158,7 +167,7 @@ class Reader:
 
     def hand_out(self):
         """The running block goes out as a record (SCOPE 10.3)."""
-        self.finished.append(record_of(self.running.head(), self.running.raw))
+        self.finished.append(record_of(self.running.head(), self.running.raw, self.running.part))
         self.running = None
 
     def packet(self, address, data):
@@ -239,7 +248,7 @@ class Reader:
             # The packet ends, or something else than a start comes (SCOPE 9.10).
             if at == DATA or decode(data[at]) != START:
                 return
-            self.running = Block()
+            self.running = Block(data[at])
             at = self.fill(data, at + 1, DATA)
             # Its header is broken (SCOPE 9.11), or it goes on in the next packet.
             if self.running is None or not self.running.finished():

@@ -16,10 +16,16 @@ def language(word):
     return f"{word:06x}"
 
 
-def lines(table):
+def lines(table, mended):
     yield f"kind={NAMES[table.kind]}"
     yield f"block={table.block_no}"
     yield f"network={table.network}"
+    yield f"mended={mended}"
+    yield from table_lines(table)
+
+
+def table_lines(table):
+    """The lines from `descriptor=` on."""
     for id, words in table.descriptors:
         yield f"descriptor={id}"
         for at in range(0, len(words), WORDS[table.kind]):
@@ -28,9 +34,9 @@ def lines(table):
                 yield f"page={words[at + 1]:06x}"
 
 
-def list_table(form, room=2 ** 32):
-    """The lines of one table form; 13 and 15 as in writing."""
-    text = "".join(line + "\n" for line in lines(table_of(form))).encode()
+def list_table(form, mended=0, room=2 ** 32):
+    """The lines of one table form and its count of mended bytes; 22, 13 and 15 as in writing."""
+    text = "".join(line + "\n" for line in lines(table_of(form), mended)).encode()
     need(len(text) <= room, 1)
     return text
 
@@ -40,7 +46,7 @@ def desk(data, setting=DESK):
     out, accepted, refused = b"", 0, 0
     for record in read_all(setting, data):
         try:
-            out += list_table(read_block(setting.application, record))
+            out += list_table(*read_block(setting.application, record))
             accepted += 1
         except Refused:
             refused += 1

@@ -43,6 +43,11 @@ def decode(byte):
     return DECODED[byte]
 
 
+def mended(byte):
+    """Whether a byte decodes and isn't the image itself."""
+    return decode(byte) != UNDECODABLE and byte != image(decode(byte))
+
+
 # The parity checks as four rows, lowest bit first (SCOPE 5.5): the places whose
 # number of ones is odd in every image. The first three go with P1, P2, P3.
 CHECKS = (

@@ -3,12 +3,13 @@
 from typing import NamedTuple
 
 from . import need
-from .guide import head_of, nibbles_of, record_of, size_of
-from .octet import UNDECODABLE, decode, images
+from .guide import HEAD, MOST_PART, head_in, head_of, nibbles_of, record_of, size_of
+from .octet import UNDECODABLE, decode, images, mended
 
 LI, TI = 7, 8                       # datatype_id, clause 11.12.3
 WORDS = {LI: 1, TI: 2}              # an entry: language; language and page
 MOST_BITS = 8184                    # control_block_size has ten bits
+NUMBERS = (0x0000, 0x8000)          # of this edition (clauses 11.4.2 and 11.5.2, the notes)
 
 
 class Table(NamedTuple):
@@ -22,9 +23,11 @@ class Table(NamedTuple):
 # The fields before the loop and their widths, in the standard's order.
 FRONT = (("checksum", 8), ("control_block_size", 10), ("datatype_id", 6), ("CA_mode", 2),
          ("copyright", 1), ("reserved", 1), ("block_no", 16), ("netwop_no", 8), ("descr_no", 6))
+COMMON = FRONT[:7]                  # every kind of block has these (table 7), and a number
 LOOP = (("descriptor_id", 6), ("entry_no", 4))
 WORD = 24
 FIRST = 8                           # the bytes that say datatype and access
+NUMBERED = 12                       # .. and, as sizes are even, the number too
 
 
 def width(table):
@@ -55,7 +58,8 @@ def form_of(table):
 
 
 def table_of(form):
-    """A table form's table: 13 (its length isn't that of its counts), then 15."""
+    """A table form's table: 22 (its number, where it has one), 13 (its length isn't that of its counts), then 15."""
+    need(len(form) < 4 or int.from_bytes(form[2:4], "little") in NUMBERS, 22)
     need(len(form) >= 6, 13)
     kind, copyright, low, high, network, count = form[:6]
     need(kind in WORDS, 15)         # its entries can't be measured
@@ -69,10 +73,14 @@ def table_of(form):
         at = end
     need(at == len(form), 13)
     table = Table(kind, copyright, low + 256 * high, network, descriptors)
-    need(copyright <= 1 and count <= 63, 15)
-    need(all(id <= 63 and len(words) <= 15 * WORDS[kind] for id, words in descriptors), 15)
-    need(width(table) <= MOST_BITS, 15)
+    need(writable(table), 15)
     return table
+
+
+def writable(table):
+    """Its number is one of this edition, every value fits its field, and the table its control size."""
+    loops = all(id <= 63 and len(words) <= 15 * WORDS[table.kind] for id, words in table.descriptors)
+    return table.block_no in NUMBERS and table.copyright <= 1 and len(table.descriptors) <= 63 and loops and width(table) <= MOST_BITS
 
 
 # --- reading ------------------------------------------------------------------------
@@ -101,26 +109,40 @@ def decoded(record, places):
     return nibbles
 
 
-def read_block(application, record, room=65536):
-    """The table form of a record: two bytes of header, low byte first, and a block."""
+class Read(NamedTuple):
+    form: bytes
+    mended: int                     # the block's protected bytes that aren't images
+
+
+def opened(application, record, kinds):
+    """What is judged first of a block of any kind, up to kind and access: head, size, part, first nibbles and their fields."""
     need(application <= 31, 16)
-    head = int.from_bytes(record[:2], "little")
+    head = head_in(record)
     size = size_of(head)
-    need(len(record) >= 2 and len(record) == 2 + size, 13)
+    need(len(record) >= HEAD and len(record) == HEAD + size, 13)
+    part, second = record[2:HEAD]
+    need(part <= MOST_PART and second == 0, 16)
     need(head == head_of(application, size), 12)
     need(size >= FIRST, 13)
-    nibbles = decoded(record, range(2, 2 + FIRST))
-    front = Bits(nibbles).fields(FRONT)
-    need(front["datatype_id"] in WORDS and front["CA_mode"] == 0, 12)
+    nibbles = decoded(record, range(HEAD, HEAD + FIRST))
+    front = Bits(nibbles).fields(COMMON)
+    need(front["datatype_id"] in kinds and front["CA_mode"] == 0, 12)
+    return head, size, part, nibbles, front
+
+
+def read_block(application, record, room=65536):
+    """A record's table form, and how many bytes of its block were mended, start and header included."""
+    head, size, part, nibbles, _ = opened(application, record, WORDS)
     need(size % 2 == 0, 13)
-    nibbles += decoded(record, range(2 + FIRST, 2 + size))
+    nibbles += decoded(record, range(HEAD + FIRST, HEAD + size))
     table, front = table_in(nibbles)
     need(front["checksum"] == checksum(head, nibbles), 11)
+    need(size < NUMBERED or table.block_no in NUMBERS, 22)
     need(front["control_block_size"] * 2 == size, 14)
     need(0 <= 4 * size - width(table) <= 7, 14)        # loops, then fill 0..7
     form = form_of(table)
     need(len(form) <= room, 1)
-    return form
+    return Read(form, part + sum(mended(byte) for byte in record[HEAD:]))
 
 
 def table_in(nibbles):

@@ -1,6 +1,7 @@
 #!/usr/bin/env python3
 """Captures of PES packets beyond the stored run: tests/unpes/captures.py DIR writes for each NAME.pes,
-NAME.t42, what the model's unpes gives for it, and NAME.err, what it says last."""
+NAME.t42, what the model's unpes gives for it, and NAME.err, what it says last; NAME.txt too, the desk's list, for a run of losses
+that a reader can't see."""
 
 import pathlib
 import sys
@@ -13,7 +14,7 @@ from cases.unpes import stream_of
 from model import guide, listing, pes, table, unpes
 from model.listing import DESK
 from cases.table import some_table
-from samples import aired, night_list, night_pes, packets_in
+from samples import aired, form, handed_out, march_table, night_list, night_pes, packets_in, record, some_page, swapped
 
 SPACE = 131072      # what unpes holds at once
 
@@ -65,6 +66,26 @@ def longest(dice):
     yield "short", most * 3 + most[:-1]
 
 
+def unseen(dice, units):
+    """21 packets, one page of the usual length and its packet 0, are lost in PES packets of so many units: what follows fits. Left out, half
+    a table and half of another join, and the sum agrees; as unpes puts it, no table comes that wasn't sent."""
+    at = 9 if units == 3 else 7                         # the first packet lost: within a table of five packets, where a PES packet begins
+    fives = [march_table(dice, network, (5, 5, 4)) for network in range(9)]
+    first = (at - 1) // 5
+    pages = [some_page(dice) for _ in range(14)]
+    fives[first] = march_table(dice, first, (5, 5, 4), pages)
+    fives[first + 4] = march_table(dice, first, (5, 5, 4), [some_page(dice)] + [swapped(page) for page in pages[1:]])
+    sent = [record(t) for t in fives]
+    packets = packets_in(guide.cut(DESK, 0, 0, b"".join(sent)))
+    joined = [r for r in handed_out(guide.Reader(DESK), packets[:at] + packets[at + 21:]) if r not in sent]
+    assert len(joined) == 1 and form(joined[0]), "without a word the halves join"
+    carried = [pes.write(0x10, b"".join(b"\x02\xe7" + packet for packet in packets[i:i + units])) for i in range(0, len(packets), units)]
+    hit = range(at // units, (at + 21) // units)
+    data = b"".join(with_bytes(p, (49, 0x27)) if i in hit else p for i, p in enumerate(carried))
+    assert all(r in sent for r in handed_out(guide.Reader(DESK), packets_in(unpes.run(data)[0])))
+    return data
+
+
 def main(folder):
     dice = Dice(17)
     made = [*hit(dice), *gaps(dice), *longest(dice), *((f"seed{seed}", stream_of(Dice(seed), 2)) for seed in (2, 3)), ("empty", b"")]
@@ -73,6 +94,14 @@ def main(folder):
         (folder / f"{name}.pes").write_bytes(data)
         (folder / f"{name}.t42").write_bytes(out)
         (folder / f"{name}.err").write_text(said)
+
+    for name, units in (("sevens", 3), ("threes", 7)):
+        data = unseen(dice, units)
+        out, said = unpes.run(data)
+        (folder / f"{name}.pes").write_bytes(data)
+        (folder / f"{name}.t42").write_bytes(out)
+        (folder / f"{name}.err").write_text(said)
+        (folder / f"{name}.txt").write_bytes(listing.desk(out))
 
     # one capture cut in two within a block, as two files: the table that is cut doesn't come
     packets = guide.cut(DESK, 0, 25, b"".join(

@@ -14,7 +14,7 @@ use Rattle.answer.specs.declared.Answer.{Answer}
 use Rattle.answer.specs.declared.Answer.the-variants.{Done}
 use Rattle.answer.specs.Values.{numberOf, offsetOf, writtenOf, refused}
 use Rattle.answer.specs.Writing.{room, answered, after, left}
-use Rattle.answer.specs.Rules.{Rule, judged, refusing, allRefusing, Every, none, more, First, here, later}
+use Rattle.answer.specs.Rules.{Rule, judged, lastNumber, refusing, allRefusing, Every, none, more, First, here, later}
 
 pub passes {ℓ} : {A : Type ℓ} (f : ℕ → ℕ → A) {rs : List Rule} (a : A) → Every rs → judged f rs a ≡ a
 passes f a none = refl
@@ -55,7 +55,7 @@ first-after (more h d) f = later h (first-after d f)
 -- the first that doesn't hold has the number of a refusal
 first-number : {q : Rule} {rs : List Rule} → allRefusing rs ≡ true → First q rs → 1 ≤ q .number
 unfolding allRefusing
-first-number {q} n (here h) = leb-true 1 (q .number) (both-first (leb 1 (q .number)) (leb (q .number) 16) (both-first (refusing (q .number)) _ n))
+first-number {q} n (here h) = leb-true 1 (q .number) (both-first (leb 1 (q .number)) (leb (q .number) lastNumber) (both-first (refusing (q .number)) _ n))
 first-number n (later {r} h f) = first-number (both-second (refusing (r .number)) _ n) f
 
 pub refusing-append : (rs qs : List Rule) → allRefusing rs ≡ true → allRefusing qs ≡ true → allRefusing (rs ++ qs) ≡ true

@@ -21,9 +21,13 @@ abbrev pub judged {ℓ} : {A : Type ℓ} → (ℕ → ℕ → A) → List Rule �
 judged refused [] a = a
 judged refused (r ∷ rs) a = pick (r .holds) (judged refused rs a) (refused (r .number) (r .offset))
 
--- a refusal's number is 1 to 16; 0 stands for an acceptance (SCOPE 2.1)
+-- the greatest number of the list (SCOPE 2.1)
+abbrev pub lastNumber : ℕ
+lastNumber = 22
+
+-- a refusal's number is 1 to the last of the list; 0 stands for an acceptance (SCOPE 2.1)
 abbrev pub refusing : ℕ → Bool
-refusing n = both (leb 1 n) (leb n 16)
+refusing n = both (leb 1 n) (leb n lastNumber)
 
 -- every rule has such a number
 unfoldable pub allRefusing : List Rule → Bool

@@ -38,7 +38,7 @@ pub extern "C" fn bench_turn(s: &[u8]) -> u8
     let mut mix = 0u8;
     let mut i = 0;
     while i < s.len() {
-        mix = mix ^ octet::quick::turn(s[i]);
+        mix = mix ^ octet::turn(s[i]);
         i += 1;
     }
     mix

@@ -30,11 +30,15 @@ module _ (b : Block) (rest : List ℕ) (h : sizeOf (b .head) ≡ length (b .raw)
       (le-leb (recordLength (first)) (length (first)) (omega (arith, length-append (b .raw) rest)))
 
   first-block : blockOf (first) ≡ b
-  first-block = ap₂ (λ (head : ℕ) (raw : List ℕ). record { head = head; raw = raw }) first-head (take-at (b .raw) rest (sizeOf (headOf first)) first-size)
+  first-block =
+      ap₂
+      (λ (head : ℕ) (raw : List ℕ). record { head = head; part = b .part; second = b .second; raw = raw })
+      first-head
+      (take-at (b .raw) rest (sizeOf (headOf first)) first-size)
 
   first-rest : drop (recordLength (first)) (first) ≡ rest
   first-rest =
-      let e : recordLength first ≡ suc (suc (sizeOf (headOf first))) = omega arith in
+      let e : recordLength first ≡ suc (suc (suc (suc (sizeOf (headOf first))))) = omega arith in
       rw e (drop-at (b .raw) rest (sizeOf (headOf first)) first-size)
 
 pub whole-records : {bs : List Block} → Sized bs → whole (recordsOf bs) ≡ true

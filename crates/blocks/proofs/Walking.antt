@@ -42,8 +42,8 @@ whole-fuel (suc f) (suc g) l hf hg =
 blocks-fuel : (f g : ℕ) (l : List ℕ) → length l ≤ f → length l ≤ g → blocksWithin f l ≡ blocksWithin g l
 unfolding blocksWithin
 blocks-fuel zero zero l hf hg = refl
-blocks-fuel zero (suc g) l hf hg = let e : length l < 2 = omega arith in rw (begins-not l e)
-blocks-fuel (suc f) zero l hf hg = let e : length l < 2 = omega arith in rw (begins-not l e)
+blocks-fuel zero (suc g) l hf hg = let e : length l < headLength = omega arith in rw (begins-not l e)
+blocks-fuel (suc f) zero l hf hg = let e : length l < headLength = omega arith in rw (begins-not l e)
 blocks-fuel (suc f) (suc g) l hf hg =
     ap (λ (bs : List Block). pick (begins l) (blockOf l ∷ bs) [])
     (blocks-fuel f g (drop (recordLength l) l) (follows-short l f hf) (follows-short l g hg))

@@ -6,9 +6,12 @@ use lib.Dec.{eqb, leb}
 use lib.ListN.{length, getD, take, drop}
 use Rattle.laws.specs.Pick.{pick, both, either}
 
--- a block: its 16 bits and its raw bytes
+-- a block: its 16 bits; how many of its start and header bytes came other than as the image of their nibble (its part, SCOPE 19.3); a
+-- second byte, 0; and its raw bytes
 pub record Block : Type 0 where
   pub head : ℕ
+  pub part : ℕ
+  pub second : ℕ
   pub raw : List ℕ
 
 -- of the 16 bits the five lowest are application_id, and the eleven above them block_size, which counts the raw bytes (SCOPE 9.7)
@@ -20,11 +23,11 @@ sizeOf head = head / 32
 
 -- how many bytes of a record stand before the raw bytes
 abbrev pub headLength : ℕ
-headLength = 2
+headLength = 4
 
--- a block's record: the low and the high byte of its 16 bits, then its raw bytes (SCOPE 10.3)
+-- a block's record: the low and the high byte of its 16 bits, its part, its second byte, then its raw bytes (SCOPE 10.3)
 abbrev pub recordOf : Block → List ℕ
-recordOf b = b .head % 256 ∷ b .head / 256 ∷ b .raw
+recordOf b = b .head % 256 ∷ b .head / 256 ∷ b .part ∷ b .second ∷ b .raw
 
 -- the records of a list of blocks, one after the other
 unfoldable pub recordsOf : List Block → List ℕ
@@ -34,6 +37,13 @@ recordsOf (b ∷ bs) = recordOf b ++ recordsOf bs
 -- the 16 bits that l begins with
 abbrev pub headOf : List ℕ → ℕ
 headOf l = getD l 0 0 + 256 * getD l 1 0
+
+-- the part and the second byte of the record that l begins with
+abbrev pub partOf : List ℕ → ℕ
+partOf l = getD l 2 0
+
+abbrev pub secondOf : List ℕ → ℕ
+secondOf l = getD l 3 0
 
 -- how many bytes the record is long that l begins with, going by its 16 bits
 abbrev pub recordLength : List ℕ → ℕ
@@ -45,7 +55,12 @@ begins l = both (leb headLength (length l)) (leb (recordLength l) (length l))
 
 -- the block of the record that l begins with
 abbrev pub blockOf : List ℕ → Block
-blockOf l = record { head = headOf l; raw = take (sizeOf (headOf l)) (drop headLength l) }
+blockOf l = record {
+  head = headOf l;
+  part = partOf l;
+  second = secondOf l;
+  raw = take (sizeOf (headOf l)) (drop headLength l);
+}
 
 -- l is a list of whole records; the number bounds how many are tried, and the length of l is enough
 unfoldable pub wholeWithin : ℕ → List ℕ → Bool

@@ -1,3 +1,4 @@
 pub mod Block
 pub mod Sizes
+pub mod Parts
 pub mod Place

@@ -1,10 +1,10 @@
-// Blocks as they go between the calls: a record has a block's 16 bits in two bytes, the low one first,
-// and its raw bytes (SCOPE 10.3). The reader hands out records, one after the other; the writer and block reading take them.
+// Blocks as they go between the calls: a record has a block's 16 bits in two bytes, the low one first, its part (SCOPE 19.3),
+// a byte 0, and its raw bytes (SCOPE 10.3). The reader hands out records, one after the other; the writer and block reading take them.
 ghost use mathlib.Core.Path.{_≡_};
 ghost use Rattle.blocks.specs.Place.{foundAt};
 
 // How many bytes of a record stand before its raw bytes.
-pub const HEAD: usize = 2;
+pub const HEAD: usize = 4;
 
 // What stands at a place of a list of records.
 pub enum Found {

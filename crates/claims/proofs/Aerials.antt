@@ -2,7 +2,7 @@
 -- demand holds of packets chosen so (SCOPE 18). Assumes nothing.
 use mathlib.Core.Path.{_≡_, _∙_, refl, sym, ap, subst}
 use mathlib.Core.Bool.{Bool, true, false}
-use mathlib.Core.List.{List, [], _∷_, _++_}
+use mathlib.Core.List.{List, [], _∷_, _++_, map}
 use Prim.Native.Nat.{ℕ, zero, suc, _%_, _<_, _≤_}
 use native.Mathlib.Omega.{arith}
 use borrow.Author.Tests.{eq-eqb}
@@ -15,6 +15,7 @@ use Rattle.aerials.specs.Better.{judgedBytes, addressLength, brokenIn, betterOf
 use Rattle.octet.specs.Bits.{bits, number, differing}
 use Rattle.octet.specs.Image.{image, withParity}
 use Rattle.octet.specs.Decoding.{nib, nibbleFrom}
+use Rattle.octet.specs.Hearing.{harm, harms}
 use Rattle.blocks.specs.Block.{blocksWithin}
 use Rattle.fields.specs.Fields.{alike, width, laid, parts, field, whole}
 use Rattle.packet.specs.Packet.{packetZero, packetOf}
@@ -26,7 +27,7 @@ use Rattle.pages.specs.Seen.{see, seeY, seenAs}
 use Rattle.walk.specs.Mode.{goesOn, continues, emitted, ends, gives, spoiled, spoils, step}
 use Rattle.state.specs.Acting.{act, handed}
 use Rattle.sums.specs.Sums.{total, checksum, sound}
-use Rattle.sums.specs.Block.{nibbles, nibblesOf, checksumOf, recordWith}
+use Rattle.sums.specs.Block.{nibbles, nibblesOf, mendedIn, checksumOf, blockWith}
 use Rattle.table.specs.Control.{descriptorsOf, tableOf}
 use Rattle.table.specs.Lengths.{lengthRules}
 use Rattle.table.specs.Reading.{frameRules, frontRules, wholeRules, readBlock}
@@ -64,7 +65,7 @@ both-near long (of-second one two e) = rw e (glued-near long one two two)
 
 -- ---- what goes on of all packets has been aired: so `exactly`, `never-wrong` and the statements of the calls hold of it
 
-pub twice-aired : {R : ℕ → ℕ → Type 0} {s : Setting} {ps qs : List (List ℕ)} → Twice R s ps qs → Aired R s ps qs
+pub twice-aired : {R : ℕ → ℕ → Type 0} {s : Setting} {ps ours qs : List (List ℕ)} → Twice R s ps ours qs → Aired R s ps ours qs
 twice-aired Twice·ended = ended
 twice-aired (Twice·sent long b t) = sent (both-near long b) (twice-aired t)
 twice-aired (Twice·between m y rest h long d b t) =
@@ -109,12 +110,15 @@ late =
     take 5 air ++ (glued heard heard (getD air 3 []) ∷ [])
 
 -- the head of one table and the tail of the other come out as a table that was not sent: its page is another
-pub late-joins : tablesOf 1 (heardBlocks desk freshState late) ≡ languages ∷ subtitles 0x306888 ∷ []
+pub late-joins : map (λ c. c .what) (tablesOf 1 (heardBlocks desk freshState late)) ≡ languages ∷ subtitles 0x306888 ∷ []
 unfolding
     tablesOf
     heardBlocks
     recordsOf
-    recordWith
+    blockWith
+    mendedIn
+    harm
+    harms
     nibbles
     nibblesOf
     checksumOf

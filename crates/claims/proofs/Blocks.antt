@@ -4,7 +4,7 @@
 use mathlib.Core.Path.{_≡_, _∙_, refl, sym, ap, ap₂}
 use mathlib.Core.Bool.{true}
 use mathlib.Core.Logic.{inl}
-use mathlib.Core.List.{List, _∷_}
+use mathlib.Core.List.{List, [], _∷_, map}
 use Prim.Native.Nat.{ℕ, _≤_, _<_}
 use native.Mathlib.Nat.{mod-eq-of-lt}
 use native.Mathlib.Omega.{arith}
@@ -17,15 +17,17 @@ use Rattle.octet.proofs.Noise.{near}
 use Rattle.blocks.specs.Block.{Block, blocks}
 use Rattle.packet.specs.declared.Setting.{Setting}
 use Rattle.packet.specs.Setting.{inRange}
+use Rattle.symbols.specs.Stream.{streamOf}
 use Rattle.writer.specs.Cutting.{packets}
+use Rattle.writer.proofs.Counting.{covered}
 use Rattle.writer.proofs.Numbering.{FortyTwo, more, packets-forty}
 use Rattle.state.specs.State.{readerOf, freshState}
 use Rattle.state.proofs.Ranging.{sound-fresh}
-use Rattle.claims.specs.Noise.{Flipped, Hears, Near, Aired, ended, sent, between, Came, Alike, Each, Fits}
-use Rattle.claims.specs.Noise
-use Rattle.claims.specs.Lists.{Paired}
+use Rattle.claims.specs.Noise.{Flipped, Hears, Aired, ended, sent, between, Came, Each, nil, and, Fits}
+use Rattle.claims.specs.Damage.{streamIn, Sending, sendings, landed, unmarked}
 use Rattle.claims.specs.Feeding.{Call, packetsOf, comesOut}
-use Rattle.claims.proofs.Losing.{near-length, came-exactly, came-paired}
+use Rattle.claims.proofs.Losing.{near-length, came-exactly}
+use Rattle.claims.proofs.Landing.{Heard, stream-near, sendings-near, landed-clean}
 use Rattle.claims.proofs.Carried.{carried-blocks}
 use Rattle.claims.proofs.Fed.{fed-blocks}
 
@@ -51,19 +53,29 @@ range s e =
 
 -- ---- every packet that arrives is 42 bytes long
 
-pub aired-long : {R : ℕ → ℕ → Type 0} {s : Setting} {ps qs : List (List ℕ)} → FortyTwo ps → Aired R s ps qs → FortyTwo qs
+pub aired-long : {R : ℕ → ℕ → Type 0} {s : Setting} {ps ours qs : List (List ℕ)} → FortyTwo ps → Aired R s ps ours qs → FortyTwo qs
 aired-long r ended = r
 aired-long (more h t) (sent n a) = more (sym (near-length n) ∙ h) (aired-long t a)
 aired-long r (between e a) = more (sym (near-length (e .near)) ∙ omega (arith, e .long)) (aired-long r a)
 
 -- ---- the blocks
 
+-- blocks of which no byte was damaged land as they were sent
+all-clean : (bs : List Block) (cs : List ℕ) → Each (Heard (λ a b. a ≡ b)) (sendings bs cs) → map landed (sendings bs cs) ≡ map unmarked bs
+unfolding sendings
+all-clean [] cs nil = refl
+all-clean (b ∷ bs) cs (and n r) = ap₂ (λ (x : Block) (xs : List Block). x ∷ xs) (landed-clean _ n) (all-clean bs _ r)
+
 module _ (s : Setting) (within : inRange s ≡ true) (index k : ℕ) (low : index < 16) (least : 1 ≤ k) (most : k ≤ 25)
-    (records : List ℕ) (fit : Each Fits (blocks records)) (calls : List Call) where
-  -- the blocks of a list of records, cut and fed
+    (records : List ℕ) (fit : Each Fits (blocks records)) (calls : List Call) (ours : List (List ℕ)) where
+  -- the blocks of the list, each with its bytes as they arrived
+  abbrev pub arrived : List Sending
+  arrived = sendings (blocks records) (streamIn k ours)
+
+  -- the blocks of a list of records, cut and fed: each as it landed, or lost where L allows it
   pub carried-calls :
-      (R : ℕ → ℕ → Type 0) (L : Type 0) → Hears R L → Aired R s (packets s index k records) (packetsOf calls)
-      → Came L (Alike R) (blocks records) (comesOut s (readerOf freshState) calls)
+      (R : ℕ → ℕ → Type 0) (L : Type 0) → Hears R L → Aired R s (packets s index k records) ours (packetsOf calls)
+      → Came L _≡_ (map landed arrived) (comesOut s (readerOf freshState) calls)
   unfolding packets
   carried-calls R L hears aired =
       let r = range s within in
@@ -71,23 +83,27 @@ module _ (s : Setting) (within : inRange s ≡ true) (index k : ℕ) (low : inde
       rw (fed-blocks s within freshState sound-fresh calls long)
       (carried-blocks R L hears s (r .page) (r .stream) index k low least most fit aired)
 
-  -- at most one flipped bit in each byte: exactly those blocks, each with its own 16 bits and its raw bytes as noise left them
+  -- the bytes of each sending that arrived are near to those that were sent
+  pub carried-near :
+      (R : ℕ → ℕ → Type 0) → Aired R s (packets s index k records) ours (packetsOf calls) → Each (Heard R) arrived
+  unfolding packets
+  carried-near R aired =
+      sendings-near (blocks records) _ (streamIn k ours) (covered (blocks records) k least) (stream-near k index _ s (streamOf (blocks records)) aired)
+
+  -- at most one flipped bit in each byte: exactly those blocks as they landed, each with its own 16 bits, its raw bytes as noise left them and
+  -- the damage of its start and header as its part
   pub blocks-exactly :
-      (d : ℕ) → d ≤ 1 → Aired (Flipped d) s (packets s index k records) (packetsOf calls)
-      → Paired (Alike (Flipped d)) (blocks records) (comesOut s (readerOf freshState) calls)
+      (d : ℕ) → d ≤ 1 → Aired (Flipped d) s (packets s index k records) ours (packetsOf calls)
+      → comesOut s (readerOf freshState) calls ≡ map landed arrived
   blocks-exactly d one aired =
-      came-paired (λ x. omega arith) (carried-calls (Flipped d) (2 ≤ d) (λ n b h f. near d n b (omega arith) h f) aired)
+      came-exactly (λ a b e. e) (λ x. omega arith)
+      (carried-calls (Flipped d) (2 ≤ d) (λ n b h f. near d n b (omega arith) h f) aired)
 
-  -- what is written reads back: with no noise, and packets of other magazines between, the blocks that were cut
+  -- what is written reads back: with no noise, and packets of other magazines between, the blocks that were cut, nothing mended
   pub blocks-back :
-      Aired (λ a b. a ≡ b) s (packets s index k records) (packetsOf calls) → comesOut s (readerOf freshState) calls ≡ blocks records
+      Aired (λ a b. a ≡ b) s (packets s index k records) ours (packetsOf calls)
+      → comesOut s (readerOf freshState) calls ≡ map unmarked (blocks records)
   blocks-back aired =
-      came-exactly (λ a b r. same-block a b r) (λ x. x)
+      came-exactly (λ a b e. e) (λ x. x)
       (carried-calls (λ a b. a ≡ b) ⊥ (λ n b h e. inl (ap nib (sym e) ∙ nib-image n ∙ mod-eq-of-lt h)) aired)
-    where
-      same-bytes : {l m : List ℕ} → Near (λ a b. a ≡ b) l m → l ≡ m
-      same-bytes Noise.none = refl
-      same-bytes (Noise.more e r) = ap₂ (λ (x : ℕ) (xs : List ℕ). x ∷ xs) e (same-bytes r)
-
-      same-block : (a b : Block) → Alike (λ a b. a ≡ b) a b → a ≡ b
-      same-block a b r = ap₂ (λ (h : ℕ) (l : List ℕ). record { head = h; raw = l }) (r .head) (same-bytes (r .raw))
+      ∙ all-clean (blocks records) (streamIn k ours) (carried-near (λ a b. a ≡ b) aired)

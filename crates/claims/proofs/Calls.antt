@@ -1,7 +1,8 @@
 -- The third demand, of the calls themselves: tables that fit go through `write_block` and `cut_pages`, the packets arrive with noise and
 -- go to a fresh reader by `feed` or `feed_all`, and each record that comes out goes to `read_block`. Whatever the contracts allow, all is
 -- accepted, and the forms that come out are those handed in: all of them where at most one bit of each byte is flipped, and some of them,
--- in order and each at most once, where up to two are. One theorem over the number of flips, and its two corollaries. Assumes nothing.
+-- in order and each at most once, where up to two are; and each with the number of bytes of its sending that arrived other than they were
+-- sent. One theorem over the number of flips, and its two corollaries. Assumes nothing.
 use mathlib.Core.Path.{_≡_, _∙_, refl, sym, ap, ap₂, subst, subst₂}
 use mathlib.Core.Bool.{true}
 use mathlib.Core.Logic.{_⊎_, inl, inr}
@@ -20,7 +21,7 @@ use Rattle.answer.specs.Values.{refused}
 use Rattle.answer.specs.Writing.{answered, left}
 use Rattle.answer.proofs.Judging.{decided, passes, refuses, first-append}
 use Rattle.answer.proofs.Lent.{lent-accepted}
-use Rattle.blocks.specs.Block.{Block, recordOf as Block·recordOf, whole}
+use Rattle.blocks.specs.Block.{Block, blocks as Block·blocks, recordOf as Block·recordOf, whole}
 use Rattle.blocks.proofs.Round.{whole-records}
 use Rattle.packet.specs.declared.Setting.{Setting}
 use Rattle.packet.specs.Setting.{inRange}
@@ -32,10 +33,13 @@ use Rattle.state.proofs.Ranging.{sound-fresh}
 use Rattle.forms.specs.Tables.{Table, fits}
 use Rattle.forms.specs.Form.{form, tableIn}
 use Rattle.forms.specs.Writing.{writeRules}
-use Rattle.sums.specs.Block.{recordOf}
+use Rattle.sums.specs.Block.{mendedIn, recordOf}
 use Rattle.table.specs.Reading.{Outcome, accepted as Reading·accepted, refused as Reading·refused, readRules, tableRead, readBlock}
+use Rattle.table.specs.declared.Read.{Read}
+use Rattle.table.specs.Values.{counted}
 use Rattle.table.proofs.Back.{writes-back, accepted-writable}
 use Rattle.claims.specs.Noise.{Flipped, Aired, Came, Each, nil, and}
+use Rattle.claims.specs.Damage.{streamIn, Sending, sendings, damage, Counted, damaged}
 use Rattle.claims.specs.Lists.{Among}
 use Rattle.claims.specs.Feeding.{packetsOf}
 use Rattle.claims.specs.Tables.{recordsOf, sent, taken, tablesOf}
@@ -66,29 +70,30 @@ starts : {r : Reader} → Starts r → r ≡ readerOf freshState
 starts (fresh κs a x t post) = post
 
 reads :
-    {application : ℕ} {r old out : List ℕ} {x : Answer} → Reads application r old x out
-    → (x ≡ answered (readRules application r) (form (tableRead r)) old)
+    {application : ℕ} {r old out : List ℕ} {x : Read} → Reads application r old x out
+    → (x ≡ counted (mendedIn r) (answered (readRules application r) (form (tableRead r)) old))
     × (out ≡ left (readRules application r) (form (tableRead r)) old)
 reads (read-block κs a x t post) = post
+
+-- a table's form, with the same count
+abbrev formed : Counted Table → Counted (List ℕ)
+formed c = record { what = form (c .what); mended = c .mended }
 
 -- of a call that is accepted, what it reports as written is its bytes
 pub its-bytes :
     (rules : List Rule) (bytes old : List ℕ) {x : Answer} {out : List ℕ} → x ≡ answered rules bytes old → out ≡ left rules bytes old
-    → Every rules → length bytes ≤ length old → (x ≡ Done (length bytes)) × (reported x out ≡ bytes) × (accepted x out ≡ bytes ∷ [])
+    → Every rules → length bytes ≤ length old → (x ≡ Done (length bytes)) × (reported x out ≡ bytes)
 its-bytes rules bytes old {x} {out} e f every enough =
     let p = lent-accepted rules bytes old every enough in
     let a = e ∙ p .0 in
-    let o = f ∙ p .1 in (
-      a,
-      ap₂ reported a o ∙ take-append-seam bytes (drop (length bytes) old),
-      ap₂ accepted a o ∙ ap (λ (l : List ℕ). l ∷ []) (take-append-seam bytes (drop (length bytes) old)),
-    )
+    let o = f ∙ p .1 in
+    (a, ap₂ reported a o ∙ take-append-seam bytes (drop (length bytes) old))
 
 -- ---- every table is written
 
 -- its form is one that writing takes, and stands for it
 writable : (application : ℕ) (t : Table) → application < 32 → fits t ≡ true → Every (writeRules application (form t)) × (tableIn (form t) ≡ t)
-writable application t a f = accepted-writable application (recordOf application t) t (writes-back application t a f)
+writable application t a f = accepted-writable application (recordOf application t) t 0 (writes-back application t a f)
 
 pub tables-written :
     (application : ℕ) → application < 32 → {ts : List Table} {xs : List Answer} {records : List ℕ} → Written application ts xs records
@@ -119,48 +124,73 @@ cut-holds s index k records i low least most w =
 -- ---- what comes out is read
 
 module _ (application : ℕ) where
-  read-holds : (r : List ℕ) → Every (readRules application r) → readBlock application r ≡ Reading·accepted (tableRead r)
+  read-holds : (r : List ℕ) → Every (readRules application r) → readBlock application r ≡ Reading·accepted (tableRead r) (mendedIn r)
   unfolding readBlock
-  read-holds r every = passes Reading·refused (Reading·accepted (tableRead r)) every
+  read-holds r every = passes Reading·refused (Reading·accepted (tableRead r) (mendedIn r)) every
 
   read-fails : (r : List ℕ) {q : Rule} → First q (readRules application r) → readBlock application r ≡ Reading·refused (q .number) (q .offset)
   unfolding readBlock
-  read-fails r first = refuses Reading·refused (Reading·accepted (tableRead r)) first
+  read-fails r first = refuses Reading·refused (Reading·accepted (tableRead r) (mendedIn r)) first
 
   -- a record, with room for the table's form where it is read as one
   record-read :
-      (r : List ℕ) {old out : List ℕ} {x : Answer} → Reads application r old x out
-      → Each (λ t. length (form t) ≤ length old) (taken (readBlock application r)) → accepted x out ≡ map form (taken (readBlock application r))
+      (r : List ℕ) {old out : List ℕ} {x : Read} → Reads application r old x out
+      → Each (λ c. length (form (c .what)) ≤ length old) (taken (readBlock application r))
+      → accepted x out ≡ map formed (taken (readBlock application r))
   record-read r {old} {out} {x} call enough = go (decided (readRules application r))
     where
       go :
           Every (readRules application r) ⊎ ((q : Rule) × First q (readRules application r))
-          → accepted x out ≡ map form (taken (readBlock application r))
+          → accepted x out ≡ map formed (taken (readBlock application r))
       go (inl every) =
           let e = read-holds r every in
           let said = reads call in
-          its-bytes (readRules application r) (form (tableRead r)) old (said .0) (said .1) every (each-first (rw e at enough)) .2
-          ∙ sym (ap (λ (o : Outcome). map form (taken o)) e)
+          let bytes = form (tableRead r) in
+          let p = lent-accepted (readRules application r) bytes old every (each-first (rw e at enough)) in
+          ap₂ accepted (said .0 ∙ ap (counted (mendedIn r)) (p .0)) (said .1 ∙ p .1)
+          ∙ ap (λ (l : List ℕ). record { what = l; mended = mendedIn r } ∷ []) (take-append-seam bytes (drop (length bytes) old))
+          ∙ sym (ap (λ (o : Outcome). map formed (taken o)) e)
       go (inr (q, first)) =
-          ap (λ (y : Answer). accepted y out) (reads call .0 ∙ refuses refused (Done (length (form (tableRead r)))) (first-append _ first))
-          ∙ sym (ap (λ (o : Outcome). map form (taken o)) (read-fails r first))
+          ap (λ (y : Read). accepted y out)
+          (reads call .0
+          ∙ ap (counted (mendedIn r)) (refuses refused (Done (length (form (tableRead r)))) (first-append _ first)))
+          ∙ sym (ap (λ (o : Outcome). map formed (taken o)) (read-fails r first))
 
   all-read :
-      (most : ℕ) {bs : List Block} {forms : List (List ℕ)} → ReadOut application most bs forms
-      → Each (λ t. length (form t) ≤ most) (tablesOf application bs) → forms ≡ map form (tablesOf application bs)
+      (most : ℕ) {bs : List Block} {forms : List (Counted (List ℕ))} → ReadOut application most bs forms
+      → Each (λ c. length (form (c .what)) ≤ most) (tablesOf application bs) → forms ≡ map formed (tablesOf application bs)
   unfolding tablesOf
   all-read most no-block short = refl
   all-read most (block {b = b} {bs = bs} enough call rest) short =
       let p = each-split (taken (readBlock application (Block·recordOf b))) short in
-      ap₂ (λ (a l : List (List ℕ)). a ++ l)
+      ap₂ (λ (a l : List (Counted (List ℕ))). a ++ l)
       (record-read (Block·recordOf b) call (each-all (λ t h. omega arith) (p .0)))
       (all-read most rest (p .1))
-      ∙ sym (map-append form (taken (readBlock application (Block·recordOf b))) (tablesOf application bs))
+      ∙ sym (map-append formed (taken (readBlock application (Block·recordOf b))) (tablesOf application bs))
+
+-- what is true of each table is true of each with its count
+damaged-each : (P : Table → Type 0) {ts : List Table} (xs : List Sending) → Each P ts → Each (λ c. P (c .what)) (damaged ts xs)
+unfolding damaged
+damaged-each P xs nil = nil
+damaged-each P [] (and p r) = nil
+damaged-each P (x ∷ xs) (and p r) = and p (damaged-each P xs r)
+
+-- their forms, with the same counts
+damaged-formed : (ts : List Table) (xs : List Sending) → map formed (damaged ts xs) ≡ damaged (map form ts) xs
+unfolding damaged
+damaged-formed [] xs = refl
+damaged-formed (t ∷ ts) [] = refl
+damaged-formed (t ∷ ts) (x ∷ xs) =
+    ap (λ (l : List (Counted (List ℕ))). record { what = form t; mended = damage x } ∷ l) (damaged-formed ts xs)
 
 -- ---- from end to end
 
 module _ (d : ℕ) (small : d ≤ 2) (s : Setting) (within : inRange s ≡ true) (index k : ℕ) (low : index < 16) (least : 1 ≤ k) (most : k ≤ 25)
-    (ts : List Table) (fit : Each (λ t. fits t ≡ true) ts) {forms : List (List ℕ)} (c : Through (Flipped d) s index k ts forms) where
+    (ts : List Table) (fit : Each (λ t. fits t ≡ true) ts) {forms : List (Counted (List ℕ))} (c : Through (Flipped d) s index k ts forms) where
+  -- the forms handed in, each with the number of bytes of its sending that arrived other than they were sent
+  abbrev pub handedIn : List (Counted (List ℕ))
+  handedIn = damaged (map form ts) (sendings (Block·blocks (c .records)) (streamIn k (c .ours)))
+
   pub calls-carried : Delivers (2 ≤ d) c
   calls-carried =
       let app = s .application in
@@ -173,24 +203,30 @@ module _ (d : ℕ) (small : d ≤ 2) (s : Setting) (within : inRange s ≡ true)
       let same : c .sent ≡ sent s index k ts =
       joined-same (c .long) (packets-forty s index k records) (c .whole ∙ done .1) ∙ ap (packets s index k) (made .1) in
       let on = as-ones s within (c .fed) freshState sound-fresh (starts (c .starts)) (aired-long (c .long) (c .aired)) in
-      let aired : Aired (Flipped d) s (sent s index k ts) (packetsOf (on .calls)) =
-      subst₂ (λ (ps qs : List (List ℕ)). Aired (Flipped d) s ps qs) same (sym (on .packets)) (c .aired) in
-      let came : Came (2 ≤ d) _≡_ ts (tablesOf app (c .blocks)) =
-      subst (λ (bs : List Block). Came (2 ≤ d) _≡_ ts (tablesOf app bs)) (sym (on .gives))
-      (carried d small s within index k low least most ts fit (on .calls) aired) in
-      let out = all-read app (c .most) (c .read) (came-each (λ t. length (form t) ≤ c .most) came (c .short)) in
+      let aired : Aired (Flipped d) s (sent s index k ts) (c .ours) (packetsOf (on .calls)) =
+      subst₂ (λ (ps qs : List (List ℕ)). Aired (Flipped d) s ps (c .ours) qs) same (sym (on .packets)) (c .aired) in
+      let xs = sendings (Block·blocks (recordsOf app ts)) (streamIn k (c .ours)) in
+      let came : Came (2 ≤ d) _≡_ (damaged ts xs) (tablesOf app (c .blocks)) =
+      subst (λ (bs : List Block). Came (2 ≤ d) _≡_ (damaged ts xs) (tablesOf app bs)) (sym (on .gives))
+      (carried d small s within index k low least most ts fit (on .calls) (c .ours) aired) in
+      let out = all-read app (c .most) (c .read)
+      (came-each (λ x. length (form (x .what)) ≤ c .most) came (damaged-each (λ t. length (form t) ≤ c .most) xs (c .short))) in
+      let formed-came : Came (2 ≤ d) _≡_ (damaged (map form ts) xs) forms =
+      subst₂ (λ (a b : List (Counted (List ℕ))). Came (2 ≤ d) _≡_ a b) (damaged-formed ts xs) (sym out) (came-map formed came) in
       record {
         written = made .0;
         cut = done .0 ∙ ap (λ (l : List ℕ). Done (length l)) (sym (c .whole ∙ done .1));
         packets = same;
         taken = on .taken;
-        came = subst (λ (fs : List (List ℕ)). Came (2 ≤ d) _≡_ (map form ts) fs) (sym out) (came-map form came);
+        came =
+            subst (λ (l : List ℕ). Came (2 ≤ d) _≡_ (damaged (map form ts) (sendings (Block·blocks l) (streamIn k (c .ours)))) forms)
+            (sym (made .1)) formed-came;
       }
 
-  -- at most one flipped bit in each byte: exactly the forms handed in
-  pub calls-exactly : d ≤ 1 → forms ≡ map form ts
+  -- at most one flipped bit in each byte: exactly the forms handed in, with exactly those counts
+  pub calls-exactly : d ≤ 1 → forms ≡ handedIn
   calls-exactly one = came-exactly (λ a b e. e) (λ x. omega arith) (calls-carried .came)
 
-  -- up to two: only forms that were handed in, in order, each at most once
-  pub calls-never-wrong : Among forms (map form ts)
+  -- up to two: only forms that were handed in, in order, each at most once, and each with its own count
+  pub calls-never-wrong : Among forms handedIn
   calls-never-wrong = came-among (λ a b e. e) (calls-carried .came)

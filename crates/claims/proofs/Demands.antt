@@ -1,8 +1,9 @@
--- The third demand (SCOPE 15.3): what comes out of the reader of a list of tables that our writer has cut, with noise on each byte and
--- packets of other magazines between. One theorem over the number of flips, and its two corollaries. Assumes nothing.
-use mathlib.Core.Path.{_≡_, sym, subst}
+-- The third demand (SCOPE 15.3, 19.6): what comes out of the reader of a list of tables that our writer has cut, with noise on each byte and
+-- packets of other magazines between, and the count that each table comes with. One theorem over the number of flips, and its corollaries.
+-- Assumes nothing.
+use mathlib.Core.Path.{_≡_, _∙_, refl, sym, ap, subst}
 use mathlib.Core.Bool.{true}
-use mathlib.Core.List.{List}
+use mathlib.Core.List.{List, [], _∷_, map}
 use Prim.Native.Nat.{ℕ, _≤_, _<_}
 use native.Mathlib.Omega.{arith}
 use Rattle.octet.proofs.Noise.{near}
@@ -11,32 +12,61 @@ use Rattle.packet.specs.declared.Setting.{Setting}
 use Rattle.packet.specs.Setting.{inRange}
 use Rattle.state.specs.State.{readerOf, freshState}
 use Rattle.forms.specs.Tables.{Table, fits}
-use Rattle.claims.specs.Noise.{Flipped, Hears, Aired, Came, Alike, Each, Fits}
+use Rattle.claims.specs.Noise.{Flipped, Hears, Aired, Came, Each, Fits}
+use Rattle.claims.specs.Damage.{streamIn, Sending, sendings, landed, Counted, damaged}
 use Rattle.claims.specs.Lists.{Among}
 use Rattle.claims.specs.Feeding.{Call, packetsOf, comesOut}
-use Rattle.claims.specs.Tables.{recordsOf, sent, received}
-use Rattle.claims.proofs.Losing.{came-exactly, came-among}
-use Rattle.claims.proofs.Blocks.{range, carried-calls}
-use Rattle.claims.proofs.Tables.{all-fit, blocks-written, tables-came}
+use Rattle.claims.specs.Tables.{recordsOf, sent, sentDamaged, received}
+use Rattle.claims.proofs.Losing.{came-exactly, came-among, among-map}
+use Rattle.claims.proofs.Landing.{Heard}
+use Rattle.claims.proofs.Blocks.{range, carried-calls, carried-near}
+use Rattle.claims.proofs.Tables.{tableBlock, all-fit, blocks-written, tables-came}
+
+-- the tables among those with their damage are the tables, all of them
+damaged-what : (ts : List Table) (f : Table → Block) (cs : List ℕ) → map (λ c. c .what) (damaged ts (sendings (map f ts) cs)) ≡ ts
+unfolding damaged sendings
+damaged-what [] f cs = refl
+damaged-what (t ∷ ts) f cs = ap (λ (l : List Table). t ∷ l) (damaged-what ts f _)
 
 module _ (d : ℕ) (small : d ≤ 2) (s : Setting) (within : inRange s ≡ true) (index k : ℕ) (low : index < 16) (least : 1 ≤ k) (most : k ≤ 25)
-    (ts : List Table) (fit : Each (λ t. fits t ≡ true) ts) (calls : List Call) (aired : Aired (Flipped d) s (sent s index k ts) (packetsOf calls)) where
+    (ts : List Table) (fit : Each (λ t. fits t ≡ true) ts) (calls : List Call) (ours : List (List ℕ))
+    (aired : Aired (Flipped d) s (sent s index k ts) ours (packetsOf calls)) where
   -- a flip in each byte is mended, and with two a byte is right or can't be decoded
   hears : Hears (Flipped d) (2 ≤ d)
   hears n b h f = near d n b small h f
 
-  pub carried : Came (2 ≤ d) _≡_ ts (received s calls)
+  -- the blocks that are sent are those of the tables
+  made : blocks (recordsOf (s .application) ts) ≡ map (tableBlock (s .application)) ts
+  made = blocks-written (s .application) fit
+
+  -- what comes out is tables that were sent, each with the number of bytes of its sending that arrived other than they were sent
+  pub carried : Came (2 ≤ d) _≡_ (sentDamaged s k ts ours) (received s calls)
   carried =
       let app = s .application in
-      let fitting : Each Fits (blocks (recordsOf app ts)) = subst (Each Fits) (sym (blocks-written app fit)) (all-fit app fit) in
-      let c = carried-calls s within index k low least most (recordsOf app ts) fitting calls (Flipped d) (2 ≤ d) hears aired in
-      tables-came (Flipped d) (2 ≤ d) hears app (range s within .application) ts fit
-      (subst (λ (bs : List Block). Came (2 ≤ d) (Alike (Flipped d)) bs (comesOut s (readerOf freshState) calls)) (blocks-written app fit) c)
+      let fitting : Each Fits (blocks (recordsOf app ts)) = subst (Each Fits) (sym made) (all-fit app fit) in
+      let c = carried-calls s within index k low least most (recordsOf app ts) fitting calls ours (Flipped d) (2 ≤ d) hears aired in
+      let n = carried-near s within index k low least most (recordsOf app ts) fitting calls ours (Flipped d) aired in
+      subst (λ (bs : List Block). Came (2 ≤ d) _≡_ (damaged ts (sendings bs (streamIn k ours))) (received s calls)) (sym made)
+      (tables-came (Flipped d) (2 ≤ d) hears app (range s within .application) ts (streamIn k ours) fit
+      (subst (λ (bs : List Block). Each (Heard (Flipped d)) (sendings bs (streamIn k ours))) made n)
+      (subst (λ (bs : List Block). Came (2 ≤ d) _≡_ (map landed (sendings bs (streamIn k ours))) (comesOut s (readerOf freshState) calls)) made c))
 
-  -- with one flip a byte at the most, the list itself comes out
-  pub exactly : d ≤ 1 → received s calls ≡ ts
+  -- those are the tables that were sent, all of them and no other
+  pub all-sent : map (λ c. c .what) (sentDamaged s k ts ours) ≡ ts
+  all-sent =
+      ap (λ (bs : List Block). map (λ c. c .what) (damaged ts (sendings bs (streamIn k ours)))) made
+      ∙ damaged-what ts (tableBlock (s .application)) (streamIn k ours)
+
+  -- with one flip a byte at the most, the list itself comes out, with exactly those counts
+  pub exactly : d ≤ 1 → received s calls ≡ sentDamaged s k ts ours
   exactly one = came-exactly (λ a b e. e) (λ x. omega arith) carried
 
-  -- up to two: only tables that were sent, in order, each at most once
-  pub never-wrong : Among (received s calls) ts
+  pub exactly-tables : d ≤ 1 → map (λ c. c .what) (received s calls) ≡ ts
+  exactly-tables one = ap (λ (l : List (Counted Table)). map (λ c. c .what) l) (exactly one) ∙ all-sent
+
+  -- up to two: only tables that were sent, in order, each at most once, and each with its own count
+  pub never-wrong : Among (received s calls) (sentDamaged s k ts ours)
   never-wrong = came-among (λ a b e. e) carried
+
+  pub never-wrong-tables : Among (map (λ c. c .what) (received s calls)) ts
+  never-wrong-tables = subst (Among (map (λ c. c .what) (received s calls))) all-sent (among-map (λ c. c .what) never-wrong)

@@ -22,9 +22,11 @@ use Rattle.reader.specs.Feeding.{feedHeard, feedReader, feedOut}
 use Rattle.forms.specs.Tables.{Table, fits}
 use Rattle.forms.specs.Form.{form, tableIn}
 use Rattle.forms.specs.Writing.{writeRules}
-use Rattle.sums.specs.Block.{recordOf}
+use Rattle.sums.specs.Block.{mendedIn, recordOf}
+use Rattle.table.specs.Values.{counted}
 use Rattle.table.specs.Reading.{readRules, tableRead}
 use Rattle.claims.specs.Noise.{Aired, Each, nil, and}
+use Rattle.claims.specs.Damage.{Counted}
 use Rattle.claims.specs.Tables.{sent}
 use Rattle.claims.specs.Calls.{Writes, write-block, Cuts, cut-pages, Starts, fresh, Feeds, feed, Reads, read-block, Written, no-table, table, Fed, end, one, ReadOut, no-block, block, Through}
 use Rattle.claims.proofs.Losing.{each-all}
@@ -44,7 +46,7 @@ module _ (application : ℕ) (l old : List ℕ) where
   can-write = write-block ([], ([], tt)) (application, (lend l, (lend old, tt))) _ (application, (lend l, (lend _, tt))) (refl, refl)
 
   can-read :
-      Reads application l old (answered (readRules application l) (form (tableRead l)) old)
+      Reads application l old (counted (mendedIn l) (answered (readRules application l) (form (tableRead l)) old))
       (left (readRules application l) (form (tableRead l)) old)
   can-read = read-block ([], ([], tt)) (application, (lend l, (lend old, tt))) _ (application, (lend l, (lend _, tt))) (refl, refl)
 
@@ -81,7 +83,7 @@ can-feed-all s r (q ∷ qs) =
     let rest = can-feed-all s (feedReader s r q old) qs in
     (_, _, one (lit≤ tt) (can-feed s r q old) (rest .2))
 
-can-read-all : (application most : ℕ) (bs : List Block) → (forms : List (List ℕ)) × ReadOut application most bs forms
+can-read-all : (application most : ℕ) (bs : List Block) → (forms : List (Counted (List ℕ))) × ReadOut application most bs forms
 can-read-all application most [] = ([], no-block)
 can-read-all application most (b ∷ bs) =
     let old : List ℕ = replicate most 0 in
@@ -102,9 +104,9 @@ all-short (t ∷ ts) =
 module _ (s : Setting) (within : inRange s ≡ true) (index k : ℕ) (low : index < 16) (least : 1 ≤ k) (most : k ≤ 25)
     (ts : List Table) (fit : Each (λ t. fits t ≡ true) ts) where
   pub calls-happen :
-      (R : ℕ → ℕ → Type 0) (arrived : List (List ℕ)) → Aired R s (sent s index k ts) arrived
-      → (forms : List (List ℕ)) × Through R s index k ts forms
-  calls-happen R arrived aired =
+      (R : ℕ → ℕ → Type 0) (ours arrived : List (List ℕ)) → Aired R s (sent s index k ts) ours arrived
+      → (forms : List (Counted (List ℕ))) × Through R s index k ts forms
+  calls-happen R ours arrived aired =
       let app = s .application in
       let made = can-write-all app ts in
       let records = made .1 in
@@ -128,8 +130,9 @@ module _ (s : Setting) (within : inRange s ≡ true) (index k : ℕ) (low : inde
           sent = packets s index k records;
           long = packets-forty s index k records;
           whole = sym (done .1);
+          ours = ours;
           arrived = arrived;
-          aired = subst (λ (l : List ℕ). Aired R s (packets s index k l) arrived) (sym e) aired;
+          aired = subst (λ (l : List ℕ). Aired R s (packets s index k l) ours arrived) (sym e) aired;
           reader = readerOf freshState;
           starts = can-start;
           numbers = fed .0;

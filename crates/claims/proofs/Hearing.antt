@@ -171,11 +171,11 @@ module _ (s : Setting) (page : s .page < 256) (stream : s .stream < 16) (index n
 
 -- ---- packets 1 to 25
 
--- what becomes of a packet y with pointer p and these bytes
-pub data PacketHeard (R : ℕ → ℕ → Type 0) (L : Type 0) (s : Setting) (y p : ℕ) (bytes q : List ℕ) : Type 0 where
-  read : {cs : List ℕ} → Near R bytes cs → see s q ≡ packetY y p cs → PacketHeard R L s y p bytes q
-  skipped : {cs : List ℕ} → L → see s q ≡ packetY y undecodable cs → PacketHeard R L s y p bytes q
-  unread : L → see s q ≡ junk → PacketHeard R L s y p bytes q
+-- what becomes of a packet y with pointer p
+pub data PacketHeard (L : Type 0) (s : Setting) (y p : ℕ) (q : List ℕ) : Type 0 where
+  read : see s q ≡ packetY y p (drop 3 q) → PacketHeard L s y p q
+  skipped : {cs : List ℕ} → L → see s q ≡ packetY y undecodable cs → PacketHeard L s y p q
+  unread : L → see s q ≡ junk → PacketHeard L s y p q
 
 seeY-packet : (s : Setting) (y : ℕ) (q : List ℕ) → 1 ≤ y → y ≤ 25 → seeY s y q ≡ packetY y (nib (getD q 2 0)) (drop 3 q)
 unfolding seeY
@@ -183,7 +183,7 @@ seeY-packet s y q h k = rw (ne-eqb y 0 (λ e. omega arith), le-leb y 25 k)
 
 pub packet-heard :
     (R : ℕ → ℕ → Type 0) (L : Type 0) → Hears R L → (s : Setting) (y p : ℕ) (bytes : List ℕ) {q : List ℕ} → 1 ≤ y → y ≤ 25 → p < 16
-    → length bytes ≡ 39 → Near R (packetOf s y p bytes) q → PacketHeard R L s y p bytes q
+    → length bytes ≡ 39 → Near R (packetOf s y p bytes) q → PacketHeard L s y p q
 unfolding packetOf
 packet-heard R L hears s y p bytes {q} least most h size near =
     go (address-heard R L hears (s .magazine) y _ (omega arith) near) (pointer-heard (near-drop 2 near))
@@ -203,7 +203,7 @@ packet-heard R L hears s y p bytes {q} least most h size near =
     go :
         Reads (addressed (s .magazine) y) q ⊎ ((decodes 2 q ≡ false) × L)
         → (nib (getD (drop 2 q) 0 0) ≡ p) ⊎ ((nib (getD (drop 2 q) 0 0) ≡ undecodable) × L)
-        → PacketHeard R L s y p bytes q
+        → PacketHeard L s y p q
     go (inr w) r = unread (w .1) (see-junk s q (w .0))
-    go (inl a) (inl e) = read (near-drop 3 near) (seen a ∙ ap (λ (x : ℕ). packetY y x (drop 3 q)) (sym at-two ∙ e))
+    go (inl a) (inl e) = read (seen a ∙ ap (λ (x : ℕ). packetY y x (drop 3 q)) (sym at-two ∙ e))
     go (inl a) (inr w) = skipped (w .1) (seen a ∙ ap (λ (x : ℕ). packetY y x (drop 3 q)) (sym at-two ∙ w .0))

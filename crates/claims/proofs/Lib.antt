@@ -1,4 +1,6 @@
 pub mod Losing
+pub mod Telling
+pub mod Landing
 pub mod Walking
 pub mod Carrying
 pub mod Packet
@@ -9,6 +11,7 @@ pub mod March
 pub mod Numbers
 pub mod Settled
 pub mod Fed
+pub mod Parts
 pub mod Tables
 pub mod Blocks
 pub mod Demands
@@ -17,5 +20,6 @@ pub mod Wrong
 pub mod Many
 pub mod Handing
 pub mod Calls
+pub mod Usual
 pub mod Happening
 pub mod Aerials

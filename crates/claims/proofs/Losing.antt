@@ -39,6 +39,11 @@ module _ {ℓ} {A B : Type ℓ} {L : Type 0} {R : A → B → Type 0} where
   came-append (kept r k) n = kept r (came-append k n)
   came-append (lost x k) n = lost x (came-append k n)
 
+-- all may come as it is
+pub came-refl : {A : Type 0} {L : Type 0} (l : List A) → Came L _≡_ l l
+came-refl [] = over
+came-refl (a ∷ l) = kept refl (came-refl l)
+
 module _ {ℓ} {A : Type ℓ} where
   pub each-first : {P : A → Type 0} {a : A} {l : List A} → Each P (a ∷ l) → P a
   each-first (and p r) = p
@@ -82,3 +87,9 @@ module _ {ℓ} {A : Type ℓ} {L : Type 0} {R : A → A → Type 0} (equal : (a 
   came-among over = Lists.none
   came-among (kept {a} {b} {l} {m} r k) = subst (λ (x : A). Among (x ∷ m) (a ∷ l)) (equal a b r) (Lists.taken (came-among k))
   came-among (lost x k) = Lists.passed (came-among k)
+
+-- what is left out stays left out
+pub among-map : {A B : Type 0} (f : A → B) {l m : List A} → Among l m → Among (map f l) (map f m)
+among-map f Lists.none = Lists.none
+among-map f (Lists.taken r) = Lists.taken (among-map f r)
+among-map f (Lists.passed r) = Lists.passed (among-map f r)

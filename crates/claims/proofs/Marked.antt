@@ -11,14 +11,14 @@ use Rattle.pes_writer.proofs.Cases.{CaseJ, case-j, CaseK, case-k}
 use Rattle.fields.specs.Fields.{alike, width, laid, parts}
 use Rattle.forms.specs.Tables.{per, loops, fields, bits, fill, size}
 use Rattle.sums.specs.Sums.{total, checksum}
-use Rattle.sums.specs.Block.{nibbles, checksumOf, recordOf, recordWith}
+use Rattle.sums.specs.Block.{nibbles, checksumOf, blockWith, recordOf}
 use Rattle.forms.specs.Form.{form}
 use Rattle.forms.specs.Writing.{writeRules}
 use Rattle.table.proofs.Cases.{G, H, I, case-G, case-H, case-I}
 
 -- G's record, as block writing makes it, is the one whose packets case G shows
 record-g : recordOf 1 G ≡ recordG
-unfolding recordWith laid parts alike width fields loops per nibbles checksumOf checksum total image withParity number
+unfolding blockWith laid parts alike width fields loops per nibbles checksumOf checksum total image withParity number
 record-g = refl
 
 pub record Marked : Type 0 where

@@ -1,4 +1,4 @@
--- Each call's rules refuse with a number of SCOPE 2, 1 to 16, so that 0 is an acceptance: `accepted-exactly` and `accepted-writes` of room
+-- Each call's rules refuse with a number of SCOPE 2, 1 to 22, so that 0 is an acceptance: `accepted-exactly` and `accepted-writes` of room
 -- `answer` hold of each call. Assumes nothing.
 use mathlib.Core.Path.{_≡_, refl}
 use mathlib.Core.Bool.{Bool, true, false}
@@ -16,6 +16,7 @@ use Rattle.writer.specs.Cutting.{cutRules}
 use Rattle.forms.specs.Writing.{formRules, writeRules as Form·writeRules}
 use Rattle.table.specs.Reading.{frameRules, frontRules, wholeRules, bodyRules, readRules as Table·readRules}
 use Rattle.table.specs.Lengths.{lengthRules}
+use Rattle.sheets.specs.Calls.{rewriteRules, joinRules, addRules}
 
 pub writes-pes : (d : ℕ) (rs : List ℕ) → allRefusing (writeRules d rs) ≡ true
 unfolding allRefusing writeRules
@@ -36,6 +37,18 @@ writes-block application f = refl
 pub reads-block : (application : ℕ) (r : List ℕ) → allRefusing (Table·readRules application r) ≡ true
 unfolding allRefusing frameRules frontRules wholeRules lengthRules
 reads-block application r = refl
+
+pub rewrites-sheet : (sheet : List ℕ) → allRefusing (rewriteRules sheet) ≡ true
+unfolding allRefusing rewriteRules
+rewrites-sheet sheet = refl
+
+pub joins-sheets : (first second : List ℕ) → allRefusing (joinRules first second) ≡ true
+unfolding allRefusing joinRules
+joins-sheets first second = refl
+
+pub adds-table : (stamp : ℕ) (sheet form : List ℕ) → allRefusing (addRules stamp sheet form) ≡ true
+unfolding allRefusing addRules formRules
+adds-table stamp sheet form = refl
 
 module _ (pes : List ℕ) where
   unit : (at : ℕ) → allRefusing (rulesAt pes at) ≡ true

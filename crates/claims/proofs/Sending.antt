@@ -1,29 +1,32 @@
--- The clean round trip: the walk along what is sent of a list of blocks meets fitting symbols, gives those blocks and ends with
--- nothing running. Equations only. Assumes nothing.
+-- The round trip without loss: the walk along what stands for the bytes that arrive of a list of blocks meets fitting symbols, gives those
+-- blocks as they landed and ends with nothing running. It holds of any bytes at all. Equations only. Assumes nothing.
 use mathlib.Core.Path.{_≡_, _∙_, refl, sym, ap, ap₂, subst, subst₂}
 use mathlib.Core.Bool.{true, false}
 use mathlib.Core.List.{List, [], _∷_, _++_, map, append-assoc}
-use Prim.Native.Nat.{ℕ, zero, suc, _+_, _*_, _/_, _%_, _≤_, _<_}
+use Prim.Native.Nat.{ℕ, zero, suc, _+_, _-_, _*_, _/_, _%_, _≤_, _<_}
 use native.Mathlib.Omega.{arith}
-use lib.Dec.{eqb}
-use lib.ListN.{length, length-append, replicate, drop}
-use lib.Seq.{drop-nil}
+use lib.Dec.{eqb, lit<}
+use lib.ListN.{length, length-append, length-map, length-replicate, length-drop, replicate, take, drop, take-append-drop}
+use lib.Seq.{drop-nil, drop-drop, length-take-le, drop-append-add}
 use borrow.Author.Tests.{ne-eqb, le-leb, lt-leb, lt-ltb}
 use Rattle.laws.specs.Pick.{pick}
 use Rattle.octet.specs.Image.{image}
-use Rattle.octet.specs.Decoding.{undecodable}
+use Rattle.octet.specs.Decoding.{nib, undecodable}
+use Rattle.octet.specs.Hearing.{harm}
 use Rattle.blocks.specs.Block.{Block, sizeOf}
-use Rattle.symbols.specs.Stream.{Symbol, start, fill, bits, raw, byteOf, symbols, fillAfter, cell, cellsOf, streamOf, grab}
-use Rattle.walk.specs.Mode.{Mode, scan, heading, body, full, step, emitted, ends, gives}
+use Rattle.symbols.specs.Stream.{Symbol, start, fill, bits, raw, byteOf, symbols, fillAfter, cell, cellsOf, streamOf}
+use Rattle.walk.specs.Mode.{Mode, scan, heading, body, shifted, full, blockWith, step, emitted, ends, gives}
 use Rattle.claims.specs.Noise.{Fits, Each, nil, and}
-use Rattle.claims.proofs.Walking.{Fit, skips, opens, nibble, byte, Plain, sentEnds, sentGives, step-fill, step-start, nib-sent}
-use Rattle.claims.proofs.Packet.{sentEnds-append, sentGives-append, plain-append}
+use Rattle.claims.specs.Damage.{unlike, Sending, sendings, landed}
+use Rattle.claims.proofs.Telling.{stands-nib, stands-harm, Told, heard, symbolOf, standing, stood, told}
+use Rattle.claims.proofs.Walking.{Fit, skips, opens, nibble, byte, Plain, sentEnds, sentGives, known, step-fill, step-start}
+use Rattle.claims.proofs.Packet.{sentEnds-append, sentGives-append, plain-append, plain-left, plain-right}
 
--- the walk from m along ss meets fitting symbols, gives these blocks and ends in scan
-pub record Sends (m : Mode) (ss : List Symbol) (bs : List Block) : Type 0 where
-  pub plain : Plain m ss
-  pub ends : sentEnds m ss ≡ scan
-  pub gives : sentGives m ss ≡ bs
+-- the walk from m along zs meets fitting symbols, gives these blocks and ends in scan
+pub record Sends (m : Mode) (zs : List Told) (bs : List Block) : Type 0 where
+  pub plain : Plain m zs
+  pub ends : sentEnds m zs ≡ scan
+  pub gives : sentGives m zs ≡ bs
 
 nothing : Sends scan [] []
 unfolding ends gives
@@ -31,19 +34,19 @@ nothing = record { plain = tt; ends = refl; gives = refl }
 
 -- one symbol more in front
 onward :
-    (m m′ : Mode) (s : Symbol) (ss : List Symbol) (e bs : List Block) → Fit m s → step m (byteOf s) ≡ m′ → emitted m (byteOf s) ≡ e
-    → Sends m′ ss bs → Sends m (s ∷ ss) (e ++ bs)
+    (m m′ : Mode) (z : Told) (zs : List Told) (e bs : List Block) → Fit m (symbolOf z) → step m (stood z) ≡ m′ → emitted m (stood z) ≡ e
+    → Sends m′ zs bs → Sends m (z ∷ zs) (e ++ bs)
 unfolding ends gives
-onward m m′ s ss e bs f p q r =
+onward m m′ z zs e bs f p q r =
     record {
-      plain = (f, subst (λ (k : Mode). Plain k ss) (sym p) (r .plain));
-      ends = ap (λ (k : Mode). sentEnds k ss) p ∙ r .ends;
+      plain = (f, subst (λ (k : Mode). Plain k zs) (sym p) (r .plain));
+      ends = ap (λ (k : Mode). sentEnds k zs) p ∙ r .ends;
       gives =
-          ap₂ (λ (l : List Block) (k : Mode). l ++ sentGives k ss) q p ∙ ap (λ (l : List Block). e ++ l) (r .gives);
+          ap₂ (λ (l : List Block) (k : Mode). l ++ sentGives k zs) q p ∙ ap (λ (l : List Block). e ++ l) (r .gives);
     }
 
 -- one stretch after the other
-pub sends-append : (m : Mode) (xs ys : List Symbol) {a b : List Block} → Sends m xs a → Sends scan ys b → Sends m (xs ++ ys) (a ++ b)
+pub sends-append : (m : Mode) (xs ys : List Told) {a b : List Block} → Sends m xs a → Sends scan ys b → Sends m (xs ++ ys) (a ++ b)
 sends-append m xs ys {a} r t =
     record {
       plain = plain-append m xs ys (r .plain) (subst (λ (k : Mode). Plain k ys) (sym (r .ends)) (t .plain));
@@ -59,54 +62,66 @@ emitted-scan : (b : ℕ) → emitted scan b ≡ []
 unfolding emitted
 emitted-scan b = refl
 
-pub fills : (n : ℕ) → Sends scan (replicate n fill) []
-fills zero = nothing
-fills (suc n) = onward scan scan fill (replicate n fill) [] [] skips step-fill (emitted-scan (image 3)) (fills n)
+-- filler
+pub fills : (n : ℕ) (cs : List ℕ) → Sends scan (told (replicate n fill) cs) []
+unfolding told
+fills n [] = nothing
+fills zero (c ∷ cs) = onward scan scan (heard fill c) (told [] cs) [] [] skips (step-fill c) (emitted-scan _) (fills zero cs)
+fills (suc n) (c ∷ cs) =
+    onward scan scan (heard fill c) (told (replicate n fill) cs) [] [] skips (step-fill c) (emitted-scan _) (fills n cs)
 
 -- ---- a block
 
-module _ (g v n : ℕ) (h : n < 16) where
-  read : eqb n undecodable ≡ false
-  read = ne-eqb n undecodable (λ e. omega arith)
+module _ (g v part n c : ℕ) (h : n < 16) where
+  -- what its byte adds to the part
+  more : ℕ
+  more = pick (eqb (image n) c) 0 1
 
-  head-step : g < 3 → step (heading g v) (image n) ≡ heading (suc g) (v / 16 + n * 4096)
-  unfolding step
-  head-step k = rw (nib-sent n h, read, lt-ltb g 3 k)
+  head-step : g < 3 → step (heading g v part) (standing (bits n) c) ≡ heading (suc g) (v / 16 + n * 4096) (part + more)
+  unfolding step standing more
+  head-step k = rw (stands-nib n c h, stands-harm n c h, known n h, lt-ltb g 3 k)
 
-  head-gives : g < 3 → emitted (heading g v) (image n) ≡ []
-  unfolding emitted
-  head-gives k = rw (nib-sent n h, read, lt-ltb g 3 k)
+  head-gives : g < 3 → emitted (heading g v part) (standing (bits n) c) ≡ []
+  unfolding emitted standing
+  head-gives k = rw (stands-nib n c h, known n h, lt-ltb g 3 k)
 
-last-step : (v n : ℕ) → n < 16 → step (heading 3 v) (image n) ≡ pick (full (v / 16 + n * 4096) []) scan (body (v / 16 + n * 4096) [])
-unfolding step
-last-step v n h = rw (nib-sent n h, read 3 v n h)
+last-step :
+    (v part n c : ℕ) → n < 16
+    → step (heading 3 v part) (standing (bits n) c)
+    ≡ pick (full (v / 16 + n * 4096) []) scan (body (v / 16 + n * 4096) (part + pick (eqb (image n) c) 0 1) [])
+unfolding step standing
+last-step v part n c h = rw (stands-nib n c h, stands-harm n c h, known n h)
 
 last-gives :
-    (v n : ℕ) → n < 16
-    → emitted (heading 3 v) (image n) ≡ pick (full (v / 16 + n * 4096) []) (record { head = v / 16 + n * 4096; raw = [] } ∷ []) []
-unfolding emitted
-last-gives v n h = rw (nib-sent n h, read 3 v n h)
+    (v part n c : ℕ) → n < 16
+    → emitted (heading 3 v part) (standing (bits n) c)
+    ≡ pick (full (v / 16 + n * 4096) []) (blockWith (v / 16 + n * 4096) (part + pick (eqb (image n) c) 0 1) [] ∷ []) []
+unfolding emitted standing
+last-gives v part n c h = rw (stands-nib n c h, stands-harm n c h, known n h)
 
 -- the raw bytes, of which at least one is to come
 body-sends :
-    (h : ℕ) (held : List ℕ) (b : ℕ) (bs : List ℕ) → length held + suc (length bs) ≡ sizeOf h
-    → Sends (body h held) (map raw (b ∷ bs)) (record { head = h; raw = held ++ b ∷ bs } ∷ [])
-unfolding step emitted
-body-sends h held b [] e =
-    let f : sizeOf h ≤ length (held ++ b ∷ []) = rw length-append (omega arith) in
-    onward (body h held) scan (raw b) [] (record { head = h; raw = held ++ b ∷ [] } ∷ []) [] byte
-    (rw (le-leb (sizeOf h) (length (held ++ b ∷ [])) f))
-    (rw (le-leb (sizeOf h) (length (held ++ b ∷ [])) f))
+    (h part : ℕ) (held : List ℕ) (b c : ℕ) (bs cs : List ℕ) → length held + suc (length bs) ≡ sizeOf h → length cs ≡ length bs
+    → Sends (body h part held) (told (map raw (b ∷ bs)) (c ∷ cs)) (blockWith h part (held ++ c ∷ cs) ∷ [])
+unfolding step emitted told standing
+body-sends h part held b c [] [] e l =
+    let f : sizeOf h ≤ length (held ++ c ∷ []) = rw length-append (omega arith) in
+    onward (body h part held) scan (heard (raw b) c) [] (blockWith h part (held ++ c ∷ []) ∷ []) [] byte
+    (rw (le-leb (sizeOf h) (length (held ++ c ∷ [])) f))
+    (rw (le-leb (sizeOf h) (length (held ++ c ∷ [])) f))
     nothing
-body-sends h held b (c ∷ bs) e =
-    let f : length (held ++ b ∷ []) < sizeOf h = rw length-append (omega arith) in
-    let rest : length (held ++ b ∷ []) + suc (length bs) ≡ sizeOf h = rw length-append (omega arith) in
-    onward (body h held) (body h (held ++ b ∷ [])) (raw b) (map raw (c ∷ bs)) [] (record { head = h; raw = held ++ b ∷ c ∷ bs } ∷ []) byte
-    (rw (lt-leb (sizeOf h) (length (held ++ b ∷ [])) f))
-    (rw (lt-leb (sizeOf h) (length (held ++ b ∷ [])) f))
-    (subst (λ (l : List ℕ). Sends (body h (held ++ b ∷ [])) (map raw (c ∷ bs)) (record { head = h; raw = l } ∷ []))
-    (append-assoc held (b ∷ []) (c ∷ bs))
-    (body-sends h (held ++ b ∷ []) c bs rest))
+body-sends h part held b c [] (d ∷ cs) e l = absurd (omega arith)
+body-sends h part held b c (x ∷ bs) [] e l = absurd (omega arith)
+body-sends h part held b c (x ∷ bs) (d ∷ cs) e l =
+    let f : length (held ++ c ∷ []) < sizeOf h = rw length-append (omega arith) in
+    let rest : length (held ++ c ∷ []) + suc (length bs) ≡ sizeOf h = rw length-append (omega arith) in
+    onward (body h part held) (body h part (held ++ c ∷ [])) (heard (raw b) c) (told (map raw (x ∷ bs)) (d ∷ cs)) []
+    (blockWith h part (held ++ c ∷ d ∷ cs) ∷ []) byte
+    (rw (lt-leb (sizeOf h) (length (held ++ c ∷ [])) f))
+    (rw (lt-leb (sizeOf h) (length (held ++ c ∷ [])) f))
+    (subst (λ (k : List ℕ). Sends (body h part (held ++ c ∷ [])) (told (map raw (x ∷ bs)) (d ∷ cs)) (blockWith h part k ∷ []))
+    (append-assoc held (c ∷ []) (d ∷ cs))
+    (body-sends h part (held ++ c ∷ []) x d bs cs rest (omega arith)))
 
 -- four nibbles, lowest first, shift down to the 16 bits that they are of
 shifts :
@@ -116,86 +131,125 @@ shifts h k = omega arith
 
 -- the fourth nibble, which makes the 16 bits w, and the raw bytes
 last-sends :
-    (v n w : ℕ) (l : List ℕ) → n < 16 → v / 16 + n * 4096 ≡ w → length l ≡ sizeOf w
-    → Sends (heading 3 v) (bits n ∷ map raw l) (record { head = w; raw = l } ∷ [])
-last-sends v n w [] h q e =
+    (v part n w p c : ℕ) (l cs : List ℕ) → n < 16 → v / 16 + n * 4096 ≡ w → part + pick (eqb (image n) c) 0 1 ≡ p → length l ≡ sizeOf w
+    → length cs ≡ length l → Sends (heading 3 v part) (told (bits n ∷ map raw l) (c ∷ cs)) (blockWith w p cs ∷ [])
+unfolding told
+last-sends v part n w p c [] [] h q x e k =
     let f : full w [] ≡ true = le-leb (sizeOf w) 0 (omega arith) in
-    onward (heading 3 v) scan (bits n) [] (record { head = w; raw = [] } ∷ []) [] (nibble h)
-    (last-step v n h ∙ rw (q, f))
-    (last-gives v n h ∙ rw (q, f))
+    onward (heading 3 v part) scan (heard (bits n) c) [] (blockWith w p [] ∷ []) [] (nibble h)
+    (last-step v part n c h ∙ rw (q, f))
+    (last-gives v part n c h ∙ rw (q, x, f))
     nothing
-last-sends v n w (b ∷ bs) h q e =
+last-sends v part n w p c [] (d ∷ cs) h q x e k = absurd (omega arith)
+last-sends v part n w p c (b ∷ bs) [] h q x e k = absurd (omega arith)
+last-sends v part n w p c (b ∷ bs) (d ∷ cs) h q x e k =
     let f : full w [] ≡ false = lt-leb (sizeOf w) 0 (omega arith) in
-    onward (heading 3 v) (body w []) (bits n) (map raw (b ∷ bs)) [] (record { head = w; raw = b ∷ bs } ∷ []) (nibble h)
-    (last-step v n h ∙ rw (q, f))
-    (last-gives v n h ∙ rw (q, f))
-    (body-sends w [] b bs (omega arith))
+    onward (heading 3 v part) (body w p []) (heard (bits n) c) (told (map raw (b ∷ bs)) (d ∷ cs)) [] (blockWith w p (d ∷ cs) ∷ []) (nibble h)
+    (last-step v part n c h ∙ rw (q, x, f))
+    (last-gives v part n c h ∙ rw (q, f))
+    (body-sends w p [] b d bs cs (omega arith) (omega arith))
 
 -- a nibble before the fourth
 head-sends :
-    (g v n : ℕ) (ss : List Symbol) (bs : List Block) → n < 16 → g < 3 → Sends (heading (suc g) (v / 16 + n * 4096)) ss bs
-    → Sends (heading g v) (bits n ∷ ss) bs
-head-sends g v n ss bs h k r =
-    onward (heading g v) (heading (suc g) (v / 16 + n * 4096)) (bits n) ss [] bs (nibble h)
-    (head-step g v n h k) (head-gives g v n h k) r
+    (g v part n c : ℕ) (ss : List Symbol) (cs : List ℕ) (bs : List Block) → n < 16 → g < 3
+    → Sends (heading (suc g) (v / 16 + n * 4096) (part + pick (eqb (image n) c) 0 1)) (told ss cs) bs
+    → Sends (heading g v part) (told (bits n ∷ ss) (c ∷ cs)) bs
+unfolding told more
+head-sends g v part n c ss cs bs h k r =
+    onward (heading g v part) (heading (suc g) (v / 16 + n * 4096) (part + more g v part n c h)) (heard (bits n) c) (told ss cs) [] bs (nibble h)
+    (head-step g v part n c h k) (head-gives g v part n c h k) r
+
+-- the start counts in the part as it was heard
+start-harm : (c : ℕ) → harm (standing start c) ≡ pick (eqb (image 12) c) 0 1
+unfolding standing
+start-harm c = stands-harm 12 c (lit< tt)
+
+start-step : (c : ℕ) → step scan (standing start c) ≡ heading 0 0 (pick (eqb (image 12) c) 0 1)
+start-step c = step-start c ∙ ap (heading 0 0) (start-harm c)
+
+-- the five first bytes, each other than it was sent or not
+five :
+    (a b c d e : ℕ)
+    → a + b + c + d + e ≡ a + (b + (c + (d + (e + 0))))
+five a b c d e = omega arith
 
 -- a block: its start, its 16 bits, its raw bytes
-symbols-send : (b : Block) → Fits b → Sends scan (symbols b) (b ∷ [])
-unfolding symbols
-symbols-send b f =
-    onward scan (heading 0 0) start _ [] (b ∷ []) opens step-start (emitted-scan (image 12))
-    (head-sends 0 _ _ _ _ (omega arith) (omega arith)
-    (head-sends 1 _ _ _ _ (omega arith) (omega arith)
-    (head-sends 2 _ _ _ _ (omega arith) (omega arith)
-    (last-sends _ _ (b .head) (b .raw) (omega arith) (shifts (b .head) (f .head)) (f .size)))))
+symbols-send :
+    (b : Block) (cs : List ℕ) → Fits b → length cs ≡ length (symbols b)
+    → Sends scan (told (symbols b) cs) (landed (record { block = b; came = cs }) ∷ [])
+unfolding symbols told unlike
+symbols-send b [] f l = absurd (omega arith)
+symbols-send b (c₀ ∷ []) f l = absurd (omega arith)
+symbols-send b (c₀ ∷ c₁ ∷ []) f l = absurd (omega arith)
+symbols-send b (c₀ ∷ c₁ ∷ c₂ ∷ []) f l = absurd (omega arith)
+symbols-send b (c₀ ∷ c₁ ∷ c₂ ∷ c₃ ∷ []) f l = absurd (omega arith)
+symbols-send b (c₀ ∷ c₁ ∷ c₂ ∷ c₃ ∷ c₄ ∷ cs) f l =
+    let k : length cs ≡ length (b .raw) = omega (arith, length-map (b .raw) raw) in
+    let third : List Symbol = bits (b .head / 16 / 16 / 16 % 16) ∷ map raw (b .raw) in
+    let second : List Symbol = bits (b .head / 16 / 16 % 16) ∷ third in
+    let first : List Symbol = bits (b .head / 16 % 16) ∷ second in
+    onward scan (heading 0 0 _) (heard start c₀) _ [] _ opens (start-step c₀) (emitted-scan _)
+    (head-sends 0 _ _ _ c₁ first (c₂ ∷ c₃ ∷ c₄ ∷ cs) _ (omega arith) (omega arith)
+    (head-sends 1 _ _ _ c₂ second (c₃ ∷ c₄ ∷ cs) _ (omega arith) (omega arith)
+    (head-sends 2 _ _ _ c₃ third (c₄ ∷ cs) _ (omega arith) (omega arith)
+    (last-sends _ _ _ (b .head) _ c₄ (b .raw) cs (omega arith) (shifts (b .head) (f .head)) (five _ _ _ _ _) (f .size) k))))
 
-cells-send : (b : Block) → Fits b → Sends scan (cellsOf b) (b ∷ [])
-unfolding cellsOf
-cells-send b f = sends-append scan (symbols b) (fillAfter (length (symbols b))) (symbols-send b f) (fills (length (symbols b) * 2 % cell))
+-- ---- a list of blocks
 
-pub stream-sends : {bs : List Block} → Each Fits bs → Sends scan (streamOf bs) bs
-unfolding streamOf
-stream-sends nil = nothing
-stream-sends (and {a = b} {l = bs} f r) = sends-append scan (cellsOf b) (streamOf bs) (cells-send b f) (stream-sends r)
+-- symbols that are all there, and those after them
+told-parts :
+    (ss ts : List Symbol) (cs : List ℕ) → length ss ≤ length cs
+    → told (ss ++ ts) cs ≡ told ss (take (length ss) cs) ++ told ts (drop (length ss) cs)
+unfolding told
+told-parts [] ts cs h = refl
+told-parts (s ∷ ss) ts [] h = absurd (omega arith)
+told-parts (s ∷ ss) ts (c ∷ cs) h = ap (λ (l : List Told). heard s c ∷ l) (told-parts ss ts cs (omega arith))
 
--- ---- what is left of a walk after a packet's symbols
+pub stream-sends :
+    {bs : List Block} → Each Fits bs → (cs : List ℕ) → length (streamOf bs) ≤ length cs
+    → Sends scan (told (streamOf bs) cs) (map landed (sendings bs cs))
+unfolding streamOf sendings cellsOf
+stream-sends nil cs h = fills 0 cs
+stream-sends (and {a = b} {l = bs} f r) cs h =
+    let ss = symbols b in
+    let ls = length (symbols b) in
+    let behind = fillAfter (length (symbols b)) in
+    let lf = length (fillAfter (length (symbols b))) in
+    let n : length (ss ++ behind) ≡ ls + lf = length-append ss behind in
+    let w : length (ss ++ behind ++ streamOf bs) ≡ ls + lf + length (streamOf bs) = length-append (ss ++ behind) (streamOf bs) ∙ rw n in
+    let first : length (take ls cs) ≡ ls = length-take-le ls cs (omega arith) in
+    let left : length (drop ls cs) ≡ length cs - ls = length-drop ls cs in
+    let further : length (drop (length (ss ++ behind)) cs) ≡ length cs - length (ss ++ behind) = length-drop (length (ss ++ behind)) cs in
+    let e : told (ss ++ behind ++ streamOf bs) cs
+    ≡ told ss (take ls cs) ++ (told behind (take lf (drop ls cs)) ++ told (streamOf bs) (drop (length (ss ++ behind)) cs))
+    = ap (λ (l : List Symbol). told l cs) (append-assoc ss behind (streamOf bs))
+    ∙ told-parts ss (behind ++ streamOf bs) cs (omega arith)
+    ∙ ap (λ (l : List Told). told ss (take ls cs) ++ l)
+    (told-parts behind (streamOf bs) (drop ls cs) (omega arith)
+    ∙ ap (λ (l : List ℕ). told behind (take lf (drop ls cs)) ++ told (streamOf bs) l) (drop-drop lf ls cs ∙ rw n)) in
+    rw e
+    (sends-append scan (told ss (take ls cs)) _ (symbols-send b (take ls cs) f first)
+    (sends-append scan (told behind (take lf (drop ls cs))) _ (fills (ls * 2 % cell) (take lf (drop ls cs)))
+    (stream-sends r (drop (length (ss ++ behind)) cs) (omega arith))))
 
--- the walk along the next n symbols, filler past the end, and the walk along the rest
-pub record Grabbed (m : Mode) (n : ℕ) (ss : List Symbol) (bs : List Block) : Type 0 where
-  pub plain : Plain m (grab n ss)
+-- ---- a walk goes on behind its first stretch
+
+pub record Split (m : Mode) (xs ys : List Told) (bs : List Block) : Type 0 where
+  pub plain : Plain m xs
   pub rest : List Block
-  pub sends : Sends (sentEnds m (grab n ss)) (drop n ss) rest
-  pub gives : bs ≡ sentGives m (grab n ss) ++ rest
+  pub sends : Sends (sentEnds m xs) ys rest
+  pub gives : bs ≡ sentGives m xs ++ rest
 
-grab-nil : (n : ℕ) → grab n [] ≡ replicate n fill
-unfolding grab
-grab-nil zero = refl
-grab-nil (suc n) = ap (λ (l : List Symbol). fill ∷ l) (grab-nil n)
-
--- past the end of the stream
-grabbed-end : (n : ℕ) → Grabbed scan n [] []
-grabbed-end n =
-    let f = fills n in
+pub split : (m : Mode) (xs ys : List Told) {bs : List Block} → Sends m (xs ++ ys) bs → Split m xs ys bs
+split m xs ys r =
     record {
-      plain = rw (grab-nil n) (f .plain);
-      rest = [];
-      sends = rw (drop-nil n, grab-nil n, f .ends) nothing;
-      gives = rw (grab-nil n, f .gives);
-    }
-
-pub grabbed : (m : Mode) (n : ℕ) (ss : List Symbol) (bs : List Block) → Sends m ss bs → Grabbed m n ss bs
-unfolding grab ends gives
-grabbed m zero ss bs r = record { plain = tt; rest = bs; sends = r; gives = refl }
-grabbed m (suc n) [] bs r = subst₂ (λ (k : Mode) (l : List Block). Grabbed k (suc n) [] l) (sym (r .ends)) (r .gives) (grabbed-end (suc n))
-grabbed m (suc n) (s ∷ ss) bs r =
-    let m′ = step m (byteOf s) in
-    let g = grabbed m′ n ss (sentGives m′ ss) (record { plain = r .plain .1; ends = r .ends; gives = refl }) in
-    record {
-      plain = (r .plain .0, g .plain);
-      rest = g .rest;
-      sends = g .sends;
-      gives =
-          sym (r .gives)
-          ∙ ap (λ (l : List Block). emitted m (byteOf s) ++ l) (g .gives)
-          ∙ sym (append-assoc (emitted m (byteOf s)) (sentGives m′ (grab n ss)) (g .rest));
+      plain = plain-left m xs ys (r .plain);
+      rest = sentGives (sentEnds m xs) ys;
+      sends =
+          record {
+            plain = plain-right m xs ys (r .plain);
+            ends = sym (sentEnds-append m xs ys) ∙ r .ends;
+            gives = refl;
+          };
+      gives = sym (r .gives) ∙ sentGives-append m xs ys;
     }

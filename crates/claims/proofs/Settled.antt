@@ -12,10 +12,11 @@ use Rattle.octet.proofs.image.Reads as octet·image
 use Rattle.aerials.proofs.better.Reads as aerials·better
 use Rattle.octet.proofs.decode.Reads as octet·decode
 use Rattle.octet.proofs.decodings.Reads as octet·decodings
+use Rattle.octet.proofs.hear.Reads as octet·hear
+use Rattle.octet.proofs.images.Reads as octet·images
 use Rattle.octet.proofs.faults.fault_place.Reads as octet·fault-place
 use Rattle.octet.proofs.turn.Reads as octet·turn
 use Rattle.octet.proofs.quick.decode.Reads as octet·quick-decode
-use Rattle.octet.proofs.quick.turn.Reads as octet·quick-turn
 use Rattle.fields.proofs.field_of.Reads as fields·field-of
 use Rattle.fields.proofs.opening_of.Reads as fields·opening-of
 use Rattle.forms.proofs.items.words_of.Reads as forms·words-of
@@ -24,6 +25,14 @@ use Rattle.wanted.proofs.next.Reads as wanted·next
 use Rattle.wanted.proofs.is_name.Reads as wanted·is-name
 use Rattle.wanted.proofs.stages.is_good.Reads as wanted·is-good
 use Rattle.wanted.proofs.names.plain.Reads as wanted·plain
+use Rattle.texts.proofs.same.Reads as texts·same
+use Rattle.texts.proofs.holds.Reads as texts·holds
+use Rattle.texts.proofs.entries.Reads as texts·entries
+use Rattle.orders.proofs.start.Reads as orders·start
+use Rattle.orders.proofs.next.Reads as orders·next
+use Rattle.orders.proofs.role.Reads as orders·role
+use Rattle.orders.proofs.is_good.Reads as orders·is-good
+use Rattle.orders.proofs.stamps.stamp_of.Reads as orders·stamp-of
 use Rattle.units.proofs.unit_at.Reads as units·unit-at
 use Rattle.units.proofs.marks.is_text.Reads as units·is-text
 use Rattle.units.proofs.marks.line_fits.Reads as units·line-fits
@@ -66,16 +75,25 @@ use Rattle.reader.proofs.many.feed_all.Reads as reader·feed-all
 use Rattle.table.proofs.read_block.Reads as table·read-block
 use Rattle.forms.proofs.judge_form.Reads as forms·judge-form
 use Rattle.sums.proofs.Summing.{one-sum}
+use Rattle.sums.proofs.mended_in.Reads as sums·mended-in
 use Rattle.sums.proofs.checksum.Reads as sums·checksum
 use Rattle.sums.proofs.sound.Reads as sums·sound
 use Rattle.sums.proofs.sum_of.Reads as sums·sum-of
 use Rattle.forms.proofs.items.known.Reads as forms·known
+use Rattle.forms.proofs.items.numbered.Reads as forms·numbered
 use Rattle.forms.proofs.items.byte_at.Reads as forms·byte-at
 use Rattle.forms.proofs.items.word_at.Reads as forms·word-at
 use Rattle.printing.proofs.puts.put.Reads as printing·put
 use Rattle.printing.proofs.put_number.Reads as printing·put-number
 use Rattle.printing.proofs.put_language.Reads as printing·put-language
 use Rattle.printing.proofs.put_page.Reads as printing·put-page
+use Rattle.strings.proofs.letter.Reads as strings·letter
+use Rattle.strings.proofs.odds.Reads as strings·odds
+use Rattle.menu_forms.proofs.info_bytes.Reads as menu-forms·info-bytes
+use Rattle.menu_writer.proofs.write_menu.Reads as menu-writer·write-menu
+use Rattle.sheets.proofs.rewrite.Reads as sheets·rewrite
+use Rattle.sheets.proofs.joining.join.Reads as sheets·join
+use Rattle.sheets.proofs.adding.add.Reads as sheets·add
 use Rattle.listing.proofs.list_table.Reads as listing·list-table
 use Rattle.listing.proofs.list_descriptors.Reads as listing·list-descriptors
 use Rattle.table_writer.proofs.write_block.Reads as table-writer·write-block
@@ -103,6 +121,12 @@ octet·decode-settled κs a x y s t p q = same p q
 
 pub octet·decodings-settled : (κs : _) (a : _) (x y : _) (s t : _) → octet·decodings.Post κs a x s → octet·decodings.Post κs a y t → x ≡ y
 octet·decodings-settled κs a x y s t p q = same p q
+
+pub octet·hear-settled : (κs : _) (a : _) (x y : _) (s t : _) → octet·hear.Post κs a x s → octet·hear.Post κs a y t → x ≡ y
+octet·hear-settled κs a x y s t p q = same p q
+
+pub octet·images-settled : (κs : _) (a : _) (x y : _) (s t : _) → octet·images.Post κs a x s → octet·images.Post κs a y t → x ≡ y
+octet·images-settled κs a x y s t p q = same p q
 
 pub octet·fault-place-settled : (κs : _) (a : _) (x y : _) (s t : _) → octet·fault-place.Post κs a x s → octet·fault-place.Post κs a y t → x ≡ y
 octet·fault-place-settled κs a x y s t p q = same p q
@@ -180,27 +204,27 @@ writer·cut-pages-settled κs a x y s t p q = (same (p .0) (q .0), same (p .1) (
 abbrev back : List ℕ → StartAhead → Ahead
 back s nothing = Nothing
 back s broken = Broken
-back s (cut g v) = Cut g v
-back s (whole h l) = Whole h (length s - length l)
+back s (cut g v part) = Cut g v part
+back s (whole h part l) = Whole h part (length s - length l)
 
 back-ahead : (s : List ℕ) (r : Ahead) → nextOf r 0 ≤ length s → back s (aheadIn s r) ≡ r
 back-ahead s Nothing h = refl
 back-ahead s Broken h = refl
-back-ahead s (Cut g v) h = refl
-back-ahead s (Whole h n) k = let e : length s - length (drop n s) ≡ n = rw length-drop (omega arith) in rw e
+back-ahead s (Cut g v part) h = refl
+back-ahead s (Whole h part n) k = let e : length s - length (drop n s) ≡ n = rw length-drop (omega arith) in rw e
 
 -- the same, where the place is told
 abbrev backAt : ℕ → StartAhead → Ahead
 backAt d nothing = Nothing
 backAt d broken = Broken
-backAt d (cut g v) = Cut g v
-backAt d (whole h l) = Whole h d
+backAt d (cut g v part) = Cut g v part
+backAt d (whole h part l) = Whole h part d
 
 back-at : (s : List ℕ) (d : ℕ) (r : Ahead) → nextOf r d ≡ d → backAt d (aheadIn s r) ≡ r
 back-at s d Nothing e = refl
 back-at s d Broken e = refl
-back-at s d (Cut g v) e = refl
-back-at s d (Whole h n) e = rw e
+back-at s d (Cut g v part) e = refl
+back-at s d (Whole h part n) e = rw e
 
 pub walk·find-settled : (κs : _) (a : _) (x y : _) (s t : _) → walk·find.Post κs a x s → walk·find.Post κs a y t → x ≡ y
 walk·find-settled κs a x y s t p q =
@@ -263,6 +287,9 @@ table·read-block-settled κs a x y s t p q = (same (p .0) (q .0), same (p .1) (
 pub forms·judge-form-settled : (κs : _) (a : _) (x y : _) (s t : _) → forms·judge-form.Post κs a x s → forms·judge-form.Post κs a y t → x ≡ y
 forms·judge-form-settled κs a x y s t p q = same p q
 
+pub sums·mended-in-settled : (κs : _) (a : _) (x y : _) (s t : _) → sums·mended-in.Post κs a x s → sums·mended-in.Post κs a y t → x ≡ y
+sums·mended-in-settled κs a x y s t p q = same p q
+
 pub sums·checksum-settled : (κs : _) (a : _) (x y : _) (s t : _) → sums·checksum.Post κs a x s → sums·checksum.Post κs a y t → x ≡ y
 sums·checksum-settled κs a x y s t p q = same p q
 
@@ -274,6 +301,9 @@ sums·sum-of-settled κs a x y s t p q = one-sum _ _ _ x y (p .0) (p .1 .0) (p .
 
 pub forms·known-settled : (κs : _) (a : _) (x y : _) (s t : _) → forms·known.Post κs a x s → forms·known.Post κs a y t → x ≡ y
 forms·known-settled κs a x y s t p q = same p q
+
+pub forms·numbered-settled : (κs : _) (a : _) (x y : _) (s t : _) → forms·numbered.Post κs a x s → forms·numbered.Post κs a y t → x ≡ y
+forms·numbered-settled κs a x y s t p q = same p q
 
 pub forms·byte-at-settled : (κs : _) (a : _) (x y : _) (s t : _) → forms·byte-at.Post κs a x s → forms·byte-at.Post κs a y t → x ≡ y
 forms·byte-at-settled κs a x y s t p q = same (p .0) (q .0)
@@ -311,7 +341,7 @@ pub printing·put-page-settled :
 printing·put-page-settled κs a x y s t p q = (same (p .0 .moved) (q .0 .moved), same (p .0 .stored) (q .0 .stored))
 
 pub listing·list-table-settled :
-    (κs : _) (a : _) (x y : _) (s t : _) → listing·list-table.Post κs a x s → listing·list-table.Post κs a y t → (x ≡ y) × (now (s .1 .0) ≡ now (t .1 .0))
+    (κs : _) (a : _) (x y : _) (s t : _) → listing·list-table.Post κs a x s → listing·list-table.Post κs a y t → (x ≡ y) × (now (s .1 .1 .0) ≡ now (t .1 .1 .0))
 listing·list-table-settled κs a x y s t p q = (same (p .0) (q .0), same (p .1) (q .1))
 
 pub listing·list-descriptors-settled :
@@ -320,9 +350,6 @@ listing·list-descriptors-settled κs a x y s t p q = (same (p .0) (q .0), same 
 
 pub octet·quick-decode-settled : (κs : _) (a : _) (x y : _) (s t : _) → octet·quick-decode.Post κs a x s → octet·quick-decode.Post κs a y t → x ≡ y
 octet·quick-decode-settled κs a x y s t p q = same p q
-
-pub octet·quick-turn-settled : (κs : _) (a : _) (x y : _) (s t : _) → octet·quick-turn.Post κs a x s → octet·quick-turn.Post κs a y t → x ≡ y
-octet·quick-turn-settled κs a x y s t p q = same p q
 
 pub fields·field-of-settled : (κs : _) (a : _) (x y : _) (s t : _) → fields·field-of.Post κs a x s → fields·field-of.Post κs a y t → x ≡ y
 fields·field-of-settled κs a x y s t p q = same (p .0) (q .0)
@@ -363,6 +390,30 @@ wanted·is-good-settled κs a x y s t p q = same p q
 pub wanted·plain-settled : (κs : _) (a : _) (x y : _) (s t : _) → wanted·plain.Post κs a x s → wanted·plain.Post κs a y t → now (s .0) ≡ now (t .0)
 wanted·plain-settled κs a x y s t p q = same p q
 
+pub texts·same-settled : (κs : _) (a : _) (x y : _) (s t : _) → texts·same.Post κs a x s → texts·same.Post κs a y t → x ≡ y
+texts·same-settled κs a x y s t p q = same p q
+
+pub texts·holds-settled : (κs : _) (a : _) (x y : _) (s t : _) → texts·holds.Post κs a x s → texts·holds.Post κs a y t → x ≡ y
+texts·holds-settled κs a x y s t p q = same p q
+
+pub texts·entries-settled : (κs : _) (a : _) (x y : _) (s t : _) → texts·entries.Post κs a x s → texts·entries.Post κs a y t → x ≡ y
+texts·entries-settled κs a x y s t p q = same p q
+
+pub orders·start-settled : (κs : _) (a : _) (x y : _) (s t : _) → orders·start.Post κs a x s → orders·start.Post κs a y t → x ≡ y
+orders·start-settled κs a x y s t p q = same p q
+
+pub orders·next-settled : (κs : _) (a : _) (x y : _) (s t : _) → orders·next.Post κs a x s → orders·next.Post κs a y t → x ≡ y
+orders·next-settled κs a x y s t p q = same p q
+
+pub orders·role-settled : (κs : _) (a : _) (x y : _) (s t : _) → orders·role.Post κs a x s → orders·role.Post κs a y t → x ≡ y
+orders·role-settled κs a x y s t p q = same p q
+
+pub orders·is-good-settled : (κs : _) (a : _) (x y : _) (s t : _) → orders·is-good.Post κs a x s → orders·is-good.Post κs a y t → x ≡ y
+orders·is-good-settled κs a x y s t p q = same p q
+
+pub orders·stamp-of-settled : (κs : _) (a : _) (x y : _) (s t : _) → orders·stamp-of.Post κs a x s → orders·stamp-of.Post κs a y t → x ≡ y
+orders·stamp-of-settled κs a x y s t p q = same p q
+
 -- ---- the test programs
 
 pub vectors·start-settled : (κs : _) (a : _) (x y : _) (s t : _) → vectors·start.Post κs a x s → vectors·start.Post κs a y t → x ≡ y
@@ -377,3 +428,31 @@ vectors·lend-settled κs a x y s t p q = let e = same (p .1 .1) (q .1 .1) in (p
 pub vectors·payload-settled :
     (κs : _) (a : _) (x y : _) (s t : _) → vectors·payload.Post κs a x s → vectors·payload.Post κs a y t → now x ≡ now y
 vectors·payload-settled κs a x y s t p q = same p q
+
+pub sheets·rewrite-settled :
+    (κs : _) (a : _) (x y : _) (s t : _) → sheets·rewrite.Post κs a x s → sheets·rewrite.Post κs a y t
+    → (x ≡ y) × (now (s .1 .0) ≡ now (t .1 .0))
+sheets·rewrite-settled κs a x y s t p q = (same (p .0) (q .0), same (p .1) (q .1))
+
+pub sheets·join-settled :
+    (κs : _) (a : _) (x y : _) (s t : _) → sheets·join.Post κs a x s → sheets·join.Post κs a y t
+    → (x ≡ y) × (now (s .1 .1 .0) ≡ now (t .1 .1 .0))
+sheets·join-settled κs a x y s t p q = (same (p .0) (q .0), same (p .1) (q .1))
+
+pub sheets·add-settled :
+    (κs : _) (a : _) (x y : _) (s t : _) → sheets·add.Post κs a x s → sheets·add.Post κs a y t
+    → (x ≡ y) × (now (s .1 .1 .1 .0) ≡ now (t .1 .1 .1 .0))
+sheets·add-settled κs a x y s t p q = (same (p .0) (q .0), same (p .1) (q .1))
+
+pub strings·letter-settled : (κs : _) (a : _) (x y : _) (s t : _) → strings·letter.Post κs a x s → strings·letter.Post κs a y t → x ≡ y
+strings·letter-settled κs a x y s t p q = same p q
+
+pub strings·odds-settled : (κs : _) (a : _) (x y : _) (s t : _) → strings·odds.Post κs a x s → strings·odds.Post κs a y t → x ≡ y
+strings·odds-settled κs a x y s t p q = same p q
+
+pub menu-forms·info-bytes-settled : (κs : _) (a : _) (x y : _) (s t : _) → menu-forms·info-bytes.Post κs a x s → menu-forms·info-bytes.Post κs a y t → x ≡ y
+menu-forms·info-bytes-settled κs a x y s t p q = same (p .0) (q .0)
+
+pub menu-writer·write-menu-settled :
+    (κs : _) (a : _) (x y : _) (s t : _) → menu-writer·write-menu.Post κs a x s → menu-writer·write-menu.Post κs a y t → (x ≡ y) × (now (s .1 .1 .0) ≡ now (t .1 .1 .0))
+menu-writer·write-menu-settled κs a x y s t p q = (same (p .0) (q .0), same (p .1) (q .1))

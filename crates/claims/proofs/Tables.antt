@@ -9,22 +9,28 @@ use native.Mathlib.Omega.{arith}
 use lib.ListN.{length, length-map, getD, take, drop}
 use Rattle.octet.specs.Image.{image}
 use Rattle.octet.specs.Decoding.{nib, undecodable}
+use Rattle.octet.specs.Hearing.{harms}
+use Rattle.octet.proofs.Hearing.{harm-sent}
 use Rattle.blocks.specs.Block.{Block, blocks, recordOf as Block·recordOf, recordsOf as Block·recordsOf}
 use Rattle.blocks.specs.Sizes.{Sized}
 use Rattle.blocks.specs.Sizes
 use Rattle.blocks.proofs.Round.{blocks-records}
-use Rattle.fields.specs.Fields.{laid, parts}
+use Rattle.fields.specs.Fields.{parts}
 use Rattle.fields.proofs.Laid.{length-parts}
 use Rattle.forms.specs.Tables.{Table, fits, size}
-use Rattle.sums.specs.Block.{header, nibblesOf, nibbles, checksumOf, recordWith, recordOf}
+use Rattle.symbols.specs.Stream.{symbols}
+use Rattle.sums.specs.Block.{nibblesOf, mendedIn, InRange, nibbles, checksumOf, blockWith, recordOf}
 use Rattle.table.specs.Reading.{Outcome, accepted, refused, readBlock}
 use Rattle.forms.proofs.Sendable.{sendable}
-use Rattle.sums.proofs.Nibbles.{nibbles-back}
+use Rattle.sums.proofs.Nibbles.{nibbles-again}
 use Rattle.table.proofs.Exact.{header-lt, header-size}
 use Rattle.table.proofs.Back.{writes-back}
 use Rattle.table.proofs.Noise.{reads-alike, broken-refused}
-use Rattle.claims.specs.Noise.{Hears, Near, none, more, Came, over, kept, lost, Alike, Each, nil, and, Fits}
+use Rattle.claims.specs.Noise.{Hears, Near, none, more, Came, over, kept, lost, Each, nil, and, Fits}
+use Rattle.claims.specs.Damage.{unlike, Sending, sendings, damage, leadDamage, landed, Counted, damaged}
 use Rattle.claims.specs.Tables.{recordsOf, taken, tablesOf}
+use Rattle.claims.proofs.Telling.{eqb-turned}
+use Rattle.claims.proofs.Landing.{Heard, lead-five, raw-near, damage-parts}
 
 -- the nibbles of a table's block as it is written
 abbrev nibblesFor : ℕ → Table → List ℕ
@@ -32,7 +38,7 @@ nibblesFor application t = nibbles (checksumOf application 0 0 t) 0 0 t
 
 -- the block of a table
 abbrev pub tableBlock : ℕ → Table → Block
-tableBlock application t = record { head = laid (header application (size t)) 0; raw = map image (nibblesFor application t) }
+tableBlock application t = blockWith application 0 0 t
 
 -- ---- it is a block, and its record is the one written
 
@@ -41,6 +47,7 @@ unfolding nibbles
 nibbles-length application t = length-parts 4 (size t) _
 
 pub table-fits : (application : ℕ) (t : Table) → fits t ≡ true → Fits (tableBlock application t)
+unfolding blockWith
 table-fits application t f =
     let c = sendable t f .control-fits in
     record {
@@ -50,13 +57,6 @@ table-fits application t f =
           ∙ nibbles-length application t
           ∙ sym (header-size application (size t) (omega arith));
     }
-
-block-record : (application : ℕ) (t : Table) → recordOf application t ≡ Block·recordOf (tableBlock application t)
-unfolding recordWith parts
-block-record application t =
-    let h = laid (header application (size t)) 0 in
-    let e : h / 256 % 256 ≡ h / 256 = omega (arith, header-lt application (size t)) in
-    ap (λ (x : ℕ). h % 256 ∷ x ∷ map image (nibblesFor application t)) e
 
 pub all-fit : (application : ℕ) {ts : List Table} → Each (λ t. fits t ≡ true) ts → Each Fits (map (tableBlock application) ts)
 all-fit application nil = nil
@@ -69,7 +69,7 @@ all-sized (and f r) = Sizes.more (sym (f .size)) (all-sized r)
 pub records-same : (application : ℕ) (ts : List Table) → recordsOf application ts ≡ Block·recordsOf (map (tableBlock application) ts)
 unfolding recordsOf Block·recordsOf
 records-same application [] = refl
-records-same application (t ∷ ts) = ap₂ (λ (a b : List ℕ). a ++ b) (block-record application t) (records-same application ts)
+records-same application (t ∷ ts) = ap (λ (l : List ℕ). recordOf application t ++ l) (records-same application ts)
 
 -- the blocks of the records that are written
 pub blocks-written :
@@ -97,41 +97,78 @@ module _ (R : ℕ → ℕ → Type 0) (L : Type 0) (hears : Hears R L) where
       go (inl e) (right q) = right (ap₂ (λ (x : ℕ) (l : List ℕ). x ∷ l) e q)
       go (inl e) (broken x j h b) = broken x (suc j) (omega arith) b
 
-  -- what is read of a table's block that arrives
-  data Read (application : ℕ) (t : Table) (b : Block) : Type 0 where
-    itself : readBlock application (Block·recordOf b) ≡ accepted t → Read application t b
-    refuses : L → ((u : Table) → readBlock application (Block·recordOf b) ≡ accepted u → ⊥) → Read application t b
+  -- what is read of a table's block that landed
+  data Read (application : ℕ) (t : Table) (x : Sending) : Type 0 where
+    itself : readBlock application (Block·recordOf (landed x)) ≡ accepted t (damage x) → Read application t x
+    refuses : L → ((u : Table) (c : ℕ) → readBlock application (Block·recordOf (landed x)) ≡ accepted u c → ⊥) → Read application t x
 
-  read-heard :
-      (application : ℕ) (t : Table) (b : Block) → application < 32 → fits t ≡ true → Alike R (tableBlock application t) b
-      → Read application t b
-  unfolding nibbles nibblesOf
-  read-heard application t b a f r = go (parts-heard (size t) _ (r .raw))
-    where
-      go : Nibbles L (nibblesFor application t) (b .raw) → Read application t b
-      go (broken x j h n) = refuses x (λ u e. broken-refused application j (Block·recordOf b) u h n e)
-      go (right e) =
-          itself
-          (reads-alike application (Block·recordOf b) (recordOf application t)
-          (ap (λ (x : ℕ). x % 256 ∷ x / 256 ∷ []) (sym (r .head)) ∙ ap (take 2) (sym (block-record application t)))
-          (e ∙ sym (ap (λ (l : List ℕ). map nib (drop 2 l)) (block-record application t) ∙ nibbles-back (size t) _))
-          ∙ writes-back application t a f)
+  -- where each byte decodes to what was sent, those that are mended are those that were damaged
+  mended-damaged : (ns cs : List ℕ) → map nib cs ≡ ns → harms cs ≡ unlike (map image ns) cs
+  unfolding harms unlike
+  mended-damaged [] [] e = refl
+  mended-damaged [] (c ∷ cs) e = let z : _≡_ {A = ℕ} 0 1 = cc in absurd (omega arith)
+  mended-damaged (n ∷ ns) [] e = let z : _≡_ {A = ℕ} 0 1 = cc in absurd (omega arith)
+  mended-damaged (n ∷ ns) (c ∷ cs) e =
+      let first : nib c ≡ n = ap (λ (l : List ℕ). getD l 0 0) e in
+      let rest : map nib cs ≡ ns = ap (drop 1) e in
+      ap₂ (λ (a b : ℕ). a + b) (harm-sent n c first ∙ rw (eqb-turned (image n) c)) (mended-damaged ns cs rest)
 
-  not-taken : (o : Outcome) → ((u : Table) → o ≡ accepted u → ⊥) → taken o ≡ []
-  not-taken (accepted u) z = absurd (z u refl)
+  -- of a table's block with these bytes
+  module _ (application : ℕ) (t : Table) (cs : List ℕ) (n : Heard R (record { block = tableBlock application t; came = cs })) where
+    abbrev x : Sending
+    x = record { block = tableBlock application t; came = cs }
+
+    blocked : Near R (tableBlock application t .raw) (landed x .raw) → Nibbles L (nibblesFor application t) (landed x .raw)
+    unfolding blockWith nibbles
+    blocked r = parts-heard (size t) _ r
+
+    counts : map nib (landed x .raw) ≡ nibblesFor application t → mendedIn (Block·recordOf (landed x)) ≡ damage x
+    unfolding blockWith mendedIn
+    counts e =
+        ap (λ (k : ℕ). leadDamage x + k) (mended-damaged (nibblesFor application t) (landed x .raw) e)
+        ∙ sym (damage-parts x n)
+
+    again : map nib (landed x .raw) ≡ nibblesFor application t → nibblesOf (Block·recordOf (landed x)) ≡ nibblesOf (recordOf application t)
+    unfolding blockWith nibblesOf
+    again e = e ∙ sym (nibbles-again (checksumOf application 0 0 t) 0 0 t)
+
+    breaks :
+        (j : ℕ) → j < length (map nib (landed x .raw)) → 16 ≤ getD (map nib (landed x .raw)) j 0 → (u : Table) (c : ℕ)
+        → readBlock application (Block·recordOf (landed x)) ≡ accepted u c → ⊥
+    unfolding nibblesOf
+    breaks j h b u c e = broken-refused application j (Block·recordOf (landed x)) u c h b e
+
+    read-heard : application < 32 → fits t ≡ true → Read application t x
+    read-heard a f = go (blocked (raw-near x n))
+      where
+        go : Nibbles L (nibblesFor application t) (landed x .raw) → Read application t x
+        go (broken y j h b) = refuses y (breaks j h b)
+        go (right e) =
+            itself
+            (reads-alike application (Block·recordOf (landed x)) (recordOf application t) t 0
+            (record { part = lead-five x; second = refl }) refl (again e) (writes-back application t a f)
+            ∙ ap (accepted t) (counts e))
+
+  not-taken : (o : Outcome) → ((u : Table) (c : ℕ) → o ≡ accepted u c → ⊥) → taken o ≡ []
+  not-taken (accepted u c) z = absurd (z u c refl)
   not-taken (refused number offset) z = refl
 
-  -- blocks that arrive are read as the tables that were sent, or, where two flips are allowed, are lost
+  -- one more table
+  table-came :
+      (application : ℕ) (t : Table) (x : Sending) {b : Block} → landed x ≡ b → {l us : List (Counted Table)} → Read application t x
+      → Came L _≡_ l us
+      → Came L _≡_ (record { what = t; mended = damage x } ∷ l) (taken (readBlock application (Block·recordOf b)) ++ us)
+  table-came application t x e (itself q) c = rw (← e, q) (kept refl c)
+  table-came application t x e (refuses y z) c = rw (← e, not-taken (readBlock application (Block·recordOf (landed x))) z) (lost y c)
+
+  -- blocks that land are read as the tables that were sent, each with its damage, or, where two flips are allowed, are lost
   pub tables-came :
-      (application : ℕ) → application < 32 → (ts : List Table) {bs : List Block} → Each (λ t. fits t ≡ true) ts
-      → Came L (Alike R) (map (tableBlock application) ts) bs → Came L _≡_ ts (tablesOf application bs)
-  unfolding tablesOf
-  tables-came application a [] nil over = over
-  tables-came application a (t ∷ ts) (and f r) (kept {b = b} k c) = go (read-heard application t b a f k) (tables-came application a ts r c)
-    where
-      go :
-          {us : List Table} → Read application t b → Came L _≡_ ts us
-          → Came L _≡_ (t ∷ ts) (taken (readBlock application (Block·recordOf b)) ++ us)
-      go (itself e) c = rw e (kept refl c)
-      go (refuses x z) c = rw (not-taken (readBlock application (Block·recordOf b)) z) (lost x c)
-  tables-came application a (t ∷ ts) (and f r) (lost x c) = lost x (tables-came application a ts r c)
+      (application : ℕ) → application < 32 → (ts : List Table) (cs : List ℕ) {bs : List Block} → Each (λ t. fits t ≡ true) ts
+      → Each (Heard R) (sendings (map (tableBlock application) ts) cs)
+      → Came L _≡_ (map landed (sendings (map (tableBlock application) ts) cs)) bs
+      → Came L _≡_ (damaged ts (sendings (map (tableBlock application) ts) cs)) (tablesOf application bs)
+  unfolding tablesOf sendings damaged
+  tables-came application a [] cs nil nil over = over
+  tables-came application a (t ∷ ts) cs (and f r) (and n m) (kept {b = b} e c) =
+      table-came application t _ e (read-heard application t _ n a f) (tables-came application a ts _ r m c)
+  tables-came application a (t ∷ ts) cs (and f r) (and n m) (lost y c) = lost y (tables-came application a ts _ r m c)

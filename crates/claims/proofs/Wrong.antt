@@ -1,14 +1,14 @@
 -- Wrong programs that were tried against the third demand, and what shuts each out: our loader meets `Carries`, and a loader that
--- hands out nothing (by refusing everything, or by a feed that is idle), one that always hands out the same table, and one that goes by the
--- first packet alone do not (SCOPE 4.4). Our feed meets `Tells`; one that counts blocks without looking, and one that never tells of a
+-- hands out nothing (by refusing everything, or by a feed that is idle), one that always hands out the same table, one that goes by the
+-- first packet alone, and one that always says that nothing was mended do not (SCOPE 4.4). Our feed meets `Tells`; one that counts blocks without looking, and one that never tells of a
 -- dropped block, do not. Assumes nothing.
 use mathlib.Core.Path.{_≡_, _∙_, refl, sym, ap, subst}
 use mathlib.Core.Bool.{Bool, true, false}
-use mathlib.Core.List.{List, [], _∷_, _++_}
-use Prim.Native.Nat.{ℕ, _≤_}
+use mathlib.Core.List.{List, [], _∷_, _++_, map}
+use Prim.Native.Nat.{ℕ, zero, suc, _≤_}
 use native.Mathlib.Omega.{arith}
 use lib.Dec.{lit<, lit≤}
-use lib.ListN.{length, length-append, replicate, take, drop}
+use lib.ListN.{length, length-append, replicate, getD, set, take, drop}
 use Rattle.laws.specs.Pick.{either}
 use Rattle.octet.specs.Bits.{bits, number, differing, flips}
 use Rattle.octet.specs.Image.{image, withParity}
@@ -18,7 +18,7 @@ use Rattle.blocks.specs.Block.{Block, blocks, blocksWithin}
 use Rattle.fields.specs.Fields.{alike, width, laid, parts, fitting}
 use Rattle.packet.specs.declared.Setting.{Setting}
 use Rattle.packet.specs.Setting.{inRange}
-use Rattle.packet.specs.Packet.{address, packetZero}
+use Rattle.packet.specs.Packet.{address, packetZero, packetOf}
 use Rattle.packet.specs.Address.{decodes, addressOf}
 use Rattle.symbols.specs.Stream.{symbols, cellsOf, streamOf, grab, beforeStart}
 use Rattle.writer.specs.Cutting.{dataPackets, pages, packets}
@@ -37,16 +37,17 @@ use Rattle.reader.specs.declared.Heard.{Heard}
 use Rattle.reader.specs.Feeding.{feedHeard, feedOut}
 use Rattle.forms.specs.Tables.{Table, per, loops, fields, fits, entire}
 use Rattle.sums.specs.Sums.{total, checksum}
-use Rattle.sums.specs.Block.{nibbles, checksumOf, recordWith}
+use Rattle.sums.specs.Block.{nibbles, checksumOf, blockWith}
 use Rattle.table.proofs.Cases.{G, H}
-use Rattle.claims.specs.Noise.{Flipped, Near, none, more, Aired, ended, sent as Aired·sent, nil, and}
+use Rattle.claims.specs.Noise.{Flipped, Near, none, more, Aired, ended, sent as Aired·sent, Each, nil, and}
 use Rattle.claims.specs.Carrying.{heardBlocks}
-use Rattle.claims.specs.Feeding.{Call, writtenOf, countOf, comesOut, droppedOf}
-use Rattle.claims.specs.Tables.{recordsOf, sent, tablesOf, received}
+use Rattle.claims.specs.Feeding.{Call, packetsOf, writtenOf, countOf, comesOut, droppedOf}
+use Rattle.claims.specs.Damage.{unlike, carriedIn, sendings, Counted, damaged}
+use Rattle.claims.specs.Tables.{recordsOf, sent, sentDamaged, tablesOf, received}
 use Rattle.claims.specs.Carries.{Carries}
 use Rattle.claims.specs.March
 use Rattle.claims.specs.Tells.{Tells}
-use Rattle.claims.proofs.Demands.{exactly}
+use Rattle.claims.proofs.Demands.{exactly, all-sent}
 use Rattle.claims.proofs.Fed.{callFor, callsFor, packets-of-calls, call-counts, call-blocks, call-drops, fed-blocks}
 use Rattle.claims.proofs.March.{unreadable-junk}
 
@@ -55,7 +56,7 @@ use Rattle.claims.proofs.March.{unreadable-junk}
 pub received-carries : Carries received
 received-carries =
     record {
-      exactly = λ s r index k h least most ts fit calls a. exactly 0 (omega arith) s r index k h least most ts fit calls a (omega arith);
+      exactly = λ d one s r index k h least most ts fit calls ours a. exactly d (omega arith) s r index k h least most ts fit calls ours a one;
     }
 
 -- ---- packets that arrive as they were sent
@@ -64,7 +65,7 @@ near-itself : {d : ℕ} (l : List ℕ) → Near (Flipped d) l l
 near-itself [] = none
 near-itself {d} (a ∷ l) = let e : flips a a ≤ d = omega (arith, flips-self 8 a) in more e (near-itself l)
 
-aired-itself : {d : ℕ} {s : Setting} (ps : List (List ℕ)) → Aired (Flipped d) s ps ps
+aired-itself : {d : ℕ} {s : Setting} (ps : List (List ℕ)) → Aired (Flipped d) s ps ps ps
 aired-itself [] = ended
 aired-itself (p ∷ ps) = Aired·sent (near-itself p) (aired-itself ps)
 
@@ -76,10 +77,18 @@ desk-range : inRange desk ≡ true
 unfolding inRange
 desk-range = refl
 
-given : (f : Setting → List Call → List Table) → Carries f → (t : Table) → fits t ≡ true → f desk (callsFor (only t)) ≡ t ∷ []
+-- the tables that come out of calls for them
+abbrev tables : (Setting → List Call → List (Counted Table)) → List Call → List Table
+tables f calls = map (λ c. c .what) (f desk calls)
+
+given :
+    (f : Setting → List Call → List (Counted Table)) → Carries f → (t : Table) → fits t ≡ true → tables f (callsFor (only t)) ≡ t ∷ []
 given f c t e =
-    c .exactly desk desk-range 0 1 (lit< tt) (lit≤ tt) (lit≤ tt) (t ∷ []) (and e nil) (callsFor (only t))
-    (subst (λ (ps : List (List ℕ)). Aired (Flipped 0) desk (only t) ps) (sym (packets-of-calls (only t))) (aired-itself (only t)))
+    let aired : Aired (Flipped 0) desk (only t) (only t) (packetsOf (callsFor (only t))) =
+    subst (λ (ps : List (List ℕ)). Aired (Flipped 0) desk (only t) (only t) ps) (sym (packets-of-calls (only t))) (aired-itself (only t)) in
+    ap (map (λ c. c .what))
+    (c .exactly 0 (lit≤ tt) desk desk-range 0 1 (lit< tt) (lit≤ tt) (lit≤ tt) (t ∷ []) (and e nil) (callsFor (only t)) (only t) aired)
+    ∙ all-sent 0 (lit≤ tt) desk desk-range 0 1 (lit< tt) (lit≤ tt) (lit≤ tt) (t ∷ []) (and e nil) (callsFor (only t)) (only t) aired
 
 g-fits : fits G ≡ true
 unfolding fits entire fitting fields loops per alike width
@@ -97,7 +106,7 @@ firsts : (only G ≡ first ∷ drop 1 (only G)) × (only H ≡ first ∷ drop 1 
 unfolding
     first
     recordsOf
-    recordWith
+    blockWith
     laid
     parts
     alike
@@ -138,21 +147,144 @@ pub idle-shut-out : Carries (λ s calls. []) → ⊥
 idle-shut-out c = let z : _≡_ {A = ℕ} 0 1 = ap length (given (λ s calls. []) c G g-fits) in omega arith
 
 -- one that always hands out the same list
-pub fixed-shut-out : (ts : List Table) → Carries (λ s calls. ts) → ⊥
-fixed-shut-out ts c = not-both ts (given (λ s calls. ts) c G g-fits) (given (λ s calls. ts) c H h-fits)
+pub fixed-shut-out : (ts : List (Counted Table)) → Carries (λ s calls. ts) → ⊥
+fixed-shut-out ts c = not-both (map (λ c. c .what) ts) (given (λ s calls. ts) c G g-fits) (given (λ s calls. ts) c H h-fits)
 
 -- one that hears its first packet and makes all of its answers of that (SCOPE 4.4)
 pub first-only-shut-out :
-    (f : Setting → List Call → List Table) → ((s : Setting) (a : Call) (l m : List Call) → f s (a ∷ l) ≡ f s (a ∷ m)) → Carries f → ⊥
+    (f : Setting → List Call → List (Counted Table)) → ((s : Setting) (a : Call) (l m : List Call) → f s (a ∷ l) ≡ f s (a ∷ m)) → Carries f → ⊥
 unfolding callsFor
 first-only-shut-out f same c =
-    not-both (f desk (callFor first ∷ []))
-    (same desk (callFor first) [] (callsFor (drop 1 (only G)))
-    ∙ sym (ap (λ (ps : List (List ℕ)). f desk (callsFor ps)) (firsts .0))
+    not-both (tables f (callFor first ∷ []))
+    (ap (map (λ c. c .what)) (same desk (callFor first) [] (callsFor (drop 1 (only G))))
+    ∙ sym (ap (λ (ps : List (List ℕ)). tables f (callsFor ps)) (firsts .0))
     ∙ given f c G g-fits)
-    (same desk (callFor first) [] (callsFor (drop 1 (only H)))
-    ∙ sym (ap (λ (ps : List (List ℕ)). f desk (callsFor ps)) (firsts .1))
+    (ap (map (λ c. c .what)) (same desk (callFor first) [] (callsFor (drop 1 (only H))))
+    ∙ sym (ap (λ (ps : List (List ℕ)). tables f (callsFor ps)) (firsts .1))
     ∙ given f c H h-fits)
+
+-- ---- counts
+
+-- one byte that arrives otherwise
+near-set : (l : List ℕ) (i b : ℕ) → flips (getD l i 0) b ≤ 1 → Near (Flipped 1) l (set l i b)
+near-set [] i b h = none
+near-set (a ∷ l) zero b h = more h (near-itself l)
+near-set (a ∷ l) (suc i) b h = let e : flips a a ≤ 1 = omega (arith, flips-self 8 a) in more e (near-set l i b h)
+
+-- G's two packets, with one flip in the start of its block
+abbrev rough : List (List ℕ)
+rough = getD (only G) 0 [] ∷ set (getD (only G) 1 []) 3 0xA0 ∷ []
+
+two-packets : only G ≡ getD (only G) 0 [] ∷ getD (only G) 1 [] ∷ []
+unfolding
+    recordsOf
+    blockWith
+    laid
+    parts
+    alike
+    width
+    fields
+    loops
+    per
+    nibbles
+    checksumOf
+    checksum
+    total
+    packets
+    pages
+    dataPackets
+    streamOf
+    cellsOf
+    symbols
+    grab
+    beforeStart
+    blocksWithin
+    image
+    withParity
+    number
+two-packets = refl
+
+start-there : flips (getD (getD (only G) 1 []) 3 0) 0xA0 ≤ 1
+unfolding
+    recordsOf
+    blockWith
+    laid
+    parts
+    alike
+    width
+    fields
+    loops
+    per
+    nibbles
+    checksumOf
+    checksum
+    total
+    packets
+    pages
+    dataPackets
+    streamOf
+    cellsOf
+    symbols
+    grab
+    beforeStart
+    blocksWithin
+    image
+    withParity
+    number
+    packetOf
+    differing
+start-there = lit≤ tt
+
+mended-once : map (λ c. c .mended) (sentDamaged desk 1 (G ∷ []) rough) ≡ 1 ∷ []
+unfolding
+    recordsOf
+    blockWith
+    laid
+    parts
+    alike
+    width
+    fields
+    loops
+    per
+    nibbles
+    checksumOf
+    checksum
+    total
+    packets
+    pages
+    dataPackets
+    streamOf
+    cellsOf
+    symbols
+    grab
+    beforeStart
+    blocksWithin
+    image
+    withParity
+    number
+    packetOf
+    packetZero
+    carriedIn
+    sendings
+    damaged
+    unlike
+mended-once = refl
+
+no-count : {l : List (Counted Table)} → Each (λ c. c .mended ≡ 0) l → map (λ c. c .mended) l ≡ 1 ∷ [] → ⊥
+no-count nil e = let z : _≡_ {A = ℕ} 0 1 = ap length e in omega arith
+no-count (and h r) e = let z : _≡_ {A = ℕ} 0 1 = sym h ∙ ap (λ (l : List ℕ). getD l 0 0) e in omega arith
+
+-- one that always says that nothing was mended
+pub never-mended-shut-out :
+    (f : Setting → List Call → List (Counted Table)) → ((s : Setting) (calls : List Call) → Each (λ c. c .mended ≡ 0) (f s calls)) → Carries f → ⊥
+never-mended-shut-out f never c =
+    let aired : Aired (Flipped 1) desk (only G) rough rough =
+    subst (λ (ps : List (List ℕ)). Aired (Flipped 1) desk ps rough rough) (sym two-packets)
+    (Aired·sent (near-itself (getD (only G) 0 [])) (Aired·sent (near-set (getD (only G) 1 []) 3 0xA0 start-there) ended)) in
+    let said =
+    c .exactly 1 (lit≤ tt) desk desk-range 0 1 (lit< tt) (lit≤ tt) (lit≤ tt) (G ∷ []) (and g-fits nil) (callsFor rough) rough
+    (subst (λ (ps : List (List ℕ)). Aired (Flipped 1) desk (only G) rough ps) (sym (packets-of-calls rough)) aired) in
+    no-count (never desk (callsFor rough)) (ap (map (λ c. c .mended)) said ∙ mended-once)
 
 -- ---- answers
 
@@ -224,7 +356,7 @@ module _ (heard : Setting → Reader → List ℕ → List ℕ → Heard) (tells
       ∙ ap (λ (ps : List (List ℕ)). length (heardBlocks desk freshState ps)) (packets-of-calls (only G))
       ∙ none-heard freshState sound-fresh forty in
       let z : _≡_ {A = ℕ} 0 1 =
-      sym (ap length (no-tables bs heard-none)) ∙ ap length (given received received-carries G g-fits) in
+      sym (ap (λ (l : List (Counted Table)). length (map (λ c. c .what) l)) (no-tables bs heard-none)) ∙ ap length (given received received-carries G g-fits) in
       omega arith
     where
       forty : FortyTwo (only G)
@@ -237,9 +369,9 @@ pub never-drops-shut-out :
 unfolding decodes nib nibbleFrom image withParity differing number bits
 never-drops-shut-out heard out never tells =
     let c = callFor (replicate 42 0x16) in
-    let st : State = record { page = Shut; index = 0; mode = heading 0 0 } in
+    let st : State = record { page = Shut; index = 0; mode = heading 0 0 0 } in
     let r : Sound st =
-    record { page = refl; index = omega arith; mode = record { got = omega arith; small = omega arith; only = refl } } in
+    record { page = refl; index = omega arith; mode = record { got = omega arith; small = omega arith; only = refl; counted = omega arith } } in
     let d = tells .drops desk desk-range st r c refl refl (March.address refl) in
     let n = never desk (readerOf st) (c .packet) (c .lent) in
     let z : _≡_ {A = ℕ} 0 1 = cc in

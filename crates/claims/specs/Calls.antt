@@ -25,8 +25,11 @@ use Rattle.writer.proofs.cut_pages.Reads as guide·cut-pages
 use Rattle.state.proofs.fresh.Reads as reader·fresh
 use Rattle.reader.proofs.feed.Reads as reader·feed
 use Rattle.reader.proofs.many.feed_all.Reads as reader·feed-all
+use Rattle.table.specs.declared.Read.{Read}
+use Rattle.table.specs.declared.Read.the-variants.{Taken, Refused as Read·Refused}
 use Rattle.table.proofs.read_block.Reads as table·read-block
 use Rattle.claims.specs.Noise.{Aired, Came, Each}
+use Rattle.claims.specs.Damage.{streamIn, sendings, Counted, damaged}
 use Rattle.claims.specs.Feeding.{writtenOf, numberOf, numberOfAll, packetsOfAll, writtenOfAll}
 use Rattle.claims.specs.Tables.{sent as Tables·sent}
 
@@ -64,7 +67,7 @@ pub data FeedsAll : Setting → Reader → List ℕ → List ℕ → HeardAll �
       → FeedsAll (a .0) (a .1 .0) (now (a .1 .1 .0)) (now (a .1 .1 .1 .0)) (x .heard) (x .reader) (now (t .1 .1 .1 .0))
 
 -- application, record and lent output; the answer, and the output afterwards
-pub data Reads : ℕ → List ℕ → List ℕ → Answer → List ℕ → Type 0 where
+pub data Reads : ℕ → List ℕ → List ℕ → Read → List ℕ → Type 0 where
   read-block :
       (κs : _) (a : _) (x : _) (t : _) → table·read-block.Post κs a x t
       → Reads (a .0) (now (a .1 .0)) (now (a .1 .1 .0)) x (now (t .1 .1 .0))
@@ -76,10 +79,10 @@ abbrev pub reported : Answer → List ℕ → List ℕ
 reported (Done n) out = take n out
 reported (Refused r) out = []
 
--- the same as a list: nothing is reported by a refusal
-abbrev pub accepted : Answer → List ℕ → List (List ℕ)
-accepted (Done n) out = take n out ∷ []
-accepted (Refused r) out = []
+-- the same of block reading, with its count: nothing is reported by a refusal
+abbrev pub accepted : Read → List ℕ → List (Counted (List ℕ))
+accepted (Taken n mended) out = record { what = take n out; mended = mended } ∷ []
+accepted (Read·Refused r) out = []
 
 -- ---- calls in a row
 
@@ -106,18 +109,18 @@ pub data Fed (s : Setting) : Reader → List (List ℕ) → List ℕ → List Bl
       → room ≤ length old → FeedsAll s r (joined (take n qs)) old h after out → Fed s after (drop (packetsOfAll h) qs) numbers bs
       → Fed s r qs (numberOfAll h ∷ numbers) (Block·blocks (take (writtenOfAll h) out) ++ bs)
 
--- each block's record is handed to `read_block`, with an output of at least so many bytes: the forms that it writes
-pub data ReadOut (application most : ℕ) : List Block → List (List ℕ) → Type 0 where
+-- each block's record is handed to `read_block`, with an output of at least so many bytes: the forms that it writes, with their counts
+pub data ReadOut (application most : ℕ) : List Block → List (Counted (List ℕ)) → Type 0 where
   no-block : ReadOut application most [] []
   block :
-      {b : Block} {bs : List Block} {old out : List ℕ} {x : Answer} {forms : List (List ℕ)}
+      {b : Block} {bs : List Block} {old out : List ℕ} {x : Read} {forms : List (Counted (List ℕ))}
       → most ≤ length old → Reads application (Block·recordOf b) old x out → ReadOut application most bs forms
       → ReadOut application most (b ∷ bs) (accepted x out ++ forms)
 
 -- ---- from end to end
 
--- tables go through our calls, and these forms come out of them; noise does to each byte what R says
-pub record Through (R : ℕ → ℕ → Type 0) (s : Setting) (index k : ℕ) (ts : List Table) (forms : List (List ℕ)) : Type 0 where
+-- tables go through our calls, and these forms come out of them with their counts; noise does to each byte what R says
+pub record Through (R : ℕ → ℕ → Type 0) (s : Setting) (index k : ℕ) (ts : List Table) (forms : List (Counted (List ℕ))) : Type 0 where
   -- their forms are written as records
   pub answers : List Answer
   pub records : List ℕ
@@ -133,8 +136,9 @@ pub record Through (R : ℕ → ℕ → Type 0) (s : Setting) (index k : ℕ) (t
   pub long : FortyTwo sent
   pub whole : joined sent ≡ reported answer left
   -- they arrive, with noise and with packets of other magazines between, and are fed to a fresh reader
+  pub ours : List (List ℕ)
   pub arrived : List (List ℕ)
-  pub aired : Aired R s sent arrived
+  pub aired : Aired R s sent ours arrived
   pub reader : Reader
   pub starts : Starts reader
   pub numbers : List ℕ
@@ -146,7 +150,7 @@ pub record Through (R : ℕ → ℕ → Type 0) (s : Setting) (index k : ℕ) (t
   pub read : ReadOut (s .application) most blocks forms
 
 -- what is owed of them
-pub record Delivers {R : ℕ → ℕ → Type 0} {s : Setting} {index k : ℕ} {ts : List Table} {forms : List (List ℕ)} (L : Type 0)
+pub record Delivers {R : ℕ → ℕ → Type 0} {s : Setting} {index k : ℕ} {ts : List Table} {forms : List (Counted (List ℕ))} (L : Type 0)
     (c : Through R s index k ts forms) : Type 0 where
   -- every table is accepted, as its record
   pub written : c .answers ≡ map (λ t. Done (length (recordOf (s .application) t))) ts
@@ -155,5 +159,6 @@ pub record Delivers {R : ℕ → ℕ → Type 0} {s : Setting} {index k : ℕ} {
   pub packets : c .sent ≡ Tables·sent s index k ts
   -- every packet that arrives is accepted
   pub taken : Each (λ number. number ≡ 0) (c .numbers)
-  -- each form comes out once and in order, or is lost where L allows it
-  pub came : Came L _≡_ (map form ts) forms
+  -- each form comes out once and in order, or is lost where L allows it; its count is the number of bytes of its sending that arrived other
+  -- than they were sent
+  pub came : Came L _≡_ (damaged (map form ts) (sendings (Block·blocks (c .records)) (streamIn k (c .ours)))) forms

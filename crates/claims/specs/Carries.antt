@@ -1,4 +1,5 @@
--- What the third demand (SCOPE 15.3) asks of any loader, at no flips: a loader is what comes out of a list of calls, under a setting.
+-- What the third demand (SCOPE 15.3) asks of any loader, at one flip a byte at the most: a loader is what comes out of a list of calls, under a
+-- setting.
 use mathlib.Core.Path.{_≡_}
 use mathlib.Core.Bool.{true}
 use mathlib.Core.List.{List}
@@ -8,10 +9,12 @@ use Rattle.packet.specs.Setting.{inRange}
 use Rattle.forms.specs.Tables.{Table, fits}
 use Rattle.claims.specs.Noise.{Flipped, Aired, Each}
 use Rattle.claims.specs.Feeding.{Call, packetsOf}
-use Rattle.claims.specs.Tables.{sent}
+use Rattle.claims.specs.Damage.{Counted}
+use Rattle.claims.specs.Tables.{sent, sentDamaged}
 
--- it gives exactly the tables that were sent
-pub record Carries (loader : Setting → List Call → List Table) : Type 0 where
+-- it gives exactly the tables that were sent, each with the number of bytes of its sending that arrived other than they were sent
+pub record Carries (loader : Setting → List Call → List (Counted Table)) : Type 0 where
   pub exactly :
-      (s : Setting) → inRange s ≡ true → (index k : ℕ) → index < 16 → 1 ≤ k → k ≤ 25 → (ts : List Table) → Each (λ t. fits t ≡ true) ts
-      → (calls : List Call) → Aired (Flipped 0) s (sent s index k ts) (packetsOf calls) → loader s calls ≡ ts
+      (d : ℕ) → d ≤ 1 → (s : Setting) → inRange s ≡ true → (index k : ℕ) → index < 16 → 1 ≤ k → k ≤ 25 → (ts : List Table) → Each (λ t. fits t ≡ true) ts
+      → (calls : List Call) (ours : List (List ℕ)) → Aired (Flipped d) s (sent s index k ts) ours (packetsOf calls)
+      → loader s calls ≡ sentDamaged s k ts ours

@@ -34,11 +34,13 @@ pub record Elsewhere (R : ℕ → ℕ → Type 0) (s : Setting) (q : List ℕ) :
   pub differs : magazine % 8 ≡ s .magazine % 8 → ⊥
   pub near : Near R (address magazine y ++ rest) q
 
--- what arrives of the packets that were sent: all of them, in order, with packets of other magazines between (SCOPE 15.3)
-pub data Aired (R : ℕ → ℕ → Type 0) (s : Setting) : List (List ℕ) → List (List ℕ) → Type 0 where
-  ended : Aired R s [] []
-  sent : {p q : List ℕ} {ps qs : List (List ℕ)} → Near R p q → Aired R s ps qs → Aired R s (p ∷ ps) (q ∷ qs)
-  between : {q : List ℕ} {ps qs : List (List ℕ)} → Elsewhere R s q → Aired R s ps qs → Aired R s ps (q ∷ qs)
+-- what arrives of the packets that were sent: all of them, in order, with packets of other magazines between (SCOPE 15.3). The packets
+-- that were sent, those of them as they arrived, and all packets that arrived
+pub data Aired (R : ℕ → ℕ → Type 0) (s : Setting) : List (List ℕ) → List (List ℕ) → List (List ℕ) → Type 0 where
+  ended : Aired R s [] [] []
+  sent :
+      {p q : List ℕ} {ps ours qs : List (List ℕ)} → Near R p q → Aired R s ps ours qs → Aired R s (p ∷ ps) (q ∷ ours) (q ∷ qs)
+  between : {q : List ℕ} {ps ours qs : List (List ℕ)} → Elsewhere R s q → Aired R s ps ours qs → Aired R s ps ours (q ∷ qs)
 
 -- what comes out of what was sent: each is kept, and related to what was sent by R, or lost, and that only where L allows it; the
 -- order stays, and nothing comes twice
@@ -46,11 +48,6 @@ pub data Came {ℓ} {A B : Type ℓ} (L : Type 0) (R : A → B → Type 0) : Lis
   over : Came L R [] []
   kept : {a : A} {b : B} {l : List A} {m : List B} → R a b → Came L R l m → Came L R (a ∷ l) (b ∷ m)
   lost : {a : A} {l : List A} {m : List B} → L → Came L R l m → Came L R (a ∷ l) m
-
--- the same 16 bits, and raw bytes that are to those sent as R says
-pub record Alike (R : ℕ → ℕ → Type 0) (a b : Block) : Type 0 where
-  pub head : a .head ≡ b .head
-  pub raw : Near R (a .raw) (b .raw)
 
 -- a block whose 16 bits are 16 bits and say how many raw bytes there are
 pub record Fits (b : Block) : Type 0 where

@@ -17,10 +17,12 @@ pub data Both (R : ℕ → ℕ → Type 0) (p q : List ℕ) : Type 0 where
   of-first : {first second : List ℕ} → Near R p first → Near R p second → q ≡ glued first first second → Both R p q
   of-second : {first second : List ℕ} → Near R p first → Near R p second → q ≡ glued second first second → Both R p q
 
--- what goes on of the packets that were sent: all of them, in order, with packets of other magazines between, each heard by both
-pub data Twice (R : ℕ → ℕ → Type 0) (s : Setting) : List (List ℕ) → List (List ℕ) → Type 0 where
-  ended : Twice R s [] []
-  sent : {p q : List ℕ} {ps qs : List (List ℕ)} → length p ≡ 42 → Both R p q → Twice R s ps qs → Twice R s (p ∷ ps) (q ∷ qs)
+-- what goes on of the packets that were sent: all of them, in order, with packets of other magazines between, each heard by both. The packets
+-- that were sent, those of them that go on, and all that go on
+pub data Twice (R : ℕ → ℕ → Type 0) (s : Setting) : List (List ℕ) → List (List ℕ) → List (List ℕ) → Type 0 where
+  ended : Twice R s [] [] []
+  sent :
+      {p q : List ℕ} {ps ours qs : List (List ℕ)} → length p ≡ 42 → Both R p q → Twice R s ps ours qs → Twice R s (p ∷ ps) (q ∷ ours) (q ∷ qs)
   between :
-      {q : List ℕ} {ps qs : List (List ℕ)} (magazine y : ℕ) (rest : List ℕ) → y < 32 → length rest ≡ 40
-      → (magazine % 8 ≡ s .magazine % 8 → ⊥) → Both R (address magazine y ++ rest) q → Twice R s ps qs → Twice R s ps (q ∷ qs)
+      {q : List ℕ} {ps ours qs : List (List ℕ)} (magazine y : ℕ) (rest : List ℕ) → y < 32 → length rest ≡ 40
+      → (magazine % 8 ≡ s .magazine % 8 → ⊥) → Both R (address magazine y ++ rest) q → Twice R s ps ours qs → Twice R s ps ours (q ∷ qs)

@@ -12,6 +12,7 @@ use reader::HeardAll;
 use reader::Reader;
 use survey::Counts;
 use survey::seen::NO_PAGE;
+use table::Read;
 ghost use mathlib.Core.Path.{_≡_};
 ghost use Prim.Native.Nat.{_≤_, _<_};
 ghost use lib.ListN.{length};
@@ -358,15 +359,15 @@ fn list_record(
 ) -> Tally {
     let answer = table::read_block(application, record, form);
     match answer {
-        Answer::Done(n) => list_form(tally, front(form, n), text),
-        Answer::Refused(_) => refuse(tally),
+        Read::Taken { written, mended } => list_form(tally, front(form, written), mended, text),
+        Read::Refused(_) => refuse(tally),
     }
 }
 
-fn list_form(tally: Tally, form: &[u8], text: &mut [u8]) -> Tally {
+fn list_form(tally: Tally, form: &[u8], mended: u16, text: &mut [u8]) -> Tally {
     let tally = make_room(tally, text);
     let used = tally.used;
-    let answer = listing::list_table(form, &mut text[used..]);
+    let answer = listing::list_table(form, mended, &mut text[used..]);
     match answer {
         Answer::Done(more) => accept(tally, more, text.len()),
         Answer::Refused(_) => refuse(tally),

@@ -1,6 +1,7 @@
 // What the recorder's firmware, which is in C, calls: the functions that firmware/guide.h declares, and
 // nothing else (SCOPE 6.11). Each takes any value, keeps nothing between calls and touches no memory but
-// what its arguments name. A byte is decoded and turned by a `match`, which lays no table out at each call.
+// what its arguments name. A byte is decoded by a `match`, which lays no table out at each call, and turned
+// in steps.
 mod packing;
 
 ghost use mathlib.Core.Path.{_≡_};
@@ -22,7 +23,7 @@ pub extern "C" fn guide_decode(b: u8) -> u8
 pub extern "C" fn guide_turn(b: u8) -> u8
     ensures { λ r. ⌜ r ≡ turned b ⌝ }
 {
-    octet::quick::turn(b)
+    octet::turn(b)
 }
 
 // One step of the unit walk: what begins at a place of a PES packet, as one number.

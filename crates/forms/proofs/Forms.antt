@@ -5,7 +5,7 @@ use mathlib.Core.List.{List, [], _∷_, _++_}
 use Prim.Native.Nat.{ℕ, zero, suc, _+_, _-_, _*_, _/_, _%_, _^_, _≤_, _<_}
 use native.Mathlib.Nat.{add-zero, mod-eq-of-lt, mul-comm, mul-div-cancel-left}
 use native.Mathlib.Omega.{arith}
-use borrow.Author.Tests.{ltb-true, lt-ltb, eqb-true, eq-eqb}
+use borrow.Author.Tests.{ltb-true, lt-ltb, le-ltb, eqb-true, eq-eqb}
 use lib.Dec.{ltb, eqb}
 use lib.ListN.{length, getD, take, drop, length-drop, take-append-drop}
 use lib.Seq.{drop-drop, drop-at, drop-cons, getD-drop}
@@ -14,7 +14,8 @@ use Rattle.laws.proofs.Countdown.{at-more}
 use Rattle.laws.proofs.Tests.{both-true}
 use Rattle.fields.specs.Fields.{alike, fitting, parts, whole}
 use Rattle.fields.proofs.Laid.{fitting-append, whole-parts, whole-first, whole-next, whole-lt}
-use Rattle.forms.specs.Tables.{Descriptor, Table, TI, LI, known, per, entries, loops, bits, entire, fits}
+use Rattle.forms.specs.Writing.{formNumbered}
+use Rattle.forms.specs.Tables.{Descriptor, Table, TI, LI, known, numbered, per, entries, loops, bits, entire, fits}
 use Rattle.forms.specs.Form.{spelled, listed, openingOf, form, wordsIn, descriptorsIn, tableIn}
 use Rattle.forms.proofs.Sendable.{Sendable, Sound, sendable, sends, all-back}
 use Rattle.forms.proofs.Measures.{per-pos, length-spelled, length-listed, length-form, bits-of, eights}
@@ -247,8 +248,15 @@ known-small kind e = go (eqb kind TI) refl (eqb kind LI) refl e
     go false p true q h = let k = eqb-true kind LI q in omega arith
     go false p false q h = absurd (let z : _≡_ {A = ℕ} 0 1 = cc in omega arith)
 
--- of a form of bytes, whose kind is known
-module _ (f : List ℕ) (b : Bytes f) (k : known (getD f 0 0) ≡ true) where
+-- a form's block number by its two bytes
+pub numbered-in :
+    (f : List ℕ) (a b : ℕ) → 4 ≤ length f → a ≡ getD f 2 0 → b ≡ getD f 3 0 → a < 256 → b < 256
+    → numbered (a + 256 * b) ≡ formNumbered f
+unfolding tableIn
+numbered-in f a b h ea eb ha hb = rw (le-ltb (length f) 4 h, two-bytes a b ha hb, ea, eb)
+
+-- of a form of bytes, whose kind is known and whose block number is one of this edition
+module _ (f : List ℕ) (b : Bytes f) (k : known (getD f 0 0) ≡ true) (m : numbered (tableIn f .block) ≡ true) where
   pub in-sendable :
       getD f 1 0 < 2 → getD f 5 0 < 64 → fitting (loops (tableIn f .kind) (tableIn f .descriptors)) ≡ true → bits (tableIn f) ≤ 8184
       → fits (tableIn f) ≡ true
@@ -257,6 +265,7 @@ module _ (f : List ℕ) (b : Bytes f) (k : known (getD f 0 0) ≡ true) where
       sends (tableIn f)
       (record {
         kind-known = k;
+        edition = m;
         entire-all = entire-in (getD f 0 0) (getD f 5 0) (drop 6 f);
         control-fits = omega (arith, short);
         kind-fits = known-small (getD f 0 0) k;

@@ -10,11 +10,12 @@ use lib.ListN.{length}
 use Rattle.laws.proofs.Tests.{both-true}
 use Rattle.fields.specs.Fields.{alike, fitting}
 use Rattle.fields.proofs.Laid.{fitting-append}
-use Rattle.forms.specs.Tables.{Descriptor, Table, known, per, entries, loops, fields, control, entire, fits}
+use Rattle.forms.specs.Tables.{Descriptor, Table, known, numbered, per, entries, loops, fields, control, entire, fits}
 
 -- what a table that can be sent has
 pub record Sendable (t : Table) : Type 0 where
   pub kind-known : known (t .kind) ≡ true
+  pub edition : numbered (t .block) ≡ true
   pub entire-all : entire (t .kind) (t .descriptors) ≡ true
   pub control-fits : control t < 1024
   pub kind-fits : t .kind < 64
@@ -28,7 +29,8 @@ pub sendable : (t : Table) → fits t ≡ true → Sendable t
 unfolding fits fields fitting
 sendable t h =
     let a = both-true (known (t .kind)) _ h in
-    let b = both-true (entire (t .kind) (t .descriptors)) _ (a .1) in
+    let n = both-true (numbered (t .block)) _ (a .1) in
+    let b = both-true (entire (t .kind) (t .descriptors)) _ (n .1) in
     let c = both-true (ltb (control t) (2 ^ 10)) _ (b .1) in
     let d = both-true (ltb (t .kind) (2 ^ 6)) _ (c .1) in
     let e = both-true (ltb (t .copyright) (2 ^ 1)) _ (d .1) in
@@ -37,6 +39,7 @@ sendable t h =
     let i = both-true (ltb (length (t .descriptors)) (2 ^ 6)) _ (g .1) in
     record {
       kind-known = a .0;
+      edition = n .0;
       entire-all = b .0;
       control-fits = ltb-true (control t) 1024 (c .0);
       kind-fits = ltb-true (t .kind) 64 (d .0);
@@ -53,6 +56,7 @@ unfolding fits fields fitting
 sends t s =
     rw (
       s .kind-known,
+      s .edition,
       s .entire-all,
       lt-ltb (control t) 1024 (s .control-fits),
       lt-ltb (t .kind) 64 (s .kind-fits),

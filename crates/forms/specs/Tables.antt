@@ -6,7 +6,7 @@ use lib.Dec.{eqb}
 use lib.ListN.{length}
 use Rattle.laws.specs.Pick.{both}
 use Rattle.fields.specs.Fields.{Field, alike, width, fitting}
-pub use Rattle.forms.specs.Kinds.{TI, LI, known}
+pub use Rattle.forms.specs.Kinds.{TI, LI, known, numbered}
 unfoldable pub use Rattle.forms.specs.Kinds.{per}
 
 -- a set of languages, or of languages with a page each: its descriptor_id, and its words of 24 bits: language, page, language,
@@ -68,8 +68,9 @@ unfoldable pub entire : ℕ → List Descriptor → Bool
 entire kind [] = true
 entire kind (d ∷ ds) = both (eqb (entries kind (d .words) * per kind) (length (d .words))) (entire kind ds)
 
--- a table that can be sent: of a kind that is read, its entries whole, and each value fitting its field; what doesn't fit
--- control_block_size is a table of more than 8,184 bits (SCOPE 2.1, number 15)
+-- a table that can be sent: of a kind that is read, with a block number of this edition, its entries whole, and each value fitting its
+-- field; what doesn't fit control_block_size is a table of more than 8,184 bits (SCOPE 2.1, number 15)
 unfoldable pub fits : Table → Bool
 fits t =
-    both (known (t .kind)) (both (entire (t .kind) (t .descriptors)) (fitting (fields 0 (control t) 0 t)))
+    both (known (t .kind))
+    (both (numbered (t .block)) (both (entire (t .kind) (t .descriptors)) (fitting (fields 0 (control t) 0 t))))

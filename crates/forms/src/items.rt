@@ -1,8 +1,9 @@
-// What the bytes of a table's form say one by one: a byte, a word, whether the kind is one of ours, and how many words its entries have.
+// What the bytes of a table's form say one by one: a byte, a word, whether the kind and the block number are ones that are read, and how
+// many words its entries have.
 ghost use mathlib.Core.Path.{_≡_};
 ghost use Prim.Native.Nat.{_*_, _%_, _^_, _<_, _≤_};
 ghost use lib.ListN.{getD};
-ghost use Rattle.forms.specs.Kinds.{per, known as Kinds·known};
+ghost use Rattle.forms.specs.Kinds.{per, known as Kinds·known, numbered as Kinds·numbered};
 ghost use Rattle.forms.specs.Words.{wordAt};
 
 // 11.12.3: the datatype_id of a Subtitle and of a Language table.
@@ -18,6 +19,16 @@ pub fn known(kind: usize) -> bool
         return true;
     }
     kind == LI
+}
+
+// Whether a table of this edition has this block number: 0000 or 8000 hex (SCOPE 22.1).
+pub fn numbered(block: usize) -> bool
+    ensures { λ r. ⌜ r ≡ Kinds·numbered block ⌝ }
+{
+    if block != 0 {
+        return block == 0x8000;
+    }
+    true
 }
 
 // The words that so many entries of a kind have. Only a byte's worth of entries counts.

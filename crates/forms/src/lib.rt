@@ -5,6 +5,7 @@ pub mod items;
 pub use items::TI;
 pub use items::byte_at;
 pub use items::known;
+pub use items::numbered;
 pub use items::word_at;
 pub use items::words_of;
 ghost use mathlib.Core.Bool.{true};
@@ -16,9 +17,9 @@ ghost use Rattle.answer.specs.Rules.{rule, judged};
 ghost use Rattle.answer.specs.Values.{refused};
 ghost use Rattle.answer.specs.declared.Answer.the-variants.{Done};
 ghost use Rattle.fields.specs.Fields.{fitting};
-ghost use Rattle.forms.specs.Tables.{bits, loops, fits, known};
+ghost use Rattle.forms.specs.Tables.{bits, loops, fits, known, numbered};
 ghost use Rattle.forms.specs.Form.{form, tableIn};
-ghost use Rattle.forms.specs.Writing.{formRules};
+ghost use Rattle.forms.specs.Writing.{formNumbered, formRules};
 ghost use Rattle.forms.specs.Internal.{formMost};
 use answer::Answer;
 
@@ -37,10 +38,13 @@ pub const OPENING: usize = 6;
 // What control_block_size can count: 1,023 times 8 bits.
 const MOST: usize = 8184;
 
-// 13, 15: whether a form is one that can be written; where it is, the bits that its table takes.
+// 22, 13, 15: whether a form is one that can be written; where it is, the bits that its table takes.
 pub fn judge_form(table: &[u8]) -> Answer
     ensures { λ r. ⌜ r ≡ judged refused (formRules (now (table .entry))) (Done (bits (tableIn (now (table .entry))))) ⌝ }
 {
+    if !is_numbered(table) {
+        return answer::refuse(22, 0);
+    }
     if table.len() < OPENING {
         return answer::refuse(13, 0);
     }
@@ -51,6 +55,16 @@ pub fn judge_form(table: &[u8]) -> Answer
         return answer::refuse(13, 0);
     }
     judge_values(table)
+}
+
+// Whether a form has a block number of this edition, or is too short to have one.
+fn is_numbered(table: &[u8]) -> bool
+    ensures { λ r. ⌜ r ≡ formNumbered (now (table .entry)) ⌝ }
+{
+    if table.len() < 4 {
+        return true;
+    }
+    items::numbered(items::byte_at(table, 2) + 256 * items::byte_at(table, 3))
 }
 
 // The length of a form by its counts as they stand.
@@ -67,11 +81,12 @@ fn form_size(table: &[u8]) -> usize
     at
 }
 
-// 15: each value fits its field. Blocks, networks and words always do.
+// 15: each value fits its field. Networks and words always do.
 fn judge_values(table: &[u8]) -> Answer
     requires { ⌜ (known (getD (now table) 0 0) ≡ true)
         × (length (now table) ≡ length (form (tableIn (now table))))
-        × (length (now table) ≤ formMost) ⌝ }
+        × (length (now table) ≤ formMost)
+        × (numbered (tableIn (now table) .block) ≡ true) ⌝ }
     ensures { λ r.
         ⌜ r
         ≡ judged refused (rule (fits (tableIn (now (table .entry)))) 15 0 ∷ []) (Done (bits (tableIn (now (table .entry))))) ⌝ }

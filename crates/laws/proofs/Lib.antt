@@ -1,8 +1,13 @@
 pub mod Countdown
+pub mod Joined
 pub mod Lists
 pub mod Maps
+pub mod Merging
+pub mod Ordering
+pub mod Needs
 pub mod Picks
 pub mod Runs
 pub mod Stores
 pub mod Tests
+pub mod Trees
 pub mod Whole

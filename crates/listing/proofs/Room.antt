@@ -20,7 +20,7 @@ use Rattle.forms.proofs.Measures.{length-spelled, length-listed, length-form}
 use Rattle.forms.proofs.Sendable.{Sendable, parted}
 use Rattle.printing.specs.Lines.{digitMost, hexed, numberLine, letters, languageOf, languageLine, pageLine}
 use Rattle.printing.proofs.Decimals.{digits-few}
-use Rattle.listing.specs.Lines.{blockName, networkName, descriptorName, kindLine, kindTI, kindLI, languageLines, subtitleLines}
+use Rattle.listing.specs.Lines.{blockName, networkName, mendedName, descriptorName, kindLine, kindTI, kindLI, languageLines, subtitleLines}
 use Rattle.listing.specs.Lines.{entryLines, descriptorLine, descriptorLines, headLines, descriptorLinesOf, linesOf}
 use Rattle.listing.specs.Internal.{linesFrom}
 
@@ -92,18 +92,19 @@ descriptors-room kind (d ∷ ds) h k =
     let rest = descriptors-room kind ds (p .1) (p .2) in
     simp (length-append, length-listed kind d ds) (omega (arith, own, rest, entries-room kind (d .words)))
 
-pub lines-room : (head : Bool) (t : Table) → Sendable t → length (linesFrom head t) ≤ 9 * length (form t)
+pub lines-room : (head : Bool) (mended : ℕ) (t : Table) → mended < 65536 → Sendable t → length (linesFrom head mended t) ≤ 9 * length (form t)
 unfolding linesOf headLines descriptorLinesOf
-lines-room head t s = go head
+lines-room head mended t m s = go head
   where
     each : length (descriptorLinesOf t) ≤ 9 * length (listed (t .kind) (t .descriptors))
     each = descriptors-room (t .kind) (t .descriptors) (s .entire-all) (s .loops-fit)
 
-    go : (h : Bool) → length (pick h (linesOf t) (descriptorLinesOf t)) ≤ 9 * length (form t)
+    go : (h : Bool) → length (pick h (linesOf mended t) (descriptorLinesOf t)) ≤ 9 * length (form t)
     go true =
         let block = number-room blockName (t .block) (s .block-fits) in
         let network = number-room networkName (t .network) (omega (arith, s .network-fits)) in
-        simp length-append (omega (arith, kind-room (t .kind), block, network, each, length-form t))
+        let count = number-room mendedName mended m in
+        simp length-append (omega (arith, kind-room (t .kind), block, network, count, each, length-form t))
     go false = omega (arith, each, length-form t)
 
 -- ---- what judging a form says of it
@@ -113,5 +114,5 @@ pub judged-form :
     → (length f ≡ length (form (tableIn f))) × (fits (tableIn f) ≡ true)
 unfolding formRules
 judged-form f n m e =
-    let r = others-hold (others-hold (done-every (formRules f) n m e)) in
+    let r = others-hold (others-hold (others-hold (done-every (formRules f) n m e))) in
     (eqb-true _ _ (first-holds r), first-holds (others-hold r))

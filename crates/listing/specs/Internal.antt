@@ -7,8 +7,8 @@ use Rattle.forms.specs.Tables.{Table}
 use Rattle.listing.specs.Lines.{descriptorLinesOf, linesOf}
 
 -- the lines of a table with those of its head, or without
-abbrev pub linesFrom : Bool → Table → List ℕ
-linesFrom head t = pick head (linesOf t) (descriptorLinesOf t)
+abbrev pub linesFrom : Bool → ℕ → Table → List ℕ
+linesFrom head mended t = pick head (linesOf mended t) (descriptorLinesOf t)
 
 -- ---- how long lines can be
 

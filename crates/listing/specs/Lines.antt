@@ -1,4 +1,4 @@
--- The desk's lines of a table: SCOPE 13.2. Characters are their codes, and 10 ends a line.
+-- The desk's lines of a table: SCOPE 13.2 and 19.7. Characters are their codes, and 10 ends a line.
 use mathlib.Core.List.{List, [], _∷_, _++_}
 use Prim.Native.Nat.{ℕ}
 use lib.Dec.{eqb}
@@ -25,6 +25,10 @@ blockName = 98 ∷ 108 ∷ 111 ∷ 99 ∷ 107 ∷ 61 ∷ []
 -- `network=`
 abbrev pub networkName : List ℕ
 networkName = 110 ∷ 101 ∷ 116 ∷ 119 ∷ 111 ∷ 114 ∷ 107 ∷ 61 ∷ []
+
+-- `mended=`
+abbrev pub mendedName : List ℕ
+mendedName = 109 ∷ 101 ∷ 110 ∷ 100 ∷ 101 ∷ 100 ∷ 61 ∷ []
 
 -- `descriptor=`
 abbrev pub descriptorName : List ℕ
@@ -54,14 +58,18 @@ unfoldable pub descriptorLines : ℕ → List Descriptor → List ℕ
 descriptorLines kind [] = []
 descriptorLines kind (d ∷ ds) = descriptorLine kind (d .id) (d .words) ++ descriptorLines kind ds
 
--- kind, block, network
-unfoldable pub headLines : Table → List ℕ
-headLines t = kindLine (t .kind) ++ numberLine blockName (t .block) ++ numberLine networkName (t .network)
+-- kind, block, network, and how many bytes of the block were mended, which isn't a part of the table (SCOPE 19.7)
+unfoldable pub headLines : ℕ → Table → List ℕ
+headLines mended t =
+    kindLine (t .kind)
+    ++ numberLine blockName (t .block)
+    ++ numberLine networkName (t .network)
+    ++ numberLine mendedName mended
 
 -- the lines from `descriptor=` on
 unfoldable pub descriptorLinesOf : Table → List ℕ
 descriptorLinesOf t = descriptorLines (t .kind) (t .descriptors)
 
--- the lines of a table
-unfoldable pub linesOf : Table → List ℕ
-linesOf t = headLines t ++ descriptorLinesOf t
+-- the lines of a table, of whose block so many bytes were mended
+unfoldable pub linesOf : ℕ → Table → List ℕ
+linesOf mended t = headLines mended t ++ descriptorLinesOf t

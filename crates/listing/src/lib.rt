@@ -1,4 +1,4 @@
-// A table as the desk's lines (SCOPE 13).
+// A table as the desk's lines (SCOPE 13, 19.7).
 ghost use mathlib.Core.Bool.{true};
 ghost use mathlib.Core.Path.{_≡_};
 ghost use Prim.Native.Nat.{_+_, _*_, _/_, _<_, _≤_};
@@ -17,14 +17,14 @@ use answer::Refusal;
 use forms::OPENING;
 use forms::TI;
 
-// The lines of the table of this form, to the front of `out`.
-pub fn list_table(table: &[u8], out: &mut [u8]) -> Answer
+// The lines of the table of this form, of whose block so many bytes were mended, to the front of `out`.
+pub fn list_table(table: &[u8], mended: u16, out: &mut [u8]) -> Answer
     ensures answer { λ r.
-        ⌜ r ≡ answered (formRules (now (table .entry))) (linesOf (tableIn (now (table .entry)))) (now (out .entry)) ⌝ }
+        ⌜ r ≡ answered (formRules (now (table .entry))) (linesOf mended (tableIn (now (table .entry)))) (now (out .entry)) ⌝ }
     ensures output { λ _.
-        ⌜ now (out .exit) ≡ left (formRules (now (table .entry))) (linesOf (tableIn (now (table .entry)))) (now (out .entry)) ⌝ }
+        ⌜ now (out .exit) ≡ left (formRules (now (table .entry))) (linesOf mended (tableIn (now (table .entry)))) (now (out .entry)) ⌝ }
 {
-    list(table, true, out)
+    list(table, true, mended, out)
 }
 
 // Of these lines those from `descriptor=` on, to the front of `out`.
@@ -35,69 +35,71 @@ pub fn list_descriptors(table: &[u8], out: &mut [u8]) -> Answer
         ⌜ now (out .exit)
         ≡ left (formRules (now (table .entry))) (descriptorLinesOf (tableIn (now (table .entry)))) (now (out .entry)) ⌝ }
 {
-    list(table, false, out)
+    list(table, false, 0, out)
 }
 
 // The lines of a table, with those of its head or without.
-fn list(table: &[u8], head: bool, out: &mut [u8]) -> Answer
+fn list(table: &[u8], head: bool, mended: u16, out: &mut [u8]) -> Answer
     ensures answer { λ r.
-        ⌜ r ≡ answered (formRules (now (table .entry))) (linesFrom head (tableIn (now (table .entry)))) (now (out .entry)) ⌝ }
+        ⌜ r ≡ answered (formRules (now (table .entry))) (linesFrom head mended (tableIn (now (table .entry)))) (now (out .entry)) ⌝ }
     ensures output { λ _.
         ⌜ now (out .exit)
-        ≡ left (formRules (now (table .entry))) (linesFrom head (tableIn (now (table .entry)))) (now (out .entry)) ⌝ }
+        ≡ left (formRules (now (table .entry))) (linesFrom head mended (tableIn (now (table .entry)))) (now (out .entry)) ⌝ }
 {
     match forms::judge_form(table) {
         Answer::Refused(why) => Answer::Refused(why),
         Answer::Done(_) => {
-            if is_short(table, head, out.len()) {
+            if is_short(table, head, mended, out.len()) {
                 return Answer::Refused(Refusal { no: 1, at: 0 });
             }
-            Answer::Done(put_lines(table, head, out))
+            Answer::Done(put_lines(table, head, mended, out))
         }
     }
 }
 
 // Whether the lines are longer than the room. Nine bytes for each of the form are always enough, and the
 // lines are then not measured.
-fn is_short(table: &[u8], head: bool, room: usize) -> bool
+fn is_short(table: &[u8], head: bool, mended: u16, room: usize) -> bool
     requires { ⌜ (length (now table) ≡ length (form (tableIn (now table)))) × (fits (tableIn (now table)) ≡ true) ⌝ }
-    ensures { λ r. ⌜ r ≡ ltb room (length (linesFrom head (tableIn (now (table .entry))))) ⌝ }
+    ensures { λ r. ⌜ r ≡ ltb room (length (linesFrom head mended (tableIn (now (table .entry))))) ⌝ }
 {
     if table.len() <= room / 9 {
         return false;
     }
-    room < measure(table, head)
+    room < measure(table, head, mended)
 }
 
 // How long the lines are: the walk that writes them, with next to no room.
-fn measure(table: &[u8], head: bool) -> usize
-    ensures { λ r. ⌜ r ≡ length (linesFrom head (tableIn (now (table .entry)))) ⌝ }
+fn measure(table: &[u8], head: bool, mended: u16) -> usize
+    ensures { λ r. ⌜ r ≡ length (linesFrom head mended (tableIn (now (table .entry)))) ⌝ }
 {
     let mut scrap = [0u8; 1];
-    put_lines(table, head, &mut scrap)
+    put_lines(table, head, mended, &mut scrap)
 }
 
 // Puts the lines as far as there is room, and answers how long they are.
-fn put_lines(table: &[u8], head: bool, out: &mut [u8]) -> usize
-    ensures { λ r. ⌜ Put (now (out .entry)) 0 (linesFrom head (tableIn (now (table .entry)))) (now (out .exit)) r ⌝ }
+fn put_lines(table: &[u8], head: bool, mended: u16, out: &mut [u8]) -> usize
+    ensures { λ r. ⌜ Put (now (out .entry)) 0 (linesFrom head mended (tableIn (now (table .entry)))) (now (out .exit)) r ⌝ }
 {
     if head {
-        let at = put_head(table, out);
+        let at = put_head(table, mended, out);
         return put_descriptors(table, out, at);
     }
     put_descriptors(table, out, 0)
 }
 
-// The lines of kind, block and network.
-fn put_head(table: &[u8], out: &mut [u8]) -> usize
-    ensures { λ r. ⌜ Put (now (out .entry)) 0 (headLines (tableIn (now (table .entry)))) (now (out .exit)) r × (r ≤ headMost) ⌝ }
+// The lines of kind, block, network and mended bytes.
+fn put_head(table: &[u8], mended: u16, out: &mut [u8]) -> usize
+    ensures { λ r.
+        ⌜ Put (now (out .entry)) 0 (headLines mended (tableIn (now (table .entry)))) (now (out .exit)) r × (r ≤ headMost) ⌝ }
 {
     let kind = forms::byte_at(table, 0);
     let block = forms::byte_at(table, 2) + 256 * forms::byte_at(table, 3);
     let network = forms::byte_at(table, 4);
     let a = put_kind(kind, out, 0);
     let b = printing::put_number(b"block=", block, out, a);
-    printing::put_number(b"network=", network, out, b)
+    let c = printing::put_number(b"network=", network, out, b);
+    printing::put_number(b"mended=", mended as usize, out, c)
 }
 
 // The lines from `descriptor=` on.

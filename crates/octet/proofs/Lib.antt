@@ -1,6 +1,8 @@
 pub mod Cases
+pub mod Hearing
 pub mod Laws
 pub mod Lowest
 pub mod Noise
 pub mod Rows
 mod Eights
+mod Halves

@@ -10,9 +10,13 @@ pub mod quick;
 
 pub use faults::fault_place;
 ghost use mathlib.Core.Path.{_≡_};
+ghost use mathlib.Core.List.{reverse};
+ghost use Prim.Native.Nat.{_<_};
 ghost use Rattle.laws.specs.Range.{tabulate};
+ghost use Rattle.octet.specs.Bits.{bits, number};
 ghost use Rattle.octet.specs.Image.{image as Image·image};
 ghost use Rattle.octet.specs.Decoding.{nib};
+ghost use Rattle.octet.specs.Hearing.{hearing};
 ghost use Rattle.octet.specs.Turning.{turned};
 
 // The images of the nibbles from 0 on (SCOPE 5.2).
@@ -295,271 +299,18 @@ const DECODE: [u8; 256] = [
     14,
 ];
 
-// Each byte with its bits in the other order (SCOPE 6.6).
-const TURN: [u8; 256] = [
-    0,
-    128,
-    64,
-    192,
-    32,
-    160,
-    96,
-    224,
-    16,
-    144,
-    80,
-    208,
-    48,
-    176,
-    112,
-    240,
-    8,
-    136,
-    72,
-    200,
-    40,
-    168,
-    104,
-    232,
-    24,
-    152,
-    88,
-    216,
-    56,
-    184,
-    120,
-    248,
-    4,
-    132,
-    68,
-    196,
-    36,
-    164,
-    100,
-    228,
-    20,
-    148,
-    84,
-    212,
-    52,
-    180,
-    116,
-    244,
-    12,
-    140,
-    76,
-    204,
-    44,
-    172,
-    108,
-    236,
-    28,
-    156,
-    92,
-    220,
-    60,
-    188,
-    124,
-    252,
-    2,
-    130,
-    66,
-    194,
-    34,
-    162,
-    98,
-    226,
-    18,
-    146,
-    82,
-    210,
-    50,
-    178,
-    114,
-    242,
-    10,
-    138,
-    74,
-    202,
-    42,
-    170,
-    106,
-    234,
-    26,
-    154,
-    90,
-    218,
-    58,
-    186,
-    122,
-    250,
-    6,
-    134,
-    70,
-    198,
-    38,
-    166,
-    102,
-    230,
-    22,
-    150,
-    86,
-    214,
-    54,
-    182,
-    118,
-    246,
-    14,
-    142,
-    78,
-    206,
-    46,
-    174,
-    110,
-    238,
-    30,
-    158,
-    94,
-    222,
-    62,
-    190,
-    126,
-    254,
-    1,
-    129,
-    65,
-    193,
-    33,
-    161,
-    97,
-    225,
-    17,
-    145,
-    81,
-    209,
-    49,
-    177,
-    113,
-    241,
-    9,
-    137,
-    73,
-    201,
-    41,
-    169,
-    105,
-    233,
-    25,
-    153,
-    89,
-    217,
-    57,
-    185,
-    121,
-    249,
-    5,
-    133,
-    69,
-    197,
-    37,
-    165,
-    101,
-    229,
-    21,
-    149,
-    85,
-    213,
-    53,
-    181,
-    117,
-    245,
-    13,
-    141,
-    77,
-    205,
-    45,
-    173,
-    109,
-    237,
-    29,
-    157,
-    93,
-    221,
-    61,
-    189,
-    125,
-    253,
-    3,
-    131,
-    67,
-    195,
-    35,
-    163,
-    99,
-    227,
-    19,
-    147,
-    83,
-    211,
-    51,
-    179,
-    115,
-    243,
-    11,
-    139,
-    75,
-    203,
-    43,
-    171,
-    107,
-    235,
-    27,
-    155,
-    91,
-    219,
-    59,
-    187,
-    123,
-    251,
-    7,
-    135,
-    71,
-    199,
-    39,
-    167,
-    103,
-    231,
-    23,
-    151,
-    87,
-    215,
-    55,
-    183,
-    119,
-    247,
-    15,
-    143,
-    79,
-    207,
-    47,
-    175,
-    111,
-    239,
-    31,
-    159,
-    95,
-    223,
-    63,
-    191,
-    127,
-    255,
-];
-
 // The image of a nibble. Above 15 it is that of n modulo 16.
 pub fn image(n: u8) -> u8
     ensures { λ r. ⌜ r ≡ Image·image n ⌝ }
 {
     CODE[(n % 16) as usize]
+}
+
+// The images themselves, from that of 0 on: for a loop, as `decodings` is.
+pub fn images() -> [u8; 16]
+    ensures { λ r. ⌜ r ≡ tabulate Image·image 0 16 ⌝ }
+{
+    CODE
 }
 
 // The table itself: what each byte decodes to. A loop over many bytes takes it before it starts, so that
@@ -578,9 +329,51 @@ pub fn decode(b: u8) -> u8
     DECODE[b as usize]
 }
 
-// b with its bits in the other order: bit i goes to bit 7 - i.
+// How a byte was heard, with the nibble that it decodes to (SCOPE 19.2).
+pub enum Heard {
+    // It is the image of its nibble.
+    Image(u8),
+    // It is one bit away from it, and was mended.
+    Mended(u8),
+    // It can't be decoded.
+    Neither,
+}
+
+// How b was heard: what `decode` says of it, and whether it had to be mended. Its image is compared with
+// it; there is no table for this.
+pub fn hear(b: u8) -> Heard
+    ensures { λ r. ⌜ r ≡ hearing b ⌝ }
+{
+    let n = decode(b);
+    if n == 16 {
+        return Heard::Neither;
+    }
+    if b == image(n) {
+        return Heard::Image(n);
+    }
+    Heard::Mended(n)
+}
+
+// b with its bits in the other order: bit i goes to bit 7 - i. The halves are exchanged, in each half its
+// pairs, in each pair its neighbours.
 pub fn turn(b: u8) -> u8
     ensures { λ r. ⌜ r ≡ turned b ⌝ }
 {
-    TURN[b as usize]
+    half(b) * 16 + half(b / 16)
+}
+
+// The four lowest bits in the other order: the pairs are exchanged.
+fn half(b: u8) -> u8
+    ensures { λ r. ⌜ r ≡ number (reverse (bits 4 b)) ⌝ }
+    ensures { λ r. ⌜ r < 16 ⌝ }
+{
+    pair(b) * 4 + pair(b / 4)
+}
+
+// The two lowest bits in the other order: the neighbours are exchanged.
+fn pair(b: u8) -> u8
+    ensures { λ r. ⌜ r ≡ number (reverse (bits 2 b)) ⌝ }
+    ensures { λ r. ⌜ r < 4 ⌝ }
+{
+    b % 2 * 2 + b / 2 % 2
 }

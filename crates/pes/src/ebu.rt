@@ -35,7 +35,7 @@ pub fn turn_run(src: &[u8], from: usize, out: &mut [u8], to: usize)
     }
     let mut i = 0;
     while i < TEXT {
-        out[to + i] = octet::quick::turn(src[from + i]);
+        out[to + i] = octet::turn(src[from + i]);
         i += 1;
     }
 }

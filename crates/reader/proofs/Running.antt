@@ -10,7 +10,7 @@ use lib.ListN.{length, take, drop, length-append, length-drop}
 use lib.Seq.{sets, drop-drop, length-take-le}
 use borrow.Author.Tests.{le-leb, lt-leb}
 use Rattle.laws.proofs.Lists.{sets-append, part-of}
-use Rattle.blocks.specs.Block.{Block, recordsOf}
+use Rattle.blocks.specs.Block.{Block, headLength, recordsOf}
 use Rattle.packet.specs.declared.Setting.{Setting}
 use Rattle.packet.specs.Packet.{packetLength}
 use Rattle.reader.specs.declared.many.Going.{Going}
@@ -23,7 +23,7 @@ use Rattle.walk.specs.Internal.{Good, Kept}
 use Rattle.reader.specs.Internal.{Acted, stateIn, RanTo}
 use Rattle.walk.proofs.Keeping.{holds-mode}
 use Rattle.walk.proofs.Adding.{recordsOf-append}
-use Rattle.walk.proofs.Room.{two-each}
+use Rattle.walk.proofs.Room.{head-each}
 use Rattle.state.proofs.Bounding.{packet-room}
 
 abbrev pub taking : Going → ℕ → Taking
@@ -108,12 +108,12 @@ module _ (s : Setting) (long : ℕ) (packets : List ℕ) (at : ℕ) (b : Ran) wh
 pub packet-length : (packets : List ℕ) (at : ℕ) → at + 42 ≤ length packets → length (take (at + 42 - at) (drop at packets)) ≡ packetLength
 packet-length packets at h = rw (part-of at 42 packets) (length-take-le 42 (drop at packets) (rw length-drop (omega arith)))
 
--- one packet writes no more than the room, and two bytes a block at least
+-- one packet writes no more than the room, and a head a block at least
 pub still-room :
     (s : Setting) (p : List ℕ) (st : State) {a after : Going} {store old new : List ℕ} → Good (st .mode) → length p ≡ packetLength
-    → Acted (see s p) st a after store old new → 2 * a .got .blocks ≤ a .got .written
-    → (after .got .written ≤ a .got .written + room) × (2 * after .got .blocks ≤ after .got .written)
+    → Acted (see s p) st a after store old new → headLength * a .got .blocks ≤ a .got .written
+    → (after .got .written ≤ a .got .written + room) × (headLength * after .got .blocks ≤ after .got .written)
 still-room s p st g l w f =
     let r = packet-room s st p l g in
-    let t = two-each (handed st (see s p)) in
+    let t = head-each (handed st (see s p)) in
     (omega (arith, w .went .written), omega (arith, w .went .written, w .went .blocks))

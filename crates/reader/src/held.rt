@@ -1,4 +1,5 @@
 // The running block in its store: how a packet's bytes go on with it, finish it or drop it, and where finished blocks go.
+use blocks::HEAD;
 use walk::Ahead;
 use walk::Got;
 use walk::Run;
@@ -9,13 +10,13 @@ ghost use Prim.Native.Nat.{ℕ, _+_, _*_, _≤_};
 ghost use lib.ListN.{length, take, drop};
 ghost use lib.Seq.{sets};
 ghost use Rattle.laws.specs.Pick.{both as Pick·both, either as Pick·either};
-ghost use Rattle.blocks.specs.Block.{recordOf};
+ghost use Rattle.blocks.specs.Block.{headLength, recordOf};
 ghost use Rattle.packet.specs.Packet.{packetLength};
 ghost use Rattle.walk.specs.declared.Run.the-variants.{Body};
-ghost use Rattle.walk.specs.Mode.{body, running};
+ghost use Rattle.walk.specs.Mode.{blockWith, body};
 ghost use Rattle.walk.specs.Store.{zeroed, modeOf};
 ghost use Rattle.walk.specs.Reading.{dropIf};
-ghost use Rattle.walk.specs.Internal.{blockWith, Holds, Kept, TookIn, Room, Finished, Flowed, PacketRoom, Lost, runs};
+ghost use Rattle.walk.specs.Internal.{Holds, Kept, TookIn, Room, Finished, Flowed, PacketRoom, Lost, runs};
 ghost use Rattle.reader.specs.Internal.{ReadFrom, GoneTo, GoneOn};
 
 // The 39 bytes of a packet of our page, by its pointer: the running block goes on or is dropped, and the records of the blocks that
@@ -105,7 +106,7 @@ fn continue_on(got: Got, taken: Taken, store: &mut [u8; 2047], out: &mut [u8]) -
 // where all of it is there, and so on to the end. What is left of a block is held.
 fn flow(got: Got, store: &mut [u8; 2047], s: &[u8], out: &mut [u8]) -> Got
     requires { ⌜ now store ≡ zeroed [] ⌝ }
-    requires { ⌜ (got .written + length (now s) ≤ length (now out)) × (2 * got .blocks ≤ got .written) ⌝ }
+    requires { ⌜ (got .written + length (now s) ≤ length (now out)) × (headLength * got .blocks ≤ got .written) ⌝ }
     ensures { λ r. ⌜ Flowed (now (s .entry)) got r (now (store .exit)) (now (out .entry)) (now (out .exit)) ⌝ }
 {
     let dropped = got.dropped;
@@ -120,23 +121,30 @@ fn flow(got: Got, store: &mut [u8; 2047], s: &[u8], out: &mut [u8]) -> Got
             Ahead::Broken => {
                 return so_far(Run::Idle, blocks, q, true);
             }
-            Ahead::Cut { got: g, bits } => {
-                return so_far(Run::Head { got: g, bits: bits }, blocks, q, dropped);
+            Ahead::Cut { got: g, bits, part } => {
+                let left = Run::Head {
+                    got: g,
+                    bits: bits,
+                    part: part as u8,
+                };
+                return so_far(left, blocks, q, dropped);
             }
-            Ahead::Whole { head, next } => {
+            Ahead::Whole { head, part, next } => {
+                let mended = part as u8;
                 let size = (head / 32) as usize;
                 let there = s.len() - next;
                 if there < size {
                     moves::copy(s, next, there, store, 0);
                     let left = Run::Body {
                         head: head,
+                        part: mended,
                         held: there,
                     };
                     return so_far(left, blocks, q, dropped);
                 }
-                emit(head, s, next, size, out, q);
+                emit(head, mended, s, next, size, out, q);
                 blocks += 1;
-                q = q + 2 + size;
+                q = q + HEAD + size;
                 at = next + size;
             }
         }
@@ -165,7 +173,7 @@ fn take_in(run: Run, store: &mut [u8; 2047], s: &[u8]) -> Taken
             run: Run::Idle,
             next: 0,
         },
-        Run::Head { got, bits } => match walk::head_on(s, 0, got, bits) {
+        Run::Head { got, bits, part } => match walk::head_on(s, 0, got, bits, part) {
             Ahead::Nothing => Taken {
                 run: Run::Idle,
                 next: 0,
@@ -174,21 +182,33 @@ fn take_in(run: Run, store: &mut [u8; 2047], s: &[u8]) -> Taken
                 run: Run::Idle,
                 next: 0,
             },
-            Ahead::Cut { got: g, bits: v } => Taken {
-                run: Run::Head { got: g, bits: v },
+            Ahead::Cut {
+                got: g,
+                bits: v,
+                part: p,
+            } => Taken {
+                run: Run::Head {
+                    got: g,
+                    bits: v,
+                    part: p as u8,
+                },
                 next: s.len(),
             },
-            Ahead::Whole { head, next } => body_in(head, 0, store, s, next),
+            Ahead::Whole {
+                head,
+                part: p,
+                next,
+            } => body_in(head, p as u8, 0, store, s, next),
         },
-        Run::Body { head, held } => body_in(head, held, store, s, 0),
+        Run::Body { head, part, held } => body_in(head, part, held, store, s, 0),
     }
 }
 
 // A block takes the bytes that it still wants, from `from` on, or all that are there.
-fn body_in(head: u16, held: usize, store: &mut [u8; 2047], s: &[u8], from: usize) -> Taken
-    requires { ⌜ Kept (Body head held) (now store) ⌝ }
+fn body_in(head: u16, part: u8, held: usize, store: &mut [u8; 2047], s: &[u8], from: usize) -> Taken
+    requires { ⌜ Kept (Body head part held) (now store) ⌝ }
     requires { ⌜ from ≤ length (now s) ⌝ }
-    ensures { λ r. ⌜ TookIn (body head (take held (now (store .entry)))) (drop from (now (s .entry))) (now (s .entry)) r (now (store .exit)) ⌝ }
+    ensures { λ r. ⌜ TookIn (body head part (take held (now (store .entry)))) (drop from (now (s .entry))) (now (s .entry)) r (now (store .exit)) ⌝ }
 {
     let need = (head / 32) as usize - held;
     let there = s.len() - from;
@@ -197,6 +217,7 @@ fn body_in(head: u16, held: usize, store: &mut [u8; 2047], s: &[u8], from: usize
         return Taken {
             run: Run::Body {
                 head: head,
+                part: part,
                 held: held + need,
             },
             next: from + need,
@@ -205,6 +226,7 @@ fn body_in(head: u16, held: usize, store: &mut [u8; 2047], s: &[u8], from: usize
     Taken {
         run: Run::Body {
             head: head,
+            part: part,
             held: held + there,
         },
         next: from + there,
@@ -220,18 +242,22 @@ fn finish(got: Got, store: &mut [u8; 2047], out: &mut [u8]) -> Got
     let run = got.run;
     match run {
         Run::Idle => got,
-        Run::Head { got: _, bits: _ } => got,
-        Run::Body { head, held } => {
+        Run::Head {
+            got: _,
+            bits: _,
+            part: _,
+        } => got,
+        Run::Body { head, part, held } => {
             if held < (head / 32) as usize {
                 return got;
             }
             let q = got.written;
             let blocks = got.blocks;
-            hand_out(head, held, store, out, q);
+            hand_out(head, part, held, store, out, q);
             Got {
                 run: Run::Idle,
                 blocks: blocks + 1,
-                written: q + 2 + held,
+                written: q + HEAD + held,
                 dropped: got.dropped,
             }
         }
@@ -239,13 +265,13 @@ fn finish(got: Got, store: &mut [u8; 2047], out: &mut [u8]) -> Got
 }
 
 // A block that is held whole goes out, and the store is clear again.
-fn hand_out(head: u16, held: usize, store: &mut [u8; 2047], out: &mut [u8], q: usize)
-    requires { ⌜ Kept (Body head held) (now store) ⌝ }
-    requires { ⌜ q + 2 + held ≤ length (now out) ⌝ }
+fn hand_out(head: u16, part: u8, held: usize, store: &mut [u8; 2047], out: &mut [u8], q: usize)
+    requires { ⌜ Kept (Body head part held) (now store) ⌝ }
+    requires { ⌜ q + headLength + held ≤ length (now out) ⌝ }
     ensures { λ _. ⌜ now (store .exit) ≡ zeroed [] ⌝ }
-    ensures { λ _. ⌜ now (out .exit) ≡ sets (now (out .entry)) q (recordOf (blockWith head (take held (now (store .entry))))) ⌝ }
+    ensures { λ _. ⌜ now (out .exit) ≡ sets (now (out .entry)) q (recordOf (blockWith head part (take held (now (store .entry))))) ⌝ }
 {
-    emit(head, &*store, 0, held, out, q);
+    emit(head, part, &*store, 0, held, out, q);
     moves::clear(store, held);
 }
 
@@ -268,8 +294,16 @@ fn let_go(run: Run, store: &mut [u8; 2047])
 {
     match run {
         Run::Idle => {}
-        Run::Head { got: _, bits: _ } => {}
-        Run::Body { head: _, held } => moves::clear(store, held),
+        Run::Head {
+            got: _,
+            bits: _,
+            part: _,
+        } => {}
+        Run::Body {
+            head: _,
+            part: _,
+            held,
+        } => moves::clear(store, held),
     }
 }
 
@@ -279,20 +313,30 @@ fn is_running(run: Run) -> bool
 {
     match run {
         Run::Idle => false,
-        Run::Head { got: _, bits: _ } => true,
-        Run::Body { head: _, held: _ } => true,
+        Run::Head {
+            got: _,
+            bits: _,
+            part: _,
+        } => true,
+        Run::Body {
+            head: _,
+            part: _,
+            held: _,
+        } => true,
     }
 }
 
 // The record of a block whose raw bytes are so many of `raw` from `from` on, to the place q of the
-// output.
-fn emit(head: u16, raw: &[u8], from: usize, size: usize, out: &mut [u8], q: usize)
-    requires { ⌜ (from + size ≤ length (now raw)) × (q + 2 + size ≤ length (now out)) ⌝ }
-    ensures { λ _. ⌜ now (out .exit) ≡ sets (now (out .entry)) q (recordOf (blockWith head (take size (drop from (now (raw .entry)))))) ⌝ }
+// output: its 16 bits, its part, a byte 0, the raw bytes.
+fn emit(head: u16, part: u8, raw: &[u8], from: usize, size: usize, out: &mut [u8], q: usize)
+    requires { ⌜ (from + size ≤ length (now raw)) × (q + headLength + size ≤ length (now out)) ⌝ }
+    ensures { λ _. ⌜ now (out .exit) ≡ sets (now (out .entry)) q (recordOf (blockWith head part (take size (drop from (now (raw .entry)))))) ⌝ }
 {
     out[q] = (head % 256) as u8;
     out[q + 1] = (head / 256) as u8;
-    moves::copy(raw, from, size, out, q + 2);
+    out[q + 2] = part;
+    out[q + 3] = 0;
+    moves::copy(raw, from, size, out, q + HEAD);
 }
 
 // At least one of two tests.

@@ -2,7 +2,7 @@
 use mathlib.Core.Path.{_≡_, _∙_, refl, sym}
 use mathlib.Core.Bool.{Bool, true}
 use mathlib.Core.List.{List, [], _∷_, _++_}
-use Prim.Native.Nat.{ℕ, _-_, _≤_}
+use Prim.Native.Nat.{ℕ, suc, _-_, _≤_}
 use native.Mathlib.Omega.{arith}
 use lib.Dec.{eqb, leb}
 use lib.ListN.{length, take, drop, replicate, length-drop, take-append-drop}
@@ -18,7 +18,7 @@ use Rattle.walk.specs.declared.Run.the-variants.{Idle, Head, Body}
 use Rattle.state.specs.declared.Reader.{Reader}
 use Rattle.walk.specs.Store.{storeLength, zeroed}
 use Rattle.state.specs.State.{zeros, pageInRange, runInRange, heldBy, readerInRange, Sixteen}
-use Rattle.walk.specs.Internal.{Kept}
+use Rattle.walk.specs.Internal.{Bits, Kept}
 
 zeros-all : (l : List ℕ) → zeros l ≡ true → l ≡ replicate (length l) 0
 unfolding zeros
@@ -41,12 +41,20 @@ store-zeroed n l h k e = padded storeLength n l h k e
 run-kept :
     (r : Run) (l : List ℕ) → runInRange r ≡ true → Sixteen r → length l ≡ storeLength → zeros (drop (heldBy r) l) ≡ true → Kept r l
 run-kept Idle l e w k z = record { good = tt; run = refl; kept = store-zeroed 0 l (omega arith) k z }
-run-kept (Head g v) l e w k z =
-    record { good = record { got = leb-true g 3 (both-first _ _ e); small = w; only = eqb-true _ 0 (both-second (leb g 3) _ e) }; run = refl; kept = store-zeroed 0 l (omega arith) k z }
-run-kept (Body h n) l e w k z =
-    let f : n ≤ sizeOf h = leb-true n (sizeOf h) e in
+run-kept (Head g v part) l e w k z =
+    let f = both-second (leb g 3) _ e in
+    let bits : Bits g v part =
+    record {
+      got = leb-true g 3 (both-first _ _ e);
+      small = w;
+      only = eqb-true _ 0 (both-second (leb part (suc g)) _ f);
+      counted = leb-true part (suc g) (both-first _ _ f);
+    } in
+    record { good = bits; run = refl; kept = store-zeroed 0 l (omega arith) k z }
+run-kept (Body h part n) l e w k z =
+    let f : n ≤ sizeOf h = leb-true n (sizeOf h) (both-second (leb part 5) _ e) in
     let a : length (take n l) ≡ n = length-take-le n l (omega arith) in
-    record { good = (w, rw a f); run = rw a; kept = store-zeroed n l (omega arith) k z }
+    record { good = (w, leb-true part 5 (both-first _ _ e), rw a f); run = rw a; kept = store-zeroed n l (omega arith) k z }
 
 kept-in-range :
     (r : Reader) → readerInRange r ≡ true → Sixteen (r .run) → length (r .store) ≡ storeLength → Kept (r .run) (r .store)

@@ -3,3 +3,4 @@ pub mod Clearing
 pub mod Holding
 pub mod Ranging
 pub mod Sizing
+pub mod Parting

@@ -89,8 +89,8 @@ mode-held : (m : Mode) → Good m → modeOf (runOf m) (zeroed (heldOf m)) ≡ m
 unfolding zeroed
 mode-held off r = refl
 mode-held scan r = absurd r
-mode-held (heading g v) r = refl
-mode-held (body h held) r = ap (body h) (take-append-seam held (replicate (storeLength - length held) 0))
+mode-held (heading g v part) r = refl
+mode-held (body h part held) r = ap (body h part) (take-append-seam held (replicate (storeLength - length held) 0))
 
 -- nothing is lost in holding it
 pub state-held : (st : State) → Sound st → stateOf (readerOf st) ≡ st
@@ -99,15 +99,15 @@ state-held st r = ap (λ (m : Mode). record { page = st .page; index = st .index
 run-in-range : (m : Mode) → Good m → runInRange (runOf m) ≡ true
 run-in-range off r = refl
 run-in-range scan r = absurd r
-run-in-range (heading g v) r = rw (le-leb g 3 (r .got), r .only)
-run-in-range (body h held) r = le-leb (length held) (sizeOf h) (r .1)
+run-in-range (heading g v part) r = rw (le-leb g 3 (r .got), le-leb part (suc g) (r .counted), r .only)
+run-in-range (body h part held) r = rw (le-leb part 5 (r .1)) (le-leb (length held) (sizeOf h) (r .2))
 
 zeros-past : (m : Mode) → zeros (drop (heldBy (runOf m)) (zeroed (heldOf m))) ≡ true
 unfolding zeroed
 zeros-past off = zeros-replicate 2047
 zeros-past scan = zeros-replicate 2047
-zeros-past (heading g v) = zeros-replicate 2047
-zeros-past (body h held) = rw (drop-append-seam held (replicate (storeLength - length held) 0)) (zeros-replicate (storeLength - length held))
+zeros-past (heading g v part) = zeros-replicate 2047
+zeros-past (body h part held) = rw (drop-append-seam held (replicate (storeLength - length held) 0)) (zeros-replicate (storeLength - length held))
 
 -- and what is held is in range
 pub reader-in-range : (st : State) → Sound st → readerInRange (readerOf st) ≡ true

@@ -1,7 +1,7 @@
 -- The state as the reader holds it: the running block's bytes in a store of 2,047, all others zero (SCOPE 10.1).
 use mathlib.Core.Bool.{Bool, true}
 use mathlib.Core.List.{List, [], _∷_}
-use Prim.Native.Nat.{ℕ, _-_, _%_, _^_, _<_}
+use Prim.Native.Nat.{ℕ, suc, _-_, _%_, _^_, _<_}
 use lib.Dec.{eqb, leb}
 use lib.ListN.{drop}
 use Rattle.laws.specs.Pick.{both}
@@ -28,7 +28,8 @@ abbrev pub freshState : State
 freshState = record { page = Shut; index = 15; mode = off }
 
 -- ---- in range (SCOPE 10.2): n is at most 25 and last at most n, no more bytes are held than the block has, and past them the store is
--- zero. The representation adds: an index below 16, at most three nibbles of a header, and no bits but theirs
+-- zero; the part is at most the start and the header bytes that have come. The representation adds: an index below 16, at most three nibbles
+-- of a header, and no bits but theirs
 
 unfoldable pub zeros : List ℕ → Bool
 zeros [] = true
@@ -40,13 +41,13 @@ pageInRange (Open n last) = both (leb n 25) (leb last n)
 
 abbrev pub runInRange : Run → Bool
 runInRange Idle = true
-runInRange (Head got bits) = both (leb got 3) (eqb (bits % 16 ^ (4 - got)) 0)
-runInRange (Body head held) = leb held (sizeOf head)
+runInRange (Head got bits part) = both (leb got 3) (both (leb part (suc got)) (eqb (bits % 16 ^ (4 - got)) 0))
+runInRange (Body head part held) = both (leb part 5) (leb held (sizeOf head))
 
 abbrev pub heldBy : Run → ℕ
 heldBy Idle = 0
-heldBy (Head got bits) = 0
-heldBy (Body head held) = held
+heldBy (Head got bits part) = 0
+heldBy (Body head part held) = held
 
 unfoldable pub readerInRange : Reader → Bool
 readerInRange r =
@@ -56,5 +57,5 @@ readerInRange r =
 -- a run's bits are 16, which its type alone says
 abbrev pub Sixteen : Run → Type 0
 Sixteen Idle = Unit
-Sixteen (Head got bits) = bits < 2 ^ 16
-Sixteen (Body head held) = head < 2 ^ 16
+Sixteen (Head got bits part) = bits < 2 ^ 16
+Sixteen (Body head part held) = head < 2 ^ 16

@@ -7,6 +7,9 @@ ghost use lib.ListN.{drop};
 ghost use Rattle.walk.specs.declared.Run.the-variants.{Head};
 ghost use Rattle.state.specs.State.{zeros, pageInRange, runInRange, readerInRange, readerOf, freshState, Sixteen};
 
+// A block's start and the four bytes of its header: so many bytes can count in its part.
+const LEAD: u8 = 5;
+
 // What a reader keeps between packets. Every byte of the store past those held is zero.
 pub struct Reader {
     pub page: Page,
@@ -40,13 +43,16 @@ pub fn in_range(page: Page, index: u8, run: Run, store: &[u8]) -> bool
     }
     match run {
         Run::Idle => is_clear(store, 0),
-        Run::Head { got, bits } => {
-            if !is_head(got, bits) {
+        Run::Head { got, bits, part } => {
+            if !is_head(got, bits, part) {
                 return false;
             }
             is_clear(store, 0)
         }
-        Run::Body { head, held } => {
+        Run::Body { head, part, held } => {
+            if part > LEAD {
+                return false;
+            }
             if held > (head / 32) as usize {
                 return false;
             }
@@ -70,11 +76,15 @@ fn is_page(page: Page) -> bool
     }
 }
 
-// Whether the bits of a header are those of the nibbles got and no others.
-fn is_head(got: u8, bits: u16) -> bool
-    ensures { λ r. ⌜ r ≡ runInRange (Head got bits) ⌝ }
+// Whether the bits of a header are those of the nibbles got and no others, and the part counts no more
+// bytes than those and the start.
+fn is_head(got: u8, bits: u16, part: u8) -> bool
+    ensures { λ r. ⌜ r ≡ runInRange (Head got bits part) ⌝ }
 {
     if got > 3 {
+        return false;
+    }
+    if part > got + 1 {
         return false;
     }
     if got == 3 {

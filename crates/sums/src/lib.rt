@@ -1,11 +1,16 @@
-// A block's protected bytes: which of them can be decoded, and the checksum over them.
+// A block's protected bytes: which of them can be decoded, how many were mended, and the checksum over them.
 ghost use mathlib.Core.Path.{_≡_};
 ghost use mathlib.Core.List.{map};
 ghost use Prim.Native.Nat.{_<_, _≤_};
-ghost use lib.ListN.{length};
+ghost use lib.Dec.{eqb};
+ghost use lib.ListN.{length, drop};
+ghost use Rattle.laws.specs.Pick.{pick};
 ghost use Rattle.octet.specs.Decoding.{nib};
+ghost use Rattle.octet.specs.Hearing.{harm, harms};
 ghost use Rattle.fields.specs.Fields.{parts};
 ghost use Rattle.sums.specs.Sums.{total, checksum as checksumOf, sound as soundOf};
+ghost use Rattle.sums.specs.Block.{headLength, mendedIn};
+use blocks::HEAD;
 
 // What a block's first two bytes should hold, or 256 where a byte of it can't be decoded: `sound` and
 // `checksum` in one pass.
@@ -70,6 +75,52 @@ pub fn sound(s: &[u8]) -> usize
         i += 1;
     }
     i
+}
+
+// How many bytes of a record's block were mended: its part, and its raw bytes that aren't images. Of a clear
+// night nearly every block has none, and then its bytes aren't looked up.
+pub fn mended_in(rec: &[u8]) -> usize
+    ensures { λ r. ⌜ r ≡ mendedIn (now (rec .entry)) ⌝ }
+{
+    let part = forms::byte_at(rec, 2);
+    if is_clean(rec) {
+        return part;
+    }
+    let table = octet::decodings();
+    let images = octet::images();
+    let mut count = part;
+    let mut i = HEAD;
+    while i < rec.len() {
+        let b = rec[i];
+        if images[(table[b as usize] % 16) as usize] != b {
+            count += 1;
+        }
+        i += 1;
+    }
+    count
+}
+
+// Whether every raw byte is an image: the checks of all of them are or-ed, so that no byte ends the loop.
+fn is_clean(rec: &[u8]) -> bool
+    ensures { λ r. ⌜ r ≡ eqb (harms (drop headLength (now (rec .entry)))) 0 ⌝ }
+{
+    let mut mix: u8 = 0;
+    let mut i = HEAD;
+    while i < rec.len() {
+        mix = mix | checks(rec[i]);
+        i += 1;
+    }
+    mix == 0
+}
+
+// The four parity checks of a byte at once, each at the place of its parity bit: 0 exactly where all hold,
+// which they do for an image.
+fn checks(b: u8) -> u8
+    ensures { λ r. ⌜ harm b ≡ pick (eqb r 0) 0 1 ⌝ }
+{
+    let five = b / 32 + b % 32 * 8;
+    let seven = b / 128 + b % 128 * 2;
+    ((b ^ (b / 2) ^ five ^ seven) & 0x55) ^ 0x15
 }
 
 // The sum of the four nibbles of a head.

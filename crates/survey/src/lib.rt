@@ -64,7 +64,7 @@ pub fn turn_all(bytes: &mut [u8])
 {
     let mut i = 0;
     while i < bytes.len() {
-        bytes[i] = octet::quick::turn(bytes[i]);
+        bytes[i] = octet::turn(bytes[i]);
         i += 1;
     }
 }

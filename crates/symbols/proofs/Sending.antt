@@ -102,9 +102,11 @@ byte-fill l head from next i g w h =
     let n : length (b .raw) ≡ next - from = length-take-le (next - from) (drop from l) (omega (arith, length-drop from l)) in
     byte-by b i (i - 5 + 5) fill (omega arith) (symbol-fill b (i - 5) (omega arith))
 
--- ---- the block of a record that stands at a place
+-- ---- what is sent of the record that stands at a place
 
-pub block-at : {l : List ℕ} {p head from next : ℕ} → Standing l p head from next → blockAt l head from next ≡ blockOf (drop p l)
+pub block-at :
+    {l : List ℕ} {p head from next : ℕ} → Standing l p head from next → cellsOf (blockAt l head from next) ≡ cellsOf (blockOf (drop p l))
+unfolding cellsOf symbols
 block-at {l} {p} {head} {from} {next} s =
     let e : next - from ≡ sizeOf (headOf (drop p l)) = omega (arith, s .its-raw, s .its-next) in
     rw (s .its-head, e, s .its-raw, drop-drop headLength p l)
@@ -223,7 +225,7 @@ module _ (l : List ℕ) (pen : Pen) (head from next : ℕ) (s : Standing l (pen 
       })
   sends-symbol =
       record {
-        its-byte = ap byteOf (ap (λ (k : Block). getD (cellsOf k) (pen .sent) fill) (block-at s) ∙ sym first);
+        its-byte = ap byteOf (ap (λ (ss : List Symbol). getD ss (pen .sent) fill) (block-at s) ∙ sym first);
         its-start = sym (ap isStart first ∙ starts-first block (pen .sent));
         goes = moves;
       }

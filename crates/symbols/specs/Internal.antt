@@ -24,9 +24,9 @@ isStart (raw b) = false
 unfoldable pub restOf : List ℕ → Pen → List Symbol
 restOf l pen = drop (pen .sent) (streamOf (blocks (drop (pen .at) l)))
 
--- the block of a record whose raw bytes are those from one place up to another
+-- the block of a record whose raw bytes are those from one place up to another; its part and its second byte aren't sent
 abbrev pub blockAt : List ℕ → ℕ → ℕ → ℕ → Block
-blockAt l head from next = record { head = head; raw = take (next - from) (drop from l) }
+blockAt l head from next = record { head = head; part = 0; second = 0; raw = take (next - from) (drop from l) }
 
 -- the writer stands before one of its record's symbols, where there is a record
 pub record Within (l : List ℕ) (pen : Pen) : Type 0 where

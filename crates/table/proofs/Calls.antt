@@ -1,43 +1,60 @@
--- The reading call and the outcome that is exact: given room, the call is accepted as a table exactly when the record says it.
--- Assumes nothing.
-use mathlib.Core.Path.{_≡_, _∙_, ap}
+-- The reading call and the outcome that is exact: given room, the call is accepted as a table, with a count, exactly when the record says
+-- it and has that count. Assumes nothing.
+use mathlib.Core.Path.{_≡_, _∙_, sym, ap}
 use mathlib.Core.List.{List, _++_}
 use Prim.Native.Nat.{ℕ, _≤_}
+use native.Mathlib.Omega.{arith}
 use lib.ListN.{length, drop}
-use Rattle.answer.specs.declared.Answer.the-variants.{Done}
+use Rattle.answer.specs.declared.Answer.{Answer}
+use Rattle.answer.specs.declared.Answer.the-variants.{Done, Refused}
 use Rattle.answer.specs.Writing.{answered, left}
 use Rattle.answer.proofs.Judging.{passes}
 use Rattle.answer.proofs.Lent.{lent-accepted, lent-all}
 use Rattle.forms.specs.Tables.{Table}
 use Rattle.forms.specs.Form.{form}
-use Rattle.sums.specs.Block.{Says}
+use Rattle.sums.specs.Block.{mendedIn, InRange, Says}
 use Rattle.table.specs.Reading.{accepted, refused, readRules, tableRead, readBlock}
-use Rattle.table.proofs.Exact.{accepts, reads-exactly}
+use Rattle.table.specs.declared.Read.{Read}
+use Rattle.table.specs.declared.Read.the-variants.{Taken}
+use Rattle.table.specs.Values.{counted, writtenOf, mendedOf}
+use Rattle.table.proofs.Exact.{accepts, accepted-says, says-accepted}
+
+-- an answer with a count that accepts is that of an answer that does
+taken-done : (c : ℕ) (x : Answer) (n m : ℕ) → counted c x ≡ Taken n m → (x ≡ Done n) × (c ≡ m)
+taken-done c (Done k) n m e = (ap Done (ap writtenOf e), ap mendedOf e)
+taken-done c (Refused w) n m e = absurd (let z : _≡_ {A = ℕ} 0 1 = cc in omega arith)
 
 module _ (application : ℕ) (r : List ℕ) (old : List ℕ) where
-  -- a record that says t, with room: t's form stands at the front of the output
+  -- what the call answers
+  abbrev pub callReads : Read
+  callReads = counted (mendedIn r) (answered (readRules application r) (form (tableRead r)) old)
+
+  -- a record in range that says t, with room: t's form stands at the front of the output, and the count is its own
   pub call-takes :
-      (t : Table) → Says application r t → length (form t) ≤ length old
-      → (answered (readRules application r) (form (tableRead r)) old ≡ Done (length (form t)))
+      (t : Table) → InRange r → Says application r t → length (form t) ≤ length old
+      → (callReads ≡ Taken (length (form t)) (mendedIn r))
       × (left (readRules application r) (form (tableRead r)) old ≡ form t ++ drop (length (form t)) old)
   unfolding readBlock
-  call-takes t s h =
-      let a = accepts (readRules application r) (tableRead r) t (reads-exactly application r t .1 s) in
+  call-takes t i s h =
+      let a = accepts (readRules application r) (tableRead r) t (mendedIn r) (mendedIn r) (says-accepted application r t i s) in
       let p = lent-accepted (readRules application r) (form (tableRead r)) old (a .0) (rw (a .1) h) in (
-        p .0 ∙ ap (λ (x : Table). Done (length (form x))) (a .1),
+        ap (counted (mendedIn r)) (p .0) ∙ ap (λ (x : Table). Taken (length (form x)) (mendedIn r)) (a .1),
         p .1 ∙ ap (λ (x : Table). form x ++ drop (length (form x)) old) (a .1),
       )
 
-  -- a record that the call accepts says the table whose form it hands out
+  -- a record that the call accepts says the table whose form it hands out, and the count is its own
   pub call-says :
-      (n : ℕ) → answered (readRules application r) (form (tableRead r)) old ≡ Done n
+      (n m : ℕ) → callReads ≡ Taken n m
       → Says application r (tableRead r)
       × (n ≡ length (form (tableRead r)))
+      × (m ≡ mendedIn r)
       × (left (readRules application r) (form (tableRead r)) old ≡ form (tableRead r) ++ drop (length (form (tableRead r))) old)
   unfolding readBlock
-  call-says n e =
-      let a = lent-all (readRules application r) (form (tableRead r)) old n e in (
-        reads-exactly application r (tableRead r) .0 (passes refused (accepted (tableRead r)) (a .0)),
+  call-says n m e =
+      let d = taken-done (mendedIn r) _ n m e in
+      let a = lent-all (readRules application r) (form (tableRead r)) old n (d .0) in (
+        accepted-says application r (tableRead r) (mendedIn r) (passes refused (accepted (tableRead r) (mendedIn r)) (a .0)) .0,
         a .2,
+        sym (d .1),
         lent-accepted (readRules application r) (form (tableRead r)) old (a .0) (a .1) .1,
       )

@@ -1,5 +1,6 @@
--- Block reading is exact: a record is accepted as a table exactly when it says that table. What is read is laid again into the
--- same nibbles, and what is laid is read again. Assumes nothing.
+-- Block reading is exact: a record whose two new bytes are in range is accepted as a table, with a count of mended bytes, exactly when
+-- it says that table and has that count. What is read is laid again into the same nibbles, and what is laid is read again.
+-- Assumes nothing.
 use mathlib.Core.Path.{_≡_, _∙_, refl, sym, ap, ap₂, subst}
 use mathlib.Core.Bool.{Bool, true, false}
 use mathlib.Core.Logic.{_↔_}
@@ -7,24 +8,25 @@ use mathlib.Core.List.{List, [], _∷_}
 use Prim.Native.Nat.{ℕ, _+_, _-_, _*_, _/_, _%_, _^_, _≤_, _<_}
 use native.Mathlib.Nat.{mod-eq-of-lt}
 use native.Mathlib.Omega.{arith}
-use borrow.Author.Tests.{ltb-true, lt-ltb, le-leb, eqb-true, eq-eqb}
-use lib.Dec.{eqb}
+use borrow.Author.Tests.{ltb-true, lt-ltb, le-ltb, leb-true, le-leb, eqb-true, eq-eqb}
+use lib.Dec.{eqb, ltb, leb}
 use lib.ListN.{length, take, drop, length-map, length-drop}
 use lib.Pow.{shr-lt}
 use Rattle.laws.specs.Pick.{pick}
-use Rattle.laws.proofs.Tests.{both-true, both-holds}
+use Rattle.laws.proofs.Tests.{both-true, both-holds, either-true}
 use Rattle.answer.specs.Rules.{Rule, judged, Every, none, more}
 use Rattle.answer.proofs.Judging.{passes}
 use Rattle.answer.proofs.Steps.{first-holds, others-hold}
 use Rattle.octet.specs.Decoding.{nib}
+use Rattle.octet.proofs.Hearing.{harms-le}
 use Rattle.fields.specs.Fields.{width, laid, field, parts, whole}
 use Rattle.fields.proofs.Laid.{laid-lt, field-lt, length-parts, whole-lt, whole-parts}
-use Rattle.forms.specs.Tables.{Table, known, fields, bits, control, fill, size}
-use Rattle.sums.specs.Block.{header, headOf, nibblesOf, nibbles, checksumOf, Says}
+use Rattle.forms.specs.Tables.{Table, known, numbered, fields, bits, control, fill, size}
+use Rattle.sums.specs.Block.{header, headOf, partOf, secondOf, nibblesOf, mendedIn, InRange, nibbles, checksumOf, Says}
 use Rattle.sums.specs.Sums.{checksum, sound}
 use Rattle.table.specs.Control.{tableOf}
 use Rattle.table.specs.Reading.{accepted, refused, frameRules, frontRules, wholeRules, readRules, tableRead, readBlock}
-use Rattle.table.specs.Lengths.{lengthRules}
+use Rattle.table.specs.Lengths.{blockNumbered, lengthRules}
 use Rattle.forms.proofs.Sendable.{Sendable, sendable, sends}
 use Rattle.sums.proofs.Summing.{checksum-lt}
 use Rattle.sums.proofs.Nibbles.{sound-parts, parts-sound, sound-take, sum-apart}
@@ -34,51 +36,63 @@ use Rattle.forms.proofs.Measures.{bits-of}
 -- ---- accepted: every rule holds
 
 pub accepts :
-    (rs : List Rule) (a b : Table) → judged refused rs (accepted a) ≡ accepted b → Every rs × (a ≡ b)
-accepts [] a b e = (none, cc)
-accepts (r ∷ rs) a b e = go (r .holds) refl e (accepts rs a b)
+    (rs : List Rule) (a b : Table) (m n : ℕ) → judged refused rs (accepted a m) ≡ accepted b n → Every rs × (a ≡ b) × (m ≡ n)
+accepts [] a b m n e = (none, cc, cc)
+accepts (r ∷ rs) a b m n e = go (r .holds) refl e (accepts rs a b m n)
   where
     go :
-        (h : Bool) → r .holds ≡ h → pick h (judged refused rs (accepted a)) (refused (r .number) (r .offset)) ≡ accepted b
-        → (judged refused rs (accepted a) ≡ accepted b → Every rs × (a ≡ b))
-        → Every (r ∷ rs) × (a ≡ b)
-    go true h e′ ih = (more h (ih e′ .0), ih e′ .1)
+        (h : Bool) → r .holds ≡ h → pick h (judged refused rs (accepted a m)) (refused (r .number) (r .offset)) ≡ accepted b n
+        → (judged refused rs (accepted a m) ≡ accepted b n → Every rs × (a ≡ b) × (m ≡ n))
+        → Every (r ∷ rs) × (a ≡ b) × (m ≡ n)
+    go true h e′ ih = (more h (ih e′ .0), ih e′ .1, ih e′ .2)
     go false h e′ ih = absurd (let z : _≡_ {A = ℕ} 0 1 = cc in omega arith)
 
 -- what every rule of reading says, of a record whose nibbles make n
 record Taken (application : ℕ) (r : List ℕ) (n : ℕ) : Type 0 where
   within : application < 32
-  long : length r ≡ 2 + headOf r / 32
+  long : length r ≡ 4 + headOf r / 32
+  in-range : InRange r
   ours : headOf r % 32 ≡ application
   known-kind : known (field 18 6 n) ≡ true
   clear : field 24 2 n ≡ 0
   decodes : sound (nibblesOf r) ≡ length (nibblesOf r)
   agrees : field 0 8 n ≡ checksum (headOf r) (nibblesOf r)
+  edition : numbered (field 28 16 n) ≡ true
   control-said : field 8 10 n ≡ control (tableOf n)
   size-said : headOf r / 32 ≡ size (tableOf n)
+
+-- a block of 12 bytes or more holds its number
+held-number : (blockSize block : ℕ) → 12 ≤ blockSize → blockNumbered blockSize block ≡ true → numbered block ≡ true
+held-number blockSize block h e = rw (le-ltb blockSize 12 h) at e
 
 taken : (application : ℕ) (r : List ℕ) → Every (readRules application r) → Taken application r (whole 4 (nibblesOf r))
 unfolding frameRules frontRules wholeRules lengthRules tableOf
 taken application r e₀ =
     let e₁ = others-hold e₀ in
     let e₂ = others-hold e₁ in
-    let e₅ = others-hold (others-hold (others-hold e₂)) in
-    let e₇ = others-hold (others-hold e₅) in
-    let e₈ = others-hold e₇ in
+    let e₃ = others-hold e₂ in
+    let e₆ = others-hold (others-hold (others-hold e₃)) in
+    let e₈ = others-hold (others-hold e₆) in
     let e₉ = others-hold e₈ in
+    let e₁₀ = others-hold e₉ in
+    let e₁₁ = others-hold e₁₀ in
     let n = whole 4 (nibblesOf r) in
-    let p = both-true (known (field 18 6 n)) (eqb (field 24 2 n) 0) (first-holds e₅) in
-    let q = both-true (eqb (field 8 10 n) (control (tableOf n))) (eqb (headOf r / 32) (size (tableOf n))) (first-holds e₉) in
+    let o = both-true (leb (partOf r) 5) (eqb (secondOf r) 0) (first-holds e₂) in
+    let p = both-true (known (field 18 6 n)) (eqb (field 24 2 n) 0) (first-holds e₆) in
+    let q = both-true (eqb (field 8 10 n) (control (tableOf n))) (eqb (headOf r / 32) (size (tableOf n))) (first-holds e₁₁) in
+    let size-said : headOf r / 32 ≡ size (tableOf n) = eqb-true (headOf r / 32) (size (tableOf n)) (q .1) in
     record {
       within = ltb-true application 32 (first-holds e₀);
-      long = eqb-true (length r) (2 + headOf r / 32) (first-holds e₁);
-      ours = eqb-true (headOf r % 32) application (first-holds e₂);
+      long = eqb-true (length r) (4 + headOf r / 32) (first-holds e₁);
+      in-range = record { part = leb-true (partOf r) 5 (o .0); second = eqb-true (secondOf r) 0 (o .1) };
+      ours = eqb-true (headOf r % 32) application (first-holds e₃);
       known-kind = p .0;
       clear = eqb-true (field 24 2 n) 0 (p .1);
-      decodes = eqb-true (sound (nibblesOf r)) (length (nibblesOf r)) (first-holds e₇);
-      agrees = eqb-true (field 0 8 n) (checksum (headOf r) (nibblesOf r)) (first-holds e₈);
+      decodes = eqb-true (sound (nibblesOf r)) (length (nibblesOf r)) (first-holds e₈);
+      agrees = eqb-true (field 0 8 n) (checksum (headOf r) (nibblesOf r)) (first-holds e₉);
+      edition = held-number (headOf r / 32) (field 28 16 n) (omega (arith, size-said, bits-of (tableOf n))) (first-holds e₁₀);
       control-said = eqb-true (field 8 10 n) (control (tableOf n)) (q .0);
-      size-said = eqb-true (headOf r / 32) (size (tableOf n)) (q .1);
+      size-said = size-said;
     }
 
 unfold-nibbles :
@@ -106,9 +120,9 @@ says application r k =
     let t = tableOf n in
     let reserved = field 27 1 n in
     let filling = n / 2 ^ bits t in
-    let s : Sendable t = read-sendable n (k .known-kind) (k .control-said) in
+    let s : Sendable t = read-sendable n (k .known-kind) (k .edition) (k .control-said) in
     let long : length ns ≡ size t =
-    unfold nibblesOf in omega (arith, length-map (drop 2 r) nib, length-drop 2 r, k .long, k .size-said) in
+    unfold nibblesOf in omega (arith, length-map (drop 4 r) nib, length-drop 4 r, k .long, k .size-said) in
     let wide : length ns * 4 ≡ fill t + bits t = omega arith in
     let below : n < 2 ^ (fill t + bits t) = subst (λ (x : ℕ). n < 2 ^ x) wide (whole-lt 4 ns) in
     let h : headOf r ≡ laid (header application (size t)) 0 =
@@ -182,6 +196,10 @@ module _ (application : ℕ) (r : List ℕ) (t : Table) (s : Says application r 
   unfolding tableOf
   kind-said = ap (λ (x : Table). x .kind) (sym table-said)
 
+  block-said : t .block ≡ field 28 16 (whole 4 (nibblesOf r))
+  unfolding tableOf
+  block-said = ap (λ (x : Table). x .block) (sym table-said)
+
   sum-said : sum % 256 ≡ checksum (headOf r) (nibblesOf r)
   unfolding sum checksumOf
   sum-said =
@@ -191,21 +209,23 @@ module _ (application : ℕ) (r : List ℕ) (t : Table) (s : Says application r 
       ∙ sum-apart head 0 own (s .reserved) (s .filling) t
       ∙ sym (ap₂ checksum (s .head) (s .body))
 
-  said : Taken application r (whole 4 (nibblesOf r))
+  said : InRange r → Taken application r (whole 4 (nibblesOf r))
   unfolding block sum
-  said =
+  said i =
       let head = headed application (size t) (headOf r) (s .within) (omega (arith, can .control-fits)) (s .head) in
-      let long : length r ≡ 2 + size t =
-      unfold nibblesOf in omega (arith, long-said, length-map (drop 2 r) nib, length-drop 2 r, bits-of t) in
+      let long : length r ≡ 4 + size t =
+      unfold nibblesOf in omega (arith, long-said, length-map (drop 4 r) nib, length-drop 4 r, bits-of t) in
       let c = control t in
       record {
         within = s .within;
-        long = long ∙ ap (λ (x : ℕ). 2 + x) (sym (head .1));
+        long = long ∙ ap (λ (x : ℕ). 4 + x) (sym (head .1));
+        in-range = i;
         ours = head .0;
         known-kind = rw kind-said at (can .kind-known);
         clear = rw whole-said (at-access sum c (s .reserved) (s .filling) t can);
         decodes = ap sound (s .body) ∙ nibbles-sound sum (s .reserved) (s .filling) t ∙ sym long-said;
         agrees = rw whole-said (at-sum sum c (s .reserved) (s .filling) t can) ∙ sum-said;
+        edition = rw block-said at (can .edition);
         control-said =
             rw table-said (rw whole-said (at-control sum c (s .reserved) (s .filling) t can ∙ mod-eq-of-lt (can .control-fits)));
         size-said = rw table-said (head .1);
@@ -221,12 +241,15 @@ every application r k =
     let t = tableOf n in
     let big : 16 ≤ size t = omega (arith, bits-of t) in
     let long : length ns ≡ headOf r / 32 =
-    unfold nibblesOf in omega (arith, length-map (drop 2 r) nib, length-drop 2 r, k .long) in
+    unfold nibblesOf in omega (arith, length-map (drop 4 r) nib, length-drop 4 r, k .long) in
     let eight : 8 ≤ headOf r / 32 = omega (arith, k .size-said) in
     let front = sound-take 8 ns (k .decodes) (omega arith) in
+    let numbers : blockNumbered (headOf r / 32) (field 28 16 n) ≡ true = rw (k .edition) (either-true (ltb (headOf r / 32) 12)) in
     let even : headOf r / 32 % 2 ≡ 0 = omega (arith, k .size-said) in
     more (lt-ltb application 32 (k .within))
-    (more (eq-eqb (length r) (2 + headOf r / 32) (k .long))
+    (more (eq-eqb (length r) (4 + headOf r / 32) (k .long))
+    (more
+    (both-holds (leb (partOf r) 5) (eqb (secondOf r) 0) (le-leb (partOf r) 5 (k .in-range .part)) (eq-eqb (secondOf r) 0 (k .in-range .second)))
     (more (eq-eqb (headOf r % 32) application (k .ours))
     (more (le-leb 8 (headOf r / 32) eight)
     (more (eq-eqb (sound (take 8 ns)) 8 front)
@@ -234,32 +257,57 @@ every application r k =
     (more (eq-eqb (headOf r / 32 % 2) 0 even)
     (more (eq-eqb (sound ns) (length ns) (k .decodes))
     (more (eq-eqb (field 0 8 n) (checksum (headOf r) ns) (k .agrees))
+    (more numbers
     (more
     (both-holds (eqb (field 8 10 n) (control t)) (eqb (headOf r / 32) (size t)) (eq-eqb (field 8 10 n) (control t) (k .control-said))
     (eq-eqb (headOf r / 32) (size t) (k .size-said)))
-    none)))))))))
+    none)))))))))))
 
--- ---- the second demand: a table of our application in clear is accepted exactly when its bytes decode, its checksum agrees and
--- its lengths fit
+-- ---- the second demand: of a record whose two new bytes are in range, a table of our application in clear is accepted, with a count,
+-- exactly when its bytes decode, its checksum agrees and its lengths fit, and the count is that of its mended bytes
+
+-- what is accepted, whatever the record: it says the table, the count is its own, and its two bytes are in range
+pub accepted-says :
+    (application : ℕ) (r : List ℕ) (t : Table) (c : ℕ) → readBlock application r ≡ accepted t c
+    → Says application r t × (c ≡ mendedIn r) × InRange r
+unfolding readBlock
+accepted-says application r t c e =
+    let a = accepts (readRules application r) (tableRead r) t (mendedIn r) c e in
+    let k = taken application r (a .0) in
+    (subst (Says application r) (a .1) (says application r k), sym (a .2), k .in-range)
+
+pub says-accepted :
+    (application : ℕ) (r : List ℕ) (t : Table) → InRange r → Says application r t → readBlock application r ≡ accepted t (mendedIn r)
+unfolding readBlock
+says-accepted application r t i s =
+    passes refused (accepted (tableRead r) (mendedIn r)) (every application r (said application r t s i))
+    ∙ ap (λ (x : Table). accepted x (mendedIn r)) (table-said application r t s)
 
 pub reads-exactly :
-    (application : ℕ) (r : List ℕ) (t : Table) → (readBlock application r ≡ accepted t) ↔ Says application r t
-unfolding readBlock
-reads-exactly application r t = (to, from)
+    (application : ℕ) (r : List ℕ) (t : Table) (c : ℕ) → InRange r
+    → (readBlock application r ≡ accepted t c) ↔ (Says application r t × (c ≡ mendedIn r))
+reads-exactly application r t c i = (to, from)
   where
-    to : readBlock application r ≡ accepted t → Says application r t
-    to e =
-        let a = accepts (readRules application r) (tableRead r) t e in
-        subst (Says application r) (a .1) (says application r (taken application r (a .0)))
+    to : readBlock application r ≡ accepted t c → Says application r t × (c ≡ mendedIn r)
+    to e = let a = accepted-says application r t c e in (a .0, a .1)
 
-    from : Says application r t → readBlock application r ≡ accepted t
-    from s =
-        passes refused (accepted (tableRead r)) (every application r (said application r t s))
-        ∙ ap accepted (table-said application r t s)
+    from : Says application r t × (c ≡ mendedIn r) → readBlock application r ≡ accepted t c
+    from s = says-accepted application r t i (s .0) ∙ ap (accepted t) (sym (s .1))
+
+-- a count is at most 5 and the greatest size that a table can have
+pub mended-most : (application : ℕ) (r : List ℕ) → Every (readRules application r) → mendedIn r ≤ 2051
+unfolding mendedIn
+mended-most application r e =
+    let k = taken application r e in
+    let n = whole 4 (nibblesOf r) in
+    let harmed = harms-le (drop 4 r) in
+    let c : control (tableOf n) < 1024 = rw (k .control-said) at (field-lt 8 10 n) in
+    omega (arith, harmed, length-drop 4 r, k .long, k .size-said, k .in-range .part)
 
 -- in particular each of its bytes decodes
 pub decodes-all :
-    (application : ℕ) (r : List ℕ) (t : Table) → readBlock application r ≡ accepted t → sound (nibblesOf r) ≡ length (nibblesOf r)
+    (application : ℕ) (r : List ℕ) (t : Table) (c : ℕ) → readBlock application r ≡ accepted t c
+    → sound (nibblesOf r) ≡ length (nibblesOf r)
 unfolding readBlock
-decodes-all application r t e =
-    taken application r (accepts (readRules application r) (tableRead r) t e .0) .decodes
+decodes-all application r t c e =
+    taken application r (accepts (readRules application r) (tableRead r) t (mendedIn r) c e .0) .decodes

@@ -9,7 +9,7 @@ use lib.ListN.{length}
 use lib.Pow.{shr-shr}
 use Rattle.fields.specs.Fields.{alike, width, laid, fitting, field, parts}
 use Rattle.fields.proofs.Laid.{lay, lay-parts, parts-laid, laid-append, laid-past, laid-drop, laid-at, laid-first, length-parts, width-row, fitting-append, fitting-parts, field-first, field-lt}
-use Rattle.forms.specs.Tables.{Descriptor, Table, known, per, entries, loops, fields, bits, control, entire}
+use Rattle.forms.specs.Tables.{Descriptor, Table, known, numbered, per, entries, loops, fields, bits, control, entire}
 use Rattle.table.specs.Control.{descriptorsOf, tableOf}
 use Rattle.forms.proofs.Measures.{per-pos, width-loops, bits-of}
 use Rattle.forms.proofs.Sendable.{Sendable, Sound, all-back}
@@ -107,14 +107,17 @@ fitting-read kind (suc k) n =
     )
     (fitting-read kind k up)
 
--- a table that is read can be sent, where it is of a kind that is read and its control size fits
-pub read-sendable : (n : ℕ) → known (field 18 6 n) ≡ true → field 8 10 n ≡ control (tableOf n) → Sendable (tableOf n)
+-- a table that is read can be sent, where it is of a kind that is read, its number is one of this edition and its control size fits
+pub read-sendable :
+    (n : ℕ) → known (field 18 6 n) ≡ true → numbered (field 28 16 n) ≡ true → field 8 10 n ≡ control (tableOf n)
+    → Sendable (tableOf n)
 unfolding tableOf
-read-sendable n k e =
+read-sendable n k m e =
     let kind = field 18 6 n in
     let c = field 52 6 n in
     record {
       kind-known = k;
+      edition = m;
       entire-all = entire-read kind c (n / 2 ^ 58);
       control-fits = rw e at (field-lt 8 10 n);
       kind-fits = field-lt 18 6 n;

@@ -20,41 +20,72 @@ use Rattle.table.specs.Reading.{frameRules, frontRules, wholeRules}
 
 -- ---- the frame
 
-module _ (application len head : ℕ) (a : Answer) where
-  pub frame-16 : 32 ≤ application → judged refused (frameRules application len head) a ≡ refused 16 0
+module _ (application len head part second : ℕ) (a : Answer) where
+  pub frame-16 : 32 ≤ application → judged refused (frameRules application len head part second) a ≡ refused 16 0
   unfolding frameRules
   frame-16 h = rw (le-ltb application 32 h)
 
   module _ (h₁ : application < 32) where
-    pub frame-13 : (len ≡ 2 + head / 32 → ⊥) → judged refused (frameRules application len head) a ≡ refused 13 0
+    pub frame-13 : (len ≡ 4 + head / 32 → ⊥) → judged refused (frameRules application len head part second) a ≡ refused 13 0
     unfolding frameRules
-    frame-13 h = rw (lt-ltb application 32 h₁, ne-eqb len (2 + head / 32) h)
+    frame-13 h = rw (lt-ltb application 32 h₁, ne-eqb len (4 + head / 32) h)
 
-    module _ (h₂ : len ≡ 2 + head / 32) where
-      pub frame-12 : (head % 32 ≡ application → ⊥) → judged refused (frameRules application len head) a ≡ refused 12 0
+    module _ (h₂ : len ≡ 4 + head / 32) where
+      pub frame-part : 5 < part → judged refused (frameRules application len head part second) a ≡ refused 16 0
       unfolding frameRules
-      frame-12 h = rw (lt-ltb application 32 h₁, eq-eqb len (2 + head / 32) h₂, ne-eqb (head % 32) application h)
+      frame-part h = rw (lt-ltb application 32 h₁, eq-eqb len (4 + head / 32) h₂, lt-leb part 5 h)
 
-      module _ (h₃ : head % 32 ≡ application) where
-        pub frame-13′ : head / 32 < 8 → judged refused (frameRules application len head) a ≡ refused 13 0
+      module _ (h₃ : part ≤ 5) where
+        pub frame-second : (second ≡ 0 → ⊥) → judged refused (frameRules application len head part second) a ≡ refused 16 0
         unfolding frameRules
-        frame-13′ h =
-            rw (lt-ltb application 32 h₁, eq-eqb len (2 + head / 32) h₂, eq-eqb (head % 32) application h₃, lt-leb 8 (head / 32) h)
+        frame-second h = rw (lt-ltb application 32 h₁, eq-eqb len (4 + head / 32) h₂, le-leb part 5 h₃, ne-eqb second 0 h)
 
-        pub frame-done : 8 ≤ head / 32 → judged refused (frameRules application len head) a ≡ a
-        unfolding frameRules
-        frame-done h =
-            rw (lt-ltb application 32 h₁, eq-eqb len (2 + head / 32) h₂, eq-eqb (head % 32) application h₃, le-leb 8 (head / 32) h)
+        module _ (h₄ : second ≡ 0) where
+          pub frame-12 : (head % 32 ≡ application → ⊥) → judged refused (frameRules application len head part second) a ≡ refused 12 0
+          unfolding frameRules
+          frame-12 h =
+              rw (
+                lt-ltb application 32 h₁,
+                eq-eqb len (4 + head / 32) h₂,
+                le-leb part 5 h₃,
+                eq-eqb second 0 h₄,
+                ne-eqb (head % 32) application h,
+              )
+
+          module _ (h₅ : head % 32 ≡ application) where
+            pub frame-13′ : head / 32 < 8 → judged refused (frameRules application len head part second) a ≡ refused 13 0
+            unfolding frameRules
+            frame-13′ h =
+                rw (
+                  lt-ltb application 32 h₁,
+                  eq-eqb len (4 + head / 32) h₂,
+                  le-leb part 5 h₃,
+                  eq-eqb second 0 h₄,
+                  eq-eqb (head % 32) application h₅,
+                  lt-leb 8 (head / 32) h,
+                )
+
+            pub frame-done : 8 ≤ head / 32 → judged refused (frameRules application len head part second) a ≡ a
+            unfolding frameRules
+            frame-done h =
+                rw (
+                  lt-ltb application 32 h₁,
+                  eq-eqb len (4 + head / 32) h₂,
+                  le-leb part 5 h₃,
+                  eq-eqb second 0 h₄,
+                  eq-eqb (head % 32) application h₅,
+                  le-leb 8 (head / 32) h,
+                )
 
 -- a frame that is taken
 pub framed :
-    (application len head n m : ℕ) → judged refused (frameRules application len head) (Done n) ≡ Done m
-    → (len ≡ 2 + head / 32) × (8 ≤ head / 32)
+    (application len head part second n m : ℕ) → judged refused (frameRules application len head part second) (Done n) ≡ Done m
+    → (len ≡ 4 + head / 32) × (8 ≤ head / 32)
 unfolding frameRules
-framed application len head n m e =
-    let all = done-every (frameRules application len head) n m e in (
-      eqb-true len (2 + head / 32) (first-holds (others-hold all)),
-      leb-true 8 (head / 32) (first-holds (others-hold (others-hold (others-hold all)))),
+framed application len head part second n m e =
+    let all = done-every (frameRules application len head part second) n m e in (
+      eqb-true len (4 + head / 32) (first-holds (others-hold all)),
+      leb-true 8 (head / 32) (first-holds (others-hold (others-hold (others-hold (others-hold all))))),
     )
 
 -- ---- the front, with what it is judged by: how many of the first 8 bytes decode, the kind, the access
@@ -62,7 +93,7 @@ framed application len head n m e =
 module _ (blockSize : ℕ) (ns : List ℕ) (a : Answer) where
   pub front-10 :
       (sound (take 8 ns) ≡ 8 → ⊥)
-      → judged refused (frontRules blockSize ns) a ≡ refused 10 (2 + sound (take 8 ns))
+      → judged refused (frontRules blockSize ns) a ≡ refused 10 (4 + sound (take 8 ns))
   unfolding frontRules
   front-10 h = rw (ne-eqb (sound (take 8 ns)) 8 h)
 
@@ -91,7 +122,7 @@ module _ (blockSize : ℕ) (ns : List ℕ) (a : Answer) where
 -- ---- the whole block
 
 module _ (head : ℕ) (ns : List ℕ) (a : Answer) where
-  pub whole-10 : (sound ns ≡ length ns → ⊥) → judged refused (wholeRules head ns) a ≡ refused 10 (2 + sound ns)
+  pub whole-10 : (sound ns ≡ length ns → ⊥) → judged refused (wholeRules head ns) a ≡ refused 10 (4 + sound ns)
   unfolding wholeRules
   whole-10 h = rw (ne-eqb (sound ns) (length ns) h)
 

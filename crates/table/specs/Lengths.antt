@@ -1,15 +1,21 @@
--- The rule of block reading that judges lengths: 14 (SCOPE 3.6).
+-- The rules of block reading that come last but for the room: 22 for the block number, 14 for the lengths (SCOPE 3.6, 22.3).
+use mathlib.Core.Bool.{Bool}
 use mathlib.Core.List.{List, [], _∷_}
 use Prim.Native.Nat.{ℕ}
-use lib.Dec.{eqb}
-use Rattle.laws.specs.Pick.{both}
+use lib.Dec.{eqb, ltb}
+use Rattle.laws.specs.Pick.{both, either}
 use Rattle.answer.specs.Rules.{Rule, rule}
 use Rattle.fields.specs.declared.Opening.{Opening}
-use Rattle.forms.specs.Tables.{control, size}
+use Rattle.forms.specs.Tables.{numbered, control, size}
 use Rattle.table.specs.Control.{tableBy}
 
--- 14: loops, control size and fill fit where both sizes are those of the table that opens with these fields, and whose loops are
--- those of control data n
+-- a block of so many bytes is too short to hold a block number, or holds one of this edition
+abbrev pub blockNumbered : ℕ → ℕ → Bool
+blockNumbered blockSize block = either (ltb blockSize 12) (numbered block)
+
+-- 22: by the block's size, whatever its control size is. 14: loops, control size and fill fit where both sizes are those of the table that
+-- opens with these fields, and whose loops are those of control data n
 unfoldable pub lengthRules : ℕ → Opening → ℕ → List Rule
 lengthRules blockSize o n =
-    rule (both (eqb (o .control) (control (tableBy o n))) (eqb blockSize (size (tableBy o n)))) 14 0 ∷ []
+    rule (blockNumbered blockSize (o .block)) 22 0
+    ∷ rule (both (eqb (o .control) (control (tableBy o n))) (eqb blockSize (size (tableBy o n)))) 14 0 ∷ []

@@ -1,4 +1,5 @@
--- Block reading: its rules in the order of SCOPE 3.6, and the table that it gives.
+-- Block reading: its rules in the order of SCOPE 3.6, with 19.4 and 22.3, and the table and the count of mended bytes that it gives.
+use mathlib.Core.Bool.{Bool}
 use mathlib.Core.List.{List, [], _∷_, _++_}
 use Prim.Native.Nat.{ℕ, _+_, _%_}
 use lib.Dec.{eqb, ltb, leb}
@@ -12,13 +13,19 @@ use Rattle.forms.specs.Tables.{Table, known}
 use Rattle.table.specs.Control.{tableOf}
 use Rattle.table.specs.Lengths.{lengthRules}
 use Rattle.sums.specs.Sums.{checksum, sound}
-use Rattle.sums.specs.Block.{headLength, headOf, nibblesOf}
+use Rattle.sums.specs.Block.{headLength, headOf, partOf, secondOf, nibblesOf, mendedIn}
 
--- 16, 13 for the record's length, 12 for the application, 13 for a size under 8: the record as it is lent, by its length and its head
-unfoldable pub frameRules : ℕ → ℕ → ℕ → List Rule
-frameRules application len head =
+-- the two bytes behind a record's 16 bits are in range: a part of at most 5, and 0 (SCOPE 19.4)
+abbrev pub ranged : ℕ → ℕ → Bool
+ranged part second = both (leb part 5) (eqb second 0)
+
+-- 16, 13 for the record's length, 16 for its two bytes, 12 for the application, 13 for a size under 8: the record as it is lent, by its
+-- length, its head and those two bytes
+unfoldable pub frameRules : ℕ → ℕ → ℕ → ℕ → ℕ → List Rule
+frameRules application len head part second =
     rule (ltb application 32) 16 0
     ∷ rule (eqb len (headLength + sizeOf head)) 13 0
+    ∷ rule (ranged part second) 16 0
     ∷ rule (eqb (applicationOf head) application) 12 0
     ∷ rule (leb 8 (sizeOf head)) 13 0
     ∷ []
@@ -45,21 +52,22 @@ bodyRules head ns =
     let n = whole 4 ns in
     frontRules (sizeOf head) ns ++ (wholeRules head ns ++ lengthRules (sizeOf head) (openingIn n) n)
 
--- for a record of so many bytes, this head and these nibbles
-abbrev pub rulesFor : ℕ → ℕ → ℕ → List ℕ → List Rule
-rulesFor application len head ns = frameRules application len head ++ bodyRules head ns
+-- the frame of a record
+abbrev pub framing : ℕ → List ℕ → List Rule
+framing application r = frameRules application (length r) (headOf r) (partOf r) (secondOf r)
 
 abbrev pub readRules : ℕ → List ℕ → List Rule
-readRules application r = rulesFor application (length r) (headOf r) (nibblesOf r)
+readRules application r = framing application r ++ bodyRules (headOf r) (nibblesOf r)
 
 -- the table that reading finds in r
 abbrev pub tableRead : List ℕ → Table
 tableRead r = tableOf (whole 4 (nibblesOf r))
 
+-- a table with the count of its block's mended bytes, or a number and an offset
 pub data Outcome : Type 0 where
-  accepted : Table → Outcome
+  accepted : Table → ℕ → Outcome
   refused : ℕ → ℕ → Outcome
 
 -- what reading makes of a record, room apart
 unfoldable pub readBlock : ℕ → List ℕ → Outcome
-readBlock application r = judged refused (readRules application r) (accepted (tableRead r))
+readBlock application r = judged refused (readRules application r) (accepted (tableRead r) (mendedIn r))

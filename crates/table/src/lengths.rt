@@ -1,4 +1,5 @@
-// The last rules of block reading: that the loops, the control size and the fill of a block fit, and what room the table's form then takes.
+// The last rules of block reading: that the block number is one of this edition, that the loops, the control size and the fill of a block
+// fit, and what room the table's form then takes.
 use answer::Answer;
 use fields::Opening;
 use forms::HEADING;
@@ -16,16 +17,20 @@ ghost use Rattle.forms.specs.Form.{form};
 ghost use Rattle.fields.specs.Fields.{width};
 ghost use Rattle.fields.specs.Compound.{compound};
 ghost use Rattle.table.specs.Control.{tableBy, descriptorsOf};
-ghost use Rattle.table.specs.Lengths.{lengthRules};
+ghost use Rattle.table.specs.Lengths.{blockNumbered, lengthRules};
 ghost use Rattle.table.specs.Internal.{tableBits};
 
-// 14: where loops, control size and fill fit, the bytes of the table's form. The block opens with these fields.
+// 22, 14: where the number is one of this edition, and loops, control size and fill fit, the bytes of the table's form. The block opens
+// with these fields.
 pub(crate) fn judge_lengths(size: usize, opening: Opening, body: &[u8]) -> Answer
     ensures { λ r.
         ⌜ r
         ≡ judged refused (lengthRules size opening (compound (now (body .entry))))
         (Done (length (form (tableBy opening (compound (now (body .entry))))))) ⌝ }
 {
+    if !is_numbered(size, opening.block as usize) {
+        return answer::refuse(22, 0);
+    }
     let count = opening.count as usize;
     let bits = measure(opening.kind as usize, count, body);
     let control = (bits + 7) / 8;
@@ -36,6 +41,16 @@ pub(crate) fn judge_lengths(size: usize, opening: Opening, body: &[u8]) -> Answe
         return answer::refuse(14, 0);
     }
     Answer::Done(OPENING + (bits - LOOPS + 6 * count) / 8)
+}
+
+// Whether a block of this size has a block number of this edition, or is too short to have one.
+fn is_numbered(size: usize, block: usize) -> bool
+    ensures { λ r. ⌜ r ≡ blockNumbered size block ⌝ }
+{
+    if size < 12 {
+        return true;
+    }
+    forms::numbered(block)
 }
 
 // The bits of a table with so many descriptors of a kind, by the counts in its loops as they stand.

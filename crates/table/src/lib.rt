@@ -1,5 +1,5 @@
-// Block reading: the rules by which a Subtitle or Language block is taken, and the table that it gives
-// (SCOPE 3.6, 12).
+// Block reading: the rules by which a Subtitle or Language block is taken, the table that it gives
+// (SCOPE 3.6, 12), and how many of its bytes were mended (SCOPE 19).
 mod lengths;
 mod spelling;
 
@@ -15,17 +15,45 @@ ghost use Rattle.octet.specs.Decoding.{nib};
 ghost use Rattle.forms.specs.Form.{form};
 ghost use Rattle.fields.specs.Opening.{openingIn};
 ghost use Rattle.fields.specs.Compound.{compound};
-ghost use Rattle.sums.specs.Block.{headOf};
-ghost use Rattle.table.specs.Reading.{frameRules, frontRules, wholeRules, bodyRules, readRules, tableRead};
+ghost use Rattle.sums.specs.Block.{headOf, mendedIn};
+ghost use Rattle.table.specs.Reading.{framing, frontRules, wholeRules, bodyRules, readRules, tableRead};
+ghost use Rattle.table.specs.Values.{counted};
 ghost use Rattle.table.specs.Control.{tableOf};
 use answer::Answer;
+use answer::Refusal;
 use blocks::HEAD;
 use fields::Opening;
 
+pub enum Read {
+    // Accepted: so many bytes, the table's form, stand at the front of the output, and the rest of it is as
+    // before; and so many of the block's bytes were mended.
+    Taken { written: usize, mended: u16 },
+    Refused(Refusal),
+}
+
 // The table of a block of this application: its form is written to the front of `out`. Each protected
-// byte is decoded at most five times: for the tests that it can be, for the sum, and for fields, of which
-// two may share a byte.
-pub fn read_block(application: u8, rec: &[u8], out: &mut [u8]) -> Answer
+// byte is decoded at most six times: for the tests that it can be, for the sum, for the count, and for
+// fields, of which two may share a byte.
+pub fn read_block(application: u8, rec: &[u8], out: &mut [u8]) -> Read
+    ensures answer { λ r.
+        ⌜ r
+        ≡ counted (mendedIn (now (rec .entry)))
+        (answered (readRules application (now (rec .entry))) (form (tableRead (now (rec .entry)))) (now (out .entry))) ⌝ }
+    ensures output { λ _.
+        ⌜ now (out .exit)
+        ≡ left (readRules application (now (rec .entry))) (form (tableRead (now (rec .entry)))) (now (out .entry)) ⌝ }
+{
+    match read_form(application, rec, out) {
+        Answer::Refused(why) => Read::Refused(why),
+        Answer::Done(written) => {
+            let mended = sums::mended_in(rec) as u16;
+            Read::Taken { written, mended }
+        }
+    }
+}
+
+// The same but for the count.
+fn read_form(application: u8, rec: &[u8], out: &mut [u8]) -> Answer
     ensures answer { λ r.
         ⌜ r ≡ answered (readRules application (now (rec .entry))) (form (tableRead (now (rec .entry)))) (now (out .entry)) ⌝ }
     ensures output { λ _.
@@ -38,12 +66,9 @@ pub fn read_block(application: u8, rec: &[u8], out: &mut [u8]) -> Answer
     }
 }
 
-// 16, 13, 12, 13: the record as it is lent. Where it is taken, the head's 16 bits.
+// 16, 13, 16, 12, 13: the record as it is lent. Where it is taken, the head's 16 bits.
 fn judge_frame(application: u8, rec: &[u8]) -> Answer
-    ensures { λ r.
-        ⌜ r
-        ≡ judged refused (frameRules application (length (now (rec .entry))) (headOf (now (rec .entry))))
-        (Done (headOf (now (rec .entry)))) ⌝ }
+    ensures { λ r. ⌜ r ≡ judged refused (framing application (now (rec .entry))) (Done (headOf (now (rec .entry)))) ⌝ }
 {
     if 32 <= application {
         return answer::refuse(16, 0);
@@ -51,6 +76,12 @@ fn judge_frame(application: u8, rec: &[u8]) -> Answer
     let head = head_of(rec);
     if rec.len() != HEAD + head / 32 {
         return answer::refuse(13, 0);
+    }
+    if 5 < rec[2] {
+        return answer::refuse(16, 0);
+    }
+    if rec[3] != 0 {
+        return answer::refuse(16, 0);
     }
     if head % 32 != application as usize {
         return answer::refuse(12, 0);

@@ -1,11 +1,11 @@
 -- A record whose checksum is put in last is the table's record. Assumes nothing.
 use mathlib.Core.Path.{_≡_, _∙_, refl, sym, ap, ap₂, subst}
 use mathlib.Core.Bool.{true}
-use mathlib.Core.List.{List, _∷_, _++_, map, append-assoc}
+use mathlib.Core.List.{List, [], _∷_, _++_, map, append-assoc}
 use Prim.Native.Nat.{ℕ, suc, _+_, _-_, _*_, _/_, _%_, _≤_, _<_}
 use native.Mathlib.Omega.{arith}
 use borrow.Author.Tests.{ltb-true}
-use lib.ListN.{length, length-append, take, drop, set, length-map, length-set}
+use lib.ListN.{length, take, drop, set, length-map, length-set}
 use lib.Seq.{sets, sets-eq, set-comm, set-set, take-at, drop-at, length-take-le}
 use Rattle.laws.proofs.Runs.{set-sets}
 use Rattle.answer.specs.Rules.{judged}
@@ -17,7 +17,7 @@ use Rattle.octet.specs.Decoding.{nib}
 use Rattle.fields.specs.Fields.{Field, laid, parts}
 use Rattle.fields.proofs.Laid.{length-parts}
 use Rattle.forms.specs.Tables.{Table, fields, control, size, fits}
-use Rattle.sums.specs.Block.{header, nibbles, checksumOf, recordWith, recordOf}
+use Rattle.sums.specs.Block.{header, nibbles, checksumOf, blockWith, recordOf}
 use Rattle.sums.specs.Sums.{checksum}
 use Rattle.forms.specs.Writing.{formRules, writeRules}
 use Rattle.forms.specs.Form.{tableIn}
@@ -58,22 +58,22 @@ nibbles-split sum reserved filling t h =
     ∙ ap (λ (l : List ℕ). sum % 16 ∷ sum / 16 % 16 ∷ l) same
 
 -- the bytes of a run of stores
-stored : (l : List ℕ) (vs : List ℕ) → 2 + length vs ≤ length l → take (length vs) (drop 2 (sets l 2 vs)) ≡ vs
+stored : (l : List ℕ) (vs : List ℕ) → 4 + length vs ≤ length l → take (length vs) (drop 4 (sets l 4 vs)) ≡ vs
 stored l vs h =
-    let rest = drop (2 + length vs) l in
-    let two : length (take 2 l) ≡ 2 = length-take-le 2 l (omega arith) in
-    ap (λ (x : List ℕ). take (length vs) (drop 2 x)) (sets-eq vs l 2 h ∙ append-assoc (take 2 l) vs rest)
-    ∙ ap (take (length vs)) (drop-at (take 2 l) (vs ++ rest) 2 two)
+    let rest = drop (4 + length vs) l in
+    let four : length (take 4 l) ≡ 4 = length-take-le 4 l (omega arith) in
+    ap (λ (x : List ℕ). take (length vs) (drop 4 x)) (sets-eq vs l 4 h ∙ append-assoc (take 4 l) vs rest)
+    ∙ ap (take (length vs)) (drop-at (take 4 l) (vs ++ rest) 4 four)
     ∙ take-at vs rest (length vs) refl
 
 -- two stores over two
-two-over : (l : List ℕ) (z x y : ℕ) → set (set (set (set l 2 z) 3 z) 2 x) 3 y ≡ set (set l 2 x) 3 y
+two-over : (l : List ℕ) (z x y : ℕ) → set (set (set (set l 4 z) 5 z) 4 x) 5 y ≡ set (set l 4 x) 5 y
 two-over l z x y =
-    ap (λ (m : List ℕ). set m 3 y) (set-comm (set l 2 z) 3 2 z x (λ e. omega arith))
-    ∙ set-set (set (set l 2 z) 2 x) 3 z y
-    ∙ ap (λ (m : List ℕ). set m 3 y) (set-set l 2 z x)
+    ap (λ (m : List ℕ). set m 5 y) (set-comm (set l 4 z) 5 4 z x (λ e. omega arith))
+    ∙ set-set (set (set l 4 z) 4 x) 5 z y
+    ∙ ap (λ (m : List ℕ). set m 5 y) (set-set l 4 z x)
 
-module _ (application head : ℕ) (t : Table) (out : List ℕ) (e : head ≡ laid (header application (size t)) 0) (room : 2 + size t ≤ length out) where
+module _ (application head : ℕ) (t : Table) (out : List ℕ) (e : head ≡ laid (header application (size t)) 0) (room : 4 + size t ≤ length out) where
   ns : List ℕ
   ns = nibbles 0 0 0 t
 
@@ -81,18 +81,18 @@ module _ (application head : ℕ) (t : Table) (out : List ℕ) (e : head ≡ lai
   sum = checksumOf application 0 0 t
 
   begun : List ℕ
-  begun = set (set out 0 (head % 256)) 1 (head / 256 % 256)
+  begun = sets out 0 (head % 256 ∷ head / 256 ∷ 0 ∷ 0 ∷ [])
 
   long : length (map image ns) ≡ size t
   unfolding ns
   long = length-nibbles 0 0 0 t
 
-  summed : sumIn head (size t) (sets begun 2 (map image ns)) ≡ sum
+  summed : sumIn head (size t) (sets begun 4 (map image ns)) ≡ sum
   unfolding ns sum begun checksumOf
   summed =
-      let fits : 2 + length (map image ns) ≤ length begun = simp length-set (omega (arith, long)) in
-      let body : take (size t) (drop 2 (sets begun 2 (map image ns))) ≡ map image ns =
-      ap (λ (k : ℕ). take k (drop 2 (sets begun 2 (map image ns)))) (sym long) ∙ stored begun (map image ns) fits in
+      let fits : 4 + length (map image ns) ≤ length begun = simp length-set (omega (arith, long)) in
+      let body : take (size t) (drop 4 (sets begun 4 (map image ns))) ≡ map image ns =
+      ap (λ (k : ℕ). take k (drop 4 (sets begun 4 (map image ns)))) (sym long) ∙ stored begun (map image ns) fits in
       ap (λ (l : List ℕ). checksum head (map nib l)) body ∙ ap₂ checksum e (nibbles-again 0 0 0 t)
 
   sum-small : sum < 256
@@ -101,10 +101,10 @@ module _ (application head : ℕ) (t : Table) (out : List ℕ) (e : head ≡ lai
 
   pub record-stored :
       {out₁ out₂ : List ℕ}
-      → out₁ ≡ sets (set (set out 0 (head % 256)) 1 (head / 256 % 256)) 2 (map image (nibbles 0 0 0 t))
+      → out₁ ≡ sets (sets out 0 (head % 256 ∷ head / 256 ∷ 0 ∷ 0 ∷ [])) 4 (map image (nibbles 0 0 0 t))
       → out₂ ≡ sealed head (size t) out₁
       → out₂ ≡ sets out 0 (recordOf application t)
-  unfolding sealed begun ns recordWith parts sum
+  unfolding sealed begun ns blockWith sum
   record-stored {out₁} {out₂} k₁ k₂ =
       let x = image (sum % 16) in
       let y = image (sum / 16 % 16) in
@@ -113,23 +113,19 @@ module _ (application head : ℕ) (t : Table) (out : List ℕ) (e : head ≡ lai
       let sum-first : map image (nibbles sum 0 0 t) ≡ x ∷ y ∷ rest = ap (map image) (nibbles-split sum 0 0 t sum-small) in
       let z = image 0 in
       k₂ ∙ ap (sealed head (size t)) k₁
-      ∙ ap (λ (s : ℕ). set (set (sets begun 2 (map image ns)) 2 (image (s % 16))) 3 (image (s / 16 % 16))) summed
-      ∙ ap (λ (l : List ℕ). set (set (sets begun 2 l) 2 x) 3 y) zero-first
-      ∙ ap (λ (l : List ℕ). set l 3 y) (set-sets (set (set begun 2 z) 3 z) 2 4 x rest (omega arith))
-      ∙ set-sets (set (set (set begun 2 z) 3 z) 2 x) 3 4 y rest (omega arith)
-      ∙ ap (λ (l : List ℕ). sets l 4 rest) (two-over begun z x y)
-      ∙ ap (sets begun 2) (sym sum-first)
-      ∙ ap (λ (h : ℕ). sets (set (set out 0 (h % 256)) 1 (h / 256 % 256)) 2 (map image (nibbles sum 0 0 t))) e
+      ∙ ap (λ (s : ℕ). set (set (sets begun 4 (map image ns)) 4 (image (s % 16))) 5 (image (s / 16 % 16))) summed
+      ∙ ap (λ (l : List ℕ). set (set (sets begun 4 l) 4 x) 5 y) zero-first
+      ∙ ap (λ (l : List ℕ). set l 5 y) (set-sets (set (set begun 4 z) 5 z) 4 6 x rest (omega arith))
+      ∙ set-sets (set (set (set begun 4 z) 5 z) 4 x) 5 6 y rest (omega arith)
+      ∙ ap (λ (l : List ℕ). sets l 6 rest) (two-over begun z x y)
+      ∙ ap (sets begun 4) (sym sum-first)
+      ∙ ap (λ (h : ℕ). sets (sets out 0 (h % 256 ∷ h / 256 ∷ 0 ∷ 0 ∷ [])) 4 (map image (nibbles sum 0 0 t))) e
 
 -- ---- what the rules of writing say
 
-pub length-record : (application : ℕ) (t : Table) → length (recordOf application t) ≡ 2 + size t
-unfolding recordWith
-length-record application t =
-    let head = laid (header application (size t)) 0 in
-    let sum′ = checksumOf application 0 0 t in
-    length-append (parts 8 2 head) (map image (nibbles sum′ 0 0 t))
-    ∙ ap₂ (λ (a b : ℕ). a + b) (length-parts 8 2 head) (length-nibbles sum′ 0 0 t)
+pub length-record : (application : ℕ) (t : Table) → length (recordOf application t) ≡ 4 + size t
+unfolding blockWith
+length-record application t = omega (arith, length-nibbles (checksumOf application 0 0 t) 0 0 t)
 
 pub writable :
     (application : ℕ) (f : List ℕ) (n m : ℕ) → judged refused (writeRules application f) (Done n) ≡ Done m
@@ -138,7 +134,7 @@ unfolding formRules
 writable application f n m e =
     let all = done-every (writeRules application f) n m e in (
       ltb-true application 32 (first-holds all),
-      first-holds (others-hold (others-hold (others-hold (others-hold all)))),
+      first-holds (others-hold (others-hold (others-hold (others-hold (others-hold all))))),
     )
 
 -- the head as the code adds it up

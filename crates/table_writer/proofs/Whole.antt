@@ -49,7 +49,7 @@ second-laid t hb hn hd = omega arith
 
 -- the pen at its start: behind the head, with nothing in hand
 abbrev pub start : Pen
-start = record { at = 2; held = 0; bits = 0 }
+start = record { at = 4; held = 0; bits = 0 }
 
 pub start-fine : Fine start
 start-fine = record { few = omega arith; low = pow-pos 0 }
@@ -76,7 +76,7 @@ all-hand t =
     empty (laid-all t) ∙ ap (λ (l : List Field). laid l 0) (all-fields t) ∙ laid-append (fields 0 (control t) 0 t) (lastField t) 0
     ∙ ap (laid (fields 0 (control t) 0 t)) (filled (fill t))
 
-pub all-inked : (t : Table) (out : List ℕ) → inked start (laid-all t) out ≡ sets out 2 (map image (nibbles 0 0 0 t))
+pub all-inked : (t : Table) (out : List ℕ) → inked start (laid-all t) out ≡ sets out 4 (map image (nibbles 0 0 0 t))
 unfolding inked nibbles
 all-inked t out = rw (all-ready, all-hand)
 
@@ -126,7 +126,7 @@ module _ (w v : ℕ) (fs : List Field) (ew : width fs ≡ w) (ev : v ≡ laid fs
   as-ready : (p : Pen) → ready p ((w, v) ∷ []) ≡ ready p fs
   as-ready p = ap (ready p) one ∙ pressed-ready p fs
 
-module _ (t : Table) (room : ℕ) (enough : 2 + size t ≤ room) where
+module _ (t : Table) (room : ℕ) (enough : 4 + size t ≤ room) where
   rest₁ : List Field
   rest₁ = secondFields t ++ (loops (t .kind) (t .descriptors) ++ lastField t)
 
@@ -137,7 +137,7 @@ module _ (t : Table) (room : ℕ) (enough : 2 + size t ≤ room) where
   enough-all = rw all-ready enough
 
   module _ (x : ℕ) (ex : x ≡ laid (firstFields (control t) t) 0) where
-    pub room-1 : 2 + ready start ((28, x) ∷ []) ≤ room
+    pub room-1 : 4 + ready start ((28, x) ∷ []) ≤ room
     unfolding laid-all rest₁
     room-1 =
         rw (as-ready 28 x (firstFields (control t) t) (first-width (control t) t) ex start)
@@ -191,7 +191,7 @@ module _ (t : Table) (room : ℕ) (enough : 2 + size t ≤ room) where
                 → out₂ ≡ inked a ((30, y) ∷ []) out₁
                 → out₃ ≡ inked b (loops (t .kind) (t .descriptors)) out₂
                 → out₄ ≡ inked c (lastField t) out₃
-                → out₄ ≡ sets out 2 (map image (nibbles 0 0 0 t))
+                → out₄ ≡ sets out 4 (map image (nibbles 0 0 0 t))
             unfolding rest₁ rest₂ laid-all
             all-stored out {out₁} {out₂} {out₃} k₁ k₂ k₃ k₄ =
                 k₄ ∙ on-inked b (loops (t .kind) (t .descriptors)) (lastField t) rest₂ refl mc out₂ k₃

@@ -1,7 +1,7 @@
 -- What only private calls cite; nothing here needs to be believed. A pen lays fields, lowest bit first, as protected nibbles: it stands at
 -- a place of the output and holds the bits, fewer than four, that don't make a nibble yet. The checksum is put into its place last.
 use mathlib.Core.List.{List, [], _∷_, map}
-use Prim.Native.Nat.{ℕ, _+_, _*_, _/_, _%_, _^_, _<_}
+use Prim.Native.Nat.{ℕ, suc, _+_, _*_, _/_, _%_, _^_, _<_}
 use lib.ListN.{length, take, drop, set}
 use lib.Seq.{sets}
 use Rattle.octet.specs.Image.{image}
@@ -53,4 +53,4 @@ sumIn head size record′ = checksum head (map nib (take size (drop headLength r
 -- its two nibbles in their places
 unfoldable pub sealed : ℕ → ℕ → List ℕ → List ℕ
 sealed head size record′ =
-    set (set record′ 2 (image (sumIn head size record′ % 16))) 3 (image (sumIn head size record′ / 16 % 16))
+    set (set record′ headLength (image (sumIn head size record′ % 16))) (suc headLength) (image (sumIn head size record′ / 16 % 16))

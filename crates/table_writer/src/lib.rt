@@ -67,43 +67,46 @@ fn judge(application: u8, table: &[u8]) -> Answer
     forms::judge_form(table)
 }
 
-// The record of a form whose values fit.
+// The record of a form whose values fit. What is written was not mended, so its part and its second byte
+// are 0 (SCOPE 19.3).
 fn write_record(application: u8, table: &[u8], bits: usize, out: &mut [u8])
     requires { ⌜ (application < 32)
         × (fits (tableIn (now table)) ≡ true)
         × (bits ≡ Tables·bits (tableIn (now table)))
-        × (2 + size (tableIn (now table)) ≤ length (now out)) ⌝ }
+        × (4 + size (tableIn (now table)) ≤ length (now out)) ⌝ }
     ensures { λ _. ⌜ now (out .exit) ≡ sets (now (out .entry)) 0 (recordOf application (tableIn (now (table .entry)))) ⌝ }
 {
     let size = 2 * ((bits + 7) / 8);
     let head = application as usize + 32 * size;
     let low = (head % 256) as u8;
-    let high = (head / 256 % 256) as u8;
+    let high = (head / 256) as u8;
     out[0] = low;
     out[1] = high;
+    out[2] = 0;
+    out[3] = 0;
     write_fields(table, bits, out);
     seal(head, size, out);
 }
 
 // Puts the checksum into a record whose checksum is 0.
 fn seal(head: usize, size: usize, out: &mut [u8])
-    requires { ⌜ (2 ≤ size) × (2 + size ≤ length (now out)) ⌝ }
+    requires { ⌜ (2 ≤ size) × (4 + size ≤ length (now out)) ⌝ }
     ensures { λ _. ⌜ now (out .exit) ≡ sealed head size (now (out .entry)) ⌝ }
 {
     let end = HEAD + size;
     let sum = sums::checksum(head, &out[HEAD..end]);
     let low = octet::image((sum % 16) as u8);
     let high = octet::image((sum / 16 % 16) as u8);
-    out[2] = low;
-    out[3] = high;
+    out[HEAD] = low;
+    out[HEAD + 1] = high;
 }
 
 // Lays all fields behind the head, the checksum's as zeros.
 fn write_fields(table: &[u8], bits: usize, out: &mut [u8])
     requires { ⌜ (fits (tableIn (now table)) ≡ true)
         × (bits ≡ Tables·bits (tableIn (now table)))
-        × (2 + size (tableIn (now table)) ≤ length (now out)) ⌝ }
-    ensures { λ _. ⌜ now (out .exit) ≡ sets (now (out .entry)) 2 (map image (nibbles 0 0 0 (tableIn (now (table .entry))))) ⌝ }
+        × (4 + size (tableIn (now table)) ≤ length (now out)) ⌝ }
+    ensures { λ _. ⌜ now (out .exit) ≡ sets (now (out .entry)) 4 (map image (nibbles 0 0 0 (tableIn (now (table .entry))))) ⌝ }
 {
     let control = (bits + 7) / 8;
     let first = first_fields(table, control);

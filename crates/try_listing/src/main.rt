@@ -1,4 +1,5 @@
-// Runs cases of table forms: op 40 prints one as the desk's lines.
+// Runs cases of table forms: op 40 prints one as the desk's lines. Before the form stands the count of mended
+// bytes, in two bytes, the low one first.
 use vectors::Case;
 use vectors::Line;
 use vectors::MOST;
@@ -37,10 +38,22 @@ fn run(case: Case, space: &[u8; SPACE], out: &mut [u8], text: &mut [u8; SPACE]) 
 // The call that op names, and what is told of it.
 fn call(op: u8, payload: &[u8], out: &mut [u8]) -> Line {
     match op {
-        40 => Line::Answered {
-            op: op,
-            answer: listing::list_table(payload, out),
-        },
+        40 => list(op, payload, out),
         _ => Line::Unknown(op),
     }
+}
+
+fn list(op: u8, payload: &[u8], out: &mut [u8]) -> Line {
+    if payload.len() < 2 {
+        return Line::Unknown(op);
+    }
+    let mended = word(payload[0], payload[1]);
+    Line::Answered {
+        op: op,
+        answer: listing::list_table(&payload[2..], mended, out),
+    }
+}
+
+fn word(low: u8, high: u8) -> u16 {
+    (low as u16) + 256 * (high as u16)
 }

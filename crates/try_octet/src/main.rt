@@ -1,5 +1,7 @@
-// Runs cases of one byte: op 1 decodes it, 2 gives its image, 3 turns it, 4 finds its fault place.
+// Runs cases of one byte: op 1 decodes it, 2 gives its image, 3 turns it, 4 finds its fault place, 5 says how
+// it was heard.
 use answer::Answer;
+use octet::Heard;
 use vectors::Case;
 use vectors::Line;
 use vectors::NextCase;
@@ -39,10 +41,29 @@ fn call(case: Case, space: &[u8; SPACE], text: &mut [u8; SPACE]) {
         2 => show(op, octet::image(b), text),
         3 => show(op, octet::turn(b), text),
         4 => show(op, octet::fault_place(b), text),
+        5 => show_heard(op, octet::hear(b), text),
         _ => {
             vectors::tell(Line::Unknown(op), &[], text);
         }
     }
+}
+
+// The nibble, and 1 where it was mended.
+fn show_heard(op: u8, heard: Heard, text: &mut [u8]) {
+    match heard {
+        Heard::Image(n) => show_two(op, n, 0, text),
+        Heard::Mended(n) => show_two(op, n, 1, text),
+        Heard::Neither => show_two(op, 16, 0, text),
+    }
+}
+
+fn show_two(op: u8, a: u8, b: u8, text: &mut [u8]) {
+    let out = [a, b];
+    let line = Line::Answered {
+        op: op,
+        answer: Answer::Done(2),
+    };
+    vectors::tell(line, &out, text);
 }
 
 fn show(op: u8, b: u8, text: &mut [u8]) {

@@ -1,4 +1,6 @@
 // Runs cases of blocks: op 30 reads one, op 31 writes one from a table form. Both begin with the application.
+use answer::Answer;
+use table::Read;
 use vectors::Case;
 use vectors::Line;
 use vectors::MOST;
@@ -47,9 +49,17 @@ fn read(op: u8, payload: &[u8], out: &mut [u8]) -> Line {
     if payload.len() < 1 {
         return Line::Unknown(op);
     }
-    Line::Answered {
-        op: op,
-        answer: table::read_block(payload[0], &payload[1..], out),
+    match table::read_block(payload[0], &payload[1..], out) {
+        Read::Taken { written, mended } => Line::Counted {
+            op: op,
+            answer: Answer::Done(written),
+            mended: mended,
+        },
+        Read::Refused(why) => Line::Counted {
+            op: op,
+            answer: Answer::Refused(why),
+            mended: 0,
+        },
     }
 }
 

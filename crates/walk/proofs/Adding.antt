@@ -17,14 +17,14 @@ use Rattle.walk.specs.declared.Run.{Run}
 use Rattle.walk.specs.declared.Run.the-variants.{Idle, Head, Body}
 use Rattle.walk.specs.declared.Got.{Got}
 use Rattle.walk.specs.declared.Taken.{Taken}
-use Rattle.walk.specs.Mode.{Mode, off, scan, heading, body, full, isFull, finished, unfinished, running, continues}
+use Rattle.walk.specs.Mode.{Mode, off, scan, heading, body, full, blockWith, isFull, finished, unfinished, running, continues}
 use Rattle.walk.specs.Store.{zeroed, storeLength, modeOf}
 use Rattle.walk.specs.Places.{StartAhead, nothing, broken, cut, whole, fillers, found, stands}
-use Rattle.walk.specs.Internal.{Bits, Good, Holds, Kept, Went, Finished, blockWith, runs, awaits, TookIn, ContinuedTo, ContinuedOn, Flowed, ReadPacket, Lost}
+use Rattle.walk.specs.Internal.{Bits, Good, Holds, Kept, Went, Finished, runs, awaits, TookIn, ContinuedTo, ContinuedOn, Flowed, ReadPacket, Lost}
 use Rattle.walk.specs.Reading.{dropIf, pointedBy}
 use Rattle.walk.proofs.Staying.{waits, breaks-off}
 use Rattle.walk.proofs.Walking.{left-by, given-by, spoilt-by, found-left, found-given, found-spoilt, headed-long, headed-short}
-use Rattle.walk.proofs.Keeping.{kept-body, body-length, holds-idle, holds-mode, zeroed-more}
+use Rattle.walk.proofs.Keeping.{kept-body, body-length, found-part, holds-idle, holds-mode, zeroed-more}
 
 pub recordsOf-append : (xs ys : List Block) → recordsOf (xs ++ ys) ≡ recordsOf xs ++ recordsOf ys
 unfolding recordsOf
@@ -59,8 +59,8 @@ went-on {m} {n} {xs} {ys} {d} {e} {a} {b} {c} {s} {t} {o} {p} {q} x y =
 not-full : (m : Mode) → Good m → isFull m ≡ false → (unfinished m ≡ m) × (finished m ≡ [])
 not-full off g e = (refl, refl)
 not-full scan g e = absurd g
-not-full (heading n v) g e = (refl, refl)
-not-full (body h held) g e = (rw e, rw e)
+not-full (heading n v part) g e = (refl, refl)
+not-full (body h part held) g e = (rw e, rw e)
 
 pub stays-running :
     (a : Got) {store : List ℕ} (out : List ℕ) → Kept (a .run) store → isFull (modeOf (a .run) store) ≡ false
@@ -69,20 +69,21 @@ stays-running a {store} out k e =
     let n = not-full (modeOf (a .run) store) (k .good) e in
     rw (n .0, n .1) (went-nowhere a out k)
 
-module _ {r : Run} {store : List ℕ} {h n : ℕ} (k : Kept r store) (e : r ≡ Body h n) where
+module _ {r : Run} {store : List ℕ} {h part n : ℕ} (k : Kept r store) (e : r ≡ Body h part n) where
   pub body-short : n < sizeOf h → isFull (modeOf r store) ≡ false
   body-short f = rw (e, body-length (kept-body k e)) (lt-leb _ _ f)
 
 pub goes-out :
-    (a : Got) {store after : List ℕ} (old : List ℕ) {new : List ℕ} {h n : ℕ} → Kept (a .run) store → a .run ≡ Body h n → sizeOf h ≤ n
-    → after ≡ zeroed [] → new ≡ sets old (a .written) (recordOf (blockWith h (take n store)))
+    (a : Got) {store after : List ℕ} (old : List ℕ) {new : List ℕ} {h part n : ℕ} → Kept (a .run) store → a .run ≡ Body h part n
+    → sizeOf h ≤ n
+    → after ≡ zeroed [] → new ≡ sets old (a .written) (recordOf (blockWith h part (take n store)))
     → Finished (modeOf (a .run) store) a
-    (record { run = Idle; blocks = a .blocks + 1; written = a .written + 2 + n; dropped = a .dropped }) after old new
-goes-out a {store} {after} old {new} {h} {n} k e f c o =
-    let b : Block = blockWith h (take n store) in
+    (record { run = Idle; blocks = a .blocks + 1; written = a .written + 4 + n; dropped = a .dropped }) after old new
+goes-out a {store} {after} old {new} {h} {part} {n} k e f c o =
+    let b : Block = blockWith h part (take n store) in
     let l : length (take n store) ≡ n = body-length (kept-body k e) in
     let w : full h (take n store) ≡ true = rw l (le-leb _ _ f) in
-    let x : length (recordsOf (b ∷ [])) ≡ suc (suc n) = ap length (record-one b) ∙ rw l in
+    let x : length (recordsOf (b ∷ [])) ≡ suc (suc (suc (suc n))) = ap length (record-one b) ∙ rw l in
     rw (e, w)
     (record {
       holds = holds-idle c;
@@ -109,8 +110,8 @@ went-noting b w x y z =
 
 pub runs-mode : (r : Run) (store : List ℕ) → running (modeOf r store) ≡ runs r
 runs-mode Idle store = refl
-runs-mode (Head g v) store = refl
-runs-mode (Body h n) store = refl
+runs-mode (Head g v part) store = refl
+runs-mode (Body h part n) store = refl
 
 -- ---- at the pointed byte
 
@@ -118,18 +119,18 @@ runs-mode (Body h n) store = refl
 pub stands-full : (m : Mode) {r : Run} {store : List ℕ} (l : List ℕ) → Holds m r store → isFull (awaits m l) ≡ stands r l
 stands-full off l h = rw (h .run)
 stands-full scan l h = absurd (h .good)
-stands-full (heading g v) l h = rw (h .run)
-stands-full (body x held) l h =
+stands-full (heading g v part) l h = rw (h .run)
+stands-full (body x part held) l h =
     rw (h .run)
     (elim (decLt (length held) (sizeOf x)) [
       | yes f ↦ rw (lt-leb _ _ f) (lt-leb _ _ f)
       | no f ↦
           let g : sizeOf x ≤ length held = omega arith in
           elim (decLt (fillers l) (length l)) [
-            | yes k ↦ rw (le-leb _ _ g, breaks-off x held l g k, lt-leb _ _ k)
+            | yes k ↦ rw (le-leb _ _ g, breaks-off x part held l g k, lt-leb _ _ k)
             | no k ↦
                 let j : length l ≤ fillers l = omega arith in
-                rw (le-leb _ _ g, waits x held l g j, le-leb _ _ j) (le-leb _ _ g)
+                rw (le-leb _ _ g, waits x part held l g j, le-leb _ _ j) (le-leb _ _ g)
           ]
     ])
 
@@ -140,17 +141,17 @@ pub lost-or-out :
     × (finished (dropIf (not (isFull (awaits m l))) m) ≡ finished (awaits m l))
 lost-or-out off l g = (refl, refl)
 lost-or-out scan l g = absurd g
-lost-or-out (heading n v) l g = (refl, refl)
-lost-or-out (body x held) l g =
+lost-or-out (heading n v part) l g = (refl, refl)
+lost-or-out (body x part held) l g =
     elim (decLt (length held) (sizeOf x)) [
       | yes f ↦ simp (lt-leb _ _ f) (refl, refl)
       | no f ↦
           let g : sizeOf x ≤ length held = omega arith in
           elim (decLt (fillers l) (length l)) [
-            | yes k ↦ rw (le-leb _ _ g, breaks-off x held l g k) (refl, refl)
+            | yes k ↦ rw (le-leb _ _ g, breaks-off x part held l g k) (refl, refl)
             | no k ↦
                 let j : length l ≤ fillers l = omega arith in
-                simp (le-leb _ _ g, waits x held l g j) (refl, refl)
+                simp (le-leb _ _ g, waits x part held l g j) (refl, refl)
           ]
     ]
 
@@ -195,17 +196,17 @@ went-none a r out h e = record { holds = h; blocks = omega arith; written = omeg
 
 -- one block more
 went-one :
-    (a : Got) (h : ℕ) (raw : List ℕ) {old new : List ℕ} → new ≡ sets old (a .written) (recordOf (blockWith h raw))
-    → Went off (blockWith h raw ∷ []) false a
-    (record { run = Idle; blocks = a .blocks + 1; written = a .written + 2 + length raw; dropped = a .dropped }) (zeroed []) old new
-went-one a h raw {old} {new} e =
-    let x : length (recordsOf (blockWith h raw ∷ [])) ≡ suc (suc (length raw)) = ap length (record-one (blockWith h raw)) in
+    (a : Got) (h part : ℕ) (raw : List ℕ) {old new : List ℕ} → new ≡ sets old (a .written) (recordOf (blockWith h part raw))
+    → Went off (blockWith h part raw ∷ []) false a
+    (record { run = Idle; blocks = a .blocks + 1; written = a .written + 4 + length raw; dropped = a .dropped }) (zeroed []) old new
+went-one a h part raw {old} {new} e =
+    let x : length (recordsOf (blockWith h part raw ∷ [])) ≡ suc (suc (suc (suc (length raw)))) = ap length (record-one (blockWith h part raw)) in
     record {
       holds = holds-idle refl;
       blocks = omega arith;
       written = omega (arith, x);
       dropped = sym (either-false (a .dropped));
-      out = e ∙ ap (λ (r : List ℕ). sets old (a .written) r) (sym (record-one (blockWith h raw)));
+      out = e ∙ ap (λ (r : List ℕ). sets old (a .written) r) (sym (record-one (blockWith h part raw)));
     }
 
 -- by what stands ahead
@@ -225,36 +226,37 @@ pub flow-broken :
 flow-broken l a out x e = by-found l a x (went-none a Idle out (holds-idle e) (sym (either-true (a .dropped))))
 
 pub flow-cut :
-    (l : List ℕ) (a : Got) {store : List ℕ} (out : List ℕ) {g v : ℕ} → found l ≡ cut g v → Bits g v → store ≡ zeroed []
-    → Flowed l a (noted a (Head g v) (a .dropped)) store out out
-flow-cut l a out {g} {v} x h e =
+    (l : List ℕ) (a : Got) {store : List ℕ} (out : List ℕ) {g v part : ℕ} → found l ≡ cut g v part → Bits g v part → store ≡ zeroed []
+    → Flowed l a (noted a (Head g v part) (a .dropped)) store out out
+flow-cut l a out {g} {v} {part} x h e =
     by-found l a x
-    (went-none a (Head g v) out (record { good = h; run = refl; kept = e }) (sym (either-false (a .dropped))))
+    (went-none a (Head g v part) out (record { good = h; run = refl; kept = e }) (sym (either-false (a .dropped))))
 
 pub flow-held :
-    (l : List ℕ) (a : Got) {store : List ℕ} (out : List ℕ) {h n : ℕ} {k : List ℕ} → found l ≡ whole h k → length k ≡ n
-    → n < sizeOf h → h < 2 ^ 16 → store ≡ sets (zeroed []) 0 k
-    → Flowed l a (noted a (Body h n) (a .dropped)) store out out
-flow-held l a out {h} {n} {k} x y f g e =
+    (l : List ℕ) (a : Got) {store : List ℕ} (out : List ℕ) {h part n : ℕ} {k : List ℕ} → found l ≡ whole h part k
+    → length k ≡ n → n < sizeOf h → h < 2 ^ 16 → store ≡ sets (zeroed []) 0 k
+    → Flowed l a (noted a (Body h part n) (a .dropped)) store out out
+flow-held l a out {h} {part} {n} {k} x y f g e =
     let u : length k < sizeOf h = rw y f in
-    let s = headed-short h k u in
+    let s = headed-short h part k u in
     let z : 0 + length k ≤ storeLength = omega arith in
     by-found l a x
     (rw (s .0, s .1, s .2, lt-leb _ _ u)
-    (went-none a (Body h n) out
-    (record { good = (g, omega arith); run = rw y; kept = e ∙ zeroed-more [] k z })
+    (went-none a (Body h part n) out
+    (record { good = (g, found-part l x, omega arith); run = rw y; kept = e ∙ zeroed-more [] k z })
     (sym (either-false (a .dropped)))))
 
 pub flow-on :
-    (l : List ℕ) (a : Got) {r : Got} {store old mid new : List ℕ} {h : ℕ} {k : List ℕ} → found l ≡ whole h k → sizeOf h ≤ length k
-    → mid ≡ sets old (a .written) (recordOf (blockWith h (take (sizeOf h) k)))
+    (l : List ℕ) (a : Got) {r : Got} {store old mid new : List ℕ} {h part : ℕ} {k : List ℕ} → found l ≡ whole h part k
+    → sizeOf h ≤ length k
+    → mid ≡ sets old (a .written) (recordOf (blockWith h part (take (sizeOf h) k)))
     → Flowed (drop (sizeOf h) k)
-    (record { run = Idle; blocks = a .blocks + 1; written = a .written + 2 + sizeOf h; dropped = a .dropped }) r store mid new
+    (record { run = Idle; blocks = a .blocks + 1; written = a .written + 4 + sizeOf h; dropped = a .dropped }) r store mid new
     → Flowed l a r store old new
-flow-on l a {r} {store} {old} {mid} {new} {h} {k} x f e w =
-    let s = headed-long h k f in
+flow-on l a {r} {store} {old} {mid} {new} {h} {part} {k} x f e w =
+    let s = headed-long h part k f in
     let y : length (take (sizeOf h) k) ≡ sizeOf h = length-take-le (sizeOf h) k f in
-    let o = went-one a h (take (sizeOf h) k) {old = old} {new = mid} e in
+    let o = went-one a h part (take (sizeOf h) k) {old = old} {new = mid} e in
     by-found l a x (rw (s .0, s .1, s .2) (went-on (rw y at o) w))
 
 -- ---- the loop from the pointed byte on

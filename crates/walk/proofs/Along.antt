@@ -11,7 +11,9 @@ use lib.ListN.{length, length-append, drop}
 use borrow.Author.Tests.{leb-false, ltb-true, eqb-false}
 use Rattle.laws.specs.Pick.{pick}
 use Rattle.octet.specs.Decoding.{nib, undecodable}
+use Rattle.octet.specs.Hearing.{harm}
 use Rattle.octet.proofs.Laws.{nib-le}
+use Rattle.octet.proofs.Hearing.{harm-le}
 use Rattle.blocks.specs.Block.{sizeOf}
 use Rattle.walk.specs.Mode.{Mode, off, scan, heading, body, shifted, full, headed, step, ends, behind, nextHead, goesOn, continues, unfinished}
 use Rattle.walk.specs.Reading.{dropIf, pointed, readMode}
@@ -21,83 +23,102 @@ use Rattle.walk.specs.Internal.{Bits, Good}
 abbrev pub Along : Mode → Type 0
 Along off = Unit {0}
 Along scan = Unit {0}
-Along (heading g v) = Bits g v
-Along (body h held) = (h < 2 ^ 16) × (length held ≤ sizeOf h)
+Along (heading g v part) = Bits g v part
+Along (body h part held) = (h < 2 ^ 16) × (part ≤ 5) × (length held ≤ sizeOf h)
 
 -- ---- each byte keeps a mode so
 
-pub more-bits : (g v n : ℕ) → n < 16 → g < 3 → Bits g v → Bits (suc g) (v / 16 + n * 4096)
-more-bits zero v n h k b = let e : v % 65536 ≡ 0 = b .only in record { got = omega arith; small = omega (arith, b .small); only = omega (arith, b .small) }
-more-bits (suc zero) v n h k b = let e : v % 4096 ≡ 0 = b .only in record { got = omega arith; small = omega (arith, b .small); only = omega (arith, b .small) }
-more-bits (suc (suc zero)) v n h k b = let e : v % 256 ≡ 0 = b .only in record { got = omega arith; small = omega (arith, b .small); only = omega (arith, b .small) }
-more-bits (suc (suc (suc g))) v n h k b = absurd (omega arith)
+pub more-bits : (g v part n k : ℕ) → n < 16 → k ≤ 1 → g < 3 → Bits g v part → Bits (suc g) (v / 16 + n * 4096) (part + k)
+more-bits zero v part n k h u z b =
+    let e : v % 65536 ≡ 0 = b .only in
+    record { got = omega arith; small = omega (arith, b .small); only = omega (arith, b .small); counted = omega (arith, b .counted) }
+more-bits (suc zero) v part n k h u z b =
+    let e : v % 4096 ≡ 0 = b .only in
+    record { got = omega arith; small = omega (arith, b .small); only = omega (arith, b .small); counted = omega (arith, b .counted) }
+more-bits (suc (suc zero)) v part n k h u z b =
+    let e : v % 256 ≡ 0 = b .only in
+    record { got = omega arith; small = omega (arith, b .small); only = omega (arith, b .small); counted = omega (arith, b .counted) }
+more-bits (suc (suc (suc g))) v part n k h u z b = absurd (omega arith)
 
 pub decoded : (b : ℕ) → (nib b ≡ undecodable → ⊥) → nib b < 16
 decoded b z = elim (decLt (nib b) 16) [ yes h ↦ h | no h ↦ absurd (z (omega (arith, nib-le b))) ]
 
-head-along : (g v b : ℕ) → Bits g v → (t : Bool) → eqb (nib b) undecodable ≡ t → Along (pick t off (headed g (shifted v b)))
-head-along g v b r true e = tt
-head-along g v b r false e = go (ltb g 3) refl (full (shifted v b) [])
+head-along :
+    (g v part b : ℕ) → Bits g v part → (t : Bool) → eqb (nib b) undecodable ≡ t
+    → Along (pick t off (headed g (shifted v b) (part + harm b)))
+head-along g v part b r true e = tt
+head-along g v part b r false e = go (ltb g 3) refl (full (shifted v b) [])
   where
     n : nib b < 16
     n = decoded b (eqb-false (nib b) undecodable e)
 
-    go : (t : Bool) → ltb g 3 ≡ t → (u : Bool) → Along (pick t (heading (suc g) (shifted v b)) (pick u scan (body (shifted v b) [])))
-    go true p u = more-bits g v (nib b) n (ltb-true g 3 p) r
+    go :
+        (t : Bool) → ltb g 3 ≡ t → (u : Bool)
+        → Along (pick t (heading (suc g) (shifted v b) (part + harm b)) (pick u scan (body (shifted v b) (part + harm b) [])))
+    go true p u = more-bits g v part (nib b) (harm b) n (harm-le b) (ltb-true g 3 p) r
     go false p true = tt
-    go false p false = (omega (arith, r .small, n), omega arith)
+    go false p false = (omega (arith, r .small, n), omega (arith, r .got, r .counted, harm-le b), omega arith)
 
 body-along :
-    (h b : ℕ) (held : List ℕ) → h < 2 ^ 16 → (t : Bool) → full h (held ++ b ∷ []) ≡ t → Along (pick t scan (body h (held ++ b ∷ [])))
-body-along h b held k true e = tt
-body-along h b held k false e = let f = leb-false (sizeOf h) (length (held ++ b ∷ [])) e in (k, omega arith)
+    (h part b : ℕ) (held : List ℕ) → h < 2 ^ 16 → part ≤ 5 → (t : Bool) → full h (held ++ b ∷ []) ≡ t
+    → Along (pick t scan (body h part (held ++ b ∷ [])))
+body-along h part b held k p true e = tt
+body-along h part b held k p false e = let f = leb-false (sizeOf h) (length (held ++ b ∷ [])) e in (k, p, omega arith)
+
+-- a start alone
+pub begun-bits : (k : ℕ) → k ≤ 1 → Bits 0 0 k
+begun-bits k h = record { got = omega arith; small = omega arith; only = refl; counted = h }
 
 pub step-along : (m : Mode) (b : ℕ) → Along m → Along (step m b)
 unfolding step
 step-along off b r = tt
 step-along scan b r = go (eqb (nib b) 3) (eqb (nib b) 12)
   where
-    go : (t u : Bool) → Along (pick t scan (pick u (heading 0 0) off))
+    go : (t u : Bool) → Along (pick t scan (pick u (heading 0 0 (harm b)) off))
     go true u = tt
-    go false true = record { got = omega arith; small = omega arith; only = refl }
+    go false true = begun-bits (harm b) (harm-le b)
     go false false = tt
-step-along (heading g v) b r = head-along g v b r (eqb (nib b) undecodable) refl
-step-along (body h held) b r = body-along h b held (r .0) (full h (held ++ b ∷ [])) refl
+step-along (heading g v part) b r = head-along g v part b r (eqb (nib b) undecodable) refl
+step-along (body h part held) b r = body-along h part b held (r .0) (r .1) (full h (held ++ b ∷ [])) refl
 
 pub ends-along : (m : Mode) (l : List ℕ) → Along m → Along (ends m l)
 unfolding ends
 ends-along m [] r = r
 ends-along m (b ∷ l) r = ends-along (step m b) l (step-along m b r)
 
-continued-along : (g v b : ℕ) → Bits g v → (t : Bool) → eqb (nib b) undecodable ≡ t → Along (pick t off (nextHead g (shifted v b)))
-continued-along g v b r true e = tt
-continued-along g v b r false e = go (ltb g 3) refl
+continued-along :
+    (g v part b : ℕ) → Bits g v part → (t : Bool) → eqb (nib b) undecodable ≡ t
+    → Along (pick t off (nextHead g (shifted v b) (part + harm b)))
+continued-along g v part b r true e = tt
+continued-along g v part b r false e = go (ltb g 3) refl
   where
     n : nib b < 16
     n = decoded b (eqb-false (nib b) undecodable e)
 
-    go : (t : Bool) → ltb g 3 ≡ t → Along (pick t (heading (suc g) (shifted v b)) (body (shifted v b) []))
-    go true p = more-bits g v (nib b) n (ltb-true g 3 p) r
-    go false p = (omega (arith, r .small, n), omega arith)
+    go :
+        (t : Bool) → ltb g 3 ≡ t
+        → Along (pick t (heading (suc g) (shifted v b) (part + harm b)) (body (shifted v b) (part + harm b) []))
+    go true p = more-bits g v part (nib b) (harm b) n (harm-le b) (ltb-true g 3 p) r
+    go false p = (omega (arith, r .small, n), omega (arith, r .got, r .counted, harm-le b), omega arith)
 
 waiting-along :
-    (pointed : Bool) (h b : ℕ) (held : List ℕ) → (h < 2 ^ 16) × (length held ≤ sizeOf h) → (t : Bool) → full h held ≡ t
-    → Along (pick t (behind pointed h held b) (body h (held ++ b ∷ [])))
-waiting-along true h b held r true e = go (eqb (nib b) 3)
+    (pointed : Bool) (h part b : ℕ) (held : List ℕ) → (h < 2 ^ 16) × (part ≤ 5) × (length held ≤ sizeOf h) → (t : Bool)
+    → full h held ≡ t → Along (pick t (behind pointed h part held b) (body h part (held ++ b ∷ [])))
+waiting-along true h part b held r true e = go (eqb (nib b) 3)
   where
-    go : (t : Bool) → Along (pick t (body h held) off)
+    go : (t : Bool) → Along (pick t (body h part held) off)
     go true = r
     go false = tt
-waiting-along false h b held r true e = r
-waiting-along pointed h b held r false e =
-    let f = leb-false (sizeOf h) (length held) e in (r .0, rw length-append (omega arith))
+waiting-along false h part b held r true e = r
+waiting-along pointed h part b held r false e =
+    let f = leb-false (sizeOf h) (length held) e in (r .0, r .1, rw length-append (omega arith))
 
 goes-on-along : (pointed : Bool) (m : Mode) (b : ℕ) → Along m → Along (goesOn pointed m b)
 unfolding goesOn
 goes-on-along pointed off b r = tt
 goes-on-along pointed scan b r = tt
-goes-on-along pointed (heading g v) b r = continued-along g v b r (eqb (nib b) undecodable) refl
-goes-on-along pointed (body h held) b r = waiting-along pointed h b held r (full h held) refl
+goes-on-along pointed (heading g v part) b r = continued-along g v part b r (eqb (nib b) undecodable) refl
+goes-on-along pointed (body h part held) b r = waiting-along pointed h part b held r (full h held) refl
 
 pub continues-along : (pointed : Bool) (m : Mode) (l : List ℕ) → Along m → Along (continues pointed m l)
 unfolding continues
@@ -109,16 +130,16 @@ continues-along pointed m (b ∷ l) r = continues-along pointed (goesOn pointed 
 pub good-along : (m : Mode) → Good m → Along m
 good-along off r = tt
 good-along scan r = absurd r
-good-along (heading g v) r = r
-good-along (body h held) r = r
+good-along (heading g v part) r = r
+good-along (body h part held) r = r
 
 unfinished-good : (m : Mode) → Along m → Good (unfinished m)
 unfinished-good off r = tt
 unfinished-good scan r = tt
-unfinished-good (heading g v) r = r
-unfinished-good (body h held) r = go (full h held)
+unfinished-good (heading g v part) r = r
+unfinished-good (body h part held) r = go (full h held)
   where
-    go : (t : Bool) → Good (pick t off (body h held))
+    go : (t : Bool) → Good (pick t off (body h part held))
     go true = tt
     go false = r
 

@@ -8,31 +8,32 @@ use lib.ListN.{length, getD, drop, drop-of-length-le}
 use lib.Seq.{drop-cons}
 use borrow.Author.Tests.{eq-eqb, ne-eqb}
 use Rattle.octet.specs.Decoding.{nib}
+use Rattle.octet.specs.Hearing.{harm}
 use Rattle.walk.specs.Places.{broken, cut, whole, heads}
 
 -- g nibbles of it have come
 pub head-on :
-    (l : List ℕ) (i g v n : ℕ) → i < length l → g < 4 → n ≡ nib (getD l i 0) → (n ≡ 16 → ⊥)
-    → heads (4 - (g + 1)) (v / 16 + n * 4096) (drop (i + 1) l) ≡ heads (4 - g) v (drop i l)
+    (l : List ℕ) (i g v part n : ℕ) → i < length l → g < 4 → n ≡ nib (getD l i 0) → (n ≡ 16 → ⊥)
+    → heads (4 - (g + 1)) (v / 16 + n * 4096) (part + harm (getD l i 0)) (drop (i + 1) l) ≡ heads (4 - g) v part (drop i l)
 unfolding heads
-head-on l i g v n h k q e =
+head-on l i g v part n h k q e =
     let p : 4 - g ≡ suc (4 - (g + 1)) = omega arith in
     rw (p, drop-cons l i 0, ← q, ne-eqb _ _ e, add-one i)
 
 pub head-broken :
-    (l : List ℕ) (i g v : ℕ) → i < length l → g < 4 → nib (getD l i 0) ≡ 16 → heads (4 - g) v (drop i l) ≡ broken
+    (l : List ℕ) (i g v part : ℕ) → i < length l → g < 4 → nib (getD l i 0) ≡ 16 → heads (4 - g) v part (drop i l) ≡ broken
 unfolding heads
-head-broken l i g v h k e =
+head-broken l i g v part h k e =
     let p : 4 - g ≡ suc (3 - g) = omega arith in
     rw (p, drop-cons l i 0, eq-eqb _ _ e)
 
-pub head-cut : (l : List ℕ) (i g v : ℕ) → length l ≤ i → g < 4 → heads (4 - g) v (drop i l) ≡ cut g v
+pub head-cut : (l : List ℕ) (i g v part : ℕ) → length l ≤ i → g < 4 → heads (4 - g) v part (drop i l) ≡ cut g v part
 unfolding heads
-head-cut l i g v h k =
+head-cut l i g v part h k =
     let p : 4 - g ≡ suc (3 - g) = omega arith in
     let q : 3 - (3 - g) ≡ g = omega arith in
     rw (p, drop-of-length-le, q)
 
-pub head-whole : (l : List ℕ) (i g v : ℕ) → 4 ≤ g → heads (4 - g) v (drop i l) ≡ whole v (drop i l)
+pub head-whole : (l : List ℕ) (i g v part : ℕ) → 4 ≤ g → heads (4 - g) v part (drop i l) ≡ whole v part (drop i l)
 unfolding heads
-head-whole l i g v k = let p : 4 - g ≡ 0 = omega arith in rw p
+head-whole l i g v part k = let p : 4 - g ≡ 0 = omega arith in rw p

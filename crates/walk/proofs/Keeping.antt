@@ -13,6 +13,8 @@ use Rattle.laws.proofs.Lists.{sets-front}
 use Rattle.laws.specs.Pick.{pick}
 use Rattle.laws.proofs.Picks.{same}
 use Rattle.octet.specs.Decoding.{nib, undecodable}
+use Rattle.octet.specs.Hearing.{harm}
+use Rattle.octet.proofs.Hearing.{harm-le}
 use Rattle.blocks.specs.Block.{sizeOf}
 use Rattle.walk.specs.declared.Run.{Run}
 use Rattle.walk.specs.declared.Run.the-variants.{Idle, Head, Body}
@@ -24,7 +26,7 @@ use Rattle.walk.specs.Store.{storeLength, zeroed, modeOf, runOf, heldOf}
 use Rattle.walk.specs.Places.{StartAhead, nothing, broken, cut, whole, heads, found, aheadIn}
 use Rattle.walk.specs.Internal.{Bits, Good, Holds, Kept, TookIn, awaits}
 use Rattle.walk.proofs.Staying.{stays}
-use Rattle.walk.proofs.Along.{more-bits, decoded}
+use Rattle.walk.proofs.Along.{more-bits, decoded, begun-bits}
 use Rattle.walk.proofs.Walking.{chunk-continued, continued-by, heads-continued}
 
 -- ---- a list of N bytes, zeros past those held
@@ -104,8 +106,8 @@ module _ (held : List ℕ) {store : List ℕ} {n : ℕ} (e : store ≡ zeroed he
 pub holds-mode : (m : Mode) {r : Run} {store : List ℕ} → Holds m r store → modeOf r store ≡ m
 holds-mode off h = rw (h .run)
 holds-mode scan h = absurd (h .good)
-holds-mode (heading g v) h = rw (h .run)
-holds-mode (body x held) h = rw (h .run, h .kept, zeroed-take)
+holds-mode (heading g v part) h = rw (h .run)
+holds-mode (body x part held) h = rw (h .run, h .kept, zeroed-take)
 
 pub holds-kept : (m : Mode) {r : Run} {store : List ℕ} → Holds m r store → Kept r store
 holds-kept m h = rw (holds-mode m h) h
@@ -113,8 +115,8 @@ holds-kept m h = rw (holds-mode m h) h
 held-fits : (m : Mode) → Good m → length (heldOf m) ≤ storeLength
 held-fits off g = omega arith
 held-fits scan g = absurd g
-held-fits (heading n v) g = omega arith
-held-fits (body x held) g = omega arith
+held-fits (heading n v part) g = omega arith
+held-fits (body x part held) g = omega arith
 
 pub holds-length : (m : Mode) {r : Run} {store : List ℕ} → Holds m r store → length store ≡ storeLength
 holds-length m h = rw (h .kept) (zeroed-length (heldOf m) (held-fits m (h .good)))
@@ -129,31 +131,34 @@ module _ {r : Run} {store : List ℕ} (k : Kept r store) where
   pub kept-idle : r ≡ Idle → store ≡ zeroed []
   kept-idle e = (rw e at k) .kept
 
-  pub kept-head : {g v : ℕ} → r ≡ Head g v → store ≡ zeroed []
+  pub kept-head : {g v part : ℕ} → r ≡ Head g v part → store ≡ zeroed []
   kept-head e = (rw e at k) .kept
 
-  pub kept-bits : {g v : ℕ} → r ≡ Head g v → Bits g v
+  pub kept-bits : {g v part : ℕ} → r ≡ Head g v part → Bits g v part
   kept-bits e = (rw e at k) .good
 
-  pub kept-got : {g v : ℕ} → r ≡ Head g v → g ≤ 3
+  pub kept-got : {g v part : ℕ} → r ≡ Head g v part → g ≤ 3
   kept-got e = kept-bits e .got
 
-  pub kept-body : {h n : ℕ} → r ≡ Body h n → Kept (Body h n) store
+  pub kept-body : {h part n : ℕ} → r ≡ Body h part n → Kept (Body h part n) store
   kept-body e = rw e at k
 
 -- a block's bytes
-module _ {h n : ℕ} {store : List ℕ} (k : Kept (Body h n) store) where
+module _ {h part n : ℕ} {store : List ℕ} (k : Kept (Body h part n) store) where
   pub body-length : length (take n store) ≡ n
-  body-length = let e : runOf (body h (take n store)) ≡ Body h n = sym (k .run) in cc
+  body-length = let e : runOf (body h part (take n store)) ≡ Body h part n = sym (k .run) in cc
 
   pub body-fits : n ≤ sizeOf h
-  body-fits = rw body-length at (k .good .1)
+  body-fits = rw body-length at (k .good .2)
+
+  pub body-part : part ≤ 5
+  body-part = k .good .1
 
   pub body-size : sizeOf h ≤ storeLength
   body-size = omega (arith, k .good .0)
 
   pub body-store : length store ≡ storeLength
-  body-store = holds-length (body h (take n store)) k
+  body-store = holds-length (body h part (take n store)) k
 
   pub body-clear : sets store 0 (replicate n 0) ≡ zeroed []
   body-clear = store-none (take n store) (k .kept) body-length (omega (arith, body-fits, body-size))
@@ -164,46 +169,49 @@ module _ {h n : ℕ} {store : List ℕ} (k : Kept (Body h n) store) where
 -- ---- taking bytes in
 
 -- a block that is full, or has no byte left to take, stays as it is
-ended : (h : ℕ) (held l : List ℕ) → (sizeOf h ≤ length held) ⊎ (length l ≡ 0) → continues false (body h held) l ≡ body h held
+ended :
+    (h part : ℕ) (held l : List ℕ) → (sizeOf h ≤ length held) ⊎ (length l ≡ 0)
+    → continues false (body h part held) l ≡ body h part held
 unfolding continues
-ended h held l (inl f) = stays h held l f
-ended h held [] (inr e) = refl
-ended h held (b ∷ bs) (inr e) = absurd (omega arith)
+ended h part held l (inl f) = stays h part held l f
+ended h part held [] (inr e) = refl
+ended h part held (b ∷ bs) (inr e) = absurd (omega arith)
 
 -- and then it awaits the pointed byte
 awaited :
-    (h : ℕ) (held l : List ℕ) → (sizeOf h ≤ length held) ⊎ (length l ≡ 0) → continues true (body h held) l ≡ awaits (body h held) l
+    (h part : ℕ) (held l : List ℕ) → (sizeOf h ≤ length held) ⊎ (length l ≡ 0)
+    → continues true (body h part held) l ≡ awaits (body h part held) l
 unfolding continues
-awaited h held l (inl f) = rw (le-leb _ _ f)
-awaited h held [] (inr e) = sym (same (full h held) refl refl)
-awaited h held (b ∷ bs) (inr e) = absurd (omega arith)
+awaited h part held l (inl f) = rw (le-leb _ _ f)
+awaited h part held [] (inr e) = sym (same (full h held) refl refl)
+awaited h part held (b ∷ bs) (inr e) = absurd (omega arith)
 
 -- a block takes n bytes, all that it wants or all that there are
 pub body-took :
-    {h held : ℕ} {store : List ℕ} (s : List ℕ) (from n : ℕ) {after : List ℕ} → Kept (Body h held) store → from + n ≤ length s
+    {h part held : ℕ} {store : List ℕ} (s : List ℕ) (from n : ℕ) {after : List ℕ} → Kept (Body h part held) store → from + n ≤ length s
     → held + n ≤ sizeOf h → (held + n ≡ sizeOf h) ⊎ (from + n ≡ length s) → after ≡ sets store held (take n (drop from s))
-    → TookIn (body h (take held store)) (drop from s) s (record { run = Body h (held + n); next = from + n }) after
-body-took {h} {held} {store} s from n {after} k w f o e =
+    → TookIn (body h part (take held store)) (drop from s) s (record { run = Body h part (held + n); next = from + n }) after
+body-took {h} {part} {held} {store} s from n {after} k w f o e =
     let d : length (drop from s) ≡ length s - from = length-drop from s in
     let x : length (take n (drop from s)) ≡ n = length-take-le n (drop from s) (omega arith) in
     let y : length (take held store ++ take n (drop from s)) ≡ held + n
     = length-append (take held store) (take n (drop from s)) ∙ rw (x, body-length k) in
     let more : (p : Bool)
-    → continues p (body h (take held store)) (drop from s)
-    ≡ continues p (body h (take held store ++ take n (drop from s))) (drop (from + n) s)
-    = λ p. chunk-continued p n h (take held store) (drop from s) (rw (body-length k) f) (omega arith) ∙ rw drop-drop in
+    → continues p (body h part (take held store)) (drop from s)
+    ≡ continues p (body h part (take held store ++ take n (drop from s))) (drop (from + n) s)
+    = λ p. chunk-continued p n h part (take held store) (drop from s) (rw (body-length k) f) (omega arith) ∙ rw drop-drop in
     let done : (sizeOf h ≤ length (take held store ++ take n (drop from s))) ⊎ (length (drop (from + n) s) ≡ 0)
     = ⊎-elim (λ (q : held + n ≡ sizeOf h). inl (rw y (omega arith)))
     (λ (q : from + n ≡ length s). inr (rw length-drop (omega arith)))
     o in
-    let all : continues false (body h (take held store)) (drop from s) ≡ body h (take held store ++ take n (drop from s))
-    = more false ∙ ended h (take held store ++ take n (drop from s)) (drop (from + n) s) done in
+    let all : continues false (body h part (take held store)) (drop from s) ≡ body h part (take held store ++ take n (drop from s))
+    = more false ∙ ended h part (take held store ++ take n (drop from s)) (drop (from + n) s) done in
     record {
       holds =
           rw all
-          (record { good = (k .good .0, rw y f); run = rw y; kept = e ∙ body-more k (take n (drop from s)) (rw x (omega (arith, body-size k))) });
+          (record { good = (k .good .0, k .good .1, rw y f); run = rw y; kept = e ∙ body-more k (take n (drop from s)) (rw x (omega (arith, body-size k))) });
       within = w;
-      rest = rw all (more true ∙ awaited h (take held store ++ take n (drop from s)) (drop (from + n) s) done);
+      rest = rw all (more true ∙ awaited h part (take held store ++ take n (drop from s)) (drop (from + n) s) done);
     }
 
 -- nothing is running, or no longer
@@ -215,8 +223,8 @@ idle-took l s c e =
 
 -- the header goes on in the next packet
 pub cut-took :
-    {m : Mode} (s : List ℕ) {store : List ℕ} {g v : ℕ} → ((p : Bool) → continues p m s ≡ heading g v) → Bits g v → store ≡ zeroed []
-    → TookIn m s s (record { run = Head g v; next = length s }) store
+    {m : Mode} (s : List ℕ) {store : List ℕ} {g v part : ℕ} → ((p : Bool) → continues p m s ≡ heading g v part)
+    → Bits g v part → store ≡ zeroed [] → TookIn m s s (record { run = Head g v part; next = length s }) store
 unfolding continues
 cut-took s c h e =
     record {
@@ -233,70 +241,112 @@ on-took c t = record { holds = rw (c false) (t .holds); within = t .within; rest
 
 -- a header that is read on, by what stands there
 pub head-continued :
-    (g v : ℕ) (l : List ℕ) {f : StartAhead} → g ≤ 3 → heads (4 - g) v l ≡ f → (p : Bool) → continues p (heading g v) l ≡ continued-by p f
-head-continued g v l h e p =
+    (g v part : ℕ) (l : List ℕ) {f : StartAhead} → g ≤ 3 → heads (4 - g) v part l ≡ f → (p : Bool)
+    → continues p (heading g v part) l ≡ continued-by p f
+head-continued g v part l h e p =
     let a : 3 - (3 - g) ≡ g = omega arith in
     let b : suc (3 - g) ≡ 4 - g = omega arith in
-    (rw (a, b, e) at (heads-continued p (3 - g) v l (omega arith)))
+    (rw (a, b, e) at (heads-continued p (3 - g) v part l (omega arith)))
 
 -- a header that is cut off has the bits of its nibbles
-heads-bits : (k v : ℕ) (l : List ℕ) {g w : ℕ} → k ≤ 3 → Bits (3 - k) v → heads (suc k) v l ≡ cut g w → Bits g w
+heads-bits :
+    (k v part : ℕ) (l : List ℕ) {g w n : ℕ} → k ≤ 3 → Bits (3 - k) v part → heads (suc k) v part l ≡ cut g w n → Bits g w n
 unfolding heads
-heads-bits k v [] {g} {w} h b e =
+heads-bits k v part [] {g} {w} {n} h b e =
     let x : 3 - k ≡ g = cc in
     let y : v ≡ w = cc in
-    rw (x, y) at b
-heads-bits zero v (b ∷ bs) {g} {w} h r e = go (eqb (nib b) undecodable) e
+    let z : part ≡ n = cc in
+    rw (x, y, z) at b
+heads-bits zero v part (b ∷ bs) {g} {w} {n} h r e = go (eqb (nib b) undecodable) e
   where
-    go : (t : Bool) → pick t broken (whole (shifted v b) bs) ≡ cut g w → Bits g w
+    go : (t : Bool) → pick t broken (whole (shifted v b) (part + harm b) bs) ≡ cut g w n → Bits g w n
     go true q = let z : _≡_ {A = ℕ} 0 1 = cc in absurd (omega arith)
     go false q = let z : _≡_ {A = ℕ} 0 1 = cc in absurd (omega arith)
-heads-bits (suc k) v (b ∷ bs) {g} {w} h r e = go (eqb (nib b) undecodable) refl (λ x. heads-bits k (shifted v b) bs (omega arith) x) e
+heads-bits (suc k) v part (b ∷ bs) {g} {w} {n} h r e =
+    go (eqb (nib b) undecodable) refl (λ x. heads-bits k (shifted v b) (part + harm b) bs (omega arith) x) e
   where
     go :
         (t : Bool) → eqb (nib b) undecodable ≡ t
-        → (Bits (3 - k) (shifted v b) → heads (suc k) (shifted v b) bs ≡ cut g w → Bits g w)
-        → pick t broken (heads (suc k) (shifted v b) bs) ≡ cut g w → Bits g w
+        → (Bits (3 - k) (shifted v b) (part + harm b) → heads (suc k) (shifted v b) (part + harm b) bs ≡ cut g w n → Bits g w n)
+        → pick t broken (heads (suc k) (shifted v b) (part + harm b) bs) ≡ cut g w n → Bits g w n
     go true f s q = let z : _≡_ {A = ℕ} 0 1 = cc in absurd (omega arith)
     go false f s q =
         let x : suc (3 - suc k) ≡ 3 - k = omega arith in
-        let y : Bits (suc (3 - suc k)) (shifted v b) = more-bits (3 - suc k) v (nib b) (decoded b (eqb-false _ _ f)) (omega arith) r in
+        let y : Bits (suc (3 - suc k)) (shifted v b) (part + harm b)
+        = more-bits (3 - suc k) v part (nib b) (harm b) (decoded b (eqb-false _ _ f)) (harm-le b) (omega arith) r in
         s (rw x at y) q
 
-pub found-bits : (l : List ℕ) {g w : ℕ} → found l ≡ cut g w → Bits g w
-unfolding found
-found-bits [] e = let z : _≡_ {A = ℕ} 0 1 = cc in absurd (omega arith)
-found-bits (b ∷ bs) {g} {w} e = go (filler b) (eqb (nib b) 12) (found-bits bs) e
+-- one that is whole has counted five bytes at most
+heads-part :
+    (k v part : ℕ) (l : List ℕ) {h n : ℕ} {r : List ℕ} → k ≤ 4 → part + k ≤ 5 → heads k v part l ≡ whole h n r → n ≤ 5
+unfolding heads
+heads-part zero v part l {h} {n} i c e = let z : part ≡ n = cc in omega arith
+heads-part (suc k) v part [] i c e = let z : _≡_ {A = ℕ} 0 1 = cc in absurd (omega arith)
+heads-part (suc k) v part (b ∷ bs) {h} {n} {r} i c e =
+    go (eqb (nib b) undecodable) (λ x. heads-part k (shifted v b) (part + harm b) bs (omega arith) (omega (arith, harm-le b)) x) e
   where
     go :
-        (t u : Bool) → (found bs ≡ cut g w → Bits g w) → pick t (found bs) (pick u (heads 4 0 bs) nothing) ≡ cut g w → Bits g w
+        (t : Bool) → (heads k (shifted v b) (part + harm b) bs ≡ whole h n r → n ≤ 5)
+        → pick t broken (heads k (shifted v b) (part + harm b) bs) ≡ whole h n r → n ≤ 5
+    go true s q = let z : _≡_ {A = ℕ} 0 1 = cc in absurd (omega arith)
+    go false s q = s q
+
+pub found-bits : (l : List ℕ) {g w n : ℕ} → found l ≡ cut g w n → Bits g w n
+unfolding found
+found-bits [] e = let z : _≡_ {A = ℕ} 0 1 = cc in absurd (omega arith)
+found-bits (b ∷ bs) {g} {w} {n} e = go (filler b) (eqb (nib b) 12) (found-bits bs) e
+  where
+    go :
+        (t u : Bool) → (found bs ≡ cut g w n → Bits g w n)
+        → pick t (found bs) (pick u (heads 4 0 (harm b) bs) nothing) ≡ cut g w n → Bits g w n
     go true u r q = r q
-    go false true r q = heads-bits 3 0 bs (omega arith) (record { got = omega arith; small = omega arith; only = refl }) q
+    go false true r q = heads-bits 3 0 (harm b) bs (omega arith) (begun-bits (harm b) (harm-le b)) q
+    go false false r q = let z : _≡_ {A = ℕ} 0 1 = cc in absurd (omega arith)
+
+pub found-part : (l : List ℕ) {h n : ℕ} {k : List ℕ} → found l ≡ whole h n k → n ≤ 5
+unfolding found
+found-part [] e = let z : _≡_ {A = ℕ} 0 1 = cc in absurd (omega arith)
+found-part (b ∷ bs) {h} {n} {k} e = go (filler b) (eqb (nib b) 12) (found-part bs) e
+  where
+    go :
+        (t u : Bool) → (found bs ≡ whole h n k → n ≤ 5)
+        → pick t (found bs) (pick u (heads 4 0 (harm b) bs) nothing) ≡ whole h n k → n ≤ 5
+    go true u r q = r q
+    go false true r q = heads-part 4 0 (harm b) bs (omega arith) (omega (arith, harm-le b)) q
     go false false r q = let z : _≡_ {A = ℕ} 0 1 = cc in absurd (omega arith)
 
 -- a running header, by the answer to reading it on
-module _ {r : Run} {store : List ℕ} {g v : ℕ} (s : List ℕ) (a : Ahead) (k : Kept r store) (e : r ≡ Head g v)
-    (x : heads (4 - g) v s ≡ aheadIn s a) where
+module _ {r : Run} {store : List ℕ} {g v part : ℕ} (s : List ℕ) (a : Ahead) (k : Kept r store) (e : r ≡ Head g v part)
+    (x : heads (4 - g) v part s ≡ aheadIn s a) where
   by-answer : (p : Bool) → continues p (modeOf r store) s ≡ continued-by p (aheadIn s a)
-  by-answer p = rw e (head-continued g v s (kept-got k e) x p)
+  by-answer p = rw e (head-continued g v part s (kept-got k e) x p)
 
   -- nothing runs on
   pub head-lost :
       ((p : Bool) → continued-by p (aheadIn s a) ≡ off) → TookIn (modeOf r store) s s (record { run = Idle; next = 0 }) store
   head-lost y = idle-took s s (λ p. by-answer p ∙ y p) (kept-head k e)
 
-  pub head-cut : {n w : ℕ} → a ≡ Cut n w → TookIn (modeOf r store) s s (record { run = Head n w; next = length s }) store
-  head-cut y =
+  -- the header goes on in the next packet
+  pub head-bits : {n w z : ℕ} → a ≡ Cut n w z → Bits n w z
+  head-bits y =
       let m : 3 - (3 - g) ≡ g = omega (arith, kept-got k e) in
       let n : suc (3 - g) ≡ 4 - g = omega (arith, kept-got k e) in
-      cut-took s (λ p. by-answer p ∙ rw y)
-      (heads-bits (3 - g) v s (omega arith) (rw m (kept-bits k e)) (rw n (x ∙ ap (aheadIn s) y))) (kept-head k e)
+      heads-bits (3 - g) v part s (omega arith) (rw m (kept-bits k e)) (rw n (x ∙ ap (aheadIn s) y))
+
+  pub head-cut : {n w z : ℕ} → a ≡ Cut n w z → TookIn (modeOf r store) s s (record { run = Head n w z; next = length s }) store
+  head-cut y = cut-took s (λ p. by-answer p ∙ rw y) (head-bits y) (kept-head k e)
+
+  -- it is whole
+  pub head-part : {h z n : ℕ} → a ≡ Whole h z n → z ≤ 5
+  head-part y =
+      heads-part (4 - g) v part s (omega arith) (omega (arith, kept-bits k e .counted, kept-got k e)) (x ∙ ap (aheadIn s) y)
 
   pub head-whole :
-      {h n : ℕ} {t : Taken} {after : List ℕ} → a ≡ Whole h n → TookIn (body h []) (drop n s) s t after
+      {h z n : ℕ} {t : Taken} {after : List ℕ} → a ≡ Whole h z n → TookIn (body h z []) (drop n s) s t after
       → TookIn (modeOf r store) s s t after
   head-whole y z = on-took (λ p. by-answer p ∙ rw y) z
 
 -- a block begins
-pub begun-body : {h : ℕ} {store : List ℕ} → h < 2 ^ 16 → store ≡ zeroed [] → Holds (body h []) (Body h 0) store
-begun-body f e = record { good = (f, omega arith); run = refl; kept = e }
+pub begun-body :
+    {h part : ℕ} {store : List ℕ} → h < 2 ^ 16 → part ≤ 5 → store ≡ zeroed [] → Holds (body h part []) (Body h part 0) store
+begun-body f p e = record { good = (f, p, omega arith); run = refl; kept = e }

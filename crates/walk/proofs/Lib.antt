@@ -1,5 +1,6 @@
 pub mod Staying
 pub mod Heading
+pub mod Evening
 pub mod Adding
 pub mod Along
 pub mod Keeping

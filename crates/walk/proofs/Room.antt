@@ -1,5 +1,5 @@
--- How much a packet can give: at most 8 blocks, and their records are at most 2,112 bytes. A block that starts in the packet takes three
--- bytes more of it than its record has; only one block can have been running before. By induction along the bytes. Assumes nothing.
+-- How much a packet can give: at most 8 blocks, and their records are at most 2,112 bytes. A block that starts in the packet takes one
+-- byte more of it than its record has; only one block can have been running before. By induction along the bytes. Assumes nothing.
 use mathlib.Core.Path.{_≡_, refl}
 use mathlib.Core.Bool.{Bool, true, false}
 use mathlib.Core.List.{List, [], _∷_, _++_}
@@ -10,20 +10,21 @@ use lib.ListN.{length, take, drop, length-append, length-drop}
 use borrow.Author.Tests.{ltb-false}
 use Rattle.laws.specs.Pick.{pick}
 use Rattle.octet.specs.Decoding.{nib, undecodable}
+use Rattle.octet.specs.Hearing.{harm}
 use Rattle.blocks.specs.Block.{Block, headLength, recordsOf}
-use Rattle.walk.specs.Mode.{Mode, off, scan, heading, body, filler, shifted, full, step, emitted, gives, continues, finished}
+use Rattle.walk.specs.Mode.{Mode, off, scan, heading, body, filler, shifted, full, blockWith, step, emitted, gives, continues, finished}
 use Rattle.walk.specs.Store.{storeLength}
 use Rattle.walk.specs.Reading.{room, pointed, readBlocks}
-use Rattle.walk.specs.Internal.{Good, blockWith}
+use Rattle.walk.specs.Internal.{Good}
 use Rattle.walk.proofs.Adding.{recordsOf-append}
 use Rattle.walk.proofs.Along.{Along, good-along, continues-along}
 
--- each block's record is two bytes long at least
-pub two-each : (bs : List Block) → 2 * length bs ≤ length (recordsOf bs)
+-- each block's record is as long as its head at least
+pub head-each : (bs : List Block) → headLength * length bs ≤ length (recordsOf bs)
 unfolding recordsOf
-two-each [] = omega arith
-two-each (b ∷ bs) =
-    let h : 2 * length bs ≤ length (recordsOf bs) = two-each bs in
+head-each [] = omega arith
+head-each (b ∷ bs) =
+    let h : headLength * length bs ≤ length (recordsOf bs) = head-each bs in
     simp length-append (omega arith)
 
 -- the block that was running
@@ -31,12 +32,12 @@ finished-room : (m : Mode) → Along m → (length (finished m) ≤ 1) × (lengt
 unfolding recordsOf
 finished-room off g = (omega arith, omega arith)
 finished-room scan g = (omega arith, omega arith)
-finished-room (heading n v) g = (omega arith, omega arith)
-finished-room (body h held) g = go (full h held)
+finished-room (heading n v part) g = (omega arith, omega arith)
+finished-room (body h part held) g = go (full h held)
   where
     go :
         (t : Bool)
-        → (length (pick t (blockWith h held ∷ []) []) ≤ 1) × (length (recordsOf (pick t (blockWith h held ∷ []) [])) ≤ headLength + storeLength)
+        → (length (pick t (blockWith h part held ∷ []) []) ≤ 1) × (length (recordsOf (pick t (blockWith h part held ∷ []) [])) ≤ headLength + storeLength)
     go true = (omega arith, simp length-append (omega arith))
     go false = (omega arith, omega arith)
 
@@ -49,38 +50,38 @@ carried-room p m l g = finished-room (continues p m l) (continues-along p m l (g
 abbrev used : Mode → ℕ
 used off = 0
 used scan = 0
-used (heading n v) = 1 + n
-used (body h held) = 5 + length held
+used (heading n v part) = 1 + n
+used (body h part held) = 5 + length held
 
--- from the pointed byte on: a record is three bytes shorter than what it is read from
+-- from the pointed byte on: a record is one byte shorter than what it is read from
 weigh : List Block → ℕ
-weigh bs = 3 * length bs + length (recordsOf bs)
+weigh bs = length bs + length (recordsOf bs)
 
 step-room : (m : Mode) (b : ℕ) → weigh (emitted m b) + used (step m b) ≤ suc (used m)
 unfolding step emitted weigh recordsOf
 step-room off b = omega arith
 step-room scan b = go (filler b) (eqb (nib b) 12)
   where
-    go : (t u : Bool) → 0 + used (pick t scan (pick u (heading 0 0) off)) ≤ 1
+    go : (t u : Bool) → 0 + used (pick t scan (pick u (heading 0 0 (harm b)) off)) ≤ 1
     go true u = omega arith
     go false true = omega arith
     go false false = omega arith
-step-room (heading n v) b = go (eqb (nib b) undecodable) (ltb n 3) refl (full (shifted v b) [])
+step-room (heading n v part) b = go (eqb (nib b) undecodable) (ltb n 3) refl (full (shifted v b) [])
   where
     go :
         (t u : Bool) → ltb n 3 ≡ u → (x : Bool)
-        → weigh (pick t [] (pick u [] (pick x (blockWith (shifted v b) [] ∷ []) [])))
-        + used (pick t off (pick u (heading (suc n) (shifted v b)) (pick x scan (body (shifted v b) []))))
+        → weigh (pick t [] (pick u [] (pick x (blockWith (shifted v b) (part + harm b) [] ∷ []) [])))
+        + used (pick t off (pick u (heading (suc n) (shifted v b) (part + harm b)) (pick x scan (body (shifted v b) (part + harm b) []))))
         ≤ suc (1 + n)
     go true u f x = omega arith
     go false true f x = omega arith
     go false false f true = omega (arith, ltb-false n 3 f)
     go false false f false = omega (arith, ltb-false n 3 f)
-step-room (body h held) b = go (full h (held ++ b ∷ []))
+step-room (body h part held) b = go (full h (held ++ b ∷ []))
   where
     go :
         (t : Bool)
-        → weigh (pick t (blockWith h (held ++ b ∷ []) ∷ []) []) + used (pick t scan (body h (held ++ b ∷ []))) ≤ suc (5 + length held)
+        → weigh (pick t (blockWith h part (held ++ b ∷ []) ∷ []) []) + used (pick t scan (body h part (held ++ b ∷ []))) ≤ suc (5 + length held)
     go true = simp length-append (omega arith)
     go false = simp length-append (omega arith)
 
@@ -98,7 +99,7 @@ gives-weigh m (b ∷ bs) =
     = weigh-append (emitted m b) (gives (step m b) bs) in
     omega arith
 
-gives-room : (l : List ℕ) → 3 * length (gives scan l) + length (recordsOf (gives scan l)) ≤ length l
+gives-room : (l : List ℕ) → length (gives scan l) + length (recordsOf (gives scan l)) ≤ length l
 unfolding weigh
 gives-room l = let h : weigh (gives scan l) ≤ used scan + length l = gives-weigh scan l in omega arith
 
@@ -119,7 +120,7 @@ read-room m p l g h = go (leb p 12) (eqb p 13)
     pointed-at =
         let f = carried-room true m (take (pointed p) l) g in
         let n = gives-room (drop (pointed p) l) in
-        let t = two-each (gives scan (drop (pointed p) l)) in
+        let t = head-each (gives scan (drop (pointed p) l)) in
         let d = length-drop (pointed p) l in
         (simp length-append (omega arith), simp (recordsOf-append, length-append) (omega arith))
 

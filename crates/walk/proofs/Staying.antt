@@ -19,32 +19,32 @@ continues-off p [] = refl
 continues-off p (b ∷ bs) = continues-off p bs
 
 -- a block that is held whole stays where no start is pointed at
-pub stays : (h : ℕ) (held l : List ℕ) → sizeOf h ≤ length held → continues false (body h held) l ≡ body h held
+pub stays : (h part : ℕ) (held l : List ℕ) → sizeOf h ≤ length held → continues false (body h part held) l ≡ body h part held
 unfolding continues goesOn
-stays h held [] e = refl
-stays h held (b ∷ bs) e = rw (le-leb _ _ e) (stays h held bs e)
+stays h part held [] e = refl
+stays h part held (b ∷ bs) e = rw (le-leb _ _ e) (stays h part held bs e)
 
 -- where a start is pointed at it stays over filler alone
 pub waits :
-    (h : ℕ) (held l : List ℕ) → sizeOf h ≤ length held → length l ≤ fillers l → continues true (body h held) l ≡ body h held
+    (h part : ℕ) (held l : List ℕ) → sizeOf h ≤ length held → length l ≤ fillers l → continues true (body h part held) l ≡ body h part held
 unfolding continues goesOn fillers
-waits h held [] e k = refl
-waits h held (b ∷ bs) e k = rw (le-leb _ _ e) (go (filler b) (waits h held bs e) k)
+waits h part held [] e k = refl
+waits h part held (b ∷ bs) e k = rw (le-leb _ _ e) (go (filler b) (waits h part held bs e) k)
   where
     go :
-        (t : Bool) → (length bs ≤ fillers bs → continues true (body h held) bs ≡ body h held)
-        → suc (length bs) ≤ pick t (suc (fillers bs)) 0 → continues true (pick t (body h held) off) bs ≡ body h held
+        (t : Bool) → (length bs ≤ fillers bs → continues true (body h part held) bs ≡ body h part held)
+        → suc (length bs) ≤ pick t (suc (fillers bs)) 0 → continues true (pick t (body h part held) off) bs ≡ body h part held
     go true r k = r (omega arith)
     go false r k = absurd (omega arith)
 
 pub breaks-off :
-    (h : ℕ) (held l : List ℕ) → sizeOf h ≤ length held → fillers l < length l → continues true (body h held) l ≡ off
+    (h part : ℕ) (held l : List ℕ) → sizeOf h ≤ length held → fillers l < length l → continues true (body h part held) l ≡ off
 unfolding continues goesOn fillers
-breaks-off h held [] e k = absurd (omega arith)
-breaks-off h held (b ∷ bs) e k = rw (le-leb _ _ e) (go (filler b) (breaks-off h held bs e) k)
+breaks-off h part held [] e k = absurd (omega arith)
+breaks-off h part held (b ∷ bs) e k = rw (le-leb _ _ e) (go (filler b) (breaks-off h part held bs e) k)
   where
     go :
-        (t : Bool) → (fillers bs < length bs → continues true (body h held) bs ≡ off)
-        → pick t (suc (fillers bs)) 0 < suc (length bs) → continues true (pick t (body h held) off) bs ≡ off
+        (t : Bool) → (fillers bs < length bs → continues true (body h part held) bs ≡ off)
+        → pick t (suc (fillers bs)) 0 < suc (length bs) → continues true (pick t (body h part held) off) bs ≡ off
     go true r k = r (omega arith)
     go false r k = continues-off true bs

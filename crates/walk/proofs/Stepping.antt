@@ -12,6 +12,7 @@ use lib.Dec.{eqb, ltb, leb}
 use borrow.Author.Tests.{eq-eqb, ne-eqb, eqb-false, lt-ltb, le-ltb, lt-leb, le-leb}
 use Rattle.laws.specs.Pick.{pick}
 use Rattle.octet.specs.Decoding.{nib}
+use Rattle.octet.specs.Hearing.{harm}
 use Rattle.walk.specs.declared.Ahead.{Ahead}
 use Rattle.walk.specs.declared.Ahead.the-variants.{Nothing, Broken, Cut, Whole}
 use Rattle.walk.specs.Mode.{filler}
@@ -40,7 +41,7 @@ found-past (b ∷ bs) = go (filler b) refl (found-past bs)
   where
     go :
         (t : Bool) → filler b ≡ t → found bs ≡ found (drop (fillers bs) bs)
-        → pick t (found bs) (pick (eqb (nib b) 12) (heads 4 0 bs) nothing) ≡ found (drop (pick t (suc (fillers bs)) 0) (b ∷ bs))
+        → pick t (found bs) (pick (eqb (nib b) 12) (heads 4 0 (harm b) bs) nothing) ≡ found (drop (pick t (suc (fillers bs)) 0) (b ∷ bs))
     go true e r = r
     go false e r = rw e
 
@@ -54,7 +55,7 @@ unfolding found
 found-stray l i h e f = rw (drop-cons l i 0, ne-eqb _ _ e, ne-eqb _ _ f)
 
 pub found-start :
-    (l : List ℕ) (i : ℕ) → i < length l → nib (getD l i 0) ≡ 12 → found (drop i l) ≡ heads 4 0 (drop (i + 1) l)
+    (l : List ℕ) (i : ℕ) → i < length l → nib (getD l i 0) ≡ 12 → found (drop i l) ≡ heads 4 0 (harm (getD l i 0)) (drop (i + 1) l)
 unfolding found
 found-start l i h f =
     let e : nib (getD l i 0) ≡ 3 → ⊥ = λ e. omega arith in
@@ -75,14 +76,14 @@ past-filler (b ∷ bs) h e = go (filler b) refl (past-filler bs) h e
 pub next-later : (r : Ahead) (x y : ℕ) → nextOf r x ≡ x → y ≤ x → y ≤ nextOf r y
 next-later Nothing x y e h = omega arith
 next-later Broken x y e h = omega arith
-next-later (Cut g v) x y e h = omega arith
-next-later (Whole h n) x y e k = omega arith
+next-later (Cut g v part) x y e h = omega arith
+next-later (Whole h part n) x y e k = omega arith
 
 -- the place past a whole header lies so far on, and within the bytes
-pub next-from : (r : Ahead) {h n : ℕ} (x : ℕ) → r ≡ Whole h n → x ≤ nextOf r x → x ≤ n
+pub next-from : (r : Ahead) {h part n : ℕ} (x : ℕ) → r ≡ Whole h part n → x ≤ nextOf r x → x ≤ n
 next-from r x e l = rw e at l
 
-pub next-within : (r : Ahead) {h n : ℕ} {y : ℕ} → r ≡ Whole h n → nextOf r 0 ≤ y → n ≤ y
+pub next-within : (r : Ahead) {h part n : ℕ} {y : ℕ} → r ≡ Whole h part n → nextOf r 0 ≤ y → n ≤ y
 next-within r e l = rw e at l
 
 -- ---- the same from the place that filler leads to

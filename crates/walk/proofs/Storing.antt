@@ -7,9 +7,12 @@ use native.Mathlib.Omega.{arith}
 use lib.ListN.{set}
 use lib.Seq.{sets}
 
--- a record's two first bytes, and then the others
-pub two-first :
-    (d xs : List ℕ) (q a b : ℕ) → sets (set (set d q a) (q + 1) b) (q + 2) xs ≡ sets d q (a ∷ b ∷ xs)
-two-first d xs q a b =
-    let p : q + 2 ≡ suc (suc q) = omega arith in
-    rw (p, add-one q)
+-- a record's head of four bytes, and then the others
+pub head-first :
+    (l xs : List ℕ) (q a b c d : ℕ)
+    → sets (set (set (set (set l q a) (q + 1) b) (q + 2) c) (q + 3) d) (q + 4) xs ≡ sets l q (a ∷ b ∷ c ∷ d ∷ xs)
+head-first l xs q a b c d =
+    let two : q + 2 ≡ suc (suc q) = omega arith in
+    let three : q + 3 ≡ suc (suc (suc q)) = omega arith in
+    let four : q + 4 ≡ suc (suc (suc (suc q))) = omega arith in
+    rw (two, three, four, add-one q)

@@ -3,7 +3,7 @@
 use mathlib.Core.Path.{_≡_}
 use mathlib.Core.Bool.{Bool, true, false, not}
 use mathlib.Core.List.{List, []}
-use Prim.Native.Nat.{ℕ, _+_, _-_, _*_, _%_, _^_, _≤_, _<_}
+use Prim.Native.Nat.{ℕ, suc, _+_, _-_, _*_, _%_, _^_, _≤_, _<_}
 use lib.ListN.{length, drop}
 use lib.Seq.{sets}
 use Rattle.laws.specs.Pick.{pick, both, either}
@@ -16,18 +16,19 @@ use Rattle.walk.specs.Mode.{Mode, off, scan, heading, body, full, runnin
 use Rattle.walk.specs.Store.{storeLength, zeroed, modeOf, runOf, heldOf}
 use Rattle.walk.specs.Reading.{dropIf, readMode, readBlocks, readDrops, room}
 
--- g nibbles have come, and v has their bits and no others
-pub record Bits (g v : ℕ) : Type 0 where
+-- g nibbles have come, v has their bits and no others, and no more of their bytes and the start than there are count in the part
+pub record Bits (g v part : ℕ) : Type 0 where
   pub got : g ≤ 3
   pub small : v < 2 ^ 16
   pub only : v % 16 ^ (4 - g) ≡ 0
+  pub counted : part ≤ suc g
 
 -- a mode that a reader may be in between two steps
 abbrev pub Good : Mode → Type 0
 Good off = Unit
 Good scan = ⊥
-Good (heading g v) = Bits g v
-Good (body h held) = (h < 2 ^ 16) × (length held ≤ sizeOf h)
+Good (heading g v part) = Bits g v part
+Good (body h part held) = (h < 2 ^ 16) × (part ≤ 5) × (length held ≤ sizeOf h)
 
 -- run and store hold the mode m
 pub record Holds (m : Mode) (r : Run) (store : List ℕ) : Type 0 where
@@ -39,22 +40,18 @@ pub record Holds (m : Mode) (r : Run) (store : List ℕ) : Type 0 where
 abbrev pub Kept : Run → List ℕ → Type 0
 Kept r store = Holds (modeOf r store) r store
 
--- the block of these 16 bits and raw bytes
-abbrev pub blockWith : ℕ → List ℕ → Block
-blockWith h l = record { head = h; raw = l }
-
 -- a running block that has taken its bytes, over those up to the pointed byte
 abbrev pub awaits : Mode → List ℕ → Mode
 awaits off l = off
 awaits scan l = off
-awaits (heading g v) l = heading g v
-awaits (body h held) l = pick (full h held) (continues true (body h held) l) (body h held)
+awaits (heading g v part) l = heading g v part
+awaits (body h part held) l = pick (full h held) (continues true (body h part held) l) (body h part held)
 
 -- a block runs
 abbrev pub runs : Run → Bool
 runs Idle = false
-runs (Head got bits) = true
-runs (Body head held) = true
+runs (Head got bits part) = true
+runs (Body head part held) = true
 
 -- from the mode m the running block has taken its bytes of l, which s ends with, and the rest of them begins at a place of s
 pub record TookIn (m : Mode) (l s : List ℕ) (r : Taken) (store : List ℕ) : Type 0 where
@@ -70,10 +67,10 @@ pub record Went (m : Mode) (bs : List Block) (d : Bool) (a r : Got) (store old n
   pub dropped : r .dropped ≡ either (a .dropped) d
   pub out : new ≡ sets old (a .written) (recordsOf bs)
 
--- there is room behind what is written for a block, and each block so far has written its 16 bits at least
+-- there is room behind what is written for a block, and each block so far has written its head at least
 pub record Room (a : Got) (out : List ℕ) : Type 0 where
   pub long : a .written + (headLength + storeLength) ≤ length out
-  pub few : 2 * a .blocks ≤ a .written
+  pub few : headLength * a .blocks ≤ a .written
 
 -- a block that is held whole has gone out
 abbrev pub Finished : Mode → Got → Got → List ℕ → List ℕ → List ℕ → Type 0
@@ -94,7 +91,7 @@ Flowed l = Went (unfinished (ends scan l)) (gives scan l) (spoils scan l)
 -- there is room for what a packet can give
 pub record PacketRoom (a : Got) (out : List ℕ) : Type 0 where
   pub long : a .written + room ≤ length out
-  pub few : 2 * a .blocks ≤ a .written
+  pub few : headLength * a .blocks ≤ a .written
 
 -- the packet's pointer is p, and l the 39 bytes after it
 abbrev pub ReadPacket : Mode → ℕ → List ℕ → Got → Got → List ℕ → List ℕ → List ℕ → Type 0

@@ -17,18 +17,18 @@ zeroed held = held ++ replicate (storeLength - length held) 0
 -- the running block that is held
 abbrev pub modeOf : Run → List ℕ → Mode
 modeOf Idle store = off
-modeOf (Head got bits) store = heading got bits
-modeOf (Body head held) store = body head (take held store)
+modeOf (Head got bits part) store = heading got bits part
+modeOf (Body head part held) store = body head part (take held store)
 
 -- how it is held
 abbrev pub runOf : Mode → Run
 runOf off = Idle
 runOf scan = Idle
-runOf (heading g v) = Head g v
-runOf (body h held) = Body h (length held)
+runOf (heading g v part) = Head g v part
+runOf (body h part held) = Body h part (length held)
 
 abbrev pub heldOf : Mode → List ℕ
 heldOf off = []
 heldOf scan = []
-heldOf (heading g v) = []
-heldOf (body h held) = held
+heldOf (heading g v part) = []
+heldOf (body h part held) = held

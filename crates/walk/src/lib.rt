@@ -6,18 +6,23 @@ pub mod starts;
 pub use starts::falls;
 pub use starts::find;
 ghost use mathlib.Core.Path.{_≡_};
-ghost use Prim.Native.Nat.{_+_, _-_, _≤_};
+ghost use Prim.Native.Nat.{_+_, _-_, _≤_, _<_};
 ghost use lib.ListN.{length, drop};
 ghost use Rattle.octet.specs.Decoding.{nib};
+ghost use Rattle.octet.specs.Hearing.{harm};
 ghost use Rattle.walk.specs.Reading.{pointedBy};
 ghost use Rattle.walk.specs.Places.{heads, aheadIn, nextOf};
 
+// Bit i is set where i has an even number of ones, for i below 16.
+const EVEN: u16 = 0x9669;
+
 // The running block: none; its start and so many nibbles of its 16 bits; its 16 bits, and how many
-// of its bytes are in the store.
+// of its bytes are in the store. The part counts the start and the header bytes so far that weren't
+// the image of their nibble.
 pub enum Run {
     Idle,
-    Head { got: u8, bits: u16 },
-    Body { head: u16, held: usize },
+    Head { got: u8, bits: u16, part: u8 },
+    Body { head: u16, part: u8, held: usize },
 }
 
 // What reading has come to: the running block beside the store, the blocks handed out so far, as how
@@ -36,12 +41,13 @@ pub struct Taken {
 }
 
 // What stands ahead where nothing runs: no start; one whose header can't be decoded; one whose header
-// goes on in the next packet; its 16 bits and the place past them.
+// goes on in the next packet; its 16 bits and the place past them. The part can be more than a byte
+// holds only where it was handed in so.
 pub enum Ahead {
     Nothing,
     Broken,
-    Cut { got: u8, bits: u16 },
-    Whole { head: u16, next: usize },
+    Cut { got: u8, bits: u16, part: u16 },
+    Whole { head: u16, part: u16, next: usize },
 }
 
 // How many of a packet's 39 bytes stand before the start that its pointer byte points at; 39 where it says that no block starts there, 40
@@ -59,26 +65,48 @@ pub fn pointed(b: u8) -> usize
     40
 }
 
-// A header from `from` on, of which `got` nibbles are in `bits` already. With four or more it is whole.
-pub fn head_on(s: &[u8], from: usize, got: u8, bits: u16) -> Ahead
-    ensures { λ r. ⌜ heads (4 - got) bits (drop from (now (s .entry))) ≡ aheadIn (now (s .entry)) r ⌝ }
+// A header from `from` on, of which `got` nibbles are in `bits` already, and `part` counts their harmed
+// bytes. With four or more it is whole.
+pub fn head_on(s: &[u8], from: usize, got: u8, bits: u16, part: u8) -> Ahead
+    ensures { λ r. ⌜ heads (4 - got) bits part (drop from (now (s .entry))) ≡ aheadIn (now (s .entry)) r ⌝ }
     ensures { λ r. ⌜ nextOf r (from + (4 - got)) ≡ from + (4 - got) ⌝ }
     ensures { λ r. ⌜ (from ≤ length (now (s .entry)) → nextOf r 0 ≤ length (now (s .entry))) ⌝ }
 {
     let mut i = from;
     let mut g = got;
     let mut v = bits;
+    let mut p = part as u16;
     while g < 4 {
         if i >= s.len() {
-            return Ahead::Cut { got: g, bits: v };
+            return Ahead::Cut {
+                got: g,
+                bits: v,
+                part: p,
+            };
         }
-        let n = octet::quick::decode(s[i]);
+        let b = s[i];
+        let n = octet::quick::decode(b);
         if n == 16 {
             return Ahead::Broken;
         }
         v = v / 16 + (n as u16) * 4096;
+        p += harmed(b) as u16;
         g += 1;
         i += 1;
     }
-    Ahead::Whole { head: v, next: i }
+    Ahead::Whole {
+        head: v,
+        part: p,
+        next: i,
+    }
+}
+
+// 1 where a byte that decodes isn't the image of its nibble, else 0. Images have an odd number of ones, and one flip makes it
+// even; so no table is looked into.
+pub(crate) fn harmed(b: u8) -> u8
+    requires { ⌜ nib b < 16 ⌝ }
+    ensures { λ r. ⌜ r ≡ harm b ⌝ }
+    ensures { λ r. ⌜ r ≤ 1 ⌝ }
+{
+    ((EVEN >> ((b ^ (b / 16)) % 16)) % 2) as u8
 }

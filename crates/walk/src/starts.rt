@@ -8,6 +8,9 @@ ghost use Prim.Native.Nat.{_+_, _≤_};
 ghost use lib.ListN.{length, drop};
 ghost use Rattle.walk.specs.Places.{fillers, found, aheadIn, nextOf, stands};
 
+// A start's nibble.
+const START: u8 = 12;
+
 // What stands ahead from `from` on where nothing runs.
 pub fn find(s: &[u8], from: usize) -> Ahead
     ensures { λ r. ⌜ found (drop from (now (s .entry))) ≡ aheadIn (now (s .entry)) r ⌝ }
@@ -18,10 +21,11 @@ pub fn find(s: &[u8], from: usize) -> Ahead
     if at >= s.len() {
         return Ahead::Nothing;
     }
-    if octet::quick::decode(s[at]) != 12 {
+    let b = s[at];
+    if octet::quick::decode(b) != START {
         return Ahead::Nothing;
     }
-    crate::head_on(s, at + 1, 0, 0)
+    crate::head_on(s, at + 1, 0, 0, crate::harmed(b))
 }
 
 // Whether a block that has taken its bytes is lost at the pointed byte: it isn't whole, or more than
@@ -31,8 +35,16 @@ pub fn falls(run: Run, s: &[u8], next: usize) -> bool
 {
     match run {
         Run::Idle => true,
-        Run::Head { got: _, bits: _ } => true,
-        Run::Body { head, held } => {
+        Run::Head {
+            got: _,
+            bits: _,
+            part: _,
+        } => true,
+        Run::Body {
+            head,
+            part: _,
+            held,
+        } => {
             if held < (head / 32) as usize {
                 return true;
             }

@@ -9,3 +9,4 @@ pub mod Numbering
 pub mod Pointing
 pub mod Cases
 pub mod PacketZero
+pub mod Usual

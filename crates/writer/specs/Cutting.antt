@@ -54,7 +54,7 @@ cutBytes s index k records = joined (packets s index k records)
 
 -- how many packets a page has where no number is given (SCOPE 7.6)
 abbrev pub usualPage : ℕ
-usualPage = 25
+usualPage = 20
 
 -- whether the setting, the first index and the page's length are in range (SCOPE 7.6, 8.1)
 abbrev pub takesOf : Setting → ℕ → ℕ → Bool

@@ -26,7 +26,7 @@ ghost use Rattle.writer.specs.Cutting.{dataPacket, pages, pagesFor, join
 ghost use Rattle.writer.specs.Internal.{measureOf, pageLength, pageOf, pagesBytes};
 
 // How many packets a page has unless told otherwise, and at most.
-const USUAL_PAGE: u8 = 25;
+const USUAL_PAGE: u8 = 20;
 
 const MOST: u8 = 25;
 
@@ -48,7 +48,7 @@ enum Measured {
     Broken,
 }
 
-// Cuts a list of records into packets, one after the other at the front of `out`: pages of 25
+// Cuts a list of records into packets, one after the other at the front of `out`: pages of 20
 // packets and a packet 0, the first page with the given index; for an empty list none at all.
 // Refused are 16 a setting or an index out of range, 13 a list that isn't whole records, 1 an output
 // that is shorter than the packets.

@@ -91,7 +91,7 @@ returns-5 c =
     let b : 58 + 8 * (length f - 6) - 6 * c .before .before .before .before .before .before .byte-at .result ≡ bits (tableIn f) =
     ap (λ (x : ℕ). 58 + 8 * (length f - 6) - 6 * x) n ∙ bits-in f (s .pre .1) in
     let e : fits (tableIn f) ≡ true =
-    in-sendable f (λ i. c .before .before .before .before .before .before .before .shared-slice-known .given i .fits) (s .pre .0)
+    in-sendable f (λ i. c .before .before .before .before .before .before .before .shared-slice-known .given i .fits) (s .pre .0) (s .pre .3)
     (omega (arith, c .before .before .before .before .before .byte-at2 .ensures .0)) (omega (arith, n))
     (sym (c .before .before .loops-fit .ensures) ∙ not-false _ (c .before .if3 .left)) (omega (arith, b)) in
     rw e (ap Done b)

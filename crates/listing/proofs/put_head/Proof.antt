@@ -1,4 +1,4 @@
--- `listing::put_head` meets its contract: three lines, one after the other. Assumes nothing.
+-- `listing::put_head` meets its contract: four lines, one after the other. Assumes nothing.
 use borrow.Author.Needs.{needs}
 use mathlib.Core.List.{List}
 use Prim.Native.Nat.{ℕ}
@@ -42,23 +42,35 @@ slice-aggregate-put-number-2 c = search needs
 put-number-requires-2 : tie.Need-put-number-requires-2
 put-number-requires-2 c κs = search needs
 
+slice-aggregate-put-number-3 : tie.Need-slice-aggregate-put-number-3
+slice-aggregate-put-number-3 c = search needs
+
+put-number-requires-3 : tie.Need-put-number-requires-3
+put-number-requires-3 c κs = search needs
+
 same-length : tie.Need-same-length
 same-length c = search needs
 
 returns : tie.Need-returns
 returns c =
-    let s = c .before .before .before .before .before .before .before .before .before .before .before .before .before .before .before .before .before .before .before .before in
+    let e = c .before .before .before .before .before .before .before .before .before .before .before .before in
+    let d = e .before .before .before .before .before in
+    let s = d .before .before .before .before .before .before .before .before in
     let f : List ℕ = now (s .args .table) in
-    let k = c .before .before .before .before .before .before .before .before .before .before .before .before .before .before .before .before .before .byte-at in
-    let a = c .before .before .before .before .before .before .before .before .before .before .before .before .before .before .before .before .byte-at2 in
-    let b = c .before .before .before .before .before .before .before .before .before .before .before .before .before .before .before .byte-at3 in
-    let n = c .before .before .before .before .before .before .before .before .before .before .before .before .before .before .byte-at4 in
-    let x = c .before .before .before .before .before .before .before .before .before .before .before .before .put-kind in
-    let y = c .before .before .before .before .before .before .before .put-number in
-    let z = c .before .before .put-number2 in (
-      put-as (head-of f (k .result) (a .result) (b .result) (n .result) (k .ensures .0) (a .ensures .0) (b .ensures .0) (n .ensures .0) (a .ensures .1) (b .ensures .1))
-          (then (then (x .ensures .0) (put-there (search needs) (y .ensures .0))) (put-there (search needs) (z .ensures .0))),
-      omega (arith, x .ensures .1, y .ensures .1, z .ensures .1),
+    let k = d .before .before .before .before .before .byte-at in
+    let a = d .before .before .before .before .byte-at2 in
+    let b = d .before .before .before .byte-at3 in
+    let n = d .before .before .byte-at4 in
+    let x = d .put-kind in
+    let y = e .put-number in
+    let z = c .before .before .before .before .before .before .before .put-number2 in
+    let w = c .before .before .put-number3 in
+    let whole =
+    head-of f (k .result) (a .result) (b .result) (n .result) (s .args .mended) (k .ensures .0) (a .ensures .0) (b .ensures .0) (n .ensures .0)
+    (a .ensures .1) (b .ensures .1) in
+    let two = then (x .ensures .0) (put-there (search needs) (y .ensures .0)) in (
+      put-as whole (then (then two (put-there (search needs) (z .ensures .0))) (put-there (search needs) (w .ensures .0))),
+      omega (arith, x .ensures .1, y .ensures .1, z .ensures .1, w .ensures .1),
     )
 
 pub put-head-spec : {M : Type 1} → statement M
@@ -76,5 +88,7 @@ put-head-spec =
     put-number-requires
     slice-aggregate-put-number-2
     put-number-requires-2
+    slice-aggregate-put-number-3
+    put-number-requires-3
     same-length
     returns)

@@ -22,8 +22,10 @@ same-length c = search needs
 returns : tie.Need-returns
 unfolding linesOf
 returns c =
-    let t = tableIn (now (c .before .before .before .before .before .before .before .before .before .before .before .args .table)) in
-    put-as (ap (λ (b : Bool). linesFrom b t) (sym (c .before .before .before .before .before .before .before .before .if1 .taken)))
+    let a = c .before .before .before .before .before .before .before .before .before .before .before .args in
+    let t = tableIn (now (a .table)) in
+    let m = a .mended in
+    put-as (ap (λ (b : Bool). linesFrom b m t) (sym (c .before .before .before .before .before .before .before .before .if1 .taken)))
     (then (c .before .before .before .before .before .before .put-head .ensures .0) (c .before .before .put-descriptors .ensures))
 
 put-descriptors-requires-2 : tie.Need-put-descriptors-requires-2
@@ -34,8 +36,10 @@ same-length-2 c = search needs
 
 returns-2 : tie.Need-returns-2
 returns-2 c =
-    let t = tableIn (now (c .before .before .before .before .before .before .before .args .table)) in
-    put-as (ap (λ (b : Bool). linesFrom b t) (sym (c .before .before .before .before .if1 .left)))
+    let a = c .before .before .before .before .before .before .before .args in
+    let t = tableIn (now (a .table)) in
+    let m = a .mended in
+    put-as (ap (λ (b : Bool). linesFrom b m t) (sym (c .before .before .before .before .if1 .left)))
     (c .before .before .put-descriptors2 .ensures)
 
 pub put-lines-spec : {M : Type 1} → statement M

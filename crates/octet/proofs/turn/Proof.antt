@@ -1,17 +1,26 @@
--- `octet::turn` meets its contract: its table is the rule tabulated, so each entry is the rule there. Assumes nothing.
+-- `octet::turn` meets its contract: the lower half turned goes above the upper half turned. Assumes nothing.
 use borrow.Author.Needs.{needs}
-use Rattle.laws.proofs.Whole.{tabulate-at}
-use Rattle.octet.specs.Bits.{bits, number}
+use mathlib.Core.Path.{sym}
+use Rattle.octet.proofs.Halves.{halves}
 use Rattle.octet.specs.Turning.{turned}
 use Rattle.octet.proofs.turn.Statement.{statement}
 use Rattle.octet.proofs.turn.Tie as tie
 
-array-read-result : tie.Need-array-read-result
-array-read-result c = search needs
+half-requires : tie.Need-half-requires
+half-requires c κs = search needs
+
+mul-result : tie.Need-mul-result
+mul-result c = search needs
+
+half-requires-2 : tie.Need-half-requires-2
+half-requires-2 c κs = search needs
+
+add-result : tie.Need-add-result
+add-result c = search needs
 
 returns : tie.Need-returns
-unfolding turned bits number
-returns c = tabulate-at turned 256 (c .args .b) (search needs)
+unfolding turned
+returns c = rw (c .before .half .ensures .0, c .half2 .ensures .0) (sym (halves 4 (c .before .before .args .b)))
 
 pub turn-spec : {M : Type 1} → statement M
-turn-spec = tie.close (tie.spec array-read-result returns)
+turn-spec = tie.close (tie.spec half-requires mul-result half-requires-2 add-result returns)

@@ -54,38 +54,46 @@ is-clear-requires-2 c κs = search needs
 enum-known-run-2 : tie.Need-enum-known-run-2
 enum-known-run-2 c = search needs
 
-cast-if4 : tie.Need-cast-if4
-cast-if4 c = search needs
-
 returns-4 : tie.Need-returns-4
 unfolding readerInRange
 returns-4 c =
     let run = c .before .before .run2 .given in
-    (rw (page-fits (c .before .before .before .before .before), index-fits (c .before .before .before .before), run .1, lt-leb (run .0 .1 .0) (sizeOf (run .0 .0)) (omega arith)), λ e. untrue e)
+    (rw (page-fits (c .before .before .before .before .before), index-fits (c .before .before .before .before), run .1, lt-leb (run .0 .1 .0) 5 (omega arith)), λ e. untrue e)
 
-is-clear-requires-3 : tie.Need-is-clear-requires-3
-is-clear-requires-3 c κs = search needs
+cast-if5 : tie.Need-cast-if5
+cast-if5 c = search needs
 
 returns-5 : tie.Need-returns-5
 unfolding readerInRange
 returns-5 c =
-    let run = c .before .enum-told .given in
-    (rw (page-fits (c .before .before .before .before), index-fits (c .before .before .before), run .1) (c .is-clear .ensures), λ e. rw (run .1) tt)
+    let run = c .before .before .before .run2 .given in
+    let fits = le-leb (run .0 .1 .0) 5 (omega arith) in
+    (rw (page-fits (c .before .before .before .before .before .before), index-fits (c .before .before .before .before .before), run .1, fits, lt-leb (run .0 .1 .1 .0) (sizeOf (run .0 .0)) (omega arith)), λ e. untrue e)
+
+is-clear-requires-3 : tie.Need-is-clear-requires-3
+is-clear-requires-3 c κs = search needs
 
 returns-6 : tie.Need-returns-6
 unfolding readerInRange
 returns-6 c =
+    let run = c .before .enum-told .given in
+    (rw (page-fits (c .before .before .before .before), index-fits (c .before .before .before), run .1) (c .is-clear .ensures), λ e. rw (run .1) tt)
+
+returns-7 : tie.Need-returns-7
+unfolding readerInRange
+returns-7 c =
     let b = c .before .before .before .before in
     let run = b .run .given in
     let fits = sym (c .before .before .is-head .ensures) ∙ not-false _ (c .before .if3 .left) in
     (rw (page-fits (b .before .before .before), index-fits (b .before .before), run .1, fits) (c .is-clear2 .ensures), λ e. rw (run .1) (omega arith))
 
-returns-7 : tie.Need-returns-7
+returns-8 : tie.Need-returns-8
 unfolding readerInRange
-returns-7 c =
-    let run = c .before .before .before .run2 .given in
-    let fits = le-leb (run .0 .1 .0) (sizeOf (run .0 .0)) (omega arith) in
-    (rw (page-fits (c .before .before .before .before .before .before), index-fits (c .before .before .before .before .before), run .1, fits) (c .is-clear3 .ensures), λ e. rw (run .1) (omega arith))
+returns-8 c =
+    let run = c .before .before .before .before .run2 .given in
+    let part = le-leb (run .0 .1 .0) 5 (omega arith) in
+    let fits = le-leb (run .0 .1 .1 .0) (sizeOf (run .0 .0)) (omega arith) in
+    (rw (page-fits (c .before .before .before .before .before .before .before), index-fits (c .before .before .before .before .before .before), run .1, part, fits) (c .is-clear3 .ensures), λ e. rw (run .1) (omega arith))
 
 pub in-range-spec : {M : Type 1} → statement M
 in-range-spec =
@@ -101,9 +109,10 @@ in-range-spec =
     returns-3
     is-clear-requires-2
     enum-known-run-2
-    cast-if4
     returns-4
-    is-clear-requires-3
+    cast-if5
     returns-5
+    is-clear-requires-3
     returns-6
-    returns-7)
+    returns-7
+    returns-8)

@@ -2,7 +2,7 @@
 -- Assumes nothing.
 use borrow.Author.Needs.{needs}
 use mathlib.Core.Path.{_∙_, sym}
-use Rattle.table.proofs.Judging.{frame-16, frame-13, frame-12, frame-13′, frame-done}
+use Rattle.table.proofs.Judging.{frame-16, frame-13, frame-part, frame-second, frame-12, frame-13′, frame-done}
 use Rattle.table.proofs.judge_frame.Statement.{statement}
 use Rattle.table.proofs.judge_frame.Tie as tie
 
@@ -10,7 +10,7 @@ refuse-requires : tie.Need-refuse-requires
 refuse-requires c κs = search needs
 
 returns : tie.Need-returns
-returns c = c .refuse .ensures ∙ sym (frame-16 _ _ _ _ (search needs))
+returns c = c .refuse .ensures ∙ sym (frame-16 _ _ _ _ _ _ (search needs))
 
 head-of-requires : tie.Need-head-of-requires
 head-of-requires c κs = search needs
@@ -24,31 +24,61 @@ refuse-requires-2 c κs = search needs
 returns-2 : tie.Need-returns-2
 returns-2 c =
     rw (← (c .before .before .head-of .ensures .0))
-    (c .refuse2 .ensures ∙ sym (frame-13 _ _ _ _ (search needs) (c .before .if2 .taken)))
+    (c .refuse2 .ensures ∙ sym (frame-13 _ _ _ _ _ _ (search needs) (c .before .if2 .taken)))
+
+shared-slice-read-if3 : tie.Need-shared-slice-read-if3
+shared-slice-read-if3 c = search needs
 
 refuse-requires-3 : tie.Need-refuse-requires-3
 refuse-requires-3 c κs = search needs
 
 returns-3 : tie.Need-returns-3
 returns-3 c =
-    rw (← (c .before .before .before .head-of .ensures .0))
-    (c .refuse3 .ensures ∙ sym (frame-12 _ _ _ _ (search needs) (c .before .before .if2 .left) (c .before .if3 .taken)))
+    rw (← (c .before .before .before .before .head-of .ensures .0))
+    (c .refuse3 .ensures ∙ sym (frame-part _ _ _ _ _ _ (search needs) (c .before .before .before .if2 .left) (search needs)))
+
+shared-slice-read-if4 : tie.Need-shared-slice-read-if4
+shared-slice-read-if4 c = search needs
 
 refuse-requires-4 : tie.Need-refuse-requires-4
 refuse-requires-4 c κs = search needs
 
 returns-4 : tie.Need-returns-4
 returns-4 c =
-    rw (← (c .before .before .before .before .head-of .ensures .0))
+    rw (← (c .before .before .before .before .before .before .head-of .ensures .0))
     (c .refuse4 .ensures
     ∙ sym
-    (frame-13′ _ _ _ _ (search needs) (c .before .before .before .if2 .left) (c .before .before .if3 .left) (c .before .if4 .taken)))
+    (frame-second _ _ _ _ _ _ (search needs) (c .before .before .before .before .before .if2 .left) (search needs) (c .before .if4 .taken)))
+
+refuse-requires-5 : tie.Need-refuse-requires-5
+refuse-requires-5 c κs = search needs
 
 returns-5 : tie.Need-returns-5
 returns-5 c =
-    rw (← (c .before .before .before .head-of .ensures .0))
+    let b = c .before .before .before .before .before .before in
+    rw (← (b .before .head-of .ensures .0))
+    (c .refuse5 .ensures
+    ∙ sym
+    (frame-12 _ _ _ _ _ _ (search needs) (b .if2 .left) (search needs) (c .before .before .if4 .left) (c .before .if5 .taken)))
+
+refuse-requires-6 : tie.Need-refuse-requires-6
+refuse-requires-6 c κs = search needs
+
+returns-6 : tie.Need-returns-6
+returns-6 c =
+    let b = c .before .before .before .before .before .before .before in
+    rw (← (b .before .head-of .ensures .0))
+    (c .refuse6 .ensures
+    ∙ sym
+    (frame-13′ _ _ _ _ _ _ (search needs) (b .if2 .left) (search needs) (c .before .before .before .if4 .left) (c .before .before .if5 .left)
+    (c .before .if6 .taken)))
+
+returns-7 : tie.Need-returns-7
+returns-7 c =
+    let b = c .before .before .before .before .before .before in
+    rw (← (b .before .head-of .ensures .0))
     (sym
-    (frame-done _ _ _ _ (search needs) (c .before .before .if2 .left) (c .before .if3 .left) (c .if4 .left)))
+    (frame-done _ _ _ _ _ _ (search needs) (b .if2 .left) (search needs) (c .before .before .if4 .left) (c .before .if5 .left) (c .if6 .left)))
 
 pub judge-frame-spec : {M : Type 1} → statement M
 judge-frame-spec =
@@ -60,8 +90,14 @@ judge-frame-spec =
     add-if2
     refuse-requires-2
     returns-2
+    shared-slice-read-if3
     refuse-requires-3
     returns-3
+    shared-slice-read-if4
     refuse-requires-4
     returns-4
-    returns-5)
+    refuse-requires-5
+    returns-5
+    refuse-requires-6
+    returns-6
+    returns-7)

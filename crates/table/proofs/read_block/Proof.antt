@@ -1,98 +1,69 @@
--- `table::read_block` meets its contract: the frame is judged first, and where it is taken the block behind the head is there.
--- Assumes nothing.
+-- `table::read_block` meets its contract: the answer of `read_form`, with the count beside it. Assumes nothing.
 use borrow.Author.Needs.{needs}
-use mathlib.Core.Path.{_≡_, _∙_, sym, ap, ap₂}
-use mathlib.Core.List.{List, map}
-use Prim.Native.Nat.{ℕ, _+_, _/_, _≤_}
+use mathlib.Core.Path.{_∙_, sym, ap}
+use mathlib.Core.List.{List}
+use Prim.Native.Nat.{ℕ}
 use native.Mathlib.Omega.{arith}
-use lib.ListN.{length, length-drop}
 use denote.Ref.{now}
-use Rattle.laws.proofs.Lists.{part-rest}
-use Rattle.answer.specs.declared.Answer.{Answer}
-use Rattle.answer.specs.Writing.{answered, after, left}
-use Rattle.answer.proofs.Steps.{done-value}
-use Rattle.octet.specs.Decoding.{nib}
-use Rattle.fields.specs.Fields.{whole}
+use Rattle.answer.proofs.Lent.{lent-all}
 use Rattle.forms.specs.Form.{form}
-use Rattle.sums.specs.Block.{headOf, nibblesOf}
-use Rattle.table.specs.Control.{tableOf}
-use Rattle.table.specs.Reading.{frameRules, bodyRules, tableRead}
-use Rattle.table.proofs.Judging.{framed, frame-refused, frame-taken}
+use Rattle.sums.specs.Block.{mendedIn}
+use Rattle.table.specs.declared.Read.the-variants.{Taken}
+use Rattle.table.specs.Reading.{readRules, tableRead}
+use Rattle.table.specs.Values.{counted}
+use Rattle.table.proofs.Exact.{mended-most}
 use Rattle.table.proofs.read_block.Statement.{statement}
 use Rattle.table.proofs.read_block.Tie as tie
 
-judge-frame-requires : tie.Need-judge-frame-requires
-judge-frame-requires c κs = search needs
+read-form-requires : tie.Need-read-form-requires
+read-form-requires c κs = search needs
 
 enum-known-why : tie.Need-enum-known-why
 enum-known-why c = search needs
 
-enum-known-head : tie.Need-enum-known-head
-enum-known-head c = search needs
+enum-known-written : tie.Need-enum-known-written
+enum-known-written c = search needs
 
--- a frame that is taken says how long the record is
-taken :
-    (c : tie.After-known-told2)
-    → let r = now (c .before .before .before .before .before .before .args .rec) in
-    (length r ≡ 2 + headOf r / 32) × (8 ≤ headOf r / 32)
-taken c =
-    let a = c .before .before .before .before .before .before .args in
-    framed (a .application) (length (now (a .rec))) (headOf (now (a .rec))) _ _
-    (sym (c .before .before .before .judge-frame .ensures) ∙ c .before .head .given .1)
+mended-in-requires : tie.Need-mended-in-requires
+mended-in-requires c κs = search needs
 
-sub-read-body : tie.Need-sub-read-body
-sub-read-body c = omega (arith, taken c)
-
-part-read-body-start : tie.Need-part-read-body-start
-part-read-body-start c = omega (arith, taken c)
-
-part-read-body-end : tie.Need-part-read-body-end
-part-read-body-end c = search needs
-
-read-body-requires : tie.Need-read-body-requires
-read-body-requires c κs =
-    rw (part-rest 2 (now (c .before .before .before .before .before .before .before .before .args .rec)), length-drop) (omega (arith, taken (c .before .before)))
-
-returns : tie.Need-returns
-returns c =
-    let a = c .before .before .before .before .before .before .args in
-    let r = now (a .rec) in
-    frame-refused (frameRules (a .application) (length r) (headOf r)) (bodyRules (headOf r) (nibblesOf r)) (form (tableRead r)) (now (a .out)) (headOf r)
-    (c .before .before .before .judge-frame .ensures) (c .before .why .given .1)
+cast-mended : tie.Need-cast-mended
+cast-mended c =
+    let a = c .before .before .before .before .before .before .before .before .before .before .args in
+    let r : List ℕ = now (a .rec) in
+    let d = sym (c .before .before .before .before .before .before .read-form .ensures .0) ∙ c .before .before .written .given .1 in
+    let all = lent-all (readRules (a .application) r) (form (tableRead r)) (now (a .out)) _ d in
+    omega (arith, c .mended-in .ensures, mended-most (a .application) r (all .0))
 
 same-length : tie.Need-same-length
 same-length c = search needs
 
+returns : tie.Need-returns
+returns c =
+    let b = c .before .before .before .before .before in
+    (sym (ap (counted (mendedIn _)) (sym (b .read-form .ensures .0) ∙ c .before .why .given .1)), b .read-form .ensures .1)
+
+same-length-2 : tie.Need-same-length-2
+same-length-2 c = search needs
+
 returns-2 : tie.Need-returns-2
-unfolding nibblesOf
 returns-2 c =
-    let a = c .before .before .before .before .before .before .before .before .before .before .before .args in
-    let r = now (a .rec) in
-    let j = c .before .before .before .before .before .before .before .before .judge-frame .ensures in
-    let d = c .before .before .before .before .before .before .head .given .1 in
-    let h = done-value (frameRules (a .application) (length r) (headOf r)) _ _ (sym j ∙ d) in
-    let out : List ℕ = now (a .out) in
-    let bytes : List ℕ → List ℕ = λ l. form (tableOf (whole 4 (map nib l))) in
-    let one =
-    ap₂ (λ (k : ℕ) (l : List ℕ). answered (bodyRules k (map nib l)) (bytes l) out) h (part-rest 2 r) in
-    let all =
-    ap₂ (λ (k : ℕ) (l : List ℕ). left (bodyRules k (map nib l)) (bytes l) out) h (part-rest 2 r) in
-    let two = frame-taken (frameRules (a .application) (length r) (headOf r)) (bodyRules (headOf r) (nibblesOf r)) (form (tableRead r)) out (headOf r) j d in (
-      c .before .before .read-body .ensures .0 ∙ one ∙ two,
-      c .before .before .read-body .ensures .1 ∙ all ∙ ap (λ (x : Answer). after x (form (tableRead r)) out) two,
+    let b = c .before .before .before .before .before .before in (
+      ap (Taken (c .before .before .written .given .0 .0)) (c .mended-in .ensures)
+          ∙ sym (ap (counted (mendedIn _)) (sym (b .read-form .ensures .0) ∙ c .before .before .written .given .1)),
+      b .read-form .ensures .1,
     )
 
 pub read-block-spec : {M : Type 1} → statement M
 read-block-spec =
     tie.close
     (tie.spec
-    judge-frame-requires
+    read-form-requires
     enum-known-why
-    enum-known-head
-    sub-read-body
-    part-read-body-start
-    part-read-body-end
-    read-body-requires
-    returns
+    enum-known-written
+    mended-in-requires
+    cast-mended
     same-length
+    returns
+    same-length-2
     returns-2)

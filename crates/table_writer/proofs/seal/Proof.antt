@@ -44,6 +44,9 @@ image-requires-2 c κs = search needs
 slice-write-out : tie.Need-slice-write-out
 slice-write-out c = search needs
 
+add-out : tie.Need-add-out
+add-out c = search needs
+
 slice-write-out-2 : tie.Need-slice-write-out-2
 slice-write-out-2 c = simp length-set (omega arith)
 
@@ -55,9 +58,9 @@ unfolding sealed
 returns c =
     let a = c .before .before .before .before .before .before .args in
     let o : List ℕ = now (a .out) in
-    let e : c .before .before .checksum .result ≡ checksum (a .head) (map nib (take (a .size) (drop 2 o))) =
-    c .before .before .checksum .ensures ∙ ap (λ (l : List ℕ). checksum (a .head) (map nib l)) (part-of 2 (a .size) o) in
-    ap₂ (λ (x y : ℕ). set (set o 2 x) 3 y) (c .before .image .ensures ∙ ap (λ (s : ℕ). image (s % 16)) e)
+    let e : c .before .before .checksum .result ≡ checksum (a .head) (map nib (take (a .size) (drop 4 o))) =
+    c .before .before .checksum .ensures ∙ ap (λ (l : List ℕ). checksum (a .head) (map nib l)) (part-of 4 (a .size) o) in
+    ap₂ (λ (x y : ℕ). set (set o 4 x) 5 y) (c .before .image .ensures ∙ ap (λ (s : ℕ). image (s % 16)) e)
     (c .image2 .ensures ∙ ap (λ (s : ℕ). image (s / 16 % 16)) e)
 
 pub seal-spec : {M : Type 1} → statement M
@@ -74,6 +77,7 @@ seal-spec =
     cast-image-2
     image-requires-2
     slice-write-out
+    add-out
     slice-write-out-2
     same-length
     returns)

@@ -82,8 +82,8 @@ returns-3 c =
     let j = c .before .before .before .before .before .before .before .before .judge .ensures in
     let k = c .before .before .before .before .before .before .bits .given .1 in
     let e = lent-value (writeRules (a .application) f) (recordOf (a .application) (tableIn f)) (now (a .out)) _ j k in
-    let n : 2 + 2 * ((c .before .before .before .before .before .before .bits .given .0 .0 + 7) / 8) ≡ length (recordOf (a .application) (tableIn f)) =
-    ap (λ (b : ℕ). 2 + 2 * ((b + 7) / 8)) e ∙ sym (length-record (a .application) (tableIn f)) in
+    let n : 4 + 2 * ((c .before .before .before .before .before .before .bits .given .0 .0 + 7) / 8) ≡ length (recordOf (a .application) (tableIn f)) =
+    ap (λ (b : ℕ). 4 + 2 * ((b + 7) / 8)) e ∙ sym (length-record (a .application) (tableIn f)) in
     let p = lent-done (writeRules (a .application) f) (recordOf (a .application) (tableIn f)) (now (a .out)) _ j k (omega (arith, n)) in
     (ap Done n ∙ p .0, c .before .before .write-record .ensures ∙ p .1)
 

@@ -36,13 +36,21 @@ cast-low : tie.Need-cast-low
 cast-low c = search needs
 
 cast-high : tie.Need-cast-high
-cast-high c = search needs
+cast-high c =
+    let s = c .before .before in
+    omega (arith, s .pre .0, s .pre .2, sendable (tableIn (now (s .args .table))) (s .pre .1) .control-fits)
 
 slice-write-out : tie.Need-slice-write-out
 slice-write-out c = search needs
 
 slice-write-out-2 : tie.Need-slice-write-out-2
 slice-write-out-2 c = simp length-set (omega arith)
+
+slice-write-out-3 : tie.Need-slice-write-out-3
+slice-write-out-3 c = simp length-set (omega arith)
+
+slice-write-out-4 : tie.Need-slice-write-out-4
+slice-write-out-4 c = simp length-set (omega arith)
 
 write-fields-requires : tie.Need-write-fields-requires
 write-fields-requires c κs =
@@ -82,6 +90,8 @@ write-record-spec =
     cast-high
     slice-write-out
     slice-write-out-2
+    slice-write-out-3
+    slice-write-out-4
     write-fields-requires
     seal-requires
     same-length

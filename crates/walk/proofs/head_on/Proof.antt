@@ -13,12 +13,12 @@ use Rattle.walk.proofs.head_on.Statement.{statement}
 use Rattle.walk.proofs.head_on.Tie as tie
 
 abbrev Inv-loop : tie.InvT-loop
-Inv-loop s from got bits i₀ g₀ v₀ i g v =
+Inv-loop s from got bits part i₀ g₀ v₀ p₀ i g v p =
     (from ≤ length s → i ≤ length s) × (i + (4 - g) ≡ from + (4 - got)) × (v < 2 ^ 16)
-    × (heads (4 - g) v (drop i s) ≡ heads (4 - got) bits (drop from s))
+    × (p + (4 - g) ≤ part + (4 - got)) × (heads (4 - g) v p (drop i s) ≡ heads (4 - got) bits part (drop from s))
 
 abbrev μ-loop : tie.MeasureT-loop
-μ-loop s from got bits i₀ g₀ v₀ i g v = 4 - g
+μ-loop s from got bits part i₀ g₀ v₀ p₀ i g v p = 4 - g
 
 loop-holds : tie.Need-loop-holds Inv-loop μ-loop
 loop-holds c = search needs
@@ -27,10 +27,10 @@ returns : tie.Need-returns Inv-loop μ-loop
 returns c =
     let l = c .before .before .loop in
     let a = c .before .before .before .before .args in
-    (sym (l .inv .3) ∙ head-cut (now (a .s)) (l .i) (l .g) (l .v) (omega arith) (omega arith), (search needs, search needs))
+    (sym (l .inv .4) ∙ head-cut (now (a .s)) (l .i) (l .g) (l .v) (l .p) (omega arith) (omega arith), (search needs, search needs))
 
-shared-slice-read-decode : tie.Need-shared-slice-read-decode Inv-loop μ-loop
-shared-slice-read-decode c = search needs
+shared-slice-read-b : tie.Need-shared-slice-read-b Inv-loop μ-loop
+shared-slice-read-b c = search needs
 
 decode-requires : tie.Need-decode-requires Inv-loop μ-loop
 decode-requires c κs = search needs
@@ -39,7 +39,7 @@ returns-2 : tie.Need-returns-2 Inv-loop μ-loop
 returns-2 c =
     let l = c .before .before .before .before .before .loop in
     let a = c .before .before .before .before .before .before .before .args in
-    (sym (l .inv .3) ∙ head-broken (now (a .s)) (l .i) (l .g) (l .v) (omega arith) (omega arith) (omega (arith, nib-le (getD (now (a .s)) (l .i) 0))), (search needs, search needs))
+    (sym (l .inv .4) ∙ head-broken (now (a .s)) (l .i) (l .g) (l .v) (l .p) (omega arith) (omega arith) (omega (arith, nib-le (getD (now (a .s)) (l .i) 0))), (search needs, search needs))
 
 cast-v : tie.Need-cast-v Inv-loop μ-loop
 cast-v c = search needs
@@ -57,6 +57,15 @@ mul-v c = omega (arith, is-nibble c)
 add-v : tie.Need-add-v Inv-loop μ-loop
 add-v c = omega (arith, is-nibble c)
 
+harmed-requires : tie.Need-harmed-requires Inv-loop μ-loop
+harmed-requires c κs = omega (arith, is-nibble c, c .before .decode .ensures)
+
+cast-p : tie.Need-cast-p Inv-loop μ-loop
+cast-p c = search needs
+
+add-p : tie.Need-add-p Inv-loop μ-loop
+add-p c = search needs
+
 add-g : tie.Need-add-g Inv-loop μ-loop
 add-g c = search needs
 
@@ -68,21 +77,23 @@ loop-less c = search needs
 
 loop-again : tie.Need-loop-again Inv-loop μ-loop
 loop-again c =
-    let l = c .before .before .before .before .before .loop in
-    let s = now (c .before .before .before .before .before .before .before .args .s) in
-    let n = c .before .decode .result in
-    let e = c .before .decode .ensures in (
+    let l = c .before .before .before .before .before .before .loop in
+    let s = now (c .before .before .before .before .before .before .before .before .args .s) in
+    let n = c .before .before .decode .result in
+    let e = c .before .before .decode .ensures in
+    let h = c .harmed .ensures in (
       λ w. omega arith,
       omega arith,
-      omega (arith, is-nibble c),
-      head-on s (l .i) (l .g) (l .v) n (omega arith) (omega arith) e (c .if2 .left) ∙ l .inv .3,
+      omega (arith, is-nibble (c .before)),
+      omega arith,
+      rw (h .0) (head-on s (l .i) (l .g) (l .v) (l .p) n (omega arith) (omega arith) e (c .before .if2 .left) ∙ l .inv .4),
     )
 
 returns-3 : tie.Need-returns-3 Inv-loop μ-loop
 returns-3 c =
     let l = c .before .loop in
     let a = c .before .before .before .args in
-    (sym (l .inv .3) ∙ head-whole (now (a .s)) (l .i) (l .g) (l .v) (omega arith), (omega arith, l .inv .0))
+    (sym (l .inv .4) ∙ head-whole (now (a .s)) (l .i) (l .g) (l .v) (l .p) (omega arith), (omega arith, l .inv .0))
 
 pub head-on-spec : {M : Type 1} → statement M
 head-on-spec =
@@ -92,12 +103,15 @@ head-on-spec =
     μ-loop
     loop-holds
     returns
-    shared-slice-read-decode
+    shared-slice-read-b
     decode-requires
     returns-2
     cast-v
     mul-v
     add-v
+    harmed-requires
+    cast-p
+    add-p
     add-g
     add-i
     loop-less

@@ -52,13 +52,13 @@ pages-for-requires : tie.Need-pages-for-requires
 pages-for-requires c κs =
     let a = c .before .before .before .before .before .before .before .before .args in
     let t : Taken (a .index) (a .k) = taken (a .s) (a .index) (a .k) (in-range (c .before .before .before .before)) in
-    (t .some, omega (arith, counted c .1, cells-bound (a .records .now)))
+    (omega arith, omega (arith, counted c .1, cells-bound (a .records .now)))
 
 write-all-requires : tie.Need-write-all-requires
 write-all-requires c κs =
     let a = c .before .before .before .before .before .before .before .before .before .before .args in
     let t : Taken (a .index) (a .k) = taken (a .s) (a .index) (a .k) (in-range (c .before .before .before .before .before .before)) in
-    (t .few, t .low)
+    (omega arith, omega arith)
 
 returns-2 : tie.Need-returns-2
 returns-2 c =

@@ -24,11 +24,11 @@ sub-there c = search needs
 copy-requires : tie.Need-copy-requires
 copy-requires c κs = search needs
 
-add-t14 : tie.Need-add-t14
-add-t14 c = search needs
+add-t15 : tie.Need-add-t15
+add-t15 c = search needs
 
-add-t16 : tie.Need-add-t16
-add-t16 c = search needs
+add-t17 : tie.Need-add-t17
+add-t17 c = search needs
 
 returns : tie.Need-returns
 returns c =
@@ -36,11 +36,11 @@ returns c =
     let k = c .before .before .before .before .pre .0 in
     body-took (now (a .s)) (a .from) (a .head / 32 - a .held) k (omega arith) (omega (arith, body-fits k)) (inl (omega (arith, body-fits k))) (c .before .copy .ensures)
 
-add-t9 : tie.Need-add-t9
-add-t9 c = search needs
+add-t10 : tie.Need-add-t10
+add-t10 c = search needs
 
-add-t18 : tie.Need-add-t18
-add-t18 c = search needs
+add-t19 : tie.Need-add-t19
+add-t19 c = search needs
 
 returns-2 : tie.Need-returns-2
 returns-2 c =
@@ -59,9 +59,9 @@ body-in-spec =
     sub-need
     sub-there
     copy-requires
-    add-t14
-    add-t16
+    add-t15
+    add-t17
     returns
-    add-t9
-    add-t18
+    add-t10
+    add-t19
     returns-2)

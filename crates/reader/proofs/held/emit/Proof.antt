@@ -1,11 +1,11 @@
--- `reader::held::emit` meets its contract: two stores, and the raw bytes behind them. Assumes nothing.
+-- `reader::held::emit` meets its contract: four stores, and the raw bytes behind them. Assumes nothing.
 use mathlib.Core.Path.{_∙_}
 use Prim.Native.Nat.{_%_, _/_}
 use native.Mathlib.Omega.{arith}
 use lib.ListN.{take, drop, length-set}
 use denote.Ref.{now}
 use borrow.Author.Needs.{needs}
-use Rattle.walk.proofs.Storing.{two-first}
+use Rattle.walk.proofs.Storing.{head-first}
 use Rattle.reader.proofs.held.emit.Statement.{statement}
 use Rattle.reader.proofs.held.emit.Tie as tie
 
@@ -24,6 +24,18 @@ add-out c = search needs
 slice-write-out-2 : tie.Need-slice-write-out-2
 slice-write-out-2 c = simp length-set (omega arith)
 
+add-out-2 : tie.Need-add-out-2
+add-out-2 c = search needs
+
+slice-write-out-3 : tie.Need-slice-write-out-3
+slice-write-out-3 c = simp length-set (omega arith)
+
+add-out-3 : tie.Need-add-out-3
+add-out-3 c = search needs
+
+slice-write-out-4 : tie.Need-slice-write-out-4
+slice-write-out-4 c = simp length-set (omega arith)
+
 add-copy : tie.Need-add-copy
 add-copy c = search needs
 
@@ -37,7 +49,7 @@ returns : tie.Need-returns
 returns c =
     let a = c .before .before .before .before .before .before .args in
     c .before .before .copy .ensures
-    ∙ two-first (now (a .out)) (take (a .size) (drop (a .from) (now (a .raw)))) (a .q) (a .head % 256) (a .head / 256)
+    ∙ head-first (now (a .out)) (take (a .size) (drop (a .from) (now (a .raw)))) (a .q) (a .head % 256) (a .head / 256) (a .part) 0
 
 pub emit-spec : {M : Type 1} → statement M
 emit-spec =
@@ -48,6 +60,10 @@ emit-spec =
     cast-out-2
     add-out
     slice-write-out-2
+    add-out-2
+    slice-write-out-3
+    add-out-3
+    slice-write-out-4
     add-copy
     copy-requires
     same-length

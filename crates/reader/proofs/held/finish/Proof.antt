@@ -30,14 +30,14 @@ hand-out-requires c κs =
     let k = kept-body (c .before .before .before .before .before .before .before .pre .0) (c .before .before .before .before .run .given .1) in
     (k, omega (arith, body-fits k, body-size k))
 
-add-t11 : tie.Need-add-t11
-add-t11 c = search needs
-
-add-t18 : tie.Need-add-t18
-add-t18 c = search needs
+add-t12 : tie.Need-add-t12
+add-t12 c = search needs
 
 add-t19 : tie.Need-add-t19
-add-t19 c =
+add-t19 c = search needs
+
+add-t20 : tie.Need-add-t20
+add-t20 c =
     let b = c .before .before .before .before .before .before .before in
     let k = kept-body (b .before .before .before .pre .0) (b .run .given .1) in
     omega (arith, body-fits k, body-size k, b .before .before .before .pre, b .before .before .before .good)
@@ -72,9 +72,9 @@ finish-spec =
     cast-if1
     returns
     hand-out-requires
-    add-t11
-    add-t18
+    add-t12
     add-t19
+    add-t20
     returns-2
     returns-3
     same-length

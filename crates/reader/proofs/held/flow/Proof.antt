@@ -8,17 +8,19 @@ use lib.Seq.{drop-drop}
 use denote.Ref.{now}
 use borrow.Author.Needs.{needs}
 use Rattle.laws.proofs.Lists.{part-rest}
+use Rattle.blocks.specs.Block.{headLength}
+use Rattle.blocks.specs.Block.{headLength}
 use Rattle.walk.specs.Store.{zeroed}
 use Rattle.walk.specs.Places.{whole, found, aheadIn}
 use Rattle.walk.proofs.Stepping.{next-from, next-within}
-use Rattle.walk.proofs.Keeping.{found-bits}
+use Rattle.walk.proofs.Keeping.{found-bits, found-part}
 use Rattle.walk.proofs.Adding.{place, Leads, from-place, flow-nothing, flow-broken, flow-cut, flow-held, flow-on}
 use Rattle.reader.proofs.held.flow.Statement.{statement}
 use Rattle.reader.proofs.held.flow.Tie as tie
 
 abbrev Inv-loop : tie.InvT-loop
 Inv-loop store₀ s out₀ dropped blocks₀ q₀ at₀ store out blocks q at =
-    (at ≤ length s) × (q ≤ q₀ + at) × (2 * blocks ≤ q) × (length out ≡ length out₀) × (store ≡ zeroed [])
+    (at ≤ length s) × (q ≤ q₀ + at) × (headLength * blocks ≤ q) × (length out ≡ length out₀) × (store ≡ zeroed [])
     × Leads s (place dropped blocks₀ q₀) out₀ (drop at s) (place dropped blocks q) out
 
 abbrev μ-loop : tie.MeasureT-loop
@@ -33,13 +35,14 @@ loop-holds c = (omega arith, omega arith, c .before .before .pre .1 .1, refl, c 
 is-whole :
     (c : tie.After-head Inv-loop μ-loop)
     → (let s = now (c .before .before .before .before .before .before .args .s) in
-    found (drop (c .before .before .before .loop .at) s) ≡ whole (c .head .given .0 .0) (drop (c .head .given .0 .1 .0) s))
+    found (drop (c .before .before .before .loop .at) s) ≡ whole (c .head .given .0 .0) (c .head .given .0 .1 .0) (drop (c .head .given .0 .1 .1 .0) s))
 is-whole c = c .before .before .find .ensures .0 ∙ ap (aheadIn (now (c .before .before .before .before .before .before .args .s))) (c .head .given .1)
 
 -- the place past it lies within the bytes, at least five further on
 past-header :
     (c : tie.After-head Inv-loop μ-loop)
-    → (c .head .given .0 .1 .0 ≤ length (now (c .before .before .before .before .before .before .args .s))) × (c .before .before .before .loop .at + 5 ≤ c .head .given .0 .1 .0)
+    → (c .head .given .0 .1 .1 .0 ≤ length (now (c .before .before .before .before .before .before .args .s)))
+    × (c .before .before .before .loop .at + 5 ≤ c .head .given .0 .1 .1 .0)
 past-header c =
     let f = c .before .before .find in
     (next-within (f .result) (c .head .given .1) (f .ensures .1 .1), next-from (f .result) (c .before .before .before .loop .at + 5) (c .head .given .1) (f .ensures .1 .0))
@@ -92,6 +95,14 @@ returns-2 c =
 enum-known-g : tie.Need-enum-known-g Inv-loop μ-loop
 enum-known-g c = search needs
 
+cast-t23 : tie.Need-cast-t23 Inv-loop μ-loop
+cast-t23 c =
+    let s = now (c .before .before .before .before .before .before .before .args .s) in
+    let l = c .before .before .before .before .loop in
+    let x = c .before .before .before .find .ensures .0 ∙ ap (aheadIn s) (c .before .g .given .1) in
+    let b = found-bits (drop (l .at) s) x in
+    omega (arith, b .counted, b .got)
+
 so-far-requires-3 : tie.Need-so-far-requires-3 Inv-loop μ-loop
 so-far-requires-3 c κs = search needs
 
@@ -113,6 +124,12 @@ returns-3 c =
 enum-known-head : tie.Need-enum-known-head Inv-loop μ-loop
 enum-known-head c = search needs
 
+cast-mended : tie.Need-cast-mended Inv-loop μ-loop
+cast-mended c =
+    let l = c .before .before .before .before .loop in
+    let p = found-part (drop (l .at) (now (c .before .before .before .before .before .before .before .args .s))) (is-whole (c .before)) in
+    omega (arith, p)
+
 cast-size : tie.Need-cast-size Inv-loop μ-loop
 cast-size c = search needs
 
@@ -132,7 +149,7 @@ returns-4 : tie.Need-returns-4 Inv-loop μ-loop
 returns-4 c =
     let a = c .before .before .before .before .before .before .before .before .before .before .before .args in
     let l = c .before .before .before .before .before .before .before .before .loop in
-    let n = c .before .before .before .before .before .head .given .0 .1 .0 in
+    let n = c .before .before .before .before .before .head .given .0 .1 .1 .0 in
     rw (c .so-far4 .ensures)
     (from-place (a .got)
     (l .inv .5 _ _ _
@@ -168,7 +185,7 @@ loop-again c =
       omega (arith, n),
       omega (arith, n),
       omega (arith, n),
-      c .before .before .emit .kept .1 .1 .1 .1 .0 ∙ l .inv .3,
+      c .before .before .emit .kept .1 .1 .1 .1 .1 .0 ∙ l .inv .3,
       l .inv .4,
       λ r store new y. l .inv .5 r store new
           (flow-on (drop (l .at) (now (a .s))) (place (a .got .dropped) (l .blocks) (l .q)) (is-whole (c .before .before .before .before .before .before)) (rw length-drop (omega (arith, n)))
@@ -193,10 +210,12 @@ flow-spec =
     same-length-2
     returns-2
     enum-known-g
+    cast-t23
     so-far-requires-3
     same-length-3
     returns-3
     enum-known-head
+    cast-mended
     cast-size
     sub-there
     copy-requires

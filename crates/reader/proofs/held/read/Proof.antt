@@ -10,7 +10,7 @@ use Rattle.laws.proofs.Lists.{part-rest}
 use Rattle.octet.specs.Decoding.{nib}
 use Rattle.walk.specs.Mode.{continues, finished}
 use Rattle.walk.specs.Store.{modeOf}
-use Rattle.walk.proofs.Room.{carried-room, two-each}
+use Rattle.walk.proofs.Room.{carried-room, head-each}
 use Rattle.walk.proofs.Keeping.{holds-kept}
 use Rattle.walk.proofs.Adding.{runs-mode, read-pointed, read-unpointed, read-skipped}
 use Rattle.reader.proofs.held.read.Statement.{statement}
@@ -79,7 +79,7 @@ flow-requires c κs =
     let n = 3 + b .before .before .before .before .pointed .result in
     let m = modeOf (a .got .run) (now (a .store)) in
     let g = carried-room true m (take (n - 3) (drop 3 p)) (q .0 .good) in
-    let t = two-each (finished (continues true m (take (n - 3) (drop 3 p)))) in
+    let t = head-each (finished (continues true m (take (n - 3) (drop 3 p)))) in
     let k = c .before .before .before .before .before .continue-to .kept .1 .1 .1 .1 .0 in
     let l : length (take (length p - n) (drop n p)) ≡ length p - n = ap length (part-rest n p) ∙ length-drop n p in
     (x .holds .kept, (omega (arith, x .written, g, l, k, q), omega (arith, x .written, x .blocks, t, q)))

@@ -1,9 +1,10 @@
 -- `reader::held::take_in` meets its contract: a header is read on, and then the block takes its bytes. Assumes nothing.
+use Prim.Native.Nat.{_≤_}
 use native.Mathlib.Omega.{arith}
 use denote.Ref.{now}
 use borrow.Author.Needs.{needs}
 use Rattle.walk.proofs.Staying.{continues-off}
-use Rattle.walk.proofs.Keeping.{kept-idle, kept-head, kept-body, begun-body, idle-took, head-lost, head-cut, head-whole}
+use Rattle.walk.proofs.Keeping.{kept-idle, kept-head, kept-body, begun-body, idle-took, head-lost, head-bits, head-cut, head-part, head-whole}
 use Rattle.reader.proofs.held.take_in.Statement.{statement}
 use Rattle.reader.proofs.held.take_in.Tie as tie
 
@@ -25,8 +26,25 @@ enum-told-3 c = search needs
 enum-known-g : tie.Need-enum-known-g
 enum-known-g c = search needs
 
+-- the part that a cut header has counted, and a whole one, is small
+cast-t22 : tie.Need-cast-t22
+cast-t22 c =
+    let h = c .before .before .before in
+    let b = h .before .before .before .before .before in
+    let bits = head-bits (now (b .args .s)) (h .head-on .result) (b .pre) (h .before .before .run .given .1) (h .head-on .ensures .0) (c .before .g .given .1) in
+    omega (arith, bits .counted, bits .got)
+
 enum-known-head : tie.Need-enum-known-head
 enum-known-head c = search needs
+
+part-few : (c : tie.After-head) → c .head .given .0 .1 .0 ≤ 5
+part-few c =
+    let h = c .before .before in
+    let b = h .before .before .before .before .before in
+    head-part (now (b .args .s)) (h .head-on .result) (b .pre) (h .before .before .run .given .1) (h .head-on .ensures .0) (c .head .given .1)
+
+cast-body-in : tie.Need-cast-body-in
+cast-body-in c = omega (arith, part-few (c .before))
 
 body-in-requires : tie.Need-body-in-requires
 body-in-requires c κs =
@@ -34,7 +52,7 @@ body-in-requires c κs =
     let e = c .before .before .before .before .before .before .run .given .1 in
     let b = c .before .before .before .before .head-on .ensures .1 .1 (omega arith) in
     let y = c .before .before .head .given .1 in
-    (begun-body (omega arith) (kept-head k e), (rw y at b))
+    (begun-body (omega arith) (part-few (c .before .before)) (kept-head k e), (rw y at b))
 
 enum-known-run-2 : tie.Need-enum-known-run-2
 enum-known-run-2 c = search needs
@@ -90,7 +108,9 @@ take-in-spec =
     enum-told-2
     enum-told-3
     enum-known-g
+    cast-t22
     enum-known-head
+    cast-body-in
     body-in-requires
     enum-known-run-2
     body-in-requires-2

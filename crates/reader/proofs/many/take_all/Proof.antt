@@ -6,6 +6,7 @@ use lib.ListN.{length, take, drop}
 use denote.Ref.{now}
 use borrow.Author.Needs.{needs}
 use borrow.Author.Tests.{not-false}
+use Rattle.blocks.specs.Block.{headLength}
 use Rattle.packet.specs.Packet.{packetLength}
 use Rattle.reader.specs.Many.{Ran, begun, run}
 use Rattle.reader.specs.Internal.{RanTo, stateIn}
@@ -19,7 +20,7 @@ use Rattle.reader.proofs.many.take_all.Tie as tie
 abbrev Inv-loop : tie.InvT-loop
 Inv-loop setting store₀ packets out₀ a₀ at₀ count₀ store out a at count =
     (at ≤ length packets) × ((length packets - at) % 42 ≡ 0) × (length out ≡ length out₀) × (a .got .written ≤ length out₀)
-    × (2 * a .got .blocks ≤ a .got .written) × (count ≤ at)
+    × (headLength * a .got .blocks ≤ a .got .written) × (count ≤ at)
     × ((b : Ran)
     × (RanTo b (taking a count) store out₀ out)
     × (run setting (length out₀) ((length packets - at) / packetLength) b (drop at packets)

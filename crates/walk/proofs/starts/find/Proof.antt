@@ -18,8 +18,8 @@ returns c =
     let e = c .before .skip .ensures in
     (found-at (now (a .s)) (a .from) at e ∙ found-none (now (a .s)) at (c .if1 .taken), (search needs, search needs))
 
-shared-slice-read-decode : tie.Need-shared-slice-read-decode
-shared-slice-read-decode c = search needs
+shared-slice-read-b : tie.Need-shared-slice-read-b
+shared-slice-read-b c = search needs
 
 decode-requires : tie.Need-decode-requires
 decode-requires c κs = search needs
@@ -39,16 +39,20 @@ returns-2 c =
 add-head-on : tie.Need-add-head-on
 add-head-on c = search needs
 
+harmed-requires : tie.Need-harmed-requires
+harmed-requires c κs = omega arith
+
 head-on-requires : tie.Need-head-on-requires
 head-on-requires c κs = search needs
 
 returns-3 : tie.Need-returns-3
 returns-3 c =
-    let a = c .before .before .before .before .before .before .before .args in
-    let at = c .before .before .before .before .before .skip .result in
-    let e = c .before .before .before .before .before .skip .ensures in
+    let a = c .before .before .before .before .before .before .before .before .args in
+    let at = c .before .before .before .before .before .before .skip .result in
+    let e = c .before .before .before .before .before .before .skip .ensures in
     let h = c .head-on .ensures in (
-      found-at (now (a .s)) (a .from) at e ∙ found-start (now (a .s)) at (omega arith) (omega arith) ∙ h .0,
+      found-at (now (a .s)) (a .from) at e ∙ found-start (now (a .s)) at (omega arith) (omega arith)
+          ∙ rw (← c .before .harmed .ensures .0) (h .0),
       (next-later (c .head-on .result) (at + 1 + (4 - 0)) (a .from + 5) (h .1 .0) (omega arith), h .1 .1 (omega arith)),
     )
 
@@ -58,9 +62,10 @@ find-spec =
     (tie.spec
     skip-requires
     returns
-    shared-slice-read-decode
+    shared-slice-read-b
     decode-requires
     returns-2
     add-head-on
+    harmed-requires
     head-on-requires
     returns-3)

@@ -1,0 +1,78 @@
+-- Block reading, set to an application in range, doesn't answer 16 to a record that the reader hands out: its part is at most 5, and its
+-- second byte 0 (SCOPE 19.3). Assumes nothing.
+use mathlib.Core.Path.{_≡_, refl, sym, ap, subst}
+use mathlib.Core.Bool.{Bool, true, false}
+use mathlib.Core.List.{List, [], _∷_, _++_}
+use Prim.Native.Nat.{ℕ, _≤_, _<_}
+use native.Mathlib.Omega.{arith}
+use lib.Dec.{leb, eqb}
+use borrow.Author.Tests.{lt-ltb, le-leb, eq-eqb}
+use Rattle.laws.specs.Pick.{pick, both}
+use Rattle.answer.specs.Rules.{Rule, judged}
+use Rattle.blocks.specs.Block.{Block, recordOf}
+use Rattle.blocks.specs.Parts.{Parted, empty, next}
+use Rattle.packet.specs.declared.Setting.{Setting}
+use Rattle.packet.specs.Setting.{inRange}
+use Rattle.writer.proofs.Numbering.{FortyTwo}
+use Rattle.pages.specs.Seen.{see}
+use Rattle.state.specs.Acting.{State, act}
+use Rattle.state.specs.State.{readerOf}
+use Rattle.state.proofs.Ranging.{Sound, sound-after}
+use Rattle.state.proofs.Parting.{parted-append, handed-parted}
+use Rattle.table.specs.Reading.{Outcome, accepted, refused, frameRules, frontRules, wholeRules, readRules, tableRead, readBlock}
+use Rattle.sums.specs.Block.{mendedIn}
+use Rattle.table.specs.Lengths.{lengthRules}
+use Rattle.claims.specs.Noise.{Each, nil, and}
+use Rattle.claims.specs.Carrying.{heardBlocks}
+use Rattle.claims.specs.Feeding.{Call, packetsOf, comesOut}
+use Rattle.claims.proofs.Fed.{fed-blocks}
+
+-- every rule with number 16 holds
+abbrev Holds16 : List Rule → Type 0
+Holds16 rs = Each (λ (q : Rule). q .number ≡ 16 → q .holds ≡ true) rs
+
+-- the number of an outcome
+abbrev numberOf : Outcome → ℕ
+numberOf (accepted t c) = 0
+numberOf (refused number offset) = number
+
+not-sixteen : (rs : List Rule) (a : Outcome) → numberOf a ≡ 0 → Holds16 rs → numberOf (judged refused rs a) ≡ 16 → ⊥
+not-sixteen [] a z nil e = omega arith
+not-sixteen (q ∷ rs) a z (and h r) e = go (q .holds) (λ n. h n) (λ n. not-sixteen rs a z r n) e
+  where
+    go :
+        (t : Bool) → (q .number ≡ 16 → t ≡ true) → (numberOf (judged refused rs a) ≡ 16 → ⊥)
+        → numberOf (pick t (judged refused rs a) (refused (q .number) (q .offset))) ≡ 16 → ⊥
+    go true f g n = g n
+    go false f g n = let w : false ≡ true = f n in let y : _≡_ {A = ℕ} 0 1 = cc in omega arith
+
+pub never-sixteen :
+    (application : ℕ) (b : Block) (offset : ℕ) → application < 32 → b .part ≤ 5 → b .second ≡ 0
+    → readBlock application (recordOf b) ≡ refused 16 offset → ⊥
+unfolding readBlock frameRules frontRules wholeRules lengthRules
+never-sixteen application b offset a p s e =
+    let ranged : both (leb (b .part) 5) (eqb (b .second) 0) ≡ true = rw (le-leb (b .part) 5 p) (eq-eqb (b .second) 0 s) in
+    not-sixteen (readRules application (recordOf b)) (accepted (tableRead (recordOf b)) (mendedIn (recordOf b))) refl
+    (and (λ n. lt-ltb application 32 a)
+    (and (λ (n : _≡_ {A = ℕ} 13 16). absurd (omega arith))
+    (and (λ n. ranged)
+    (and (λ (n : _≡_ {A = ℕ} 12 16). absurd (omega arith))
+    (and (λ (n : _≡_ {A = ℕ} 13 16). absurd (omega arith))
+    (and (λ (n : _≡_ {A = ℕ} 10 16). absurd (omega arith))
+    (and (λ (n : _≡_ {A = ℕ} 12 16). absurd (omega arith))
+    (and (λ (n : _≡_ {A = ℕ} 13 16). absurd (omega arith))
+    (and (λ (n : _≡_ {A = ℕ} 10 16). absurd (omega arith))
+    (and (λ (n : _≡_ {A = ℕ} 11 16). absurd (omega arith))
+    (and (λ (n : _≡_ {A = ℕ} 22 16). absurd (omega arith))
+    (and (λ (n : _≡_ {A = ℕ} 14 16). absurd (omega arith)) nil))))))))))))
+    (ap numberOf e)
+
+-- of each record that calls write, from a reader that calls leave
+module _ (s : Setting) (i : inRange s ≡ true) where
+  heard-parted : (st : State) → Sound st → (ps : List (List ℕ)) → Parted (heardBlocks s st ps)
+  unfolding heardBlocks
+  heard-parted st r [] = empty
+  heard-parted st r (p ∷ ps) = parted-append (handed-parted st (see s p) r) (heard-parted (act st (see s p)) (sound-after s st p r) ps)
+
+  pub comes-parted : (st : State) → Sound st → (cs : List Call) → FortyTwo (packetsOf cs) → Parted (comesOut s (readerOf st) cs)
+  comes-parted st r cs f = subst Parted (sym (fed-blocks s i st r cs f)) (heard-parted st r (packetsOf cs))

@@ -1,0 +1,71 @@
+-- Which bytes of the packets that arrived are a sending's, and how many of them arrived other than they were sent (SCOPE 19.6). They are the
+-- block's start, the four bytes of its header and its raw bytes. Filler, pointers, addresses and packets 0 are nobody's.
+use mathlib.Core.List.{List, [], _∷_, _++_, map}
+use Prim.Native.Nat.{ℕ, zero, suc, _+_}
+use lib.Dec.{eqb}
+use lib.ListN.{length, take, drop}
+use Rattle.laws.specs.Pick.{pick}
+use Rattle.blocks.specs.Block.{Block}
+use Rattle.symbols.specs.Stream.{byteOf, symbols, cellsOf}
+
+-- how many bytes of the second list are other than those of the first in their places
+unfoldable pub unlike : List ℕ → List ℕ → ℕ
+unlike [] m = 0
+unlike (a ∷ l) [] = 0
+unlike (a ∷ l) (b ∷ m) = pick (eqb a b) 0 1 + unlike l m
+
+-- the bytes that carry blocks, of packets as our writer numbers them: of each page its packet 0 carries none, and each of the k packets after
+-- it the 39 bytes past address and pointer. So many packets of the page are still to come
+unfoldable pub carriedIn : ℕ → ℕ → List (List ℕ) → List ℕ
+carriedIn k left [] = []
+carriedIn k zero (q ∷ qs) = carriedIn k k qs
+carriedIn k (suc left) (q ∷ qs) = drop 3 q ++ carriedIn k left qs
+
+-- the same of whole pages
+abbrev pub streamIn : ℕ → List (List ℕ) → List ℕ
+streamIn k qs = carriedIn k 0 qs
+
+-- a block that was sent, and its bytes as they arrived
+pub record Sending : Type 0 where
+  pub block : Block
+  pub came : List ℕ
+
+-- the bytes that arrived, cut where the writer's stream has each block's own: the filler behind them, up to the next start, is left out
+unfoldable pub sendings : List Block → List ℕ → List Sending
+sendings [] l = []
+sendings (b ∷ bs) l = record { block = b; came = take (length (symbols b)) l } ∷ sendings bs (drop (length (cellsOf b)) l)
+
+-- a block's bytes as they are sent: its start, its header, its raw bytes
+abbrev pub bytesOf : Block → List ℕ
+bytesOf b = map byteOf (symbols b)
+
+-- how many bytes of a sending arrived other than they were sent
+abbrev pub damage : Sending → ℕ
+damage x = unlike (bytesOf (x .block)) (x .came)
+
+-- how many bytes are its start and its header, and how many of those arrived other than they were sent
+abbrev pub lead : ℕ
+lead = 5
+
+abbrev pub leadDamage : Sending → ℕ
+leadDamage x = unlike (take lead (bytesOf (x .block))) (take lead (x .came))
+
+-- the block that goes out where none of it is lost: the 16 bits that were sent, the damage of its start and header as its part, and its raw
+-- bytes as they arrived
+abbrev pub landed : Sending → Block
+landed x = record { head = x .block .head; part = leadDamage x; second = 0; raw = drop lead (x .came) }
+
+-- something that came out, with the count of its block's mended bytes (SCOPE 19.5)
+pub record Counted (A : Type 0) : Type 0 where
+  pub what : A
+  pub mended : ℕ
+
+-- what was sent, one to a sending, each with the number of bytes of its sending that arrived other than they were sent
+unfoldable pub damaged : {A : Type 0} → List A → List Sending → List (Counted A)
+damaged [] xs = []
+damaged (a ∷ l) [] = []
+damaged (a ∷ l) (x ∷ xs) = record { what = a; mended = damage x } ∷ damaged l xs
+
+-- the block as it is sent: its part and its second byte aren't
+abbrev pub unmarked : Block → Block
+unmarked b = record { head = b .head; part = 0; second = 0; raw = b .raw }

@@ -1,0 +1,38 @@
+-- `forms::is_numbered` meets its contract: a form too short to hold a number, or its number. Assumes nothing.
+use borrow.Author.Needs.{needs}
+use mathlib.Core.Path.{_∙_}
+use borrow.Author.Tests.{lt-ltb}
+use denote.Ref.{now}
+use Rattle.forms.proofs.Forms.{numbered-in}
+use Rattle.forms.proofs.is_numbered.Statement.{statement}
+use Rattle.forms.proofs.is_numbered.Tie as tie
+
+returns : tie.Need-returns
+returns c = rw (lt-ltb _ 4 (c .if1 .taken))
+
+byte-at-requires : tie.Need-byte-at-requires
+byte-at-requires c κs = search needs
+
+byte-at-requires-2 : tie.Need-byte-at-requires-2
+byte-at-requires-2 c κs = search needs
+
+mul-numbered : tie.Need-mul-numbered
+mul-numbered c = search needs
+
+add-numbered : tie.Need-add-numbered
+add-numbered c = search needs
+
+numbered-requires : tie.Need-numbered-requires
+numbered-requires c κs = search needs
+
+returns-2 : tie.Need-returns-2
+returns-2 c =
+    let s = c .before .before .before .before .before in
+    let a = c .before .before .byte-at in
+    let b = c .before .byte-at2 in
+    c .numbered .ensures
+    ∙ numbered-in (now (s .args .table)) (a .result) (b .result) (search needs) (a .ensures .0) (b .ensures .0) (a .ensures .1) (b .ensures .1)
+
+pub is-numbered-spec : {M : Type 1} → statement M
+is-numbered-spec =
+    tie.close (tie.spec returns byte-at-requires byte-at-requires-2 mul-numbered add-numbered numbered-requires returns-2)

@@ -1,0 +1,4 @@
+pub mod Forms
+pub mod Nibbled
+pub mod Saying
+pub mod Spelling

@@ -1,0 +1,38 @@
+-- `menu_writer::loops::put_code` meets its contract. Assumes nothing.
+use borrow.Author.Needs.{needs}
+use mathlib.Core.Path.{_∙_, refl, sym, ap}
+use Prim.Native.Nat.{ℕ}
+use native.Mathlib.Nat.{mod-eq-of-lt}
+use lib.ListN.{set}
+use denote.Ref.{now}
+use Rattle.strings.specs.Parity.{letter}
+use Rattle.menu_writer.proofs.Entries.{byte-front}
+use Rattle.menu_writer.proofs.loops.put_code.Statement.{statement}
+use Rattle.menu_writer.proofs.loops.put_code.Tie as tie
+
+byte-at-requires : tie.Need-byte-at-requires
+byte-at-requires c κs = search needs
+
+cast-code : tie.Need-cast-code
+cast-code c = search needs
+
+letter-requires : tie.Need-letter-requires
+letter-requires c κs = search needs
+
+put-requires : tie.Need-put-requires
+put-requires c κs = search needs
+
+same-length : tie.Need-same-length
+same-length c = search needs
+
+returns : tie.Need-returns
+returns c =
+    let a = c .before .before .before .before .before .before .before .before .args in
+    let b = c .before .before .before .before .before .byte-at in
+    let code = mod-eq-of-lt (b .ensures .1) ∙ b .ensures .0 ∙ sym (byte-front (a .at) (now (a .form))) in
+    (refl, c .before .before .put .ensures ∙ ap (λ (x : ℕ). set (now (a .out)) (a .to) x) (c .before .before .before .before .letter .ensures ∙ ap letter code))
+
+pub put-code-spec : {M : Type 1} → statement M
+put-code-spec =
+    tie.close
+    (tie.spec byte-at-requires cast-code letter-requires put-requires same-length returns)

@@ -1,0 +1,118 @@
+-- `menu_writer::loops::put_entry` meets its contract: one case for each loop. Assumes nothing.
+use borrow.Author.Needs.{needs}
+use mathlib.Core.Path.{_∙_, sym, ap}
+use mathlib.Core.List.{List}
+use Prim.Native.Nat.{ℕ}
+use lib.ListN.{length, drop}
+use lib.Seq.{sets}
+use denote.Ref.{now}
+use Rattle.fields.specs.Fields.{width}
+use Rattle.menu_forms.specs.Block.{spelled}
+use Rattle.menu_writer.specs.declared.Loop.{Loop}
+use Rattle.menu_writer.specs.Internal.{entryBytes}
+use Rattle.menu_writer.proofs.Entries.{sent-length}
+use Rattle.menu_writer.proofs.loops.put_entry.Statement.{statement}
+use Rattle.menu_writer.proofs.loops.put_entry.Tie as tie
+
+enum-told : tie.Need-enum-told
+enum-told c = search needs
+
+put-code-requires : tie.Need-put-code-requires
+put-code-requires c κs = search needs
+
+enum-told-2 : tie.Need-enum-told-2
+enum-told-2 c = search needs
+
+put-descriptor-requires : tie.Need-put-descriptor-requires
+put-descriptor-requires c κs = search needs
+
+enum-told-3 : tie.Need-enum-told-3
+enum-told-3 c = search needs
+
+put-escape-requires : tie.Need-put-escape-requires
+put-escape-requires c κs = search needs
+
+enum-told-4 : tie.Need-enum-told-4
+enum-told-4 c = search needs
+
+put-attribute-requires : tie.Need-put-attribute-requires
+put-attribute-requires c κs = search needs
+
+same-length : tie.Need-same-length
+same-length c = search needs
+
+returns : tie.Need-returns
+returns c =
+    let a = c .before .before .before .before .before .before .before .before .args in
+    let f : List ℕ = drop (a .at) (now (a .form)) in
+    let w = sym (c .before .before .before .before .enum-told .given .1) in
+    let p = c .before .before .put-code .ensures in (
+      p .0 ∙ ap (λ (x : Loop). length (entryBytes x f)) w,
+      search needs,
+      p .1 ∙ ap (λ (x : Loop). sets (now (a .out)) (a .to) (entryBytes x f)) w,
+    )
+
+same-length-2 : tie.Need-same-length-2
+same-length-2 c = search needs
+
+returns-2 : tie.Need-returns-2
+unfolding spelled width
+returns-2 c =
+    let a = c .before .before .before .before .before .before .before .before .args in
+    let f : List ℕ = drop (a .at) (now (a .form)) in
+    let w = sym (c .before .before .before .before .enum-told2 .given .1) in
+    let p = c .before .before .put-descriptor .ensures in (
+      p .0 ∙ sym (sent-length 5 _) ∙ ap (λ (x : Loop). length (entryBytes x f)) w,
+      search needs,
+      p .1 ∙ ap (λ (x : Loop). sets (now (a .out)) (a .to) (entryBytes x f)) w,
+    )
+
+same-length-3 : tie.Need-same-length-3
+same-length-3 c = search needs
+
+returns-3 : tie.Need-returns-3
+unfolding spelled width
+returns-3 c =
+    let a = c .before .before .before .before .before .before .before .before .args in
+    let f : List ℕ = drop (a .at) (now (a .form)) in
+    let w = sym (c .before .before .before .before .enum-told3 .given .1) in
+    let p = c .before .before .put-escape .ensures in (
+      p .0 ∙ sym (sent-length 6 _) ∙ ap (λ (x : Loop). length (entryBytes x f)) w,
+      search needs,
+      p .1 ∙ ap (λ (x : Loop). sets (now (a .out)) (a .to) (entryBytes x f)) w,
+    )
+
+same-length-4 : tie.Need-same-length-4
+same-length-4 c = search needs
+
+returns-4 : tie.Need-returns-4
+returns-4 c =
+    let a = c .before .before .before .before .before .before .before .before .args in
+    let f : List ℕ = drop (a .at) (now (a .form)) in
+    let w = sym (c .before .before .before .before .enum-told4 .given .1) in
+    let p = c .before .before .put-attribute .ensures in (
+      p .0 ∙ ap (λ (x : Loop). length (entryBytes x f)) w,
+      search needs,
+      p .2 ∙ ap (λ (x : Loop). sets (now (a .out)) (a .to) (entryBytes x f)) w,
+    )
+
+pub put-entry-spec : {M : Type 1} → statement M
+put-entry-spec =
+    tie.close
+    (tie.spec
+    enum-told
+    put-code-requires
+    enum-told-2
+    put-descriptor-requires
+    enum-told-3
+    put-escape-requires
+    enum-told-4
+    put-attribute-requires
+    same-length
+    returns
+    same-length-2
+    returns-2
+    same-length-3
+    returns-3
+    same-length-4
+    returns-4)

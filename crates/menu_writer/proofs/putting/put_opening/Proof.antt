@@ -1,0 +1,148 @@
+-- `menu_writer::putting::put_opening` meets its contract: the fields before the descriptors in two numbers. Assumes nothing.
+use borrow.Author.Needs.{needs}
+use mathlib.Core.Path.{_≡_, _∙_, sym, ap}
+use mathlib.Core.List.{List, map}
+use Prim.Native.Nat.{ℕ, _+_, _*_, _%_}
+use lib.ListN.{length}
+use lib.Seq.{sets}
+use denote.Ref.{now}
+use Rattle.octet.specs.Image.{image}
+use Rattle.fields.specs.Fields.{parts}
+use Rattle.menu_writer.proofs.Entries.{sent-length}
+use Rattle.menu_writer.proofs.Storing.{two-stores}
+use Rattle.menu_writer.proofs.Wholes.{opening-numbers}
+use Rattle.menu_writer.proofs.putting.put_opening.Statement.{statement}
+use Rattle.menu_writer.proofs.putting.put_opening.Tie as tie
+
+byte-at-requires : tie.Need-byte-at-requires
+byte-at-requires c κs = search needs
+
+mul-first : tie.Need-mul-first
+mul-first c = search needs
+
+add-first : tie.Need-add-first
+add-first c = search needs
+
+mul-first-2 : tie.Need-mul-first-2
+mul-first-2 c = search needs
+
+add-first-2 : tie.Need-add-first-2
+add-first-2 c = search needs
+
+mul-first-3 : tie.Need-mul-first-3
+mul-first-3 c = search needs
+
+byte-at-requires-2 : tie.Need-byte-at-requires-2
+byte-at-requires-2 c κs = search needs
+
+byte-at-requires-3 : tie.Need-byte-at-requires-3
+byte-at-requires-3 c κs = search needs
+
+mul-block : tie.Need-mul-block
+mul-block c = search needs
+
+add-block : tie.Need-add-block
+add-block c = search needs
+
+byte-at-requires-4 : tie.Need-byte-at-requires-4
+byte-at-requires-4 c κs = search needs
+
+byte-at-requires-5 : tie.Need-byte-at-requires-5
+byte-at-requires-5 c κs = search needs
+
+byte-at-requires-6 : tie.Need-byte-at-requires-6
+byte-at-requires-6 c κs = search needs
+
+byte-at-requires-7 : tie.Need-byte-at-requires-7
+byte-at-requires-7 c κs = search needs
+
+mul-second : tie.Need-mul-second
+mul-second c = search needs
+
+add-second : tie.Need-add-second
+add-second c = search needs
+
+mul-second-2 : tie.Need-mul-second-2
+mul-second-2 c = search needs
+
+add-second-2 : tie.Need-add-second-2
+add-second-2 c = search needs
+
+mul-second-3 : tie.Need-mul-second-3
+mul-second-3 c = search needs
+
+add-second-3 : tie.Need-add-second-3
+add-second-3 c = search needs
+
+mul-second-4 : tie.Need-mul-second-4
+mul-second-4 c = search needs
+
+add-second-4 : tie.Need-add-second-4
+add-second-4 c = search needs
+
+put-nibbles-requires : tie.Need-put-nibbles-requires
+put-nibbles-requires c κs = search needs
+
+add-put-nibbles : tie.Need-add-put-nibbles
+add-put-nibbles c = search needs
+
+put-nibbles-requires-2 : tie.Need-put-nibbles-requires-2
+put-nibbles-requires-2 c κs = search needs
+
+same-length : tie.Need-same-length
+same-length c = search needs
+
+returns : tie.Need-returns
+returns c =
+    let a = c .before .before .before .before .before .before .before .before .before .before .before .before .before .before .before .before .before .args in
+    let f : List ℕ = now (a .form) in
+    let v = c .before .before .before .before .before .before .before .before .before .before .before .before .before .before .byte-at in
+    let x = c .before .before .before .before .before .before .before .before .before .before .before .before .before .byte-at2 in
+    let y = c .before .before .before .before .before .before .before .before .before .before .before .before .byte-at3 in
+    let h = c .before .before .before .before .before .before .before .before .before .before .before .byte-at4 in
+    let m = c .before .before .before .before .before .before .before .before .before .before .byte-at5 in
+    let d = c .before .before .before .before .before .before .before .before .before .byte-at6 in
+    let n = c .before .before .before .before .before .before .before .before .byte-at7 in
+    let first = ((v .result % 2 * 256 + 3) * 1024 + a .control % 1024) * 256 in
+    let second =
+    (((d .result % 64 * 16 + m .result % 8) * 16 + n .result % 16) * 4 + h .result % 4) * 65536 + (x .result + 256 * y .result) in
+    let xs = map image (parts 4 7 first) in
+    let ys = map image (parts 4 8 second) in
+    let place : 11 ≡ 4 + length xs = ap (λ (k : ℕ). 4 + k) (sym (sent-length 7 first)) in
+    two-stores xs ys 4 11 place (now (a .out)) (c .before .before .before .before .before .before .put-nibbles .last .1 .1 .0) _ (c .before .before .before .before .before .before .put-nibbles .ensures) (c .before .before .put-nibbles2 .ensures)
+    ∙ ap (λ (l : List ℕ). sets (now (a .out)) 4 l)
+    (sym
+    (opening-numbers f (a .control) (v .result) (x .result) (y .result) (h .result) (m .result) (d .result) (n .result) (v .ensures .0) (x .ensures .0) (y .ensures .0)
+    (h .ensures .0) (m .ensures .0) (d .ensures .0) (n .ensures .0) (x .ensures .1) (y .ensures .1)))
+
+pub put-opening-spec : {M : Type 1} → statement M
+put-opening-spec =
+    tie.close
+    (tie.spec
+    byte-at-requires
+    mul-first
+    add-first
+    mul-first-2
+    add-first-2
+    mul-first-3
+    byte-at-requires-2
+    byte-at-requires-3
+    mul-block
+    add-block
+    byte-at-requires-4
+    byte-at-requires-5
+    byte-at-requires-6
+    byte-at-requires-7
+    mul-second
+    add-second
+    mul-second-2
+    add-second-2
+    mul-second-3
+    add-second-3
+    mul-second-4
+    add-second-4
+    put-nibbles-requires
+    add-put-nibbles
+    put-nibbles-requires-2
+    same-length
+    returns)

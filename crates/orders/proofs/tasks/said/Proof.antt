@@ -1,0 +1,61 @@
+-- `orders::tasks::said` meets its contract: its tests in order. Assumes nothing.
+use mathlib.Core.Path.{_∙_, sym}
+use Rattle.orders.specs.Tasks.{taskOf}
+use borrow.Author.Needs.{needs}
+use Rattle.orders.proofs.tasks.said.Statement.{statement}
+use Rattle.orders.proofs.tasks.said.Tie as tie
+
+slice-aggregate-same : tie.Need-slice-aggregate-same
+slice-aggregate-same c = search needs
+
+same-requires : tie.Need-same-requires
+same-requires c κs = search needs
+
+returns : tie.Need-returns
+unfolding taskOf
+returns c = simp (sym (c .before .same .ensures) ∙ c .if1 .taken)
+
+slice-aggregate-same-2 : tie.Need-slice-aggregate-same-2
+slice-aggregate-same-2 c = search needs
+
+same-requires-2 : tie.Need-same-requires-2
+same-requires-2 c κs = search needs
+
+returns-2 : tie.Need-returns-2
+unfolding taskOf
+returns-2 c = simp (sym (c .before .before .before .before .same .ensures) ∙ c .before .before .before .if1 .left, sym (c .before .same2 .ensures) ∙ c .if2 .taken)
+
+slice-aggregate-same-3 : tie.Need-slice-aggregate-same-3
+slice-aggregate-same-3 c = search needs
+
+same-requires-3 : tie.Need-same-requires-3
+same-requires-3 c κs = search needs
+
+returns-3 : tie.Need-returns-3
+unfolding taskOf
+returns-3 c =
+    let b = c .before .before .before in
+    simp
+    (sym (b .before .before .before .before .same .ensures) ∙ b .before .before .before .if1 .left, sym (b .before .same2 .ensures) ∙ b .if2 .left, sym (c .before .same3 .ensures) ∙ c .if3 .taken)
+
+returns-4 : tie.Need-returns-4
+unfolding taskOf
+returns-4 c =
+    let b = c .before .before .before in
+    simp
+    (sym (b .before .before .before .before .same .ensures) ∙ b .before .before .before .if1 .left, sym (b .before .same2 .ensures) ∙ b .if2 .left, sym (c .before .same3 .ensures) ∙ c .if3 .left)
+
+pub said-spec : {M : Type 1} → statement M
+said-spec =
+    tie.close
+    (tie.spec
+    slice-aggregate-same
+    same-requires
+    returns
+    slice-aggregate-same-2
+    same-requires-2
+    returns-2
+    slice-aggregate-same-3
+    same-requires-3
+    returns-3
+    returns-4)

@@ -1,0 +1,54 @@
+-- `sheet::check_all` is safe and ends: it counts the words. Assumes nothing.
+use Prim.Native.Nat.{_-_}
+use borrow.Author.Needs.{needs}
+use Rattle.sheet.proofs.check_all.Statement.{statement}
+use Rattle.sheet.proofs.check_all.Tie as tie
+
+abbrev Inv-loop : tie.InvT-loop
+Inv-loop count orders₀ is-sound₀ i₀ orders is-sound i = Unit {0}
+
+abbrev μ-loop : tie.MeasureT-loop
+μ-loop count orders₀ is-sound₀ i₀ orders is-sound i = count - i
+
+arg-count-requires : tie.Need-arg-count-requires Inv-loop μ-loop
+arg-count-requires c κs = search needs
+
+start-requires : tie.Need-start-requires Inv-loop μ-loop
+start-requires c κs = search needs
+
+loop-holds : tie.Need-loop-holds Inv-loop μ-loop
+loop-holds c = search needs
+
+check-requires : tie.Need-check-requires Inv-loop μ-loop
+check-requires c κs = search needs
+
+hear-requires : tie.Need-hear-requires Inv-loop μ-loop
+hear-requires c κs = search needs
+
+add-i : tie.Need-add-i Inv-loop μ-loop
+add-i c = search needs
+
+loop-less : tie.Need-loop-less Inv-loop μ-loop
+loop-less c = search needs
+
+loop-again : tie.Need-loop-again Inv-loop μ-loop
+loop-again c = search needs
+
+returns : tie.Need-returns Inv-loop μ-loop
+returns c = search needs
+
+pub check-all-spec : {M : Type 1} → statement M
+check-all-spec =
+    tie.close
+    (tie.spec
+    Inv-loop
+    μ-loop
+    arg-count-requires
+    start-requires
+    loop-holds
+    check-requires
+    hear-requires
+    add-i
+    loop-less
+    loop-again
+    returns)

@@ -1,0 +1,158 @@
+// What the sheet writes and says. A line to standard output goes out in one piece, and is looked at. A line on standard error tells of a
+// failure and begins `sheet: `.
+use crate::front;
+use crate::work::Work;
+use libc::STDERR_FILENO;
+use libc::STDOUT_FILENO;
+
+// More than the longest name and the counts behind it.
+const LINE: usize = 4608;
+
+pub fn usage() {
+    say(
+        b"sheet: usage: sheet add [-m 1..8] [-p 00..FF] [-s 0..15] [-a 0..31] [--] SHEET STAMP CAPTURE [STAMP CAPTURE ...], ",
+    );
+    say(b"sheet join [--] SHEET OTHER ..., sheet check [--] SHEET ...\n");
+}
+
+// A word that has to be a stamp and isn't.
+pub fn bad_stamp(word: &[u8]) {
+    say(b"sheet: ");
+    say(word);
+    say(
+        b": it is no stamp, and the sheet stays as it was: a stamp is 0, or digits without a leading zero, up to 4294967295\n",
+    );
+}
+
+// Tells of a call that failed on what is named, and what follows from it.
+pub fn fail(name: &[u8], what: &[u8]) {
+    say(b"sheet: ");
+    say(name);
+    say(b": ");
+    os::fail(what);
+}
+
+// A sheet that was refused by itself.
+pub fn refuse_sheet(name: &[u8], no: u8, at: usize) {
+    refuse(name, no, at);
+    say(b"\n");
+}
+
+// A capture's table that can't be added.
+pub fn refuse_table(name: &[u8], no: u8, at: usize) {
+    refuse(name, no, at);
+    say(b"; a table of this capture was to be added\n");
+}
+
+// A sheet that can't be joined to the first.
+pub fn refuse_other(name: &[u8], no: u8, at: usize) {
+    refuse(name, no, at);
+    say(b"; it was to be joined to the first\n");
+}
+
+fn refuse(name: &[u8], no: u8, at: usize) {
+    say(b"sheet: ");
+    say(name);
+    say(b": refused with number ");
+    say_number(no as u64);
+    say(b" at offset ");
+    say_number(at as u64);
+    say_cause(no);
+}
+
+// What the number means to whoever keeps the sheet.
+fn say_cause(no: u8) {
+    if no == 20 {
+        say(b": the line that begins there is out of form or order; the sheet stays as it was");
+        return;
+    }
+    if no == 21 {
+        say(
+            b": more than 64 entries or 16384 bytes; the sheet stays as it was, so it is not today's",
+        );
+        return;
+    }
+    say(b"; the sheet stays as it was");
+}
+
+// Says a part of a line on standard error. Where that isn't taken, there is nobody to tell.
+fn say(text: &[u8]) {
+    io::write_all(STDERR_FILENO, text);
+}
+
+fn say_number(number: u64) {
+    io::print_decimal(STDERR_FILENO, number);
+}
+
+// The line of what was done. Answers whether standard output took it.
+pub fn put_work(work: Work) -> bool {
+    let mut line = [0u8; LINE];
+    let n = work_line(work, &mut line);
+    put_line(&line, n)
+}
+
+fn work_line(work: Work, line: &mut [u8; LINE]) -> usize {
+    let n = count(b"captures=", work.captures, line, 0);
+    let n = count(b" tables=", work.tables, line, n);
+    let n = count(b" new=", work.new, line, n);
+    let n = count(b" replaced=", work.replaced, line, n);
+    let n = count(b" older=", work.older, line, n);
+    let n = count(b" same=", work.same, line, n);
+    size(work.entries, work.length as u64, line, n)
+}
+
+// The line of a sheet that was looked at.
+pub fn put_sheet(name: &[u8], entries: u64, bytes: u64) -> bool {
+    let mut line = [0u8; LINE];
+    let n = sheet_line(name, entries, bytes, &mut line);
+    put_line(&line, n)
+}
+
+fn sheet_line(name: &[u8], entries: u64, bytes: u64, line: &mut [u8; LINE]) -> usize {
+    let n = text(b"file=", line, 0);
+    let n = text(name, line, n);
+    size(entries, bytes, line, n)
+}
+
+// Entries and bytes end a line.
+fn size(entries: u64, bytes: u64, line: &mut [u8], at: usize) -> usize {
+    let n = count(b" entries=", entries, line, at);
+    let n = count(b" bytes=", bytes, line, n);
+    text(b"\n", line, n)
+}
+
+// A name and its number, put at a place; the place after them.
+fn count(name: &[u8], number: u64, line: &mut [u8], at: usize) -> usize {
+    let mut digits = [0u8; 20];
+    let n = io::decimal(number, &mut digits);
+    let at = text(name, line, at);
+    text(&digits[..n], line, at)
+}
+
+fn text(text: &[u8], line: &mut [u8], at: usize) -> usize {
+    moves::copy(text, 0, text.len(), line, at);
+    plus(at, text.len())
+}
+
+// The sum, or the greatest number where it is more.
+pub fn plus(a: usize, b: usize) -> usize {
+    if usize::MAX - a < b {
+        return usize::MAX;
+    }
+    a + b
+}
+
+fn put_line(line: &[u8; LINE], n: usize) -> bool {
+    put(front(line, n))
+}
+
+fn put(bytes: &[u8]) -> bool {
+    if io::write_all(STDOUT_FILENO, bytes) {
+        return true;
+    }
+    fail(
+        b"standard output",
+        b"it takes no more, and the sheet stays as it was",
+    );
+    false
+}

@@ -1,0 +1,49 @@
+-- `sheets::judge` meets its contract: a law for each way. Assumes nothing.
+use borrow.Author.Needs.{needs}
+use mathlib.Core.Path.{_≡_, _∙_, sym}
+use denote.Ref.{now}
+use Rattle.answer.specs.declared.Answer.the-variants.{Done}
+use Rattle.sheets.proofs.Rewriting.{judge-long, judge-bad, judge-many, judge-good}
+use Rattle.sheets.proofs.judge.Statement.{statement}
+use Rattle.sheets.proofs.judge.Tie as tie
+
+refuse-requires : tie.Need-refuse-requires
+refuse-requires c κs = search needs
+
+returns : tie.Need-returns
+returns c = c .refuse .ensures ∙ judge-long (now (c .before .before .before .args .sheet)) (Done _) (c .before .if1 .taken)
+
+judge-lines-requires : tie.Need-judge-lines-requires
+judge-lines-requires c κs = search needs
+
+enum-known-why : tie.Need-enum-known-why
+enum-known-why c = search needs
+
+enum-known-count : tie.Need-enum-known-count
+enum-known-count c = search needs
+
+refuse-requires-2 : tie.Need-refuse-requires-2
+refuse-requires-2 c κs = search needs
+
+returns-2 : tie.Need-returns-2
+returns-2 c = c .refuse2 .ensures ∙ judge-many (now (c .before .before .before .before .before .before .before .before .args .sheet)) (Done _) (search needs) (c .before .before .before .before .before .judge-lines .ensures) (c .before .before .before .count .given .1) (c .before .if2 .taken)
+
+returns-3 : tie.Need-returns-3
+returns-3 c = judge-bad (now (c .before .before .before .before .before .before .args .sheet)) (Done _) (search needs) (c .before .before .before .judge-lines .ensures) (c .before .why .given .1)
+
+returns-4 : tie.Need-returns-4
+returns-4 c = judge-good (now (c .before .before .before .before .before .before .before .args .sheet)) (Done _) (search needs) (c .before .before .before .before .judge-lines .ensures) (c .before .before .count .given .1) (search needs)
+
+pub judge-spec : {M : Type 1} → statement M
+judge-spec =
+    tie.close
+    (tie.spec
+    refuse-requires
+    returns
+    judge-lines-requires
+    enum-known-why
+    enum-known-count
+    refuse-requires-2
+    returns-2
+    returns-3
+    returns-4)

@@ -1,0 +1,56 @@
+-- Laws of string bytes: a test that antt computes at every byte and hands out at each; and how a pass along a string finds the bytes of
+-- right parity. Assumes nothing.
+use mathlib.Core.Path.{_≡_, sym}
+use mathlib.Core.Bool.{true, false}
+use mathlib.Core.List.{List}
+use Prim.Native.Nat.{ℕ, _+_, _/_, _%_, _<_, _≤_}
+use native.Mathlib.Numerals.{add-one}
+use native.Mathlib.Nat.{add-zero}
+use native.Mathlib.Omega.{arith}
+use lib.Dec.{eqb, eqb→eq}
+use lib.ListN.{length, getD, drop, drop-of-length-le}
+use lib.Seq.{drop-cons}
+use Rattle.laws.specs.Pick.{pick}
+use Rattle.laws.proofs.Whole.{all-at}
+use Rattle.strings.specs.Parity.{ones, isOdd, letter, odds}
+
+-- the ones of a byte, counted in two halves
+pub ones-halves :
+    (b : ℕ) → b < 256
+    → (b % 2 + b / 2 % 2 + b / 2 / 2 % 2 + b / 2 / 2 / 2 % 2
+    + (b / 16 % 2 + b / 16 / 2 % 2 + b / 16 / 2 / 2 % 2 + b / 16 / 2 / 2 / 2 % 2))
+    % 2
+    ≡ ones 8 b % 2
+unfolding ones
+ones-halves b h =
+    eqb→eq _ _
+    (all-at
+    (λ (x : ℕ).
+    eqb
+    ((x % 2 + x / 2 % 2 + x / 2 / 2 % 2 + x / 2 / 2 / 2 % 2
+    + (x / 16 % 2 + x / 16 / 2 % 2 + x / 16 / 2 / 2 % 2 + x / 16 / 2 / 2 / 2 % 2))
+    % 2)
+    (ones 8 x % 2))
+    256
+    tt
+    b
+    h)
+
+-- the byte of a code by the parity of its seven bits
+pub letter-by : (c : ℕ) → c < 256 → letter c ≡ c % 128 + pick (isOdd (c % 128)) 0 128
+unfolding letter isOdd ones
+letter-by c h = eqb→eq _ _ (all-at (λ (x : ℕ). eqb (letter x) (x % 128 + pick (isOdd (x % 128)) 0 128)) 256 tt c h)
+
+-- ---- the bytes of right parity
+
+pub odds-step : (s : List ℕ) (i : ℕ) → i < length s → isOdd (getD s i 0) ≡ true → i + 1 + odds (drop (i + 1) s) ≡ i + odds (drop i s)
+unfolding odds
+odds-step s i h k = rw (add-one i, drop-cons s i 0 h, k) (omega arith)
+
+pub odds-stop : (s : List ℕ) (i : ℕ) → i < length s → isOdd (getD s i 0) ≡ false → i ≡ i + odds (drop i s)
+unfolding odds
+odds-stop s i h k = rw (drop-cons s i 0 h, k) (sym (add-zero i))
+
+pub odds-end : (s : List ℕ) (i : ℕ) → length s ≤ i → i ≡ i + odds (drop i s)
+unfolding odds
+odds-end s i h = rw (drop-of-length-le s h) (sym (add-zero i))

@@ -1,0 +1,2 @@
+-- The bytes of strings: EN 300 707, annex A.4; SCOPE 23.
+pub mod Parity

@@ -1,0 +1,31 @@
+-- What block reading answers is an enum: the number and the values that each of its cases stands for (SCOPE 4.3).
+use Prim.Native.Nat.{ℕ}
+use Rattle.answer.specs.declared.Answer.{Answer}
+use Rattle.answer.specs.declared.Answer.the-variants.{Done, Refused as Answer·Refused}
+use Rattle.table.specs.declared.Read.{Read}
+use Rattle.table.specs.declared.Read.the-variants.{Taken, Refused}
+
+-- its number: 0 is accepted
+abbrev pub numberOf : Read → ℕ
+numberOf (Taken written mended) = 0
+numberOf (Refused r) = r .no
+
+-- its offset; 0 where it is accepted
+abbrev pub offsetOf : Read → ℕ
+offsetOf (Taken written mended) = 0
+offsetOf (Refused r) = r .at
+
+-- how many bytes it reports as written
+abbrev pub writtenOf : Read → ℕ
+writtenOf (Taken written mended) = written
+writtenOf (Refused r) = 0
+
+-- how many bytes of the block it says were mended (SCOPE 19.5)
+abbrev pub mendedOf : Read → ℕ
+mendedOf (Taken written mended) = mended
+mendedOf (Refused r) = 0
+
+-- the answer of a call that writes, with the count of mended bytes beside it where it accepts
+abbrev pub counted : ℕ → Answer → Read
+counted mended (Done n) = Taken n mended
+counted mended (Answer·Refused r) = Refused r

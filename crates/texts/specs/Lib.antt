@@ -1,0 +1,2 @@
+-- Texts held against each other.
+pub mod Texts

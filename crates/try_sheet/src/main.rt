@@ -1,0 +1,92 @@
+// Runs cases of day sheets: op 50 writes one again, op 51 adds a table to one, op 52 joins two.
+ghost use Prim.Native.Nat.{_≤_, _<_};
+use vectors::Case;
+use vectors::Line;
+use vectors::MOST;
+use vectors::NextCase;
+use vectors::SPACE;
+
+fn main() {
+    let mut space = [0u8; SPACE];
+    let mut out = [0u8; MOST];
+    let mut text = [0u8; SPACE];
+    let mut input = vectors::start();
+    let mut turns = u64::MAX;
+    while turns > 0 {
+        turns -= 1;
+        let found = vectors::turn(input, &mut space, &mut text);
+        match found {
+            NextCase::Whole(case) => {
+                run(case, &space, &mut out, &mut text);
+                input = case.rest;
+            }
+            NextCase::Ended(_) => {
+                return;
+            }
+        }
+    }
+}
+
+// A case: the call is lent as much output as it has room.
+fn run(case: Case, space: &[u8; SPACE], out: &mut [u8], text: &mut [u8; SPACE]) {
+    let n = vectors::lend(out, case.room);
+    let lent = &mut out[..n];
+    let line = call(case.op, vectors::payload(case, space), lent);
+    vectors::tell(line, lent, text);
+}
+
+// The call that op names, and what is told of it.
+fn call(op: u8, payload: &[u8], out: &mut [u8]) -> Line {
+    match op {
+        50 => Line::Answered {
+            op: op,
+            answer: sheets::rewrite(payload, out),
+        },
+        51 => add(op, payload, out),
+        52 => join(op, payload, out),
+        _ => Line::Unknown(op),
+    }
+}
+
+// A stamp, the length of a sheet, the sheet, and a table form.
+fn add(op: u8, payload: &[u8], out: &mut [u8]) -> Line {
+    if payload.len() < 8 {
+        return Line::Unknown(op);
+    }
+    let long = number_at(payload, 4);
+    if payload.len() - 8 < long {
+        return Line::Unknown(op);
+    }
+    let end = 8 + long;
+    let stamp = number_at(payload, 0) as u32;
+    Line::Answered {
+        op: op,
+        answer: sheets::add(stamp, &payload[8..end], &payload[end..], out),
+    }
+}
+
+// The length of the first sheet, it, and the second.
+fn join(op: u8, payload: &[u8], out: &mut [u8]) -> Line {
+    if payload.len() < 4 {
+        return Line::Unknown(op);
+    }
+    let long = number_at(payload, 0);
+    if payload.len() - 4 < long {
+        return Line::Unknown(op);
+    }
+    let end = 4 + long;
+    Line::Answered {
+        op: op,
+        answer: sheets::join(&payload[4..end], &payload[end..], out),
+    }
+}
+
+// A number of four bytes, low byte first.
+fn number_at(s: &[u8], i: usize) -> usize
+    requires { ⌜ i ≤ 4 ⌝ }
+    ensures { λ r. ⌜ r < 4294967296 ⌝ }
+{
+    let low = forms::byte_at(s, i) + 256 * forms::byte_at(s, i + 1);
+    let high = forms::byte_at(s, i + 2) + 256 * forms::byte_at(s, i + 3);
+    low + 65536 * high
+}

@@ -1,0 +1,329 @@
+"""The day sheet: read and written again, a table added, two joined; every line's faults, and the limits."""
+
+from model import sheet, table
+from model.sheet import MOST_BYTES, MOST_ENTRIES, MOST_STAMP, Entry
+from model.table import LI, TI, Table
+
+from .form import Script, line, room_tried
+from .table import LATER, limits, shaped, some_word, spread
+
+BLOCKS = table.NUMBERS
+
+
+# --- sheets ---------------------------------------------------------------------
+
+def some_entry(dice, network=None, descriptors=None, most=4):
+    kind = dice.pick([LI, TI])
+    count = dice.below(4) if descriptors is None else descriptors
+    loop = [(dice.below(64), [some_word(dice) for _ in range(table.WORDS[kind] * dice.below(most + 1))]) for _ in range(count)]
+    return Entry(some_stamp(dice), Table(kind, 0, dice.pick(BLOCKS), dice.below(256) if network is None else network, loop))
+
+
+def some_stamp(dice):
+    return dice.pick([dice.below(10), dice.word(), 1794787200 + dice.below(3), 0, MOST_STAMP])
+
+
+def some_sheet(dice, count, networks=256):
+    """At most so many entries; keys that come twice are one."""
+    return sheet.joined([some_entry(dice, dice.below(networks)) for _ in range(count)])
+
+
+def small(count, stamp=0):
+    """So many entries of the least length, in order."""
+    keys = [(network, kind, block) for network in range(256) for kind in (LI, TI) for block in BLOCKS][:count]
+    return [Entry(stamp, Table(kind, 0, block, network, [])) for network, kind, block in keys]
+
+
+def sized(length):
+    """Twenty entries that come to so many bytes: their stamps' digits make up what tables leave."""
+    entries, at = [Entry(0, Table(TI, 0, 0, network, [])) for network in range(20)], 0
+    while len(sheet.written(entries)) + 180 < length:
+        t = entries[at % 20].table
+        entries[at % 20] = Entry(0, t._replace(descriptors=t.descriptors + [(at % 64, [0x647574, 0x000888] * 3)]))
+        at += 1
+    for at in range(20):
+        digits = 1 + min(9, length - len(sheet.written(entries)))
+        entries[at] = entries[at]._replace(stamp=int("1" * digits))
+    assert len(sheet.written(entries)) == length and sheet.read(sheet.written(entries)) == entries
+    return entries
+
+
+def largest():
+    """The entry with the longest text."""
+    loop = [(63, [0xFFFFFF] * count) for count in spread(312, 63)]
+    entry = Entry(MOST_STAMP, Table(LI, 0, 0x8000, 255, loop))
+    assert len(sheet.text_of(entry)) == 5924 and table.writable(entry.table)
+    return entry
+
+
+def form_of(entry, copyright=0):
+    return table.form_of(entry.table._replace(copyright=copyright))
+
+
+# --- the ops --------------------------------------------------------------------
+
+def lent(payload, at):
+    """A length of four bytes, low first, at a place: where so many bytes end, or nothing where there are fewer."""
+    end = at + 4 + int.from_bytes(payload[at:at + 4], "little")
+    return end if end <= len(payload) else None
+
+
+def add_call(payload, room=65536):
+    return sheet.add(int.from_bytes(payload[:4], "little"), payload[8:lent(payload, 4)], payload[lent(payload, 4):], room)
+
+
+def join_call(payload, room=65536):
+    return sheet.join(payload[4:lent(payload, 0)], payload[lent(payload, 0):], room)
+
+
+def add_payload(stamp, text, form):
+    return stamp.to_bytes(4, "little") + len(text).to_bytes(4, "little") + text + form
+
+
+def join_payload(first, second):
+    return len(first).to_bytes(4, "little") + first + second
+
+
+class Sheets:
+    """The three ops as cases."""
+
+    def __init__(self):
+        self.script = Script({
+            50: (0, lambda payload, room: line(sheet.rewrite, payload, room)),
+            51: (8, lambda payload, room: line(add_call, payload, room) if lent(payload, 4) else "unknown"),
+            52: (4, lambda payload, room: line(join_call, payload, room) if lent(payload, 0) else "unknown"),
+        })
+
+    def rewrite(self, text, room=MOST_BYTES):
+        self.script.case(50, room, text)
+
+    def add(self, stamp, text, form, room=MOST_BYTES):
+        self.script.case(51, room, add_payload(stamp, text, form))
+
+    def join(self, first, second, room=MOST_BYTES):
+        self.script.case(52, room, join_payload(first, second))
+
+    def both(self, first, second, room=MOST_BYTES):
+        self.join(first, second, room), self.join(second, first, room)
+
+
+# --- reading --------------------------------------------------------------------
+
+SAMPLE = [Entry(7, Table(LI, 0, 0, 9, [(5, [0x647574, 0x00FFFF]), (0, [])])),
+          Entry(0, Table(TI, 0, 0, 9, [])),
+          Entry(4294967295, Table(TI, 0, 0x8000, 10, [(63, [0x656E67, 0x000888, 0xABCDEF, 0xFFFFFF])]))]
+
+
+def line_faults(sheets, dice):
+    """Every line of a small sheet, with everything that can befall it."""
+    lines = sheet.written(SAMPLE).split(b"\n")[:-1]
+
+    def with_line(at, *instead):
+        return b"".join(one + b"\n" for one in [*lines[:at], *instead, *lines[at + 1:]])
+
+    for at, text in enumerate(lines):
+        name, _, value = text.partition(b"=")
+        for fault in (text + b"\r", text + b" ", b" " + text, text + b"\x00", b"\x00" + text, b"\xef\xbb\xbf" + text, text.upper() + b"A",
+                      name + value, name + b" =" + value, name + b"= " + value, text + b"0" * 10, name[:-1] + b"=" + value, name + b"="):
+            sheets.rewrite(with_line(at, fault))
+        sheets.rewrite(with_line(at)), sheets.rewrite(with_line(at, text, text)), sheets.rewrite(with_line(at, b"", text))
+        sheets.rewrite(with_line(at, text, b"mended=0")), sheets.rewrite(with_line(at, *lines[at + 1:at + 2], text))
+        sheets.rewrite(b"\n".join(lines[:at] + [text])), sheets.rewrite(b"\n".join(lines[:at] + [text]) + b"\n")
+        sheets.rewrite(b"\n".join(lines[:at] + [text + b"x"]))
+        place = len(b"\n".join(lines[:at] + [text]))            # its LF is gone
+        sheets.rewrite(sheet.written(SAMPLE)[:place] + sheet.written(SAMPLE)[place + 1:])
+    text = sheet.written(SAMPLE)
+    for whole in (b"\n", b"\n" + text, text + b"\n", text + b"\n\n", text + b"x", text + b"stamp=1", text + b"stamp=1\n", b"\x00", b"x", b"stamp",
+                  text.replace(b"\n", b"\r\n"), b"\xef\xbb\xbf" + text, text.replace(b"\n", b"\r"), text + text, text[::-1]):
+        sheets.rewrite(whole)
+
+
+def value_faults(sheets, dice):
+    """Numbers, languages, pages and kinds, in form and out of it."""
+    base = b"stamp=1\nkind=TI\nnetwork=2\nblock=0\ndescriptor=3\nlanguage=dut\npage=000888\n\n"
+    given = lambda old, new: sheets.rewrite(base.replace(old, new))
+    for old, most in ((b"stamp=1", MOST_STAMP), (b"network=2", 255), (b"block=0", 65535), (b"descriptor=3", 63)):
+        name = old.partition(b"=")[0] + b"="
+        for value in (0, 9, 10, most - 1, most, most + 1, most + 2, 10 * most, 2 ** 8, 2 ** 16, 2 ** 32, 2 ** 32 + 2, 2 ** 64, 2 ** 64 + 3, 2 ** 128 + 1):
+            given(old, name + str(value).encode())
+        for value in (b"", b"00", b"01", b"+1", b"-0", b"-1", b"1 ", b" 1", b"0x1", b"1.0", b"1e1", b"1_0", b"a", b"\xb2", b"\xd9\xa1", b"0" * 30):
+            given(old, name + value)
+    for digits in (b"9" * 3000, b"1" + b"0" * 4999, b"0" * 2000, b"18446744073709551616" * 100):
+        for old in (b"stamp=1", b"descriptor=3"):
+            given(old, old.partition(b"=")[0] + b"=" + digits)
+    for value in (b"du", b"dutc", b"Dut", b"DUT", b"du1", b"d t", b"647574", b"64757A", b"64757a", b"64757b", b"647560", b"607574", b"617574",
+                  b"7a7a7a", b"616161", b"606161", b"7b7a7a", b"61607a", b"aaaaaa", b"abcdef", b"000000", b"ffffff", b"FFFFFF", b"12345", b"1234567",
+                  b"12345g", b"", b"`aa", b"{aa", b"aaz", b"zza", b"64757", b"zzzzzz"):
+        given(b"language=dut", b"language=" + value)
+    for value in (b"000000", b"ffffff", b"abcdef", b"ABCDEF", b"00088", b"0008888", b"00088g", b"dut", b"", b"0x0888", b"647574", b"/00000", b":00000"):
+        given(b"page=000888", b"page=" + value)
+    for value in (b"LI", b"li", b"Ti", b"TII", b"T", b"", b"NI", b"8", b"LI "):
+        given(b"kind=TI", b"kind=" + value)
+    given(b"page=000888\n", b""), given(b"language=dut\n", b""), given(b"descriptor=3\n", b""), given(b"language=dut\npage=000888\n", b"")
+    given(b"descriptor=3\nlanguage=dut\npage=000888\n", b"")
+
+
+def key_faults(sheets, dice):
+    """Keys rise by network, kind and block, as numbers; a table that can't be written is told where an entry ends."""
+    keys = [(network, kind, block) for network in (0, 9, 10, 99, 100) for kind in (LI, TI) for block in BLOCKS]
+    for one in keys:
+        for other in keys:
+            if dice.chance(4):
+                pair = [Entry(1, Table(kind, 0, block, network, [])) for network, kind, block in (one, other)]
+                sheets.rewrite(sheet.written(pair))
+    for pair in (((1, TI, 0), (1, LI, 0x8000)), ((1, LI, 0x8000), (1, TI, 0)), ((1, TI, 0x8000), (2, LI, 0)), ((2, LI, 0), (1, TI, 0x8000)),
+                 ((9, LI, 0), (10, LI, 0)), ((10, LI, 0), (9, LI, 0)), ((255, TI, 0), (255, TI, 0))):
+        entries = [Entry(stamp, Table(kind, 0, block, network, [(1, [])])) for stamp, (network, kind, block) in enumerate(pair)]
+        sheets.rewrite(sheet.written(entries)), sheets.rewrite(sheet.written(SAMPLE[:1] + entries)), sheets.rewrite(sheet.written(entries)[:-1])
+    for kind in (LI, TI):
+        for counts in ([15], [16], [0] * 63, [0] * 64, [0, 16, 0], [17] * 2):
+            t = shaped(kind, counts)
+            sheets.rewrite(sheet.written([Entry(1, t), Entry(2, t._replace(network=1))]))
+            sheets.rewrite(sheet.written([Entry(1, t)])[:-1] + b"x\n")
+    for within, over in list(limits())[:2]:
+        for t in (within, over):
+            sheets.rewrite(sheet.written([Entry(0, t)]), 0)     # in form or not is judged before the room
+    sheets.rewrite(sheet.written([largest()]))
+    for block_no in LATER[::2]:                                 # a number of a later edition is a table that can't be written
+        for kind in (LI, TI):
+            t = Table(kind, 0, block_no, 3, [(1, [])])
+            text = sheet.written([Entry(1, t), Entry(2, t._replace(network=9, block_no=0))])
+            sheets.rewrite(text), sheets.join(b"", text), sheets.rewrite(text + b"x"), sheets.rewrite(text.replace(b"descriptor=1\n", b"descriptor=\n"))
+
+
+# --- limits ---------------------------------------------------------------------
+
+def limit_cases(sheets, dice):
+    full, over = sheet.written(sized(MOST_BYTES)), sheet.written(sized(MOST_BYTES + 1))
+    sheets.rewrite(full), sheets.rewrite(over, 0), sheets.rewrite(b"x" + full)
+    for count in (64, 65):
+        sheets.rewrite(sheet.written(small(count))), sheets.rewrite(sheet.written(small(count)), 0)
+    text = sheet.written(small(100))
+    sheets.rewrite(text), sheets.rewrite(text + b"stamp=01\n"), sheets.rewrite(text + b"\n"), sheets.rewrite(text[:-1])
+    many = small(460)
+    while len(sheet.written(many)) > MOST_BYTES:
+        many.pop()
+    sheets.rewrite(sheet.written(many))
+    # a result of 64 entries or of 16,384 bytes, and one more
+    one = Entry(5, Table(LI, 0, 0, 200, []))
+    for count in (63, 64):
+        text = sheet.written(small(count))
+        sheets.add(5, text, form_of(one)), sheets.add(5, text, form_of(one), 0), sheets.add(5, text, form_of(small(1)[0]))
+        sheets.both(text, sheet.written([one])), sheets.join(text, sheet.written(small(64, 1)))
+    for length in (MOST_BYTES, MOST_BYTES + 1):
+        text = sheet.written(sized(length - len(sheet.text_of(one))))
+        sheets.add(5, text, form_of(one))
+    sheets.join(sheet.written([one]), text)
+    # one entry is put for another: by its length the result fits or doesn't
+    for length in (MOST_BYTES - 1, MOST_BYTES):
+        entries = sized(length)
+        other = entries[-1]._replace(stamp=entries[-1].stamp * 10 + 1)
+        sheets.add(other.stamp, sheet.written(entries), form_of(other), 0)
+    sheets.add(MOST_STAMP, b"", form_of(largest())), sheets.add(MOST_STAMP, b"", form_of(largest()), 5923)
+    three = [largest()._replace(table=largest().table._replace(network=network)) for network in (1, 2)]
+    sheets.join(sheet.written(three), sheet.written([largest()]))
+    # a lent sheet that is too long comes before one out of form, of the first or the second
+    for first, second in ((over, b"x"), (b"x", over), (b"x", b""), (b"", b"x"), (b"y", b"\nx"), (sheet.written(SAMPLE)[:-1], b"\n"),
+                          (b"\n", sheet.written(SAMPLE)[:-1])):
+        sheets.join(first, second, 0)
+    sheets.add(0, over, form_of(one), 0), sheets.add(0, over, form_of(one)[:-1]), sheets.add(0, b"x", form_of(one), 0)
+
+
+# --- adding and joining ---------------------------------------------------------
+
+def table_with(*words, id=5, kind=LI):
+    return Table(kind, 0, 0, 7, [(id, list(words))])
+
+
+RIVALS = (Table(LI, 0, 0, 7, []), table_with(), table_with(id=6), table_with(id=50), table_with(0x647574), table_with(0x647575),
+          table_with(0x647574, 0x656E67), table_with(0x000000), table_with(0xFFFFFF), table_with(0x7A7A7A),
+          Table(LI, 0, 0, 7, [(5, [0x647574]), (0, [])]), Table(LI, 0, 0, 7, [(5, []), (5, [])]))
+
+
+def choice_cases(sheets, dice):
+    """Two entries of one key: the greater stamp stays; at equal stamps the lines that come later, a prefix first."""
+    for one in RIVALS:
+        for other in RIVALS:
+            for stamps in ((3, 3), (9, 10)) if dice.chance(3) else ((3, 3),):
+                sheets.join(sheet.written([Entry(stamps[0], one)]), sheet.written([Entry(stamps[1], other)]))
+    for one, other in ((0, 0), (0, 1), (9, 10), (99, 100), (MOST_STAMP, 0), (MOST_STAMP, MOST_STAMP), (1 << 31, (1 << 31) - 1), (256, 255)):
+        for tables in (RIVALS[4:6], RIVALS[5:3:-1], RIVALS[4:5] * 2):
+            entries = [Entry(stamp, t) for stamp, t in zip((one, other), tables)]
+            sheets.join(sheet.written(entries[:1]), sheet.written(entries[1:]))
+            sheets.add(other, sheet.written(entries[:1]), form_of(entries[1], dice.below(2)))
+    pages = [Table(TI, 0, 0, 7, [(5, [0x647574, page])]) for page in (0x000888, 0x000889, 0x00088A, 0xA00888)]
+    for one in pages:
+        for other in pages:
+            sheets.join(sheet.written([Entry(3, one)]), sheet.written([Entry(3, other)]))
+
+
+def add_cases(sheets, dice, size):
+    text = sheet.written(SAMPLE)
+    for network in (0, 9, 10, 50, 100, 255):            # before, between and behind, new and not
+        for kind in (LI, TI):
+            entry = some_entry(dice, network)
+            entry = entry._replace(table=entry.table._replace(kind=kind, descriptors=[(1, [0x647574, 0x656E67])]))
+            for stamp in (0, entry.stamp, MOST_STAMP):
+                sheets.add(stamp, text, form_of(entry, dice.below(2)))
+    room_tried(sheets.script, 51, add_payload(8, text, form_of(SAMPLE[0])), add_call)
+    room_tried(sheets.script, 51, add_payload(8, b"", form_of(SAMPLE[1])), add_call)
+    # the form's own refusals, 22, 13 and 15, come before those of the sheet
+    form = form_of(SAMPLE[2])
+    for wrong in (b"", form[:5], form[:-1], form + b"\x00", b"\x03" + form[1:], b"\x08\x02" + form[2:], form_of(Entry(0, shaped(LI, [16]))),
+                  form_of(Entry(0, shaped(TI, [0] * 64))), form_of(Entry(0, shaped(TI, [15] * 12)))):
+        for lent_sheet in (text, b"x", text + b"\n"):
+            sheets.add(1, lent_sheet, wrong, dice.pick([0, 999]))
+    for block_no in LATER[:6]:
+        other = form_of(Entry(0, SAMPLE[2].table._replace(block_no=block_no)))
+        for wrong in (other, other[:-1], other[:6], other[:5], other[:4], other[:3], b"\x03" + other[1:], b"\x08\x02" + other[2:]):
+            sheets.add(1, dice.pick([text, b"", b"x", text + b"\n"]), wrong, dice.pick([0, 999]))
+    for at in range(0, len(text), 7):                   # a sheet out of form
+        sheets.add(1, text[:at] + b"?" + text[at + 1:], form)
+    for _ in range(15 * size):
+        sheets.add(some_stamp(dice), sheet.written(some_sheet(dice, dice.below(12), 6)), form_of(some_entry(dice, dice.below(6)), dice.below(2)))
+    for payload in (b"", bytes(7), bytes(8), bytes(4) + b"\x01\x00\x00\x00", bytes(4) + b"\xff\xff\xff\xff" + bytes(90)):
+        sheets.script.case(51, 99, payload)
+
+
+def join_cases(sheets, dice, size):
+    text = sheet.written(SAMPLE)
+    sheets.join(b"", b""), sheets.both(text, b""), sheets.join(text, text), sheets.rewrite(b""), sheets.rewrite(b"", 0)
+    sheets.both(sheet.written(SAMPLE[::2]), sheet.written(SAMPLE[1::2])), sheets.both(sheet.written(SAMPLE[:2]), sheet.written(SAMPLE[2:]))
+    room_tried(sheets.script, 50, text, sheet.rewrite)
+    room_tried(sheets.script, 52, join_payload(text, sheet.written(SAMPLE[:3])), join_call)
+    for _ in range(8 * size):
+        first, second, third = (sheet.written(some_sheet(dice, dice.below(6), 3)) for _ in range(3))
+        sheets.both(first, second), sheets.rewrite(third)
+        sheets.join(sheet.join(first, second), third), sheets.join(first, sheet.join(second, third))
+    for _ in range(30 * size):                          # anything changed: a byte, a line
+        first, second = (bytearray(sheet.written(some_sheet(dice, 4, 4)) or text) for _ in range(2))
+        spoilt(dice, dice.pick([first, second])), sheets.join(bytes(first), bytes(second))
+        spoilt(dice, first), sheets.rewrite(bytes(first))
+    for payload in (b"", bytes(3), bytes(4), b"\x01\x00\x00\x00", b"\x01\x00\x00\x80" + bytes(90)):
+        sheets.script.case(52, 99, payload)
+
+
+def spoilt(dice, text):
+    at = dice.below(len(text))
+    end = text.find(b"\n", at) + 1
+    change = dice.below(5)
+    if change == 0:
+        text[at] = dice.pick([10, 13, 32, 48, 57, 61, 97, 0, dice.below(256)])
+    elif change == 1:
+        del text[at]
+    elif change == 2:
+        text.insert(at, dice.pick([10, 48, 61, 97]))
+    elif change == 3:
+        del text[at:end]
+    else:
+        text[at:at] = text[at:end]
+
+
+def script_of(dice, size):
+    sheets = Sheets()
+    line_faults(sheets, dice), value_faults(sheets, dice), key_faults(sheets, dice), limit_cases(sheets, dice), choice_cases(sheets, dice)
+    add_cases(sheets, dice, size), join_cases(sheets, dice, size)
+    for op in (0, 49, 53, 255):
+        sheets.script.case(op, 99, sheet.written(SAMPLE))
+    sheets.script.cut_short(b"\x32\x40\x00\x00\x00\x08\x00\x00\x00stamp=1")
+    return sheets.script

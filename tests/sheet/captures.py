@@ -1,0 +1,102 @@
+#!/usr/bin/env python3
+"""Captures for the day sheet, and what the model makes of them: tests/sheet/captures.py DIR writes, for each NAME of a run of
+`sheet add`, NAME.words (options, then a stamp and a capture in turn, one word to a line), NAME.before (the sheet that stands, where there
+is one), NAME.after (the sheet afterwards) and NAME.line (what is printed). And for late files: orders (every order of four captures, a
+line each), four.after; twenty (a stamp and a capture, a line each), twenty.after, groupings (pairs of sheets to be joined, the second
+into the first, a grouping after each empty line)."""
+
+import itertools
+import pathlib
+import sys
+
+sys.dont_write_bytecode = True
+sys.path.insert(0, str(pathlib.Path(__file__).resolve().parent.parent))
+
+import samples
+from cases.form import Dice
+from cases.reader import Air
+from cases.sheet import SAMPLE, small
+from cases.table import CASE_G, some_table
+from model import guide, pes, sheet, table
+from model.guide import Setting
+from model.listing import DESK
+from samples import EVENING, MORNING, aired, packets_in
+
+DAY = 1794787200
+
+
+def sent(setting, tables):
+    return guide.cut(setting, 3, 20, b"".join(table.write_block(setting.application, table.form_of(t)) for t in tables))
+
+
+def night(dice, networks, count):
+    """Tables of few networks, so that captures share keys, on pages with other magazines between."""
+    tables = [some_table(dice, most=3)._replace(network=dice.below(networks)) for _ in range(count)]
+    return b"".join(aired(dice, [table.write_block(DESK.application, table.form_of(t)) for t in tables], 20))
+
+
+def entries(dice, count):
+    return sheet.written(sheet.joined([sheet.Entry(DAY + dice.below(9), some_table(dice)._replace(copyright=0)) for _ in range(count)]))
+
+
+def runs(dice):
+    """Each run's name, its options and setting, the sheet before (None: no file), and (stamp, capture's name, bytes)."""
+    evening, morning = samples.day()["evening.t42"], samples.day()["morning.t42"]
+    yield "day", "", DESK, None, [(EVENING, "evening.t42", evening), (MORNING, "morning.t42", morning)]
+    yield "late", "", DESK, None, [(MORNING, "morning.t42", morning), (EVENING, "evening.t42", evening)]
+    yield "again", "", DESK, samples.day()["day.sheet"], [(EVENING, "evening.t42", evening)]
+    yield "kept", "", DESK, sheet.written(SAMPLE), [(DAY, "night.t42", night(dice, 5, 20))]
+    yield "one", "", DESK, b"", [(0, "g.t42", sent(DESK, [CASE_G]))]
+    yield "most", "", DESK, None, [(2 ** 32 - 1, "twice.t42", sent(DESK, [CASE_G, CASE_G]))]
+    shared = night(dice, 2, 12)
+    yield "equal", "", DESK, None, [(DAY, "a.t42", shared), (DAY, "b.t42", night(dice, 2, 12)), (DAY, "a.t42", shared)]
+    other = Setting(8, 0xFE, 2, 31)
+    yield "elsewhere", "-m 8 -p fE -s 2 -a 31", other, sheet.written(SAMPLE), [(7, "other.t42", sent(other, [CASE_G, some_table(dice)]))]
+    others = b"".join(Air(dice, DESK).stream(3, [20, 40], 0)) + b"\x15" * 5          # blocks that are no tables, and bytes left over
+    yield "none", "", DESK, entries(dice, 9), [(DAY, "others.t42", others)]
+    yield "full", "", DESK, sheet.written(small(63)), [(1, "last.t42", sent(DESK, [CASE_G._replace(network=255)]))]
+    yield "long", "", DESK, entries(dice, 30), [(DAY + i, f"long{i}.t42", night(dice, 9, 25)) for i in range(3)]
+
+
+def main(folder):
+    dice = Dice(23)
+    for name, options, setting, before, captures in runs(dice):
+        words = options.split()
+        for stamp, capture, data in captures:
+            (folder / capture).write_bytes(data)
+            words += [str(stamp), str(folder / capture)]
+        after, line = sheet.fed(before or b"", [(stamp, data) for stamp, _, data in captures], setting)
+        if before is not None:
+            (folder / f"{name}.before").write_bytes(before)
+        (folder / f"{name}.words").write_text("".join(word + "\n" for word in words))
+        (folder / f"{name}.after").write_bytes(after)
+        (folder / f"{name}.line").write_text(line)
+    evening = packets_in(samples.day()["evening.t42"])
+    (folder / "evening.pes").write_bytes(b"".join(pes.write(0x10, b"\x02\xe7" + packet) for packet in evening))
+    (folder / "many.t42").write_bytes(sent(DESK, [CASE_G._replace(network=n) for n in range(65)]))      # more than a sheet holds
+    late(folder, dice)
+
+
+def late(folder, dice):
+    """Captures of many vans, whose order mustn't matter."""
+    for name, count in (("four", 4), ("twenty", 20)):
+        captures = [(DAY + dice.below(3), night(dice, 5, 8)) for _ in range(count)]
+        for at, (stamp, data) in enumerate(captures):
+            (folder / f"{name}{at}.t42").write_bytes(data)
+        (folder / name).write_text("".join(f"{stamp} {folder}/{name}{at}.t42\n" for at, (stamp, _) in enumerate(captures)))
+        (folder / f"{name}.after").write_bytes(sheet.fed(b"", captures)[0])
+    (folder / "orders").write_text("".join(" ".join(map(str, order)) + "\n" for order in itertools.permutations(range(4))))
+    with open(folder / "groupings", "w") as groupings:
+        for _ in range(5):
+            left = list(range(20))
+            while len(left) > 1:
+                into = dice.pick(left)
+                left.remove(into)
+                other = dice.pick(left)
+                left.remove(other)
+                left.append(into)
+                groupings.write(f"{into} {other}\n")
+            groupings.write("\n")
+
+
+main(pathlib.Path(sys.argv[1]))
