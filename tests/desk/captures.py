@@ -71,6 +71,8 @@ def without(dice):
     text = dice.bytes(3 * PIECE)
     text = b"".join(guide.address(2, 1 + i % 24) + text[i:i + 40] for i in range(0, len(text), PACKET))   # no packet 0 at all
     rows = b"".join(p for p in packets_in(clean) if octet.decode(p[1]) != 0 or octet.decode(p[0]) > 7)
+    ours = Air(dice, DESK)
+    broken = b"".join(with_bytes(ours.header(0, 25), (at, LOST)) for at in (4, 5, 7))    # our page and stream, but S1, S2 or S4 is lost
     for name, words, setting, data in (
             ("pes", "", DESK, night_pes(packets_in(clean))),
             ("pes-part", "", DESK, b"\x00\x00\x01\xBD"),
@@ -84,6 +86,8 @@ def without(dice):
             ("page", "-p FE -m 8", Setting(8, 0xFE, 1, 1), clean + b"\x15" * 3),
             ("many-pages", "-p 00", DESK._replace(page=0), others * 2),
             ("rows", "", DESK, rows),
+            ("broken", "", DESK, broken + rows),
+            ("broken-others", "", DESK, broken + others + broken),
             ("text", "", DESK, text),
             ("zeros", "", DESK, b"\x00" * 4200),
             ("noise", "", DESK, b"\x16" * 4201),

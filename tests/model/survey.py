@@ -62,13 +62,17 @@ def is_ours(packet, setting):
     return UNDECODABLE not in six and (six[0] + 16 * six[1], six[4]) == (setting.page, setting.stream)
 
 
+def told(magazine, page, stream):
+    return f"{magazine}{page:02x}/{stream}"
+
+
 def page_of(packet):
     """Magazine, page and stream of a packet 0, of any page, as they are told."""
     address = address_of(packet)
     units, tens, stream = decode(packet[2]), decode(packet[3]), decode(packet[6])
     if address is None or address[1] != 0 or UNDECODABLE in (units, tens, stream):
         return None
-    return f"{address[0]}{tens:x}{units:x}/{stream}"
+    return told(address[0], 16 * tens + units, stream)
 
 
 def place(data, setting):
@@ -99,6 +103,7 @@ def guesses(data, packets, setting):
     about = place(turned(data), setting)
     if about is not None:
         return ["its bits may be turned about: turned bytes fit" + (f" from byte {about} on" if about else "")]
-    seen = list(dict.fromkeys(page for page in map(page_of, packets) if page))[:MOST_PAGES]
+    own = told(setting.magazine, setting.page, setting.stream)
+    seen = list(dict.fromkeys(page for page in map(page_of, packets) if page not in (None, own)))[:MOST_PAGES]
     found = ["it may be another magazine, page or stream: seen " + " ".join(seen) if seen else "nor did one of another page"]
     return found + (["its packets may be out of step: its length isn't a multiple of 42"] if len(data) % PACKET else [])

@@ -11,7 +11,7 @@ use packet::Setting;
 use reader::HeardAll;
 use reader::Reader;
 use survey::Counts;
-use survey::seen::NO_PAGE;
+use crate::sight::PAGES;
 use table::Read;
 ghost use mathlib.Core.Path.{_≡_};
 ghost use Prim.Native.Nat.{_≤_, _<_};
@@ -32,9 +32,6 @@ const LINES: usize = 8192;
 
 // More than the longest table form.
 const FORM: usize = 2048;
-
-// So many pages are told where none is ours.
-const PAGES: usize = 10;
 
 // What was read: so many bytes, fewer than asked for only where the input ended.
 enum Got {
@@ -73,7 +70,7 @@ pub fn list(fd: i32, name: &[u8], is_titled: bool, setting: Setting, is_verbose:
     let mut records = [0u8; RECORDS];
     let mut text = [0u8; TEXT];
     let mut form = [0u8; FORM];
-    let mut pages = [NO_PAGE; PAGES];
+    let mut pages = sight::pages(setting);
     let mut desk = fresh(is_verbose);
     let mut sight = sight::none();
     let mut is_due = is_titled;

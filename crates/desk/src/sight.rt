@@ -10,6 +10,9 @@ ghost use Prim.Native.Nat.{_<_, _≤_};
 
 const PACKET: usize = 42;
 
+// Our own page, and ten others that are told where it didn't come.
+pub const PAGES: usize = 11;
+
 // So far: the counts, whether bytes came and began as a PES packet does, and from which byte of 42 on packets would fit, as they are and
 // with each byte turned: 42 where they don't.
 pub struct Sight {
@@ -18,6 +21,13 @@ pub struct Sight {
     pub pes: bool,
     pub plain: usize,
     pub turned: usize,
+}
+
+// The list of pages with our own in front, so that none of its packets 0 is taken for another's, whatever else of it can't be read.
+pub fn pages(setting: Setting) -> [u16; PAGES] {
+    let mut pages = [NO_PAGE; PAGES];
+    pages[0] = setting.stream as u16 + 16 * setting.page as u16 + 4096 * (setting.magazine % 8) as u16;
+    pages
 }
 
 pub fn none() -> Sight {
@@ -154,14 +164,14 @@ fn say_place(place: usize) {
     }
 }
 
-// The pages that came.
+// The pages that came, behind our own.
 fn guess_pages(pages: &[u16]) {
     if is_none(pages) {
         says::say(b"; nor did one of another page");
         return;
     }
     says::say(b"; it may be another magazine, page or stream: seen");
-    let mut i = 0;
+    let mut i = 1;
     while i < pages.len() {
         if pages[i] != NO_PAGE {
             says::say_page(pages[i]);
@@ -171,8 +181,8 @@ fn guess_pages(pages: &[u16]) {
 }
 
 fn is_none(pages: &[u16]) -> bool {
-    if pages.len() == 0 {
+    if pages.len() < 2 {
         return true;
     }
-    pages[0] == NO_PAGE
+    pages[1] == NO_PAGE
 }

@@ -11,6 +11,9 @@ Inv-loop fd name is-titled setting is-verbose piece₀ records₀ text₀ form�
 abbrev μ-loop : tie.MeasureT-loop
 μ-loop fd name is-titled setting is-verbose piece₀ records₀ text₀ form₀ pages₀ desk₀ sight₀ is-due₀ turns₀ piece records text form pages desk sight is-due turns = turns
 
+pages-requires : tie.Need-pages-requires Inv-loop μ-loop
+pages-requires c κs = search needs
+
 fresh-requires : tie.Need-fresh-requires Inv-loop μ-loop
 fresh-requires c κs = search needs
 
@@ -85,6 +88,7 @@ list-spec =
     (tie.spec
     Inv-loop
     μ-loop
+    pages-requires
     fresh-requires
     none-requires
     loop-holds
