@@ -4,6 +4,7 @@
 use crate::front;
 use crate::says;
 use crate::sight;
+use crate::sight::PAGES;
 use crate::sight::Sight;
 use answer::Answer;
 use blocks::Found;
@@ -11,7 +12,6 @@ use packet::Setting;
 use reader::HeardAll;
 use reader::Reader;
 use survey::Counts;
-use crate::sight::PAGES;
 use table::Read;
 ghost use mathlib.Core.Path.{_≡_};
 ghost use Prim.Native.Nat.{_≤_, _<_};

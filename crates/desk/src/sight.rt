@@ -26,7 +26,9 @@ pub struct Sight {
 // The list of pages with our own in front, so that none of its packets 0 is taken for another's, whatever else of it can't be read.
 pub fn pages(setting: Setting) -> [u16; PAGES] {
     let mut pages = [NO_PAGE; PAGES];
-    pages[0] = setting.stream as u16 + 16 * setting.page as u16 + 4096 * (setting.magazine % 8) as u16;
+    pages[0] = setting.stream as u16
+        + 16 * setting.page as u16
+        + 4096 * (setting.magazine % 8) as u16;
     pages
 }
 
