@@ -23,7 +23,7 @@ judged refused (r ∷ rs) a = pick (r .holds) (judged refused rs a) (refused (r 
 
 -- the greatest number of the list (SCOPE 2.1)
 abbrev pub lastNumber : ℕ
-lastNumber = 22
+lastNumber = 23
 
 -- a refusal's number is 1 to the last of the list; 0 stands for an acceptance (SCOPE 2.1)
 abbrev pub refusing : ℕ → Bool

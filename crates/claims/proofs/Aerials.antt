@@ -30,7 +30,8 @@ use Rattle.sums.specs.Sums.{total, checksum, sound}
 use Rattle.sums.specs.Block.{nibbles, nibblesOf, mendedIn, checksumOf, blockWith}
 use Rattle.table.specs.Control.{descriptorsOf, tableOf}
 use Rattle.table.specs.Lengths.{lengthRules}
-use Rattle.table.specs.Reading.{frameRules, frontRules, wholeRules, readBlock}
+use Rattle.frames.specs.Framing.{frameRules}
+use Rattle.table.specs.Reading.{frontRules, wholeRules, readBlock}
 use Rattle.forms.specs.Tables.{Table, loops, fields}
 use Rattle.forms.specs.Kinds.{TI, LI, per}
 use Rattle.writer.proofs.Cases.{desk}

@@ -35,8 +35,8 @@ use Rattle.forms.specs.Form.{form, tableIn}
 use Rattle.forms.specs.Writing.{writeRules}
 use Rattle.sums.specs.Block.{mendedIn, recordOf}
 use Rattle.table.specs.Reading.{Outcome, accepted as Reading·accepted, refused as Reading·refused, readRules, tableRead, readBlock}
-use Rattle.table.specs.declared.Read.{Read}
-use Rattle.table.specs.Values.{counted}
+use Rattle.frames.specs.declared.Read.{Read}
+use Rattle.frames.specs.Values.{counted}
 use Rattle.table.proofs.Back.{writes-back, accepted-writable}
 use Rattle.claims.specs.Noise.{Flipped, Aired, Came, Each, nil, and}
 use Rattle.claims.specs.Damage.{streamIn, Sending, sendings, damage, Counted, damaged}

@@ -23,7 +23,7 @@ use Rattle.forms.specs.Tables.{Table, fits}
 use Rattle.forms.specs.Form.{form, tableIn}
 use Rattle.forms.specs.Writing.{writeRules}
 use Rattle.sums.specs.Block.{mendedIn, recordOf}
-use Rattle.table.specs.Values.{counted}
+use Rattle.frames.specs.Values.{counted}
 use Rattle.table.specs.Reading.{readRules, tableRead}
 use Rattle.claims.specs.Noise.{Aired, Each, nil, and}
 use Rattle.claims.specs.Damage.{Counted}

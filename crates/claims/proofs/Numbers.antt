@@ -1,4 +1,4 @@
--- Each call's rules refuse with a number of SCOPE 2, 1 to 22, so that 0 is an acceptance: `accepted-exactly` and `accepted-writes` of room
+-- Each call's rules refuse with a number of SCOPE 2, 1 to 23, so that 0 is an acceptance: `accepted-exactly` and `accepted-writes` of room
 -- `answer` hold of each call. Assumes nothing.
 use mathlib.Core.Path.{_≡_, refl}
 use mathlib.Core.Bool.{Bool, true, false}
@@ -14,7 +14,8 @@ use Rattle.pes.specs.Reading.{places, unitsRules, readRules}
 use Rattle.pes_writer.specs.Records.{writeRules}
 use Rattle.writer.specs.Cutting.{cutRules}
 use Rattle.forms.specs.Writing.{formRules, writeRules as Form·writeRules}
-use Rattle.table.specs.Reading.{frameRules, frontRules, wholeRules, bodyRules, readRules as Table·readRules}
+use Rattle.frames.specs.Framing.{frameRules}
+use Rattle.table.specs.Reading.{frontRules, wholeRules, bodyRules, readRules as Table·readRules}
 use Rattle.table.specs.Lengths.{lengthRules}
 use Rattle.sheets.specs.Calls.{rewriteRules, joinRules, addRules}
 

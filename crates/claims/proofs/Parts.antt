@@ -19,7 +19,8 @@ use Rattle.state.specs.Acting.{State, act}
 use Rattle.state.specs.State.{readerOf}
 use Rattle.state.proofs.Ranging.{Sound, sound-after}
 use Rattle.state.proofs.Parting.{parted-append, handed-parted}
-use Rattle.table.specs.Reading.{Outcome, accepted, refused, frameRules, frontRules, wholeRules, readRules, tableRead, readBlock}
+use Rattle.frames.specs.Framing.{frameRules}
+use Rattle.table.specs.Reading.{Outcome, accepted, refused, frontRules, wholeRules, readRules, tableRead, readBlock}
 use Rattle.sums.specs.Block.{mendedIn}
 use Rattle.table.specs.Lengths.{lengthRules}
 use Rattle.claims.specs.Noise.{Each, nil, and}

@@ -72,6 +72,7 @@ use Rattle.state.proofs.fresh.Reads as state·fresh
 use Rattle.state.proofs.in_range.Reads as state·in-range
 use Rattle.reader.proofs.feed.Reads as reader·feed
 use Rattle.reader.proofs.many.feed_all.Reads as reader·feed-all
+use Rattle.frames.proofs.judge.Reads as frames·judge
 use Rattle.table.proofs.read_block.Reads as table·read-block
 use Rattle.forms.proofs.judge_form.Reads as forms·judge-form
 use Rattle.sums.proofs.Summing.{one-sum}
@@ -279,6 +280,9 @@ pub reader·feed-all-settled :
     (κs : _) (a : _) (x y : _) (s t : _) → reader·feed-all.Post κs a x s → reader·feed-all.Post κs a y t
     → (x .heard ≡ y .heard) × (x .reader ≡ y .reader) × (now (s .1 .1 .1 .0) ≡ now (t .1 .1 .1 .0))
 reader·feed-all-settled κs a x y s t p q = (same (p .0) (q .0), same (p .1 .0) (q .1 .0), same (p .1 .1) (q .1 .1))
+
+pub frames·judge-settled : (κs : _) (a : _) (x y : _) (s t : _) → frames·judge.Post κs a x s → frames·judge.Post κs a y t → x ≡ y
+frames·judge-settled κs a x y s t p q = same p q
 
 pub table·read-block-settled :
     (κs : _) (a : _) (x y : _) (s t : _) → table·read-block.Post κs a x s → table·read-block.Post κs a y t → (x ≡ y) × (now (s .1 .1 .0) ≡ now (t .1 .1 .0))

@@ -25,8 +25,8 @@ use Rattle.writer.proofs.cut_pages.Reads as guide·cut-pages
 use Rattle.state.proofs.fresh.Reads as reader·fresh
 use Rattle.reader.proofs.feed.Reads as reader·feed
 use Rattle.reader.proofs.many.feed_all.Reads as reader·feed-all
-use Rattle.table.specs.declared.Read.{Read}
-use Rattle.table.specs.declared.Read.the-variants.{Taken, Refused as Read·Refused}
+use Rattle.frames.specs.declared.Read.{Read}
+use Rattle.frames.specs.declared.Read.the-variants.{Taken, Refused as Read·Refused}
 use Rattle.table.proofs.read_block.Reads as table·read-block
 use Rattle.claims.specs.Noise.{Aired, Came, Each}
 use Rattle.claims.specs.Damage.{streamIn, sendings, Counted, damaged}

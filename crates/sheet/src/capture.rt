@@ -10,10 +10,10 @@ use crate::work;
 use crate::work::Work;
 use answer::Answer;
 use blocks::Found;
+use frames::Read;
 use packet::Setting;
 use reader::HeardAll;
 use reader::Reader;
-use table::Read;
 ghost use Prim.Native.Nat.{_≤_, _<_};
 ghost use lib.ListN.{length};
 

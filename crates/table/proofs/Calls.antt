@@ -3,26 +3,19 @@
 use mathlib.Core.Path.{_≡_, _∙_, sym, ap}
 use mathlib.Core.List.{List, _++_}
 use Prim.Native.Nat.{ℕ, _≤_}
-use native.Mathlib.Omega.{arith}
 use lib.ListN.{length, drop}
-use Rattle.answer.specs.declared.Answer.{Answer}
-use Rattle.answer.specs.declared.Answer.the-variants.{Done, Refused}
 use Rattle.answer.specs.Writing.{answered, left}
 use Rattle.answer.proofs.Judging.{passes}
 use Rattle.answer.proofs.Lent.{lent-accepted, lent-all}
 use Rattle.forms.specs.Tables.{Table}
 use Rattle.forms.specs.Form.{form}
 use Rattle.sums.specs.Block.{mendedIn, InRange, Says}
+use Rattle.frames.specs.declared.Read.{Read}
+use Rattle.frames.specs.declared.Read.the-variants.{Taken}
+use Rattle.frames.specs.Values.{counted}
+use Rattle.frames.proofs.Counting.{taken-done}
 use Rattle.table.specs.Reading.{accepted, refused, readRules, tableRead, readBlock}
-use Rattle.table.specs.declared.Read.{Read}
-use Rattle.table.specs.declared.Read.the-variants.{Taken}
-use Rattle.table.specs.Values.{counted, writtenOf, mendedOf}
 use Rattle.table.proofs.Exact.{accepts, accepted-says, says-accepted}
-
--- an answer with a count that accepts is that of an answer that does
-taken-done : (c : ℕ) (x : Answer) (n m : ℕ) → counted c x ≡ Taken n m → (x ≡ Done n) × (c ≡ m)
-taken-done c (Done k) n m e = (ap Done (ap writtenOf e), ap mendedOf e)
-taken-done c (Refused w) n m e = absurd (let z : _≡_ {A = ℕ} 0 1 = cc in omega arith)
 
 module _ (application : ℕ) (r : List ℕ) (old : List ℕ) where
   -- what the call answers

@@ -25,7 +25,8 @@ use Rattle.forms.specs.Tables.{Table, known, numbered, fields, bits, control, f
 use Rattle.sums.specs.Block.{header, headOf, partOf, secondOf, nibblesOf, mendedIn, InRange, nibbles, checksumOf, Says}
 use Rattle.sums.specs.Sums.{checksum, sound}
 use Rattle.table.specs.Control.{tableOf}
-use Rattle.table.specs.Reading.{accepted, refused, frameRules, frontRules, wholeRules, readRules, tableRead, readBlock}
+use Rattle.frames.specs.Framing.{frameRules}
+use Rattle.table.specs.Reading.{accepted, refused, frontRules, wholeRules, readRules, tableRead, readBlock}
 use Rattle.table.specs.Lengths.{blockNumbered, lengthRules}
 use Rattle.forms.proofs.Sendable.{Sendable, sendable, sends}
 use Rattle.sums.proofs.Summing.{checksum-lt}

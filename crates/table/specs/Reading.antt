@@ -1,34 +1,19 @@
 -- Block reading: its rules in the order of SCOPE 3.6, with 19.4 and 22.3, and the table and the count of mended bytes that it gives.
-use mathlib.Core.Bool.{Bool}
 use mathlib.Core.List.{List, [], _∷_, _++_}
 use Prim.Native.Nat.{ℕ, _+_, _%_}
-use lib.Dec.{eqb, ltb, leb}
+use lib.Dec.{eqb}
 use lib.ListN.{length, take}
 use Rattle.laws.specs.Pick.{both}
 use Rattle.answer.specs.Rules.{Rule, rule, judged}
-use Rattle.blocks.specs.Block.{applicationOf, sizeOf}
+use Rattle.blocks.specs.Block.{sizeOf}
 use Rattle.fields.specs.Fields.{whole}
 use Rattle.fields.specs.Opening.{openingIn}
 use Rattle.forms.specs.Tables.{Table, known}
 use Rattle.table.specs.Control.{tableOf}
 use Rattle.table.specs.Lengths.{lengthRules}
 use Rattle.sums.specs.Sums.{checksum, sound}
-use Rattle.sums.specs.Block.{headLength, headOf, partOf, secondOf, nibblesOf, mendedIn}
-
--- the two bytes behind a record's 16 bits are in range: a part of at most 5, and 0 (SCOPE 19.4)
-abbrev pub ranged : ℕ → ℕ → Bool
-ranged part second = both (leb part 5) (eqb second 0)
-
--- 16, 13 for the record's length, 16 for its two bytes, 12 for the application, 13 for a size under 8: the record as it is lent, by its
--- length, its head and those two bytes
-unfoldable pub frameRules : ℕ → ℕ → ℕ → ℕ → ℕ → List Rule
-frameRules application len head part second =
-    rule (ltb application 32) 16 0
-    ∷ rule (eqb len (headLength + sizeOf head)) 13 0
-    ∷ rule (ranged part second) 16 0
-    ∷ rule (eqb (applicationOf head) application) 12 0
-    ∷ rule (leb 8 (sizeOf head)) 13 0
-    ∷ []
+use Rattle.sums.specs.Block.{headLength, headOf, nibblesOf, mendedIn}
+use Rattle.frames.specs.Framing.{framing}
 
 -- 10 in its first eight bytes, 12 for kind and access, 13 for an odd size: what can be said of a block before it is read whole
 unfoldable pub frontRules : ℕ → List ℕ → List Rule
@@ -51,10 +36,6 @@ abbrev pub bodyRules : ℕ → List ℕ → List Rule
 bodyRules head ns =
     let n = whole 4 ns in
     frontRules (sizeOf head) ns ++ (wholeRules head ns ++ lengthRules (sizeOf head) (openingIn n) n)
-
--- the frame of a record
-abbrev pub framing : ℕ → List ℕ → List Rule
-framing application r = frameRules application (length r) (headOf r) (partOf r) (secondOf r)
 
 abbrev pub readRules : ℕ → List ℕ → List Rule
 readRules application r = framing application r ++ bodyRules (headOf r) (nibblesOf r)

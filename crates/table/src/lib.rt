@@ -15,21 +15,14 @@ ghost use Rattle.octet.specs.Decoding.{nib};
 ghost use Rattle.forms.specs.Form.{form};
 ghost use Rattle.fields.specs.Opening.{openingIn};
 ghost use Rattle.fields.specs.Compound.{compound};
-ghost use Rattle.sums.specs.Block.{headOf, mendedIn};
-ghost use Rattle.table.specs.Reading.{framing, frontRules, wholeRules, bodyRules, readRules, tableRead};
-ghost use Rattle.table.specs.Values.{counted};
+ghost use Rattle.sums.specs.Block.{mendedIn};
+ghost use Rattle.frames.specs.Values.{counted};
+ghost use Rattle.table.specs.Reading.{frontRules, wholeRules, bodyRules, readRules, tableRead};
 ghost use Rattle.table.specs.Control.{tableOf};
 use answer::Answer;
-use answer::Refusal;
 use blocks::HEAD;
 use fields::Opening;
-
-pub enum Read {
-    // Accepted: so many bytes, the table's form, stand at the front of the output, and the rest of it is as
-    // before; and so many of the block's bytes were mended.
-    Taken { written: usize, mended: u16 },
-    Refused(Refusal),
-}
+use frames::Read;
 
 // The table of a block of this application: its form is written to the front of `out`. Each protected
 // byte is decoded at most six times: for the tests that it can be, for the sum, for the count, and for
@@ -60,43 +53,10 @@ fn read_form(application: u8, rec: &[u8], out: &mut [u8]) -> Answer
         ⌜ now (out .exit)
         ≡ left (readRules application (now (rec .entry))) (form (tableRead (now (rec .entry)))) (now (out .entry)) ⌝ }
 {
-    match judge_frame(application, rec) {
+    match frames::judge(application, rec) {
         Answer::Refused(why) => Answer::Refused(why),
         Answer::Done(head) => read_body(head, &rec[HEAD..], out),
     }
-}
-
-// 16, 13, 16, 12, 13: the record as it is lent. Where it is taken, the head's 16 bits.
-fn judge_frame(application: u8, rec: &[u8]) -> Answer
-    ensures { λ r. ⌜ r ≡ judged refused (framing application (now (rec .entry))) (Done (headOf (now (rec .entry)))) ⌝ }
-{
-    if 32 <= application {
-        return answer::refuse(16, 0);
-    }
-    let head = head_of(rec);
-    if rec.len() != HEAD + head / 32 {
-        return answer::refuse(13, 0);
-    }
-    if 5 < rec[2] {
-        return answer::refuse(16, 0);
-    }
-    if rec[3] != 0 {
-        return answer::refuse(16, 0);
-    }
-    if head % 32 != application as usize {
-        return answer::refuse(12, 0);
-    }
-    if head / 32 < 8 {
-        return answer::refuse(13, 0);
-    }
-    Answer::Done(head)
-}
-
-// The 16 bits of a record's head.
-fn head_of(rec: &[u8]) -> usize
-    ensures { λ r. ⌜ (r ≡ headOf (now (rec .entry))) × (r < 65536) ⌝ }
-{
-    forms::byte_at(rec, 0) + 256 * forms::byte_at(rec, 1)
 }
 
 // What follows the frame, with the fields that the block opens with taken once.

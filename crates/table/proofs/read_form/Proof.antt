@@ -16,13 +16,14 @@ use Rattle.fields.specs.Fields.{whole}
 use Rattle.forms.specs.Form.{form}
 use Rattle.sums.specs.Block.{headOf, partOf, secondOf, nibblesOf}
 use Rattle.table.specs.Control.{tableOf}
-use Rattle.table.specs.Reading.{framing, bodyRules, tableRead}
-use Rattle.table.proofs.Judging.{framed, frame-refused, frame-taken}
+use Rattle.frames.specs.Framing.{framing}
+use Rattle.table.specs.Reading.{bodyRules, tableRead}
+use Rattle.frames.proofs.Judging.{framed, frame-refused, frame-taken}
 use Rattle.table.proofs.read_form.Statement.{statement}
 use Rattle.table.proofs.read_form.Tie as tie
 
-judge-frame-requires : tie.Need-judge-frame-requires
-judge-frame-requires c κs = search needs
+judge-requires : tie.Need-judge-requires
+judge-requires c κs = search needs
 
 enum-known-why : tie.Need-enum-known-why
 enum-known-why c = search needs
@@ -39,7 +40,7 @@ taken c =
     let a = c .before .before .before .before .before .before .args in
     let r : List ℕ = now (a .rec) in
     framed (a .application) (length r) (headOf r) (partOf r) (secondOf r) _ _
-    (sym (c .before .before .before .judge-frame .ensures) ∙ c .before .head .given .1)
+    (sym (c .before .before .before .judge .ensures) ∙ c .before .head .given .1)
 
 sub-read-body : tie.Need-sub-read-body
 sub-read-body c = omega (arith, taken c)
@@ -59,7 +60,7 @@ returns c =
     let a = c .before .before .before .before .before .before .args in
     let r = now (a .rec) in
     frame-refused (framing (a .application) r) (bodyRules (headOf r) (nibblesOf r)) (form (tableRead r)) (now (a .out)) (headOf r)
-    (c .before .before .before .judge-frame .ensures) (c .before .why .given .1)
+    (c .before .before .before .judge .ensures) (c .before .why .given .1)
 
 same-length : tie.Need-same-length
 same-length c = search needs
@@ -69,7 +70,7 @@ unfolding nibblesOf
 returns-2 c =
     let a = c .before .before .before .before .before .before .before .before .before .before .before .args in
     let r = now (a .rec) in
-    let j = c .before .before .before .before .before .before .before .before .judge-frame .ensures in
+    let j = c .before .before .before .before .before .before .before .before .judge .ensures in
     let d = c .before .before .before .before .before .before .head .given .1 in
     let h = done-value (framing (a .application) r) _ _ (sym j ∙ d) in
     let out : List ℕ = now (a .out) in
@@ -87,7 +88,7 @@ pub read-form-spec : {M : Type 1} → statement M
 read-form-spec =
     tie.close
     (tie.spec
-    judge-frame-requires
+    judge-requires
     enum-known-why
     enum-known-head
     sub-read-body

@@ -1,10 +1,10 @@
--- `table::judge_frame` meets its contract: each `return` is the first rule that doesn't hold, and the last is all of them.
+-- `frames::judge` meets its contract: each `return` is the first rule that doesn't hold, and the last is all of them.
 -- Assumes nothing.
 use borrow.Author.Needs.{needs}
 use mathlib.Core.Path.{_∙_, sym}
-use Rattle.table.proofs.Judging.{frame-16, frame-13, frame-part, frame-second, frame-12, frame-13′, frame-done}
-use Rattle.table.proofs.judge_frame.Statement.{statement}
-use Rattle.table.proofs.judge_frame.Tie as tie
+use Rattle.frames.proofs.Judging.{frame-16, frame-13, frame-part, frame-second, frame-12, frame-13′, frame-done}
+use Rattle.frames.proofs.judge.Statement.{statement}
+use Rattle.frames.proofs.judge.Tie as tie
 
 refuse-requires : tie.Need-refuse-requires
 refuse-requires c κs = search needs
@@ -80,8 +80,8 @@ returns-7 c =
     (sym
     (frame-done _ _ _ _ _ _ (search needs) (b .if2 .left) (search needs) (c .before .before .if4 .left) (c .before .if5 .left) (c .if6 .left)))
 
-pub judge-frame-spec : {M : Type 1} → statement M
-judge-frame-spec =
+pub judge-spec : {M : Type 1} → statement M
+judge-spec =
     tie.close
     (tie.spec
     refuse-requires

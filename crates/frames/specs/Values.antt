@@ -1,9 +1,9 @@
--- What block reading answers is an enum: the number and the values that each of its cases stands for (SCOPE 4.3).
+-- What reading a block answers is an enum: the number and the values that each of its cases stands for (SCOPE 4.3).
 use Prim.Native.Nat.{ℕ}
 use Rattle.answer.specs.declared.Answer.{Answer}
 use Rattle.answer.specs.declared.Answer.the-variants.{Done, Refused as Answer·Refused}
-use Rattle.table.specs.declared.Read.{Read}
-use Rattle.table.specs.declared.Read.the-variants.{Taken, Refused}
+use Rattle.frames.specs.declared.Read.{Read}
+use Rattle.frames.specs.declared.Read.the-variants.{Taken, Refused}
 
 -- its number: 0 is accepted
 abbrev pub numberOf : Read → ℕ

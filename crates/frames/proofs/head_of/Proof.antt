@@ -1,12 +1,12 @@
--- `table::head_of` meets its contract: the head's two bytes make its 16 bits. Assumes nothing.
+-- `frames::head_of` meets its contract: the head's two bytes make its 16 bits. Assumes nothing.
 use borrow.Author.Needs.{needs}
 use mathlib.Core.Path.{_≡_}
 use denote.Ref.{now}
 use mathlib.Core.List.{List}
 use Prim.Native.Nat.{ℕ}
 use lib.ListN.{getD}
-use Rattle.table.proofs.head_of.Statement.{statement}
-use Rattle.table.proofs.head_of.Tie as tie
+use Rattle.frames.proofs.head_of.Statement.{statement}
+use Rattle.frames.proofs.head_of.Tie as tie
 
 byte-at-requires : tie.Need-byte-at-requires
 byte-at-requires c κs = search needs
