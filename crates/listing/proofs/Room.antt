@@ -1,8 +1,8 @@
--- How long the lines of a table can be: nine bytes of text for each of its form. Assumes nothing.
+-- How long the lines of a table can be: 14 bytes for each descriptor and 16 for each word, so nine for each byte of its form. Assumes nothing.
 use mathlib.Core.Path.{_≡_, refl}
 use mathlib.Core.Bool.{Bool, true, false}
 use mathlib.Core.List.{List, [], _∷_}
-use Prim.Native.Nat.{ℕ, _+_, _*_, _≤_, _<_}
+use Prim.Native.Nat.{ℕ, suc, _+_, _*_, _^_, _≤_, _<_}
 use native.Mathlib.Omega.{arith}
 use lib.Dec.{eqb}
 use lib.ListN.{length, length-append}
@@ -26,12 +26,12 @@ use Rattle.listing.specs.Internal.{linesFrom}
 
 -- ---- a line each
 
--- a number of two bytes has at most five digits
-number-room : (name : List ℕ) (n : ℕ) → n < 65536 → length (numberLine name n) ≤ length name + 6
+-- a number of j + 1 digits at most: its name, the digits, the end of the line
+pub number-room : (name : List ℕ) (j n : ℕ) → n < 10 ^ suc j → length (numberLine name n) ≤ length name + suc j + 1
 unfolding numberLine
-number-room name n h = simp length-append (omega (arith, digits-few digitMost 4 n (omega arith)))
+number-room name j n h = simp length-append (omega (arith, digits-few digitMost j n h))
 
-kind-room : (kind : ℕ) → length (kindLine kind) ≤ 8
+pub kind-room : (kind : ℕ) → length (kindLine kind) ≤ 8
 unfolding kindLine
 kind-room kind = go (eqb kind TI)
   where
@@ -81,29 +81,43 @@ entries-room kind ws = go (eqb kind TI)
     go true = subtitles-room ws
     go false = languages-room ws
 
-descriptors-room :
+-- how many words descriptors have in all
+unfoldable pub wordsOf : List Descriptor → ℕ
+wordsOf [] = 0
+wordsOf (d ∷ ds) = length (d .words) + wordsOf ds
+
+-- how many bytes of a form they take
+pub listed-words : (kind : ℕ) (ds : List Descriptor) → length (listed kind ds) ≡ 2 * length ds + 3 * wordsOf ds
+unfolding listed wordsOf
+listed-words kind [] = refl
+listed-words kind (d ∷ ds) = omega (arith, length-listed kind d ds, listed-words kind ds)
+
+-- and of text: a number of two digits behind `descriptor=`, and a line for each word
+pub descriptors-room :
     (kind : ℕ) (ds : List Descriptor) → entire kind ds ≡ true → fitting (loops kind ds) ≡ true
-    → length (descriptorLines kind ds) ≤ 9 * length (listed kind ds)
-unfolding descriptorLines descriptorLine
+    → length (descriptorLines kind ds) ≤ 14 * length ds + 16 * wordsOf ds
+unfolding descriptorLines descriptorLine wordsOf
 descriptors-room kind [] h k = omega arith
 descriptors-room kind (d ∷ ds) h k =
     let p = parted kind d ds h k in
-    let own = number-room descriptorName (d .id) (omega (arith, p .0 .id-fits)) in
+    let own = number-room descriptorName 1 (d .id) (omega (arith, p .0 .id-fits)) in
     let rest = descriptors-room kind ds (p .1) (p .2) in
-    simp (length-append, length-listed kind d ds) (omega (arith, own, rest, entries-room kind (d .words)))
+    simp length-append (omega (arith, own, rest, entries-room kind (d .words)))
 
 pub lines-room : (head : Bool) (mended : ℕ) (t : Table) → mended < 65536 → Sendable t → length (linesFrom head mended t) ≤ 9 * length (form t)
 unfolding linesOf headLines descriptorLinesOf
 lines-room head mended t m s = go head
   where
     each : length (descriptorLinesOf t) ≤ 9 * length (listed (t .kind) (t .descriptors))
-    each = descriptors-room (t .kind) (t .descriptors) (s .entire-all) (s .loops-fit)
+    each =
+        let r = descriptors-room (t .kind) (t .descriptors) (s .entire-all) (s .loops-fit) in
+        omega (arith, r, listed-words (t .kind) (t .descriptors))
 
     go : (h : Bool) → length (pick h (linesOf mended t) (descriptorLinesOf t)) ≤ 9 * length (form t)
     go true =
-        let block = number-room blockName (t .block) (s .block-fits) in
-        let network = number-room networkName (t .network) (omega (arith, s .network-fits)) in
-        let count = number-room mendedName mended m in
+        let block = number-room blockName 4 (t .block) (omega (arith, s .block-fits)) in
+        let network = number-room networkName 2 (t .network) (omega (arith, s .network-fits)) in
+        let count = number-room mendedName 4 mended (omega (arith, m)) in
         simp length-append (omega (arith, kind-room (t .kind), block, network, count, each, length-form t))
     go false = omega (arith, each, length-form t)
 

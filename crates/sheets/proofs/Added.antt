@@ -3,9 +3,10 @@ use mathlib.Core.Path.{_≡_, _∙_, refl, sym, ap}
 use mathlib.Core.Bool.{true, false}
 use mathlib.Core.List.{List, [], _∷_, _++_, append-nil, append-assoc}
 use Prim.Native.Nat.{ℕ, _+_, _*_, _-_, _≤_, _<_}
+use native.Mathlib.Decide.{decLt}
 use native.Mathlib.Omega.{arith}
 use lib.Dec.{leb}
-use lib.ListN.{length, getD, take, drop, length-drop, length-take, drop-of-length-le}
+use lib.ListN.{length, getD, take, drop, length-append, length-drop, length-take, drop-of-length-le}
 use lib.Seq.{sets, sets-eq, take-all, drop-drop}
 use borrow.Rule.Slice.PartMut.{midOf, putMid}
 use borrow.Author.Tests.{le-leb, eq-eqb}
@@ -29,7 +30,7 @@ use Rattle.forms.proofs.Sendable.{Sendable, sendable, sends}
 use Rattle.printing.specs.Lines.{numberLine}
 use Rattle.printing.specs.Putting.{Put}
 use Rattle.listing.specs.Lines.{kindLine, networkName, blockName, descriptorLinesOf}
-use Rattle.listing.proofs.Room.{lines-room}
+use Rattle.listing.proofs.Room.{number-room, kind-room, wordsOf, descriptors-room, listed-words}
 use Rattle.sheets.specs.Entries.{Entry, stampName, stampMost, headLines, entryText, sheetText, written, byteLimit}
 use Rattle.sheets.specs.Joining.{joined}
 use Rattle.sheets.specs.Calls.{entriesOf, short, formed, limited, stamped, addResult, addRules, joinRules, joinResult}
@@ -47,16 +48,32 @@ judged-every f j =
     (more (le-leb opening (length f) (omega (arith, j .whole)))
     (more (s .kind-known) (more (eq-eqb (length f) (length (form (tableIn f))) (j .whole)) (more (j .fit) none))))
 
+-- so many descriptors and words as 8,184 bits hold: 63 descriptors leave room for 312 words, and more words cost more than they give
+text-most : (d w : ℕ) → d ≤ 63 → 58 + 10 * d + 24 * w ≤ 8184 → 14 * d + 16 * w + 1 + headMost ≤ entryMost
+text-most d w h b = elim (decLt w 313) [ yes g ↦ omega arith | no g ↦ omega arith ]
+
 -- a table's lines are short enough for the room that is held
 pub lines-most : (f : List ℕ) → Judged f → length (descriptorLinesOf (tableIn f)) + 1 + headMost ≤ entryMost
+unfolding descriptorLinesOf
 lines-most f j =
     let t = tableIn f in
     let s = sendable t (j .fit) in
-    let r = lines-room false 0 t (omega arith) s in
+    let r = descriptors-room (t .kind) (t .descriptors) (s .entire-all) (s .loops-fit) in
+    let w = listed-words (t .kind) (t .descriptors) in
     let b = bits-of t in
     let e = eights (t .kind) (t .descriptors) in
     let c : bits t ≤ 8184 = omega (arith, s .control-fits) in
-    omega (arith, length-form t, s .count-fits)
+    omega (arith, text-most (length (t .descriptors)) (wordsOf (t .descriptors)) (omega (arith, s .count-fits)) (omega arith))
+
+-- and so are those of its head
+pub head-most :
+    (stamp k n a b : ℕ) → stamp ≤ stampMost → n < 256 → a < 256 → b < 256
+    → length (numberLine stampName stamp ++ (kindLine k ++ (numberLine networkName n ++ numberLine blockName (a + 256 * b)))) ≤ headMost
+head-most stamp k n a b h hn ha hb =
+    let w = number-room stampName 9 stamp (omega arith) in
+    let y = number-room networkName 2 n (omega arith) in
+    let z = number-room blockName 4 (a + 256 * b) (omega arith) in
+    simp length-append (omega (arith, kind-room k, w, y, z))
 
 -- ---- the entry
 

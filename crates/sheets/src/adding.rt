@@ -15,8 +15,8 @@ ghost use Rattle.sheets.specs.Turns.{Judged, entryMost, headMost};
 use crate::joining;
 use answer::Answer;
 
-// Room for the longest entry.
-const ENTRY: usize = 9728;
+// The longest entry.
+const ENTRY: usize = 5924;
 
 // The sheet joined with the entry of a table form and its stamp, to the front of `out`.
 pub fn add(stamp: u32, sheet: &[u8], table: &[u8], out: &mut [u8]) -> Answer

@@ -1,11 +1,13 @@
 -- `sheets::adding::put_head` meets its contract: four lines, one after the other. Assumes nothing.
 use borrow.Author.Needs.{needs}
+use mathlib.Core.Path.{ap}
 use mathlib.Core.List.{List}
 use Prim.Native.Nat.{ℕ}
 use native.Mathlib.Omega.{arith}
+use lib.ListN.{length}
 use denote.Ref.{now}
 use Rattle.printing.proofs.Printed.{then, put-as, put-there}
-use Rattle.sheets.proofs.Added.{head-of}
+use Rattle.sheets.proofs.Added.{head-of, head-most}
 use Rattle.sheets.proofs.adding.put_head.Statement.{statement}
 use Rattle.sheets.proofs.adding.put_head.Tie as tie
 
@@ -53,20 +55,23 @@ same-length c = search needs
 
 returns : tie.Need-returns
 returns c =
-    let s = c .before .before .before .before .before .before .before .before .before .before .before .before .before .before .before .before .before .before .before .before .before .before .before .before .before in
+    let kinded = c .before .before .before .before .before .before .before .before .before .before .before .before in
+    let s = kinded .before .before .before .before .before .before .before .before .before .before .before .before .before in
     let f : List ℕ = now (s .args .table) in
-    let k = c .before .before .before .before .before .before .before .before .before .before .before .before .before .before .before .before .before .before .before .before .before .before .byte-at in
-    let a = c .before .before .before .before .before .before .before .before .before .before .before .before .before .before .before .before .before .before .before .before .before .byte-at2 in
-    let b = c .before .before .before .before .before .before .before .before .before .before .before .before .before .before .before .before .before .before .before .before .byte-at3 in
-    let n = c .before .before .before .before .before .before .before .before .before .before .before .before .before .before .before .before .before .before .before .byte-at4 in
-    let w = c .before .before .before .before .before .before .before .before .before .before .before .before .before .before .before .before .put-number in
-    let x = c .before .before .before .before .before .before .before .before .before .before .before .before .put-kind in
+    let k = kinded .before .before .before .before .before .before .before .before .before .before .byte-at in
+    let a = kinded .before .before .before .before .before .before .before .before .before .byte-at2 in
+    let b = kinded .before .before .before .before .before .before .before .before .byte-at3 in
+    let n = kinded .before .before .before .before .before .before .before .byte-at4 in
+    let w = kinded .before .before .before .before .put-number in
+    let x = kinded .put-kind in
     let y = c .before .before .before .before .before .before .before .put-number2 in
-    let z = c .before .before .put-number3 in (
-      put-as (head-of (s .args .stamp) f (k .result) (a .result) (b .result) (n .result) (k .ensures .0) (a .ensures .0) (b .ensures .0) (n .ensures .0) (a .ensures .1) (b .ensures .1))
-          (then (put-there (search needs) (w .ensures .0)) (then (x .ensures .0) (then (put-there (search needs) (y .ensures .0)) (put-there (search needs) (z .ensures .0))))),
-      omega (arith, w .ensures .1, x .ensures .1, y .ensures .1, z .ensures .1),
-    )
+    let z = c .before .before .put-number3 in
+    let h = head-of (s .args .stamp) f (k .result) (a .result) (b .result) (n .result) (k .ensures .0) (a .ensures .0) (b .ensures .0) (n .ensures .0) (a .ensures .1) (b .ensures .1) in
+    let p =
+    put-as h
+    (then (put-there (search needs) (w .ensures .0)) (then (x .ensures .0) (then (put-there (search needs) (y .ensures .0)) (put-there (search needs) (z .ensures .0))))) in
+    let m = head-most (s .args .stamp) (k .result) (n .result) (a .result) (b .result) (search needs) (n .ensures .1) (a .ensures .1) (b .ensures .1) in
+    (p, omega (arith, p .moved, m, ap length h))
 
 pub put-head-spec : {M : Type 1} → statement M
 put-head-spec =
