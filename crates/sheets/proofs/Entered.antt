@@ -20,7 +20,7 @@ use Rattle.sheets.specs.declared.lines.Line.{Line}
 use Rattle.sheets.specs.Entries.{Entry, keyOf, stampName, headLines, tableLines, emptyLine, entryText, stampMost, written}
 use Rattle.sheets.specs.Lines.{starts, lineOf, numberAt, kindAt}
 use Rattle.sheets.specs.Many.{Step, item, stop, Many, none as row-none, behind}
-use Rattle.sheets.specs.Reading.{same, flat, wordsAt, descriptorAt, descriptorsOf, linesAt, headReads, entryFrom, ended, withTable, withHead, entryAt, above}
+use Rattle.sheets.specs.Reading.{same, flat, wordsAt, descriptorAt, descriptorsOf, linesAt, headReads, entryFrom, rises, ended, withTable, withHead, entryAt, above}
 use Rattle.sheets.proofs.Spells.{Spelled, starts-with, number-sound, number-back, kind-sound, kind-back-ti, kind-back-li}
 use Rattle.sheets.proofs.Rows.{Stepping, Each, none, more, Seen, nothing, fault, read, stepping}
 use Rattle.sheets.proofs.Rowed.{number-some, spelled-within, text-within, spelled-then, Words, language, subtitle, Described, descriptor-lines, table-row, table-within, table-read}
@@ -268,7 +268,7 @@ ended-seen :
     → Seen (Standing least) (textOf least) bytes (ended least bytes (entryFrom (h .items) (ds .items)) (h .long + ds .long))
 unfolding ended entryText descriptorLinesOf written
 ended-seen least bytes h ds head lines size inside =
-    go (both (starts emptyLine (drop (h .long + ds .long) bytes)) (both (fits (e .table)) (leb least (keyOf e)))) refl
+    go (both (starts emptyLine (drop (h .long + ds .long) bytes)) (both (fits (e .table)) (rises least e))) refl
   where
     e : Entry
     e = entryFrom (h .items) (ds .items)
@@ -277,7 +277,7 @@ ended-seen least bytes h ds head lines size inside =
     at = h .long + ds .long
 
     go :
-        (z : Bool) → both (starts emptyLine (drop at bytes)) (both (fits (e .table)) (leb least (keyOf e))) ≡ z
+        (z : Bool) → both (starts emptyLine (drop at bytes)) (both (fits (e .table)) (rises least e)) ≡ z
         → Seen (Standing least) (textOf least) bytes (pick z (item e (at + 1)) (stop false at))
     go false f = fault inside
     go true f =

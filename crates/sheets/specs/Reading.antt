@@ -73,10 +73,14 @@ entryFrom head ds =
       table = record { kind = getD head 1 0; copyright = 0; block = getD head 3 0; network = getD head 2 0; descriptors = ds };
     }
 
--- the entry's empty line is at fault, too, where its key isn't at least `least` or its table can't be written
+-- keys rise as numbers: an entry's key isn't below `least`
+abbrev pub rises : ℕ → Entry → Bool
+rises least e = leb least (keyOf e)
+
+-- the entry's empty line is at fault, too, where its key doesn't rise or its table can't be written
 unfoldable pub ended : ℕ → List ℕ → Entry → ℕ → Step Entry
 ended least bytes e at =
-    pick (both (starts emptyLine (drop at bytes)) (both (fits (e .table)) (leb least (keyOf e)))) (item e (at + 1)) (stop false at)
+    pick (both (starts emptyLine (drop at bytes)) (both (fits (e .table)) (rises least e))) (item e (at + 1)) (stop false at)
 
 unfoldable pub withTable : ℕ → List ℕ → Many ℕ → Many Descriptor → Step Entry
 withTable least bytes head ds =

@@ -152,17 +152,17 @@ fn with_table(sheet: &[u8], at: usize, least: usize, head: Head) -> Found
         return stopped(false, end);
     }
     let key = key_of(kind, head.network, head.block);
-    if key < least {
-        return stopped(false, end);
+    if least <= key {
+        return Found {
+            more: true,
+            fine: true,
+            long: end + 1,
+            key,
+            stamp: head.stamp,
+            head: long,
+        };
     }
-    Found {
-        more: true,
-        fine: true,
-        long: end + 1,
-        key,
-        stamp: head.stamp,
-        head: long,
-    }
+    stopped(false, end)
 }
 
 // Network, kind, block, as one number.
