@@ -12,9 +12,9 @@ use Rattle.answer.specs.declared.Answer.the-variants.{Done}
 use Rattle.answer.specs.Rules.{Rule, rule, judged}
 use Rattle.answer.specs.Values.{refused}
 use Rattle.answer.proofs.Steps.{done-every, first-holds, others-hold}
-use Rattle.sheets.specs.Entries.{entryLimit, byteLimit}
+use Rattle.sheets.specs.Entries.{sheetText, entryLimit, byteLimit}
 use Rattle.sheets.specs.Reading.{sheetOf}
-use Rattle.sheets.specs.Calls.{limited, joinRules, joinResult}
+use Rattle.sheets.specs.Calls.{joinRules, joinResult}
 use Rattle.sheets.specs.Turns.{Halfway}
 
 -- ---- the size of what is joined
@@ -56,9 +56,13 @@ module _ (first second : List ℕ) (a : Answer) where
       unfolding joinRules
       second-bad f g = rw (le-leb (length first) byteLimit h, le-leb (length second) byteLimit k, f, g)
 
-      pub both-fine : sheetOf first .fine ≡ true → sheetOf second .fine ≡ true → judged refused (limited (joinResult first second)) a ≡ all
-      unfolding joinRules
-      both-fine f g = rw (le-leb (length first) byteLimit h, le-leb (length second) byteLimit k, f, g)
+-- each of them in form and not too long: then the size of what they give decides
+pub size-decides :
+    (first second : List ℕ) {n l : ℕ} → length first ≤ byteLimit → length second ≤ byteLimit → sheetOf first .fine ≡ true
+    → sheetOf second .fine ≡ true → n ≡ length (joinResult first second) → l ≡ length (sheetText (joinResult first second))
+    → judged refused (sized n l) (Done l) ≡ judged refused (joinRules first second) (Done (length (sheetText (joinResult first second))))
+unfolding joinRules
+size-decides first second h k f g en el = rw (en, el, le-leb (length first) byteLimit h, le-leb (length second) byteLimit k, f, g)
 
 -- ---- what was judged can be walked
 

@@ -77,7 +77,8 @@ fn judge_join(first: &[u8], second: &[u8]) -> Answer
     if !fine {
         return answer::refuse(20, b.long);
     }
-    judge_size(measure(first, second))
+    let size = measure(first, second);
+    judge_size(size.entries, size.long)
 }
 
 // How large the joined sheet is: the walk that puts it, with next to no room.
@@ -92,19 +93,17 @@ fn measure(first: &[u8], second: &[u8]) -> Size
 }
 
 // Whether a sheet may be so large.
-fn judge_size(size: Size) -> Answer
+fn judge_size(entries: usize, long: usize) -> Answer
     ensures { λ r.
-        ⌜ r
-        ≡ judged refused (rule (leb (size .entries) entryLimit) 21 0 ∷ rule (leb (size .long) byteLimit) 21 0 ∷ [])
-        (Answer.Done (size .long)) ⌝ }
+        ⌜ r ≡ judged refused (rule (leb entries entryLimit) 21 0 ∷ rule (leb long byteLimit) 21 0 ∷ []) (Answer.Done long) ⌝ }
 {
-    if ENTRIES < size.entries {
+    if ENTRIES < entries {
         return answer::refuse(21, 0);
     }
-    if BYTES < size.long {
+    if BYTES < long {
         return answer::refuse(21, 0);
     }
-    Answer::Done(size.long)
+    Answer::Done(long)
 }
 
 // Puts the joined sheet to the front of `out`, as far as there is room, and answers its size.

@@ -11,7 +11,7 @@ use Rattle.answer.specs.Values.{refused}
 use Rattle.sheets.specs.declared.entries.Sheet.{Sheet}
 use Rattle.sheets.specs.Entries.{sheetText}
 use Rattle.sheets.specs.Calls.{joinResult}
-use Rattle.sheets.proofs.Judged.{first-long, second-long, first-bad, second-bad, both-fine, halfway}
+use Rattle.sheets.proofs.Judged.{first-long, second-long, first-bad, second-bad, size-decides, halfway}
 use Rattle.sheets.proofs.joining.judge_join.Statement.{statement}
 use Rattle.sheets.proofs.joining.judge_join.Tie as tie
 
@@ -23,7 +23,7 @@ returns c =
     let s = c .before .before .before .before in
     let f : List ℕ = now (s .args .first) in
     let g : List ℕ = now (s .args .second) in
-    c .refuse .ensures ∙ first-long f g (Done (length (sheetText (joinResult f g)))) (c .before .if1 .taken)
+    c .refuse .ensures ∙ first-long f g (Done (length (sheetText (joinResult f g)))) (search needs)
 
 refuse-requires-2 : tie.Need-refuse-requires-2
 refuse-requires-2 c κs = search needs
@@ -33,7 +33,7 @@ returns-2 c =
     let s = c .before .before .before .before .before in
     let f : List ℕ = now (s .args .first) in
     let g : List ℕ = now (s .args .second) in
-    c .refuse2 .ensures ∙ second-long f g (Done (length (sheetText (joinResult f g)))) (c .before .before .if1 .left) (c .before .if2 .taken)
+    c .refuse2 .ensures ∙ second-long f g (Done (length (sheetText (joinResult f g)))) (search needs) (search needs)
 
 read-requires : tie.Need-read-requires
 read-requires c κs = search needs
@@ -47,9 +47,10 @@ returns-3 c =
     let f : List ℕ = now (s .args .first) in
     let g : List ℕ = now (s .args .second) in
     let r = c .before .before .read in
+    let bad = sym (ap (λ (x : Sheet). x .fine) (r .ensures)) ∙ not-true (r .result .fine) (c .before .if3 .taken) in
     c .refuse3 .ensures
     ∙ ap (λ (x : Sheet). refused 20 (x .long)) (r .ensures)
-    ∙ first-bad f g (Done (length (sheetText (joinResult f g)))) (c .before .before .before .before .if1 .left) (c .before .before .before .if2 .left) (sym (ap (λ (x : Sheet). x .fine) (r .ensures)) ∙ not-true (r .result .fine) (c .before .if3 .taken))
+    ∙ first-bad f g (Done (length (sheetText (joinResult f g)))) (search needs) (search needs) bad
 
 read-requires-2 : tie.Need-read-requires-2
 read-requires-2 c κs = search needs
@@ -64,10 +65,11 @@ returns-4 c =
     let g : List ℕ = now (s .args .second) in
     let r = c .before .before .before .before .read in
     let t = c .before .before .read2 in
+    let sound = sym (ap (λ (x : Sheet). x .fine) (r .ensures)) ∙ not-false (r .result .fine) (c .before .before .before .if3 .left) in
+    let bad = sym (ap (λ (x : Sheet). x .fine) (t .ensures)) ∙ not-true (t .result .fine) (c .before .if4 .taken) in
     c .refuse4 .ensures
     ∙ ap (λ (x : Sheet). refused 20 (x .long)) (t .ensures)
-    ∙ second-bad f g (Done (length (sheetText (joinResult f g)))) (c .before .before .before .before .before .before .if1 .left) (c .before .before .before .before .before .if2 .left) (sym (ap (λ (x : Sheet). x .fine) (r .ensures)) ∙ not-false (r .result .fine) (c .before .before .before .if3 .left))
-    (sym (ap (λ (x : Sheet). x .fine) (t .ensures)) ∙ not-true (t .result .fine) (c .before .if4 .taken))
+    ∙ second-bad f g (Done (length (sheetText (joinResult f g)))) (search needs) (search needs) sound bad
 
 measure-requires : tie.Need-measure-requires
 measure-requires c κs =
@@ -86,15 +88,13 @@ judge-size-requires c κs = search needs
 returns-5 : tie.Need-returns-5
 returns-5 c =
     let s = c .before .before .before .before .before .before .before .before .before .before in
-    let f : List ℕ = now (s .args .first) in
-    let g : List ℕ = now (s .args .second) in
     let r = c .before .before .before .before .before .read in
     let t = c .before .before .before .read2 in
     let m = c .before .measure in
+    let sound = sym (ap (λ (x : Sheet). x .fine) (r .ensures)) ∙ not-false (r .result .fine) (c .before .before .before .before .if3 .left) in
+    let fine = sym (ap (λ (x : Sheet). x .fine) (t .ensures)) ∙ not-false (t .result .fine) (c .before .before .if4 .left) in
     c .judge-size .ensures
-    ∙ (rw (m .ensures .0, m .ensures .1)
-    (both-fine f g (Done (length (sheetText (joinResult f g)))) (c .before .before .before .before .before .before .before .if1 .left) (c .before .before .before .before .before .before .if2 .left) (sym (ap (λ (x : Sheet). x .fine) (r .ensures)) ∙ not-false (r .result .fine) (c .before .before .before .before .if3 .left))
-    (sym (ap (λ (x : Sheet). x .fine) (t .ensures)) ∙ not-false (t .result .fine) (c .before .before .if4 .left))))
+    ∙ size-decides (now (s .args .first)) (now (s .args .second)) (search needs) (search needs) sound fine (m .ensures .0) (m .ensures .1)
 
 pub judge-join-spec : {M : Type 1} → statement M
 judge-join-spec =

@@ -10,21 +10,21 @@ refuse-requires c κs = search needs
 
 returns : tie.Need-returns
 returns c =
-    let a = c .before .before .before .args .size in
-    c .refuse .ensures ∙ sized-many (a .entries) (a .long) (c .before .if1 .taken)
+    let a = c .before .before .args in
+    c .refuse .ensures ∙ sized-many (a .entries) (a .long) (search needs)
 
 refuse-requires-2 : tie.Need-refuse-requires-2
 refuse-requires-2 c κs = search needs
 
 returns-2 : tie.Need-returns-2
 returns-2 c =
-    let a = c .before .before .before .before .before .args .size in
-    c .refuse2 .ensures ∙ sized-long (a .entries) (a .long) (c .before .before .before .if1 .left) (c .before .if2 .taken)
+    let a = c .before .before .before .args in
+    c .refuse2 .ensures ∙ sized-long (a .entries) (a .long) (search needs) (search needs)
 
 returns-3 : tie.Need-returns-3
 returns-3 c =
-    let a = c .before .before .before .before .args .size in
-    sized-done (a .entries) (a .long) (c .before .before .if1 .left) (c .if2 .left)
+    let a = c .before .before .args in
+    sized-done (a .entries) (a .long) (search needs) (search needs)
 
 pub judge-size-spec : {M : Type 1} → statement M
 judge-size-spec =
