@@ -11,7 +11,7 @@ refuse-requires : tie.Need-refuse-requires
 refuse-requires c κs = search needs
 
 returns : tie.Need-returns
-returns c = c .refuse .ensures ∙ judge-long (now (c .before .before .before .args .sheet)) (Done _) (c .before .if1 .taken)
+returns c = c .refuse .ensures ∙ judge-long (now (c .before .before .before .args .sheet)) (Done _) (search needs)
 
 judge-lines-requires : tie.Need-judge-lines-requires
 judge-lines-requires c κs = search needs
@@ -26,7 +26,7 @@ refuse-requires-2 : tie.Need-refuse-requires-2
 refuse-requires-2 c κs = search needs
 
 returns-2 : tie.Need-returns-2
-returns-2 c = c .refuse2 .ensures ∙ judge-many (now (c .before .before .before .before .before .before .before .before .args .sheet)) (Done _) (search needs) (c .before .before .before .before .before .judge-lines .ensures) (c .before .before .before .count .given .1) (c .before .if2 .taken)
+returns-2 c = c .refuse2 .ensures ∙ judge-many (now (c .before .before .before .before .before .before .before .before .args .sheet)) (Done _) (search needs) (c .before .before .before .before .before .judge-lines .ensures) (c .before .before .before .count .given .1) (search needs)
 
 returns-3 : tie.Need-returns-3
 returns-3 c = judge-bad (now (c .before .before .before .before .before .before .args .sheet)) (Done _) (search needs) (c .before .before .before .judge-lines .ensures) (c .before .why .given .1)

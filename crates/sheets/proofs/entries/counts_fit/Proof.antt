@@ -1,9 +1,10 @@
 -- `sheets::entries::counts_fit` meets its contract: by the tests. Assumes nothing.
 use borrow.Author.Needs.{needs}
-use mathlib.Core.Path.{_∙_, sym}
+use mathlib.Core.Path.{_≡_, _∙_, sym}
+use mathlib.Core.Bool.{false}
 use borrow.Author.Tests.{lt-leb, le-leb, eq-eqb, ne-eqb, not-true, not-false}
 use native.Mathlib.Omega.{arith}
-use Rattle.forms.specs.Tables.{per}
+use Rattle.forms.specs.Tables.{numbered, per}
 use Rattle.sheets.proofs.entries.counts_fit.Statement.{statement}
 use Rattle.sheets.proofs.entries.counts_fit.Tie as tie
 
@@ -11,7 +12,9 @@ numbered-requires : tie.Need-numbered-requires
 numbered-requires c κs = search needs
 
 returns : tie.Need-returns
-returns c = rw (sym (c .before .numbered .ensures) ∙ not-true _ (c .if1 .taken))
+returns c =
+    let other : numbered (c .before .before .args .block) ≡ false = sym (c .before .numbered .ensures) ∙ not-true _ (c .if1 .taken) in
+    rw other
 
 returns-2 : tie.Need-returns-2
 returns-2 c = rw (sym (c .before .before .numbered .ensures) ∙ not-false _ (c .before .if1 .left), lt-leb _ _ (c .if2 .taken))
