@@ -9,7 +9,7 @@ use lib.Dec.{leb}
 use lib.ListN.{length, drop, length-append}
 use borrow.Author.Tests.{leb-true, le-leb}
 use Rattle.laws.specs.Pick.{pick}
-use Rattle.laws.specs.Keyed.{risingFrom, rising, merge, Each, end, and}
+use Rattle.laws.specs.Keyed.{risingFrom, rising, Each, end, and}
 use Rattle.laws.specs.Orders.{greater, Ordered, Decides}
 use Rattle.laws.specs.Together.{Reordered, none, keep, swap, then, Tree, one, two, leaves, mergeTree, total, Within, Allowed}
 use Rattle.laws.proofs.Tests.{both-true, both-holds}

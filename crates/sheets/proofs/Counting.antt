@@ -13,7 +13,7 @@ use Rattle.laws.proofs.Tests.{both-true, both-holds}
 use Rattle.fields.specs.Fields.{alike, fitting, width}
 use Rattle.fields.proofs.Laid.{fitting-append}
 use Rattle.forms.specs.Tables.{Descriptor, Table, TI, LI, known, numbered, per, entries, loops, entire, bits, fits}
-use Rattle.forms.proofs.Sendable.{Sendable, sendable, sends}
+use Rattle.forms.proofs.Sendable.{sendable, sends}
 use Rattle.forms.proofs.Measures.{width-loops, bits-of}
 use Rattle.sheets.specs.Reading.{same, wordsAt, descriptorAt, flat}
 use Rattle.sheets.specs.Internal.{entriesIn, overIn}

@@ -12,16 +12,17 @@ use lib.Seq.{drop-drop, drop-append-seam, drop-append-add}
 use Rattle.laws.specs.Pick.{pick, both}
 use Rattle.laws.proofs.Tests.{both-true}
 use Rattle.fields.specs.Fields.{alike, fitting}
-use Rattle.forms.specs.Tables.{Descriptor, Table, TI, LI, known, per, entries, loops, entire, fits}
-use Rattle.forms.proofs.Sendable.{Sendable, sendable, Sound, parted}
+use Rattle.texts.specs.Texts.{beginsWith}
+use Rattle.forms.specs.Tables.{Descriptor, TI, LI, known, per, entries, loops, entire, fits}
+use Rattle.forms.proofs.Sendable.{sendable, Sound, parted}
 use Rattle.printing.specs.Lines.{numberLine}
 use Rattle.listing.specs.Lines.{kindTI, kindLI, kindLine, networkName, blockName, descriptorLines, descriptorLinesOf}
 use Rattle.sheets.specs.declared.lines.Line.{Line}
 use Rattle.sheets.specs.Entries.{Entry, keyOf, stampName, headLines, tableLines, emptyLine, entryText, stampMost, written}
-use Rattle.sheets.specs.Lines.{starts, lineOf, numberAt, kindAt}
+use Rattle.sheets.specs.Lines.{lineOf, numberAt, kindAt}
 use Rattle.sheets.specs.Many.{Step, item, stop, Many, none as row-none, behind}
 use Rattle.sheets.specs.Reading.{same, flat, wordsAt, descriptorAt, descriptorsOf, linesAt, headReads, entryFrom, rises, ended, withTable, withHead, entryAt, above}
-use Rattle.sheets.proofs.Spells.{Spelled, starts-with, number-sound, number-back, kind-sound, kind-back-ti, kind-back-li}
+use Rattle.sheets.proofs.Spells.{begins-with, number-sound, number-back, kind-sound, kind-back-ti, kind-back-li}
 use Rattle.sheets.proofs.Rows.{Stepping, Each, none, more, Seen, nothing, fault, read, stepping}
 use Rattle.sheets.proofs.Rowed.{number-some, spelled-within, text-within, spelled-then, Words, language, subtitle, Described, descriptor-lines, table-row, table-within, table-read}
 
@@ -268,7 +269,7 @@ ended-seen :
     → Seen (Standing least) (textOf least) bytes (ended least bytes (entryFrom (h .items) (ds .items)) (h .long + ds .long))
 unfolding ended entryText descriptorLinesOf written
 ended-seen least bytes h ds head lines size inside =
-    go (both (starts emptyLine (drop (h .long + ds .long) bytes)) (both (fits (e .table)) (rises least e))) refl
+    go (both (beginsWith emptyLine (drop (h .long + ds .long) bytes)) (both (fits (e .table)) (rises least e))) refl
   where
     e : Entry
     e = entryFrom (h .items) (ds .items)
@@ -277,14 +278,14 @@ ended-seen least bytes h ds head lines size inside =
     at = h .long + ds .long
 
     go :
-        (z : Bool) → both (starts emptyLine (drop at bytes)) (both (fits (e .table)) (rises least e)) ≡ z
+        (z : Bool) → both (beginsWith emptyLine (drop at bytes)) (both (fits (e .table)) (rises least e)) ≡ z
         → Seen (Standing least) (textOf least) bytes (pick z (item e (at + 1)) (stop false at))
     go false f = fault inside
     go true f =
-        let a = both-true (starts emptyLine (drop at bytes)) _ f in
+        let a = both-true (beginsWith emptyLine (drop at bytes)) _ f in
         let b = both-true (fits (e .table)) _ (a .1) in
         let first : bytes ≡ headLines e ++ drop (h .long) bytes = rw (head-lines h (ds .items) head) (head .there) in
-        let second : drop at bytes ≡ emptyLine ++ drop 1 (drop at bytes) = starts-with emptyLine (drop at bytes) (a .0) in
+        let second : drop at bytes ≡ emptyLine ++ drop 1 (drop at bytes) = begins-with emptyLine (drop at bytes) (a .0) in
         let both-lines : drop (h .long) bytes ≡ (tableLines e ++ emptyLine) ++ drop (ds .long + 1) (drop (h .long) bytes) =
         spelled-then (tableLines e) emptyLine (drop (h .long) bytes) (ds .long) 1 lines (rw (drop-drop (ds .long) (h .long) bytes) second) in
         let there : bytes ≡ entryText e ++ drop (at + 1) bytes =
@@ -365,7 +366,7 @@ made-back :
     (linesAt headReads (headText stamp kind network block ++ (descriptorLines kind ds ++ (10 ∷ rest))))
     ≡ item (entryFrom (stamp ∷ kind ∷ network ∷ block ∷ []) ds)
     (length (headText stamp kind network block) + length (descriptorLines kind ds) + 1)
-unfolding withHead withTable ended starts
+unfolding withHead withTable ended beginsWith
 made-back least stamp kind network block ds rest a b c d each f r =
     let head = headText stamp kind network block in
     let lines = descriptorLines kind ds in
@@ -423,7 +424,7 @@ table-well least bytes h ds =
     let e = entryFrom (h .items) (ds .items) in
     let at = h .long + ds .long in
     pick-well (ds .fine) (ended least bytes e at) (stop false at)
-    (pick-well (both (starts emptyLine (drop at bytes)) (both (fits (e .table)) (leb least (keyOf e)))) (item e (at + 1)) (stop false at) refl refl)
+    (pick-well (both (beginsWith emptyLine (drop at bytes)) (both (fits (e .table)) (leb least (keyOf e)))) (item e (at + 1)) (stop false at) refl refl)
     refl
 
 head-well : (least : ℕ) (bytes : List ℕ) (h : Many ℕ) → well (withHead least bytes h) ≡ false

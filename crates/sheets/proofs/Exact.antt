@@ -15,7 +15,7 @@ use Rattle.laws.proofs.Tests.{both-true, both-holds}
 use Rattle.sheets.specs.Entries.{Entry, keyOf, entryText, sheetText, written, allWritten}
 use Rattle.sheets.specs.Many.{Step, item, stop, Many, many, further}
 use Rattle.sheets.specs.Reading.{entryAt, above, sheetFrom, sheetOf}
-use Rattle.sheets.proofs.Rows.{Stepping, Each, none, more, texts, Row, row-sound, row-back, seen-item}
+use Rattle.sheets.proofs.Rows.{Each, none, more, texts, row-sound, row-back, seen-item}
 use Rattle.sheets.proofs.Entered.{Standing, textOf, entry-seen, entry-stepping, entry-back, ends-at-end}
 
 sheet-texts : (least : ℕ) (es : List Entry) → texts above entryAt textOf least es ≡ sheetText es

@@ -10,18 +10,18 @@ use lib.ListN.{length, getD, drop, length-drop, drop-of-length-le}
 use lib.Seq.{drop-drop}
 use Rattle.laws.specs.Pick.{pick, both}
 use Rattle.laws.proofs.Tests.{both-true}
-use Rattle.forms.specs.Tables.{Descriptor, Table, TI, known, fits}
+use Rattle.forms.specs.Tables.{Descriptor, TI, known, fits}
 use Rattle.forms.proofs.Sendable.{Sendable, sendable}
 use Rattle.sheets.specs.declared.entries.Head.{Head}
 use Rattle.sheets.specs.declared.entries.Summary.{Summary}
 use Rattle.sheets.specs.declared.entries.Found.{Found}
 use Rattle.sheets.specs.declared.entries.Sheet.{Sheet}
 use Rattle.sheets.specs.Entries.{Entry, keyIn, keyOf, headLines, emptyLine, stampMost, written}
-use Rattle.sheets.specs.Lines.{starts}
+use Rattle.texts.specs.Texts.{beginsWith}
 use Rattle.sheets.specs.Many.{Step, item, stop, Many, none, behind, many}
 use Rattle.sheets.specs.Reading.{same, descriptorAt, descriptorsOf, linesAt, headReads, entryFrom, ended, withTable, withHead, entryAt, above, sheetFrom}
-use Rattle.sheets.specs.Internal.{Within, summaryOf, countsFit, headOf, foundOf, sheetRead}
-use Rattle.sheets.proofs.Rows.{Stepping, Each, whole-item, whole-stop, seen-item}
+use Rattle.sheets.specs.Internal.{summaryOf, countsFit, headOf, foundOf, sheetRead}
+use Rattle.sheets.proofs.Rows.{Each, whole-item, whole-stop, seen-item}
 use Rattle.sheets.proofs.Rowed.{Described, table-row, table-within}
 use Rattle.sheets.proofs.Entered.{Headed, headed, head-lines, head-within, entry-begins, Standing, textOf, entry-seen, entry-stepping}
 use Rattle.sheets.proofs.Counting.{fits-counts}
@@ -37,7 +37,7 @@ somewhere h end =
 abbrev pub byTests : ℕ → List ℕ → Head → Summary → Found
 byTests least bytes h t =
     pick
-    (both (starts emptyLine (drop (h .long + t .long) bytes))
+    (both (beginsWith emptyLine (drop (h .long + t .long) bytes))
     (both (countsFit (h .kind) (h .block) t) (leb least (keyIn (h .network) (h .kind) (h .block)))))
     (somewhere h (h .long + t .long))
     (nowhere false (h .long + t .long))
@@ -57,7 +57,7 @@ module _ (least : ℕ) (bytes : List ℕ) (h : Many ℕ) (ds : Many Descriptor) 
       let small-block : getD (h .items) 3 0 ≤ 65535 = rw (r .values) (r .block-fits) in
       let f = fits-counts (getD (h .items) 1 0) (getD (h .items) 3 0) (getD (h .items) 2 0) (ds .items) known-kind small-network small-block each in
       let l : length (headLines (entryFrom (h .items) (ds .items))) ≡ h .long = ap length (head-lines h (ds .items) r) ∙ sym (r .size) in
-      let t = both (starts emptyLine (drop (h .long + ds .long) bytes)) (both (fits (entryFrom (h .items) (ds .items) .table)) (leb least (keyOf (entryFrom (h .items) (ds .items))))) in
+      let t = both (beginsWith emptyLine (drop (h .long + ds .long) bytes)) (both (fits (entryFrom (h .items) (ds .items) .table)) (leb least (keyOf (entryFrom (h .items) (ds .items))))) in
       rw (e, f) (go t l)
     where
       go :
@@ -147,18 +147,18 @@ module _
       -- each test that fails, and all that hold
       module _ (whole-t : t .fine ≡ true) where
         found-by :
-            (s f k : Bool) → starts emptyLine (drop (at + (head .long + t .long)) sheet) ≡ s → countsFit (head .kind) (head .block) t ≡ f
+            (s f k : Bool) → beginsWith emptyLine (drop (at + (head .long + t .long)) sheet) ≡ s → countsFit (head .kind) (head .block) t ≡ f
             → leb least (keyIn (head .network) (head .kind) (head .block)) ≡ k
             → pick (both s (both f k)) (somewhere head (head .long + t .long)) (nowhere false (head .long + t .long)) ≡ foundHere
         found-by s f k a b c =
-            let q : both (starts emptyLine (drop (head .long + t .long) (drop at sheet))) (both (countsFit (head .kind) (head .block) t) (leb least (keyIn (head .network) (head .kind) (head .block)))) ≡ both s (both f k) =
+            let q : both (beginsWith emptyLine (drop (head .long + t .long) (drop at sheet))) (both (countsFit (head .kind) (head .block) t) (leb least (keyIn (head .network) (head .kind) (head .block)))) ≡ both s (both f k) =
             rw (drop-drop (head .long + t .long) at sheet, a, b, c) in
             sym (ap (λ (x : Bool). pick x (somewhere head (head .long + t .long)) (nowhere false (head .long + t .long))) q) ∙ found-is whole-t
 
-        pub found-unended : starts emptyLine (drop (at + (head .long + t .long)) sheet) ≡ false → nowhere false (head .long + t .long) ≡ foundHere
+        pub found-unended : beginsWith emptyLine (drop (at + (head .long + t .long)) sheet) ≡ false → nowhere false (head .long + t .long) ≡ foundHere
         found-unended e = found-by false _ _ e refl refl
 
-        module _ (ends : starts emptyLine (drop (at + (head .long + t .long)) sheet) ≡ true) where
+        module _ (ends : beginsWith emptyLine (drop (at + (head .long + t .long)) sheet) ≡ true) where
           pub found-unfit : countsFit (head .kind) (head .block) t ≡ false → nowhere false (head .long + t .long) ≡ foundHere
           found-unfit e = found-by true false _ ends e refl
 

@@ -5,47 +5,20 @@ use mathlib.Core.List.{List, []}
 use Prim.Native.Nat.{ℕ, zero, suc, _+_, _*_, _-_, _^_, _≤_, _<_}
 use native.Mathlib.Nat.{zero-add, add-assoc}
 use native.Mathlib.Omega.{arith}
-use borrow.Author.Tests.{le-leb, lt-leb, eq-eqb, ne-eqb, leb-true}
+use borrow.Author.Tests.{le-leb, lt-leb, leb-true}
 use lib.Dec.{leb, T}
 use lib.ListN.{length, getD, take, drop, replicate, length-replicate, drop-of-length-le}
-use lib.Seq.{drop-cons, getD-drop, sets, take-append-seam}
+use lib.Seq.{drop-cons, getD-drop, take-append-seam}
 use Rattle.laws.proofs.Whole.{all-at}
 use Rattle.laws.proofs.Tests.{both-false}
 use Rattle.laws.proofs.Lists.{sets-front}
+use Rattle.texts.specs.Texts.{beginsWith}
 use Rattle.forms.specs.Form.{wordAt}
 use Rattle.printing.specs.Putting.{Put, within}
 use Rattle.printing.specs.Lines.{numberLine, languageLine, pageLine}
 use Rattle.printing.proofs.Printed.{put-there}
 use Rattle.listing.specs.Lines.{kindTI, kindLI, kindLine}
-use Rattle.sheets.specs.declared.lines.Line.{Line}
-use Rattle.sheets.specs.Lines.{starts, lineOf, numberFrom, digitsMost, hexWord, languageIn, numberAt, kindAt, languageAt, pageAt}
-
--- ---- a text at a place
-
-module _ (text sheet : List ℕ) (at i : ℕ) where
-  pub starts-out : i < length text → length sheet ≤ at + i → starts (drop i text) (drop (at + i) sheet) ≡ false
-  unfolding starts
-  starts-out h k = rw (drop-cons text i 0 h, drop-of-length-le sheet k)
-
-  pub starts-differs :
-      i < length text → at + i < length sheet → (getD text i 0 ≡ getD sheet (at + i) 0 → ⊥)
-      → starts (drop i text) (drop (at + i) sheet) ≡ false
-  unfolding starts
-  starts-differs h k d =
-      rw (drop-cons text i 0 h, drop-cons sheet (at + i) 0 k, ne-eqb (getD text i 0) (getD sheet (at + i) 0) d)
-
-  pub starts-on :
-      i < length text → at + i < length sheet → getD text i 0 ≡ getD sheet (at + i) 0
-      → starts (drop (i + 1) text) (drop (at + (i + 1)) sheet) ≡ starts (drop i text) (drop (at + i) sheet)
-  unfolding starts
-  starts-on h k e =
-      let p : i + 1 ≡ suc i = omega arith in
-      let q : at + (i + 1) ≡ suc (at + i) = omega arith in
-      rw (q, p, drop-cons text i 0 h, drop-cons sheet (at + i) 0 k, eq-eqb (getD text i 0) (getD sheet (at + i) 0) e)
-
-  pub starts-done : length text ≤ i → starts (drop i text) (drop (at + i) sheet) ≡ true
-  unfolding starts
-  starts-done h = rw (drop-of-length-le text h)
+use Rattle.sheets.specs.Lines.{lineOf, numberFrom, digitsMost, hexWord, languageIn, numberAt, kindAt, languageAt, pageAt}
 
 -- ---- digits at a place
 
@@ -128,17 +101,17 @@ spelled-in k {xs} {text} {r} p h =
 module _ (bytes text : List ℕ) (w : ℕ) where
   pub number-line :
       (name : List ℕ) (most : ℕ) → w ≡ numberFrom digitsMost 0 (drop (length name) bytes) → w ≤ most → text ≡ numberLine name w
-      → lineOf (starts text bytes) w text ≡ numberAt name most bytes
+      → lineOf (beginsWith text bytes) w text ≡ numberAt name most bytes
   unfolding numberAt
   number-line name most e h t = rw (t, ← e, le-leb w most h)
 
   pub language-line :
-      w ≡ languageIn bytes 9 → text ≡ languageLine w → lineOf (starts text bytes) w text ≡ languageAt bytes
+      w ≡ languageIn bytes 9 → text ≡ languageLine w → lineOf (beginsWith text bytes) w text ≡ languageAt bytes
   unfolding languageAt
   language-line e t = rw (t, ← e)
 
   pub page-line :
-      w ≡ hexWord bytes 5 → text ≡ pageLine w → lineOf (starts text bytes) w text ≡ pageAt bytes
+      w ≡ hexWord bytes 5 → text ≡ pageLine w → lineOf (beginsWith text bytes) w text ≡ pageAt bytes
   unfolding pageAt
   page-line e t = rw (t, ← e)
 
@@ -149,10 +122,10 @@ pub number-past :
 unfolding numberAt
 number-past bytes name w most e h = rw (← e, lt-leb w most h)
 
-pub kind-ti : (bytes : List ℕ) → starts kindTI bytes ≡ true → lineOf true 8 kindTI ≡ kindAt bytes
+pub kind-ti : (bytes : List ℕ) → beginsWith kindTI bytes ≡ true → lineOf true 8 kindTI ≡ kindAt bytes
 unfolding kindAt kindLine
 kind-ti bytes e = rw (e, e)
 
-pub kind-li : (bytes : List ℕ) → starts kindTI bytes ≡ false → lineOf (starts kindLI bytes) 7 kindLI ≡ kindAt bytes
+pub kind-li : (bytes : List ℕ) → beginsWith kindTI bytes ≡ false → lineOf (beginsWith kindLI bytes) 7 kindLI ≡ kindAt bytes
 unfolding kindAt kindLine
 kind-li bytes e = rw e

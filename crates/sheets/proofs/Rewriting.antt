@@ -1,6 +1,6 @@
 -- A sheet judged and written again. Assumes nothing.
 use mathlib.Core.Path.{_≡_, _∙_, sym, ap}
-use mathlib.Core.Bool.{Bool, true, false}
+use mathlib.Core.Bool.{true, false}
 use mathlib.Core.List.{List, [], _∷_}
 use Prim.Native.Nat.{ℕ, _≤_, _<_}
 use native.Mathlib.Omega.{arith}
@@ -10,14 +10,13 @@ use lib.Seq.{sets, take-length}
 use Rattle.answer.specs.declared.Refusal.{Refusal}
 use Rattle.answer.specs.declared.Answer.{Answer}
 use Rattle.answer.specs.declared.Answer.the-variants.{Done, Refused}
-use Rattle.answer.specs.Rules.{Rule, judged, Every}
+use Rattle.answer.specs.Rules.{judged}
 use Rattle.answer.specs.Values.{refused}
 use Rattle.answer.specs.Writing.{answered, left}
 use Rattle.answer.proofs.Steps.{ends, done-value, done-every, first-holds, others-hold}
 use Rattle.answer.proofs.Lent.{lent-refused, lent-short, lent-done}
 use Rattle.sheets.specs.declared.entries.Sheet.{Sheet}
-use Rattle.sheets.specs.Entries.{Entry, sheetText, entryLimit, byteLimit}
-use Rattle.sheets.specs.Many.{Many}
+use Rattle.sheets.specs.Entries.{sheetText, entryLimit, byteLimit}
 use Rattle.sheets.specs.Reading.{sheetOf}
 use Rattle.sheets.specs.Calls.{formed, limited, entriesOf, rewriteRules, rewritten}
 use Rattle.sheets.specs.Internal.{sheetRead}

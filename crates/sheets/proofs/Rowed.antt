@@ -10,12 +10,13 @@ use lib.ListN.{length, drop, length-append, length-drop}
 use lib.Seq.{drop-drop, drop-append-seam}
 use Rattle.laws.specs.Pick.{pick}
 use Rattle.laws.proofs.Tests.{both-false}
+use Rattle.texts.specs.Texts.{beginsWith}
 use Rattle.forms.specs.Tables.{Descriptor, TI}
 use Rattle.printing.specs.Lines.{numberLine, languageLine, pageLine}
 use Rattle.listing.specs.Lines.{languageLines, subtitleLines, entryLines, descriptorName, descriptorLine, descriptorLines}
 use Rattle.sheets.specs.declared.lines.Line.{Line}
-use Rattle.sheets.specs.Lines.{starts, numberFrom, numberAt, languageAt, pageAt}
-use Rattle.sheets.specs.Many.{Step, item, stop, Many}
+use Rattle.sheets.specs.Lines.{numberFrom, numberAt, languageAt, pageAt}
+use Rattle.sheets.specs.Many.{item, stop, Many}
 use Rattle.sheets.specs.Reading.{same, withPage, withLanguage, wordsAt, wordsOf, flat, withWords, withNumber, descriptorAt, descriptorsOf}
 use Rattle.sheets.proofs.Spells.{Spelled, number-sound, number-back, language-sound, language-back, page-sound, page-back}
 use Rattle.sheets.proofs.Rows.{Stepping, Each, none, more, texts, Row, row-sound, row-within, row-back, Seen, nothing, fault, read, seen-item, stepping}
@@ -114,7 +115,7 @@ words-seen kind bytes = go (eqb (l .long) 0) refl (eqb kind TI) refl
         read (language f (a .0)) there size
 
 words-none : (kind : ℕ) → wordsAt kind [] ≡ stop true 0
-unfolding withLanguage languageAt languageLine starts
+unfolding withLanguage languageAt languageLine beginsWith
 words-none kind = refl
 
 pub words-stepping : Stepping same wordsAt
@@ -249,7 +250,7 @@ descriptor-seen kind bytes = go (eqb (d .long) 0) refl
     go false e = numbered-seen kind bytes (eqb-false (d .long) 0 e)
 
 descriptor-none : (kind : ℕ) → descriptorAt kind [] ≡ stop true 0
-unfolding withNumber numberAt numberLine numberFrom starts
+unfolding withNumber numberAt numberLine numberFrom beginsWith
 descriptor-none kind = refl
 
 pub descriptor-stepping : Stepping same descriptorAt
@@ -257,7 +258,7 @@ descriptor-stepping = stepping same descriptorAt Described descriptorText descri
 
 -- no language stands where a descriptor begins
 ends-words : (kind : ℕ) (d : Descriptor) (rest : List ℕ) → languageAt (descriptorText kind d ++ rest) .long ≡ 0
-unfolding languageAt languageLine descriptorLine numberLine starts
+unfolding languageAt languageLine descriptorLine numberLine beginsWith
 ends-words kind d rest = refl
 
 descriptor-back :
@@ -301,11 +302,11 @@ table-within kind bytes = row-within same descriptorAt descriptor-stepping (leng
 
 -- before an empty line
 no-language : (rest : List ℕ) → languageAt (10 ∷ rest) .long ≡ 0
-unfolding languageAt languageLine starts
+unfolding languageAt languageLine beginsWith
 no-language rest = refl
 
 no-descriptor : (kind : ℕ) (rest : List ℕ) → descriptorAt kind (10 ∷ rest) ≡ stop true 0
-unfolding withNumber numberAt numberLine starts
+unfolding withNumber numberAt numberLine beginsWith
 no-descriptor kind rest = rw (both-false (leb (numberFrom 10 0 (drop 10 rest)) 63))
 
 pub table-read :

@@ -1,5 +1,5 @@
 -- A line is read exactly where it is spelled: what is read spells those bytes, and what is spelled reads back. Assumes nothing.
-use mathlib.Core.Path.{_≡_, _∙_, refl, sym, ap}
+use mathlib.Core.Path.{_≡_, _∙_, refl, ap}
 use mathlib.Core.Bool.{Bool, true, false}
 use mathlib.Core.List.{List, [], _∷_, _++_, append-assoc}
 use Prim.Native.Nat.{ℕ, zero, suc, _+_, _*_, _-_, _/_, _%_, _^_, _≤_, _<_}
@@ -12,29 +12,30 @@ use Rattle.laws.specs.Pick.{pick, both}
 use Rattle.laws.proofs.Whole.{all-at}
 use Rattle.laws.proofs.Tests.{both-true}
 use Rattle.fields.specs.Fields.{whole}
+use Rattle.texts.specs.Texts.{beginsWith}
 use Rattle.forms.specs.Form.{spelled}
 use Rattle.forms.specs.Tables.{TI, LI, known}
 use Rattle.printing.specs.Lines.{digitsIn, decimal, digit, hexed, letters, numberLine, languageName, languageOf, languageLine, pageLine}
 use Rattle.printing.proofs.Decimals.{valued, decimal-valued, digits-few}
 use Rattle.listing.specs.Lines.{kindTI, kindLine}
 use Rattle.sheets.specs.declared.lines.Line.{Line}
-use Rattle.sheets.specs.Lines.{starts, lineOf, isDigit, numberFrom, digitsMost, numberAt, kindAt, nibbleOf, hexWord, languageIn, languageAt, pageAt}
+use Rattle.sheets.specs.Lines.{lineOf, isDigit, numberFrom, digitsMost, numberAt, kindAt, nibbleOf, hexWord, languageIn, languageAt, pageAt}
 
 -- ---- what begins with a text
 
-pub starts-append : (xs rest : List ℕ) → starts xs (xs ++ rest) ≡ true
-unfolding starts
-starts-append [] rest = refl
-starts-append (x ∷ xs) rest = rw (eq-eqb x x refl) (starts-append xs rest)
+pub begins-append : (xs rest : List ℕ) → beginsWith xs (xs ++ rest) ≡ true
+unfolding beginsWith
+begins-append [] rest = refl
+begins-append (x ∷ xs) rest = rw (eq-eqb x x refl) (begins-append xs rest)
 
-pub starts-with : (xs bytes : List ℕ) → starts xs bytes ≡ true → bytes ≡ xs ++ drop (length xs) bytes
-unfolding starts
-starts-with [] bytes h = refl
-starts-with (x ∷ xs) [] h = let z : _≡_ {A = ℕ} 0 1 = cc in absurd (omega arith)
-starts-with (x ∷ xs) (b ∷ bytes) h =
-    let p = both-true (eqb x b) (starts xs bytes) h in
-    let e : b ≡ x = sym (eqb-true x b (p .0)) in
-    let more = starts-with xs bytes (p .1) in
+pub begins-with : (xs bytes : List ℕ) → beginsWith xs bytes ≡ true → bytes ≡ xs ++ drop (length xs) bytes
+unfolding beginsWith
+begins-with [] bytes h = refl
+begins-with (x ∷ xs) [] h = let z : _≡_ {A = ℕ} 0 1 = cc in absurd (omega arith)
+begins-with (x ∷ xs) (b ∷ bytes) h =
+    let p = both-true (eqb b x) (beginsWith xs bytes) h in
+    let e : b ≡ x = eqb-true b x (p .0) in
+    let more = begins-with xs bytes (p .1) in
     rw e (ap (λ (l : List ℕ). x ∷ l) more)
 
 -- what a line that is in form tells: its text stands at the front of the bytes
@@ -43,9 +44,9 @@ pub record Spelled (text : List ℕ) (l : Line) (bytes : List ℕ) : Type 0 wher
   pub size : l .long ≡ length text
 
 pub in-form :
-    (ok : Bool) (v : ℕ) (text bytes : List ℕ) → (ok ≡ true → starts text bytes ≡ true) → (lineOf ok v text .long ≡ 0 → ⊥)
+    (ok : Bool) (v : ℕ) (text bytes : List ℕ) → (ok ≡ true → beginsWith text bytes ≡ true) → (lineOf ok v text .long ≡ 0 → ⊥)
     → (ok ≡ true) × Spelled text (lineOf ok v text) bytes
-in-form true v text bytes s h = (refl, record { there = starts-with text bytes (s refl); size = refl })
+in-form true v text bytes s h = (refl, record { there = begins-with text bytes (s refl); size = refl })
 in-form false v text bytes s h = absurd (h refl)
 
 -- ---- numbers
@@ -56,7 +57,7 @@ pub number-sound :
 unfolding numberAt
 number-sound name most bytes h =
     let n = numberFrom digitsMost 0 (drop (length name) bytes) in
-    let f = in-form (both (leb n most) (starts (numberLine name n) bytes)) n (numberLine name n) bytes (λ e. both-true (leb n most) _ e .1) h in
+    let f = in-form (both (leb n most) (beginsWith (numberLine name n) bytes)) n (numberLine name n) bytes (λ e. both-true (leb n most) _ e .1) h in
     (leb-true n most (both-true (leb n most) _ (f .0) .0), f .1)
 
 digit-is : (n : ℕ) → isDigit (48 + n % 10) ≡ true
@@ -108,7 +109,7 @@ number-back name most n rest h m =
     rw (append-assoc (name ++ ds) (10 ∷ []) rest, append-assoc name ds (10 ∷ rest)) (drop-append-seam name (ds ++ (10 ∷ rest))) in
     let v : numberFrom digitsMost 0 (drop (length name) (((name ++ ds) ++ (10 ∷ [])) ++ rest)) ≡ n =
     ap (numberFrom digitsMost 0) e ∙ read-digits 10 0 ds rest 10 (digits-digital 20 n) few refl ∙ decimal-valued n (omega arith) in
-    rw (v, le-leb n most h, starts-append ((name ++ ds) ++ (10 ∷ [])) rest)
+    rw (v, le-leb n most h, begins-append ((name ++ ds) ++ (10 ∷ [])) rest)
 
 -- ---- kinds
 
@@ -116,20 +117,20 @@ pub kind-sound :
     (bytes : List ℕ) → (kindAt bytes .long ≡ 0 → ⊥) → (known (kindAt bytes .value) ≡ true) × Spelled (kindLine (kindAt bytes .value)) (kindAt bytes) bytes
 unfolding kindAt
 kind-sound bytes h =
-    let kind = pick (starts kindTI bytes) TI LI in
-    let f = in-form (starts (kindLine kind) bytes) kind (kindLine kind) bytes (λ e. e) h in
-    (is-known (starts kindTI bytes), f .1)
+    let kind = pick (beginsWith kindTI bytes) TI LI in
+    let f = in-form (beginsWith (kindLine kind) bytes) kind (kindLine kind) bytes (λ e. e) h in
+    (is-known (beginsWith kindTI bytes), f .1)
   where
     is-known : (b : Bool) → known (pick b TI LI) ≡ true
     is-known true = refl
     is-known false = refl
 
 pub kind-back-ti : (rest : List ℕ) → kindAt (kindLine TI ++ rest) ≡ lineOf true TI (kindLine TI)
-unfolding kindAt kindLine starts
+unfolding kindAt kindLine beginsWith
 kind-back-ti rest = refl
 
 pub kind-back-li : (rest : List ℕ) → kindAt (kindLine LI ++ rest) ≡ lineOf true LI (kindLine LI)
-unfolding kindAt kindLine starts
+unfolding kindAt kindLine beginsWith
 kind-back-li rest = refl
 
 -- ---- words
@@ -138,7 +139,7 @@ pub page-sound : (bytes : List ℕ) → (pageAt bytes .long ≡ 0 → ⊥) → (
 unfolding pageAt hexWord
 page-sound bytes h =
     let w = hexWord bytes 5 in
-    (omega arith, in-form (starts (pageLine w) bytes) w (pageLine w) bytes (λ e. e) h .1)
+    (omega arith, in-form (beginsWith (pageLine w) bytes) w (pageLine w) bytes (λ e. e) h .1)
 
 nibble-digit : (n : ℕ) → n < 16 → nibbleOf (digit n) ≡ n
 nibble-digit n h = eqb-true (nibbleOf (digit n)) n (is-true _ (all-at (λ (k : ℕ). eqb (nibbleOf (digit k)) k) 16 (unfold nibbleOf digit in tt) n h))
@@ -168,7 +169,7 @@ page-value w rest h =
 
 pub page-back : (w : ℕ) (rest : List ℕ) → w < 2 ^ 24 → pageAt (pageLine w ++ rest) ≡ lineOf true w (pageLine w)
 unfolding pageAt
-page-back w rest h = rw (page-value w rest h, starts-append (pageLine w) rest)
+page-back w rest h = rw (page-value w rest h, begins-append (pageLine w) rest)
 
 pub language-sound :
     (bytes : List ℕ) → (languageAt bytes .long ≡ 0 → ⊥)
@@ -176,7 +177,7 @@ pub language-sound :
 unfolding languageAt
 language-sound bytes h =
     let w = languageIn bytes 9 in
-    (language-fits bytes, in-form (starts (languageLine w) bytes) w (languageLine w) bytes (λ e. e) h .1)
+    (language-fits bytes, in-form (beginsWith (languageLine w) bytes) w (languageLine w) bytes (λ e. e) h .1)
   where
     language-fits : (bs : List ℕ) → languageIn bs 9 < 2 ^ 24
     language-fits bs = unfold languageIn hexWord whole in go (eqb (getD bs 12 0) 10) (getD bs 11 0) (getD bs 10 0) (getD bs 9 0) _
@@ -204,4 +205,4 @@ language-value w rest h = go (letters (w / 256 / 256 % 256 ∷ w / 256 % 256 ∷
 
 pub language-back : (w : ℕ) (rest : List ℕ) → w < 2 ^ 24 → languageAt (languageLine w ++ rest) ≡ lineOf true w (languageLine w)
 unfolding languageAt
-language-back w rest h = rw (language-value w rest h, starts-append (languageLine w) rest)
+language-back w rest h = rw (language-value w rest h, begins-append (languageLine w) rest)

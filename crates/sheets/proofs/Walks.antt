@@ -24,7 +24,7 @@ use Rattle.sheets.specs.Many.{Step, item, stop, Many, none, behind, many
 use Rattle.sheets.specs.Reading.{same, withPage, withLanguage, wordsAt, wordsOf, withWords, withNumber, descriptorAt, descriptorsOf, flat, linesAt, headReads}
 use Rattle.sheets.specs.Internal.{Within, pieceOf, rowOf, partOf, entriesIn, overIn, summaryOf, headOf}
 use Rattle.sheets.proofs.Spells.{language-sound, page-sound}
-use Rattle.sheets.proofs.Rows.{Stepping, Each, none as empty, more, whole-item, whole-stop}
+use Rattle.sheets.proofs.Rows.{Each, none as empty, more, whole-item, whole-stop}
 use Rattle.sheets.proofs.Rowed.{spelled-within, Words, language, subtitle, words-row, words-within, words-stepping, descriptor-stepping}
 use Rattle.sheets.proofs.Entered.{number-within, kind-within, no-more}
 

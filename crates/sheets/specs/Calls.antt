@@ -4,11 +4,9 @@ use Prim.Native.Nat.{ℕ}
 use lib.Dec.{leb}
 use lib.ListN.{length}
 use Rattle.answer.specs.Rules.{Rule, rule}
-use Rattle.forms.specs.Tables.{Table}
 use Rattle.forms.specs.Form.{tableIn}
 use Rattle.forms.specs.Writing.{formRules}
 use Rattle.sheets.specs.Entries.{Entry, sheetText, entryLimit, byteLimit}
-use Rattle.sheets.specs.Many.{Many}
 use Rattle.sheets.specs.Reading.{sheetOf}
 use Rattle.sheets.specs.Joining.{joined}
 

@@ -1,22 +1,17 @@
 -- A line of a sheet, read at the front of some bytes (SCOPE 20.6): a value is read from it, and the line is in form exactly when it is the
 -- spelling of that value. So each value has one spelling, and no other comes through.
-use mathlib.Core.Bool.{Bool, true, false}
+use mathlib.Core.Bool.{Bool}
 use mathlib.Core.List.{List, [], _∷_}
 use Prim.Native.Nat.{ℕ, zero, suc, _+_, _*_, _-_, _%_}
 use lib.Dec.{eqb, ltb, leb}
 use lib.ListN.{length, getD, drop}
 use Rattle.laws.specs.Pick.{pick, both}
+use Rattle.texts.specs.Texts.{beginsWith}
 use Rattle.forms.specs.Tables.{TI, LI}
 use Rattle.forms.specs.Form.{wordAt}
 use Rattle.printing.specs.Lines.{numberLine, languageName, languageLine, pageName, pageLine}
 use Rattle.listing.specs.Lines.{kindTI, kindLine}
 use Rattle.sheets.specs.declared.lines.Line.{Line}
-
--- the bytes begin with these
-unfoldable pub starts : List ℕ → List ℕ → Bool
-starts [] bytes = true
-starts (x ∷ xs) [] = false
-starts (x ∷ xs) (b ∷ bytes) = both (eqb x b) (starts xs bytes)
 
 -- the value that was read, and how long the line is; a line that isn't in form has length 0
 abbrev pub lineOf : Bool → ℕ → List ℕ → Line
@@ -42,11 +37,11 @@ digitsMost = 10
 unfoldable pub numberAt : List ℕ → ℕ → List ℕ → Line
 numberAt name most bytes =
     let n = numberFrom digitsMost 0 (drop (length name) bytes) in
-    lineOf (both (leb n most) (starts (numberLine name n) bytes)) n (numberLine name n)
+    lineOf (both (leb n most) (beginsWith (numberLine name n) bytes)) n (numberLine name n)
 
 -- `kind=TI`, `kind=LI`
 unfoldable pub kindAt : List ℕ → Line
-kindAt bytes = let kind = pick (starts kindTI bytes) TI LI in lineOf (starts (kindLine kind) bytes) kind (kindLine kind)
+kindAt bytes = let kind = pick (beginsWith kindTI bytes) TI LI in lineOf (beginsWith (kindLine kind) bytes) kind (kindLine kind)
 
 -- ---- words of 24 bits
 
@@ -68,7 +63,7 @@ languageIn bytes i = pick (eqb (getD bytes (i + 3) 0) 10) (wordAt bytes i) (hexW
 
 unfoldable pub languageAt : List ℕ → Line
 languageAt bytes =
-    let w = languageIn bytes (length languageName) in lineOf (starts (languageLine w) bytes) w (languageLine w)
+    let w = languageIn bytes (length languageName) in lineOf (beginsWith (languageLine w) bytes) w (languageLine w)
 
 unfoldable pub pageAt : List ℕ → Line
-pageAt bytes = let w = hexWord bytes (length pageName) in lineOf (starts (pageLine w) bytes) w (pageLine w)
+pageAt bytes = let w = hexWord bytes (length pageName) in lineOf (beginsWith (pageLine w) bytes) w (pageLine w)

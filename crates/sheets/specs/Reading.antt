@@ -5,11 +5,12 @@ use Prim.Native.Nat.{ℕ, suc, _+_}
 use lib.Dec.{eqb, leb}
 use lib.ListN.{length, getD, drop}
 use Rattle.laws.specs.Pick.{pick, both}
-use Rattle.forms.specs.Tables.{Descriptor, Table, TI, fits}
+use Rattle.texts.specs.Texts.{beginsWith}
+use Rattle.forms.specs.Tables.{Descriptor, TI, fits}
 use Rattle.listing.specs.Lines.{networkName, blockName, descriptorName}
 use Rattle.sheets.specs.declared.lines.Line.{Line}
 use Rattle.sheets.specs.Entries.{Entry, keyOf, stampName, stampMost, emptyLine}
-use Rattle.sheets.specs.Lines.{starts, numberAt, kindAt, languageAt, pageAt}
+use Rattle.sheets.specs.Lines.{numberAt, kindAt, languageAt, pageAt}
 use Rattle.sheets.specs.Many.{Step, item, stop, Many, none, behind, many}
 
 -- the kind stays the same from one to the next
@@ -80,7 +81,7 @@ rises least e = leb least (keyOf e)
 -- the entry's empty line is at fault, too, where its key doesn't rise or its table can't be written
 unfoldable pub ended : ℕ → List ℕ → Entry → ℕ → Step Entry
 ended least bytes e at =
-    pick (both (starts emptyLine (drop at bytes)) (both (fits (e .table)) (rises least e))) (item e (at + 1)) (stop false at)
+    pick (both (beginsWith emptyLine (drop at bytes)) (both (fits (e .table)) (rises least e))) (item e (at + 1)) (stop false at)
 
 unfoldable pub withTable : ℕ → List ℕ → Many ℕ → Many Descriptor → Step Entry
 withTable least bytes head ds =

@@ -1,12 +1,10 @@
 // A sheet with one entry more: the text of the entry is held, and joined with the sheet (SCOPE 20.8).
-ghost use mathlib.Core.Bool.{true};
 ghost use mathlib.Core.Path.{_≡_};
 ghost use mathlib.Core.List.{_∷_};
 ghost use Prim.Native.Nat.{_+_, _≤_};
 ghost use lib.ListN.{length};
 ghost use Rattle.answer.specs.Writing.{answered, left};
-ghost use Rattle.forms.specs.Tables.{fits};
-ghost use Rattle.forms.specs.Form.{form, tableIn};
+ghost use Rattle.forms.specs.Form.{tableIn};
 ghost use Rattle.printing.specs.Putting.{Put};
 ghost use Rattle.listing.specs.Lines.{kindLine, descriptorLinesOf};
 ghost use Rattle.sheets.specs.Entries.{headLines, entryText, sheetText};

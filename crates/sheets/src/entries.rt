@@ -4,7 +4,7 @@ ghost use mathlib.Core.Bool.{Bool};
 ghost use mathlib.Core.Path.{_≡_};
 ghost use Prim.Native.Nat.{_+_, _*_, _≤_};
 ghost use lib.Dec.{ltb};
-ghost use lib.ListN.{length, drop, getD};
+ghost use lib.ListN.{drop};
 ghost use Rattle.laws.specs.Pick.{either};
 ghost use Rattle.sheets.specs.Entries.{keyIn};
 ghost use Rattle.sheets.specs.Reading.{wordsAt, wordsOf, descriptorAt, descriptorsOf, linesAt, headReads, withTable, entryAt, sheetOf};

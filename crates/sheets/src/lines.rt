@@ -3,7 +3,8 @@
 ghost use mathlib.Core.Path.{_≡_};
 ghost use Prim.Native.Nat.{_+_, _≤_, _<_};
 ghost use lib.ListN.{length, drop};
-ghost use Rattle.sheets.specs.Lines.{starts, lineOf, digitsMost, numberFrom, numberAt, kindAt, nibbleOf, hexByte, hexWord, languageIn, languageAt, pageAt};
+ghost use Rattle.texts.specs.Texts.{beginsWith};
+ghost use Rattle.sheets.specs.Lines.{lineOf, digitsMost, numberFrom, numberAt, kindAt, nibbleOf, hexByte, hexWord, languageIn, languageAt, pageAt};
 ghost use Rattle.sheets.specs.Internal.{Within, placeMost};
 
 // 11.12.3: the datatype_id of a Language table.
@@ -71,7 +72,7 @@ pub(crate) fn page_at(sheet: &[u8], at: usize) -> Line
 // The line, where its text stands at the place.
 fn line_of(sheet: &[u8], at: usize, value: usize, text: &[u8]) -> Line
     requires { ⌜ Within (now sheet) at × (length (now text) ≤ 32) ⌝ }
-    ensures { λ r. ⌜ r ≡ lineOf (starts (now (text .entry)) (drop at (now (sheet .entry)))) value (now (text .entry)) ⌝ }
+    ensures { λ r. ⌜ r ≡ lineOf (beginsWith (now (text .entry)) (drop at (now (sheet .entry)))) value (now (text .entry)) ⌝ }
 {
     if starts_at(sheet, at, text) {
         return Line {
@@ -85,14 +86,14 @@ fn line_of(sheet: &[u8], at: usize, value: usize, text: &[u8]) -> Line
 // Whether a text stands at the place.
 pub(crate) fn starts_at(sheet: &[u8], at: usize, text: &[u8]) -> bool
     requires { ⌜ Within (now sheet) at × (length (now text) ≤ 32) ⌝ }
-    ensures { λ r. ⌜ r ≡ starts (now (text .entry)) (drop at (now (sheet .entry))) ⌝ }
+    ensures { λ r. ⌜ r ≡ beginsWith (now (text .entry)) (drop at (now (sheet .entry))) ⌝ }
 {
     let mut i = 0;
     while i < text.len() {
         if sheet.len() <= at + i {
             return false;
         }
-        if text[i] != sheet[at + i] {
+        if sheet[at + i] != text[i] {
             return false;
         }
         i += 1;

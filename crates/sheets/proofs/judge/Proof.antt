@@ -1,6 +1,6 @@
 -- `sheets::judge` meets its contract: a law for each way. Assumes nothing.
 use borrow.Author.Needs.{needs}
-use mathlib.Core.Path.{_≡_, _∙_, sym}
+use mathlib.Core.Path.{_∙_}
 use denote.Ref.{now}
 use Rattle.answer.specs.declared.Answer.the-variants.{Done}
 use Rattle.sheets.proofs.Rewriting.{judge-long, judge-bad, judge-many, judge-good}

@@ -1,9 +1,8 @@
 -- `sheets::judge_lines` meets its contract: by the test. Assumes nothing.
 use borrow.Author.Needs.{needs}
-use mathlib.Core.Path.{_≡_, _∙_, sym}
+use mathlib.Core.Path.{_∙_}
 use borrow.Author.Tests.{not-true, not-false}
 use denote.Ref.{now}
-use lib.ListN.{length}
 use Rattle.answer.specs.declared.Answer.the-variants.{Done}
 use Rattle.sheets.proofs.Rewriting.{lines-bad, lines-good}
 use Rattle.sheets.proofs.judge_lines.Statement.{statement}

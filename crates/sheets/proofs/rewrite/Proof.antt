@@ -1,6 +1,6 @@
 -- `sheets::rewrite` meets its contract: the judge says which rule refuses, then the room decides; what is copied is the text of the entries. Assumes nothing.
 use borrow.Author.Needs.{needs}
-use mathlib.Core.Path.{_≡_, _∙_, sym}
+use mathlib.Core.Path.{_∙_}
 use denote.Ref.{now}
 use Rattle.sheets.proofs.Rewriting.{rewrite-refused, rewrite-short, rewrite-done}
 use Rattle.sheets.proofs.rewrite.Statement.{statement}

@@ -1,6 +1,6 @@
 -- `sheets::entries::entry_at` meets its contract: a law for each way. Assumes nothing.
 use borrow.Author.Needs.{needs}
-use mathlib.Core.Path.{_≡_, _∙_, sym, ap}
+use mathlib.Core.Path.{_∙_}
 use borrow.Author.Tests.{not-true, not-false}
 use denote.Ref.{now}
 use Rattle.sheets.proofs.Finding.{entry-end, entry-headless, entry-headed}

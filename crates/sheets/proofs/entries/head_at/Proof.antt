@@ -1,6 +1,6 @@
 -- `sheets::entries::head_at` meets its contract: a law for each line that may be at fault. Assumes nothing.
 use borrow.Author.Needs.{needs}
-use mathlib.Core.Path.{_≡_, _∙_, sym, ap}
+use mathlib.Core.Path.{_∙_}
 use native.Mathlib.Omega.{arith}
 use denote.Ref.{now}
 use Rattle.listing.specs.Lines.{networkName, blockName}

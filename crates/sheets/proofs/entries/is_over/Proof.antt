@@ -1,6 +1,5 @@
 -- `sheets::entries::is_over` meets its contract: by the test. Assumes nothing.
 use borrow.Author.Needs.{needs}
-use mathlib.Core.Path.{refl}
 use Rattle.sheets.proofs.entries.is_over.Statement.{statement}
 use Rattle.sheets.proofs.entries.is_over.Tie as tie
 

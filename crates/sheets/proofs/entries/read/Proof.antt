@@ -1,12 +1,11 @@
 -- `sheets::entries::read` meets its contract: the entries counted, with those left from here on, are the whole sheet. The measure is what is left of it. Assumes nothing.
-use borrow.Author.Needs.{needs}
-use mathlib.Core.Path.{_≡_, _∙_, refl, sym, ap}
-use Prim.Native.Nat.{_+_, _-_, _≤_}
+use mathlib.Core.Path.{_≡_, _∙_}
+use Prim.Native.Nat.{_-_, _≤_}
 use native.Mathlib.Omega.{arith}
 use borrow.Author.Tests.{not-true, not-false}
 use denote.Ref.{now}
 use lib.ListN.{length, drop, length-drop}
-use Rattle.sheets.specs.Internal.{Within, sheetRead}
+use Rattle.sheets.specs.Internal.{sheetRead}
 use Rattle.sheets.specs.Reading.{sheetFrom, sheetOf}
 use Rattle.sheets.proofs.Finding.{sheetAfter, sheet-start, sheet-on, sheet-end}
 use Rattle.sheets.proofs.entries.read.Statement.{statement}

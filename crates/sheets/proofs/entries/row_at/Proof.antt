@@ -1,12 +1,11 @@
 -- `sheets::entries::row_at` meets its contract: the entries counted, with those left from here on, are the whole row. The measure is what is left of the sheet. Assumes nothing.
-use borrow.Author.Needs.{needs}
-use mathlib.Core.Path.{_≡_, _∙_, refl, sym, ap}
-use Prim.Native.Nat.{_+_, _-_, _≤_}
+use mathlib.Core.Path.{_≡_, _∙_}
+use Prim.Native.Nat.{_-_, _≤_}
 use native.Mathlib.Omega.{arith}
 use borrow.Author.Tests.{not-true, not-false}
 use denote.Ref.{now}
 use lib.ListN.{length, drop, length-drop}
-use Rattle.sheets.specs.Internal.{Within, rowOf}
+use Rattle.sheets.specs.Internal.{rowOf}
 use Rattle.sheets.specs.Reading.{wordsOf}
 use Rattle.sheets.proofs.Walks.{rowAfter, row-from, row-on, row-end}
 use Rattle.sheets.proofs.entries.row_at.Statement.{statement}

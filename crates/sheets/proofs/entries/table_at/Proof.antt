@@ -1,12 +1,12 @@
 -- `sheets::entries::table_at` meets its contract: what was counted, with what is left from here on, is the whole table. The measure is what is left of the sheet. Assumes nothing.
 use borrow.Author.Needs.{needs}
-use mathlib.Core.Path.{_≡_, _∙_, refl, sym, ap}
-use Prim.Native.Nat.{_+_, _-_, _≤_}
+use mathlib.Core.Path.{_≡_, _∙_, refl}
+use Prim.Native.Nat.{_-_, _≤_}
 use native.Mathlib.Omega.{arith}
 use borrow.Author.Tests.{not-true, not-false}
 use denote.Ref.{now}
 use lib.ListN.{length, drop, length-drop}
-use Rattle.sheets.specs.Internal.{Within, summaryOf}
+use Rattle.sheets.specs.Internal.{summaryOf}
 use Rattle.sheets.specs.Reading.{descriptorsOf}
 use Rattle.sheets.proofs.Walks.{tableAfter, table-from, table-on, table-end}
 use Rattle.sheets.proofs.entries.table_at.Statement.{statement}

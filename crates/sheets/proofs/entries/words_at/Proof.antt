@@ -8,7 +8,7 @@ use Rattle.sheets.proofs.Walks.{within-on, language-room, page-room, wo
 use mathlib.Core.Path.{_≡_, _∙_, sym, ap}
 use native.Mathlib.Omega.{arith}
 use denote.Ref.{now}
-use Rattle.sheets.proofs.Walks.{within-on, language-within, page-within, words-stop, words-language, words-unpaged, words-subtitle}
+use Rattle.sheets.proofs.Walks.{within-on, words-stop, words-language, words-unpaged, words-subtitle}
 use Rattle.sheets.proofs.entries.words_at.Statement.{statement}
 use Rattle.sheets.proofs.entries.words_at.Tie as tie
 

@@ -1,6 +1,6 @@
 -- `sheets::lines::kind_at` meets its contract: by the test. Assumes nothing.
 use borrow.Author.Needs.{needs}
-use mathlib.Core.Path.{_≡_, _∙_, sym}
+use mathlib.Core.Path.{_∙_, sym}
 use Rattle.sheets.proofs.Matching.{kind-ti, kind-li}
 use Rattle.sheets.proofs.lines.kind_at.Statement.{statement}
 use Rattle.sheets.proofs.lines.kind_at.Tie as tie

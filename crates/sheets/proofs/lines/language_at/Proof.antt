@@ -1,6 +1,6 @@
 -- `sheets::lines::language_at` meets its contract: the value is spelled, and compared with what stands there. Assumes nothing.
 use borrow.Author.Needs.{needs}
-use mathlib.Core.Path.{_≡_, _∙_, sym}
+use mathlib.Core.Path.{_∙_}
 use native.Mathlib.Omega.{arith}
 use denote.Ref.{now}
 use Rattle.sheets.proofs.Matching.{language-place, spelled-in, language-line}

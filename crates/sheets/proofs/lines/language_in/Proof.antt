@@ -1,8 +1,7 @@
 -- `sheets::lines::language_in` meets its contract: by the test. Assumes nothing.
 use borrow.Author.Needs.{needs}
 use borrow.Author.Tests.{eq-eqb, ne-eqb}
-use mathlib.Core.Path.{_≡_, _∙_, sym}
-use native.Mathlib.Omega.{arith}
+use mathlib.Core.Path.{_∙_, sym}
 use Rattle.sheets.specs.Lines.{languageIn}
 use Rattle.sheets.proofs.lines.language_in.Statement.{statement}
 use Rattle.sheets.proofs.lines.language_in.Tie as tie

@@ -1,6 +1,6 @@
 -- `sheets::lines::line_of` meets its contract: by the test. Assumes nothing.
 use borrow.Author.Needs.{needs}
-use mathlib.Core.Path.{_≡_, _∙_, sym}
+use mathlib.Core.Path.{_∙_, sym}
 use Rattle.sheets.proofs.lines.line_of.Statement.{statement}
 use Rattle.sheets.proofs.lines.line_of.Tie as tie
 

@@ -1,6 +1,4 @@
 -- `sheets::lines::nibble_of` meets its contract: by cases on the tests. Assumes nothing.
-use borrow.Author.Needs.{needs}
-use mathlib.Core.Path.{_≡_}
 use native.Mathlib.Omega.{arith}
 use borrow.Author.Tests.{lt-ltb, le-ltb}
 use Rattle.sheets.specs.Lines.{nibbleOf}

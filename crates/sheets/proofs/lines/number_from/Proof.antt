@@ -1,10 +1,10 @@
 -- `sheets::lines::number_from` meets its contract: the number so far with the digits left is the whole. Assumes nothing.
 use borrow.Author.Needs.{needs}
-use mathlib.Core.Path.{_≡_, _∙_, refl, sym}
+use mathlib.Core.Path.{_≡_, _∙_, sym}
 use Prim.Native.Nat.{_+_, _-_, _^_, _≤_, _<_}
 use native.Mathlib.Omega.{arith}
 use native.Mathlib.Nat.{add-zero}
-use lib.ListN.{length, getD, drop}
+use lib.ListN.{drop}
 use denote.Ref.{now}
 use Rattle.sheets.specs.Lines.{numberFrom}
 use Rattle.sheets.proofs.Matching.{powers, digit-more, number-out, number-below, number-above, number-on, number-done}
