@@ -14,7 +14,8 @@ use Rattle.laws.proofs.Tests.{both-true, both-first}
 use Rattle.fields.specs.Fields.{Field, width, laid, fitting, field, parts, whole}
 use Rattle.fields.proofs.Laid.{laid-at, laid-above, laid-lt, length-parts, whole-parts, fitting-append}
 use Rattle.menu_forms.specs.Rows.{each, inRow}
-use Rattle.menu_forms.specs.Menus.{Descriptor, Escape, Text, Attribute, Event, Menu, Spare, infoBytes, descriptorFields, escapeFields, attributeFields, textFields, eventFields, fillFields, openingFields, fields, codesOf, strings, fits}
+use Rattle.menu_forms.specs.Menus.{Descriptor, Escape, Text, Attribute, Event, Menu, Spare, infoBytes, codesOf, strings, fits}
+use Rattle.menu_forms.specs.Menus.{descriptorFields, escapeFields, attributeFields, textFields, eventFields, fillFields, openingFields, fields}
 use Rattle.menu_forms.specs.Form.{codesIn}
 use Rattle.menu_forms.specs.Block.{spelled}
 use Rattle.menu_forms.proofs.Spelling.{spelled-append, spelled-first, spelled-one, each-spelled, each-nibbled, length-spelled}
@@ -206,7 +207,7 @@ unfolding width
 opening-long sum control spare m = length-spelled (openingFields sum control spare m)
 
 -- a field of control data, with nothing behind it
-field-back :
+pub field-back :
     (fs pre : List Field) (w v : ℕ) (gs : List Field) → fs ≡ pre ++ (w, v) ∷ gs → width fs % 4 ≡ 0 → v < 2 ^ w → bitsAt (width pre) w (spelled fs) ≡ v
 field-back fs pre w v gs e h l =
     ap (λ (x : List ℕ). bitsAt (width pre) w x) (ap spelled e ∙ sym (append-nil (spelled (pre ++ (w, v) ∷ gs))))

@@ -1,1 +1,5 @@
 pub mod Back
+pub mod Places
+pub mod Strings
+pub mod Inverse
+pub mod Exact

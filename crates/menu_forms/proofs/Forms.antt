@@ -16,8 +16,10 @@ use Rattle.fields.specs.Fields.{Field, fitting, whole}
 use Rattle.fields.proofs.Laid.{fitting-append}
 use Rattle.answer.specs.Rules.{Every, none, more}
 use Rattle.menu_forms.specs.Rows.{each, inRow}
-use Rattle.menu_forms.specs.Menus.{Descriptor, Escape, Text, Attribute, Event, Menu, zeros, infoBytes, descriptorFields, escapeFields, attributeFields, textFields, eventFields, fillFields, fields, fits}
-use Rattle.menu_forms.specs.Form.{highFirst, descriptorForm, escapeForm, attributeForm, textForm, eventForm, openingOf, form, numberIn, codesIn, descriptorIn, escapeIn, attributeIn, textIn, eventIn, menuIn}
+use Rattle.menu_forms.specs.Menus.{Descriptor, Escape, Text, Attribute, Event, Menu, zeros, infoBytes, fits}
+use Rattle.menu_forms.specs.Menus.{descriptorFields, escapeFields, attributeFields, textFields, eventFields, fillFields, fields}
+use Rattle.menu_forms.specs.Form.{highFirst, descriptorForm, escapeForm, attributeForm, textForm, eventForm, openingOf, form}
+use Rattle.menu_forms.specs.Form.{numberIn, codesIn, descriptorIn, escapeIn, attributeIn, textIn, eventIn, menuIn}
 use Rattle.menu_forms.specs.Writing.{formRules}
 
 -- entries in a row are found again
@@ -31,6 +33,12 @@ module _ {E : Type 0} (spell : E → List ℕ) (read : List ℕ → E) (fieldsOf
       let tail = each spell es ++ rest in
       let found = back e (p .0) tail in
       rw (append-assoc (spell e) (each spell es) rest, found, drop-append-seam (spell e) tail) (ap (λ (x : List E). e ∷ x) (row-back es (p .1) rest))
+
+-- as many as are looked for
+pub row-count : {E : Type 0} (spell : E → List ℕ) (read : List ℕ → E) (k : ℕ) (l : List ℕ) → length (inRow spell read k l) ≡ k
+unfolding inRow
+row-count spell read zero l = refl
+row-count spell read (suc k) l = ap suc (row-count spell read k (drop (length (spell (read l))) l))
 
 -- ---- numbers
 
@@ -80,6 +88,11 @@ pub codes-back : (cs rest : List ℕ) → codesIn (length cs) (cs ++ rest) ≡ c
 unfolding codesIn
 codes-back [] rest = refl
 codes-back (c ∷ cs) rest = ap (λ (x : List ℕ). c ∷ x) (codes-back cs rest)
+
+pub codes-count : (k : ℕ) (l : List ℕ) → length (codesIn k l) ≡ k
+unfolding codesIn
+codes-count zero l = refl
+codes-count (suc k) l = ap suc (codes-count k (drop 1 l))
 
 text-back : (t : Text) → fitting (textFields t) ≡ true → (rest : List ℕ) → textIn (textForm t ++ rest) ≡ t
 unfolding textIn textForm textFields fitting

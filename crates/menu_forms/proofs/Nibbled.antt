@@ -11,7 +11,8 @@ use Rattle.laws.specs.Pick.{pick}
 use Rattle.fields.specs.Fields.{Field, width}
 use Rattle.fields.proofs.Laid.{width-append}
 use Rattle.menu_forms.specs.Rows.{each}
-use Rattle.menu_forms.specs.Menus.{Descriptor, Escape, Text, Attribute, Event, Menu, Spare, descriptorFields, escapeFields, attributeFields, textFields, eventFields, fillFields, fields}
+use Rattle.menu_forms.specs.Menus.{Descriptor, Escape, Text, Attribute, Event, Menu, Spare, zeros, control as controlSize}
+use Rattle.menu_forms.specs.Menus.{descriptorFields, escapeFields, attributeFields, textFields, eventFields, fillFields, fields}
 use Rattle.menu_forms.specs.Form.{attributeForm}
 use Rattle.menu_forms.proofs.Forms.{high-length}
 use Rattle.menu_forms.proofs.Spelling.{each-nibbled}
@@ -147,3 +148,8 @@ events-bytes (e ∷ es) =
     let w = width-append (eventFields e) (each eventFields es) in
     let v = width-append (each attributeFields (e .attributes)) (textFields (e .text)) in
     rw (w, v) (omega (arith, attributes-width (e .attributes), text-bytes (e .text), events-bytes es))
+
+-- so control_block_size is all of it
+pub menu-whole : (sum control : ℕ) (spare : Spare) (m : Menu) → width (fields sum control spare m) ≡ 8 * controlSize m
+menu-whole sum control spare m =
+    omega (arith, menu-bytes sum control spare m, menu-bytes 0 0 zeros m, text-bytes (m .header), events-bytes (m .events))

@@ -1,30 +1,41 @@
--- The record that is written for a menu says that menu. Assumes nothing.
+-- The record that is written for a menu says that menu; how long its control data is, and that its checksum leaves itself out. Assumes nothing.
 use mathlib.Core.Path.{_≡_, _∙_, refl, sym, ap}
 use mathlib.Core.Bool.{true}
-use mathlib.Core.List.{_++_, map}
-use Prim.Native.Nat.{ℕ, _+_, _*_, _/_, _<_}
+use mathlib.Core.List.{List, _++_, map}
+use Prim.Native.Nat.{ℕ, _+_, _-_, _*_, _/_, _%_, _<_}
 use native.Mathlib.Omega.{arith}
 use lib.ListN.{length, take, drop, length-map}
 use lib.Seq.{take-append-seam, drop-append-seam}
 use Rattle.octet.specs.Image.{image}
 use Rattle.octet.specs.Decoding.{nib}
-use Rattle.fields.specs.Fields.{width, laid}
+use Rattle.fields.specs.Fields.{Field, width, laid, parts}
+use Rattle.sums.specs.Sums.{total, checksum}
 use Rattle.sums.proofs.Nibbles.{nibbles-back}
 use Rattle.strings.specs.Parity.{letter}
-use Rattle.menu_forms.specs.Menus.{Menu, Spare, fields, strings, control, fits, zeros}
+use Rattle.menu_forms.specs.Menus.{Menu, Spare, fields, strings, control, fits}
 use Rattle.menu_forms.specs.Block.{Says, spelled, nibbles, checksumOf, blockWith, recordWith}
-use Rattle.menu_forms.proofs.Spelling.{length-spelled}
-use Rattle.menu_forms.proofs.Nibbled.{menu-bytes, text-bytes, events-bytes}
+use Rattle.menu_forms.proofs.Spelling.{length-spelled, spelled-first}
+use Rattle.menu_forms.proofs.Nibbled.{menu-whole}
+
+-- two protected bytes for eight bits
+pub nibbles-long : (sum : ℕ) (spare : Spare) (m : Menu) → length (nibbles sum spare m) ≡ 2 * control m
+nibbles-long sum spare m =
+    length-spelled (fields sum (control m) spare m) ∙ (omega (arith, menu-whole sum (control m) spare m))
+
+-- the checksum is the same whatever stands in its place
+pub sum-apart : (head s₁ s₂ : ℕ) (spare : Spare) (m : Menu) → checksum head (nibbles s₁ spare m) ≡ checksum head (nibbles s₂ spare m)
+unfolding checksum fields parts
+sum-apart head s₁ s₂ spare m =
+    let rest : List Field = drop 1 (fields 0 (control m) spare m) in
+    let behind : (s : ℕ) → drop 2 (nibbles s spare m) ≡ spelled rest = λ (s : ℕ). ap (drop 2) (spelled-first 8 2 s rest refl) in
+    ap (λ (ns : List ℕ). (256 - (total (parts 4 4 head) + total ns) % 256) % 256) (behind s₁ ∙ sym (behind s₂))
 
 module _ (application : ℕ) (spare : Spare) (m : Menu) where
   abbrev sum : ℕ
   sum = checksumOf application spare m
 
   long : 2 * control m ≡ length (map image (nibbles sum spare m))
-  long =
-      sym
-      (length-map (nibbles sum spare m) image ∙ length-spelled (fields sum (control m) spare m)
-      ∙ (omega (arith, menu-bytes sum (control m) spare m, menu-bytes 0 0 zeros m, text-bytes (m .header), events-bytes (m .events))))
+  long = sym (length-map (nibbles sum spare m) image ∙ nibbles-long sum spare m)
 
   -- a record of a menu that can be sent, with any spare bits, says that menu
   pub record-says :

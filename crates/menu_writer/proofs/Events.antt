@@ -20,13 +20,14 @@ use Rattle.menu_forms.specs.Rows.{each, inRow}
 use Rattle.menu_forms.specs.Menus.{Attribute, Text, Event, attributeFields, textFields, eventFields, codesOf, sevens}
 use Rattle.menu_forms.specs.Form.{attributeForm, attributeIn, textForm, textIn, eventForm, eventIn}
 use Rattle.menu_forms.specs.Block.{spelled}
+use Rattle.menu_forms.proofs.Forms.{row-count}
 use Rattle.menu_forms.proofs.Spelling.{spelled-append, each-nibbled}
 use Rattle.menu_forms.proofs.Nibbled.{attribute-nibbled, attributes-width, event-nibbled}
 use Rattle.menu_writer.specs.declared.Tally.{Tally}
 use Rattle.menu_writer.specs.declared.Loop.the-variants.{Attributes}
 use Rattle.menu_writer.specs.Internal.{loopLength, loopFine, loopBytes, Told}
 use Rattle.menu_writer.proofs.Entries.{byte-front, low-high}
-use Rattle.menu_writer.proofs.Listed.{row-count, row-length, row-fine, row-bytes, attribute-long}
+use Rattle.menu_writer.proofs.Listed.{row-length, row-fine, row-bytes, attribute-long}
 
 -- the values before the attributes, attrs one number
 heading : ℕ → ℕ → ℕ → List Field

@@ -21,11 +21,6 @@ use Rattle.menu_writer.specs.declared.Loop.{Loop}
 use Rattle.menu_writer.specs.declared.Loop.the-variants.{Codes, Attributes}
 use Rattle.menu_writer.specs.Internal.{entryLength, entryFine, entryBytes, loopLength, loopFine, loopBytes}
 
-pub row-count : {E : Type 0} (spell : E → List ℕ) (read : List ℕ → E) (k : ℕ) (l : List ℕ) → length (inRow spell read k l) ≡ k
-unfolding inRow
-row-count spell read zero l = refl
-row-count spell read (suc k) l = ap suc (row-count spell read k (drop (length (spell (read l))) l))
-
 module _ {E : Type 0} (what : Loop) (spell : E → List ℕ) (read : List ℕ → E) (long : (l : List ℕ) → length (spell (read l)) ≡ entryLength what l) where
   pub row-length : (k : ℕ) (l : List ℕ) → length (each spell (inRow spell read k l)) ≡ loopLength what k l
   unfolding each inRow loopLength
@@ -62,11 +57,6 @@ pub attribute-long : (l : List ℕ) → length (attributeForm (attributeIn l)) �
 attribute-long l = ap suc (high-length (infoBytes (getD l 0 0)) _) ∙ (omega arith)
 
 -- ---- codes
-
-pub codes-count : (k : ℕ) (l : List ℕ) → length (codesIn k l) ≡ k
-unfolding codesIn
-codes-count zero l = refl
-codes-count (suc k) l = ap suc (codes-count k (drop 1 l))
 
 pub codes-length : (k : ℕ) (l : List ℕ) → loopLength Codes k l ≡ k
 unfolding loopLength

@@ -17,12 +17,13 @@ use Rattle.menu_forms.specs.Rows.{each, inRow}
 use Rattle.menu_forms.specs.Menus.{Escape, Text, escapeFields, textFields, sevens}
 use Rattle.menu_forms.specs.Form.{escapeForm, escapeIn, textForm, textIn, codesIn}
 use Rattle.menu_forms.specs.Block.{spelled}
+use Rattle.menu_forms.proofs.Forms.{row-count, codes-count}
 use Rattle.menu_forms.proofs.Spelling.{spelled-append, spelled-one, spelled-first, each-nibbled}
 use Rattle.menu_forms.proofs.Nibbled.{escape-nibbled, escapes-width}
 use Rattle.menu_writer.specs.declared.Loop.the-variants.{Codes, Escapes}
 use Rattle.menu_writer.specs.Internal.{loopLength, loopFine, loopBytes, Told}
 use Rattle.menu_writer.proofs.Entries.{byte-front}
-use Rattle.menu_writer.proofs.Listed.{row-count, row-length, row-fine, row-bytes, codes-count, codes-length, codes-fine}
+use Rattle.menu_writer.proofs.Listed.{row-length, row-fine, row-bytes, codes-length, codes-fine}
 
 module _ (f : List ℕ) (at e c : ℕ) (he : e ≡ getD f at 0) (hc : c ≡ getD f (at + 1) 0) where
   n : ℕ

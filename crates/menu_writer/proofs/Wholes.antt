@@ -19,13 +19,14 @@ use Rattle.menu_forms.specs.Rows.{each, inRow}
 use Rattle.menu_forms.specs.Menus.{Descriptor, Menu, zeros, descriptorFields, fillFields, openingFields, textFields, eventFields, fields, strings, codesOf, sevens}
 use Rattle.menu_forms.specs.Form.{descriptorForm, descriptorIn, textForm, textIn, eventForm, eventIn, form, menuIn}
 use Rattle.menu_forms.specs.Block.{spelled}
+use Rattle.menu_forms.proofs.Forms.{row-count}
 use Rattle.menu_forms.proofs.Spelling.{spelled-append, spelled-one, spelled-first, each-nibbled, length-spelled}
 use Rattle.menu_forms.proofs.Nibbled.{descriptor-nibbled, text-nibbled, fill-nibbled, descriptors-width, fill-width}
 use Rattle.menu_writer.specs.declared.Tally.{Tally}
 use Rattle.menu_writer.specs.declared.Loop.the-variants.{Descriptors}
 use Rattle.menu_writer.specs.Internal.{loopLength, loopFine, loopBytes, Told, Whole, openingFine}
 use Rattle.menu_writer.proofs.Entries.{low-high}
-use Rattle.menu_writer.proofs.Listed.{row-count, row-length, row-fine, row-bytes}
+use Rattle.menu_writer.proofs.Listed.{row-length, row-fine, row-bytes}
 use Rattle.menu_writer.proofs.Events.{eventsIn, sevens-append}
 
 -- what is sent of fill_up_2: a nibble where the number is even, else nothing

@@ -1,13 +1,14 @@
 -- Laws of string bytes: a test that antt computes at every byte and hands out at each; and how a pass along a string finds the bytes of
 -- right parity. Assumes nothing.
-use mathlib.Core.Path.{_≡_, sym}
-use mathlib.Core.Bool.{true, false}
+use mathlib.Core.Path.{_≡_, sym, subst}
+use mathlib.Core.Bool.{Bool, true, false}
 use mathlib.Core.List.{List}
 use Prim.Native.Nat.{ℕ, _+_, _/_, _%_, _<_, _≤_}
 use native.Mathlib.Numerals.{add-one}
 use native.Mathlib.Nat.{add-zero}
 use native.Mathlib.Omega.{arith}
-use lib.Dec.{eqb, eqb→eq}
+use borrow.Author.Tests.{eq-eqb}
+use lib.Dec.{T, eqb, eqb→eq}
 use lib.ListN.{length, getD, drop, drop-of-length-le}
 use lib.Seq.{drop-cons}
 use Rattle.laws.specs.Pick.{pick}
@@ -40,6 +41,23 @@ ones-halves b h =
 pub letter-by : (c : ℕ) → c < 256 → letter c ≡ c % 128 + pick (isOdd (c % 128)) 0 128
 unfolding letter isOdd ones
 letter-by c h = eqb→eq _ _ (all-at (λ (x : ℕ). eqb (letter x) (x % 128 + pick (isOdd (x % 128)) 0 128)) 256 tt c h)
+
+-- a code's byte is of right parity, and has that code
+pub letter-odd : (c : ℕ) → c < 128 → isOdd (letter c) ≡ true
+unfolding letter isOdd ones
+letter-odd c h = eq-eqb _ 1 (eqb→eq (ones 8 (letter c) % 2) 1 (all-at (λ (x : ℕ). isOdd (letter x)) 128 tt c h))
+
+pub letter-code : (c : ℕ) → c < 128 → letter c % 128 ≡ c
+unfolding letter ones
+letter-code c h = eqb→eq _ _ (all-at (λ (x : ℕ). eqb (letter x % 128) x) 128 tt c h)
+
+-- and a byte of right parity is that of its code
+pub odd-letter : (b : ℕ) → b < 256 → isOdd b ≡ true → letter (b % 128) ≡ b
+unfolding letter isOdd ones
+odd-letter b h o =
+    eqb→eq _ _
+    (subst (λ (t : Bool). T (pick t (eqb (letter (b % 128)) b) true)) o
+    (all-at (λ (x : ℕ). pick (isOdd x) (eqb (letter (x % 128)) x) true) 256 tt b h))
 
 -- ---- the bytes of right parity
 
