@@ -149,12 +149,12 @@ module _ (application : ℕ) where
           let p = lent-accepted (readRules application r) bytes old every (each-first (rw e at enough)) in
           ap₂ accepted (said .0 ∙ ap (counted (mendedIn r)) (p .0)) (said .1 ∙ p .1)
           ∙ ap (λ (l : List ℕ). record { what = l; mended = mendedIn r } ∷ []) (take-append-seam bytes (drop (length bytes) old))
-          ∙ sym (ap (λ (o : Outcome). map formed (taken o)) e)
+          ∙ sym (ap (λ (o : Outcome Table). map formed (taken o)) e)
       go (inr (q, first)) =
           ap (λ (y : Read). accepted y out)
           (reads call .0
           ∙ ap (counted (mendedIn r)) (refuses refused (Done (length (form (tableRead r)))) (first-append _ first)))
-          ∙ sym (ap (λ (o : Outcome). map formed (taken o)) (read-fails r first))
+          ∙ sym (ap (λ (o : Outcome Table). map formed (taken o)) (read-fails r first))
 
   all-read :
       (most : ℕ) {bs : List Block} {forms : List (Counted (List ℕ))} → ReadOut application most bs forms

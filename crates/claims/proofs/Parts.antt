@@ -20,6 +20,7 @@ use Rattle.state.specs.State.{readerOf}
 use Rattle.state.proofs.Ranging.{Sound, sound-after}
 use Rattle.state.proofs.Parting.{parted-append, handed-parted}
 use Rattle.frames.specs.Framing.{frameRules}
+use Rattle.forms.specs.Tables.{Table}
 use Rattle.table.specs.Reading.{Outcome, accepted, refused, frontRules, wholeRules, readRules, tableRead, readBlock}
 use Rattle.sums.specs.Block.{mendedIn}
 use Rattle.table.specs.Lengths.{lengthRules}
@@ -33,11 +34,11 @@ abbrev Holds16 : List Rule → Type 0
 Holds16 rs = Each (λ (q : Rule). q .number ≡ 16 → q .holds ≡ true) rs
 
 -- the number of an outcome
-abbrev numberOf : Outcome → ℕ
+abbrev numberOf : Outcome Table → ℕ
 numberOf (accepted t c) = 0
 numberOf (refused number offset) = number
 
-not-sixteen : (rs : List Rule) (a : Outcome) → numberOf a ≡ 0 → Holds16 rs → numberOf (judged refused rs a) ≡ 16 → ⊥
+not-sixteen : (rs : List Rule) (a : Outcome Table) → numberOf a ≡ 0 → Holds16 rs → numberOf (judged refused rs a) ≡ 16 → ⊥
 not-sixteen [] a z nil e = omega arith
 not-sixteen (q ∷ rs) a z (and h r) e = go (q .holds) (λ n. h n) (λ n. not-sixteen rs a z r n) e
   where

@@ -23,7 +23,7 @@ use Rattle.sums.specs.Block.{nibblesOf, mendedIn, InRange, nibbles, checksumOf,
 use Rattle.table.specs.Reading.{Outcome, accepted, refused, readBlock}
 use Rattle.forms.proofs.Sendable.{sendable}
 use Rattle.sums.proofs.Nibbles.{nibbles-again}
-use Rattle.table.proofs.Exact.{header-lt, header-size}
+use Rattle.frames.proofs.Framed.{header-lt, header-size}
 use Rattle.table.proofs.Back.{writes-back}
 use Rattle.table.proofs.Noise.{reads-alike, broken-refused}
 use Rattle.claims.specs.Noise.{Hears, Near, none, more, Came, over, kept, lost, Each, nil, and, Fits}
@@ -149,7 +149,7 @@ module _ (R : ℕ → ℕ → Type 0) (L : Type 0) (hears : Hears R L) where
             (record { part = lead-five x; second = refl }) refl (again e) (writes-back application t a f)
             ∙ ap (accepted t) (counts e))
 
-  not-taken : (o : Outcome) → ((u : Table) (c : ℕ) → o ≡ accepted u c → ⊥) → taken o ≡ []
+  not-taken : (o : Outcome Table) → ((u : Table) (c : ℕ) → o ≡ accepted u c → ⊥) → taken o ≡ []
   not-taken (accepted u c) z = absurd (z u c refl)
   not-taken (refused number offset) z = refl
 

@@ -26,7 +26,7 @@ abbrev pub sentDamaged : Setting → ℕ → List Table → List (List ℕ) → 
 sentDamaged s k ts ours = damaged ts (sendings (blocks (recordsOf (s .application) ts)) (streamIn k ours))
 
 -- the table that block reading accepts, if it does, with its count
-abbrev pub taken : Outcome → List (Counted Table)
+abbrev pub taken : Outcome Table → List (Counted Table)
 taken (accepted t c) = record { what = t; mended = c } ∷ []
 taken (refused number offset) = []
 

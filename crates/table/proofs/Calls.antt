@@ -15,7 +15,8 @@ use Rattle.frames.specs.declared.Read.the-variants.{Taken}
 use Rattle.frames.specs.Values.{counted}
 use Rattle.frames.proofs.Counting.{taken-done}
 use Rattle.table.specs.Reading.{accepted, refused, readRules, tableRead, readBlock}
-use Rattle.table.proofs.Exact.{accepts, accepted-says, says-accepted}
+use Rattle.frames.proofs.Framed.{accepts}
+use Rattle.table.proofs.Exact.{accepted-says, says-accepted}
 
 module _ (application : ℕ) (r : List ℕ) (old : List ℕ) where
   -- what the call answers

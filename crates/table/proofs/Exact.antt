@@ -2,31 +2,32 @@
 -- it says that table and has that count. What is read is laid again into the same nibbles, and what is laid is read again.
 -- Assumes nothing.
 use mathlib.Core.Path.{_≡_, _∙_, refl, sym, ap, ap₂, subst}
-use mathlib.Core.Bool.{Bool, true, false}
+use mathlib.Core.Bool.{true}
 use mathlib.Core.Logic.{_↔_}
-use mathlib.Core.List.{List, [], _∷_}
+use mathlib.Core.List.{List}
 use Prim.Native.Nat.{ℕ, _+_, _-_, _*_, _/_, _%_, _^_, _≤_, _<_}
 use native.Mathlib.Nat.{mod-eq-of-lt}
 use native.Mathlib.Omega.{arith}
-use borrow.Author.Tests.{ltb-true, lt-ltb, le-ltb, leb-true, le-leb, eqb-true, eq-eqb}
-use lib.Dec.{eqb, ltb, leb}
+use borrow.Author.Tests.{le-ltb, eqb-true, eq-eqb}
+use lib.Dec.{eqb, ltb}
 use lib.ListN.{length, take, drop, length-map, length-drop}
 use lib.Pow.{shr-lt}
-use Rattle.laws.specs.Pick.{pick}
 use Rattle.laws.proofs.Tests.{both-true, both-holds, either-true}
-use Rattle.answer.specs.Rules.{Rule, judged, Every, none, more}
-use Rattle.answer.proofs.Judging.{passes}
+use Rattle.answer.specs.Rules.{Every, none, more}
+use Rattle.answer.proofs.Judging.{passes, every-append}
+use Rattle.answer.proofs.Lent.{front-holds, back-holds}
 use Rattle.answer.proofs.Steps.{first-holds, others-hold}
 use Rattle.octet.specs.Decoding.{nib}
 use Rattle.octet.proofs.Hearing.{harms-le}
 use Rattle.fields.specs.Fields.{width, laid, field, parts, whole}
 use Rattle.fields.proofs.Laid.{laid-lt, field-lt, length-parts, whole-lt, whole-parts}
 use Rattle.forms.specs.Tables.{Table, known, numbered, fields, bits, control, fill, size}
-use Rattle.sums.specs.Block.{header, headOf, partOf, secondOf, nibblesOf, mendedIn, InRange, nibbles, checksumOf, Says}
+use Rattle.sums.specs.Block.{header, headOf, nibblesOf, mendedIn, InRange, nibbles, checksumOf, Says}
 use Rattle.sums.specs.Sums.{checksum, sound}
 use Rattle.table.specs.Control.{tableOf}
-use Rattle.frames.specs.Framing.{frameRules}
-use Rattle.table.specs.Reading.{accepted, refused, frontRules, wholeRules, readRules, tableRead, readBlock}
+use Rattle.frames.specs.Framing.{framing}
+use Rattle.frames.proofs.Framed.{Framed, framed, frame-holds, header-of, headed, accepts}
+use Rattle.table.specs.Reading.{accepted, refused, frontRules, wholeRules, bodyRules, readRules, tableRead, readBlock}
 use Rattle.table.specs.Lengths.{blockNumbered, lengthRules}
 use Rattle.forms.proofs.Sendable.{Sendable, sendable, sends}
 use Rattle.sums.proofs.Summing.{checksum-lt}
@@ -36,24 +37,9 @@ use Rattle.forms.proofs.Measures.{bits-of}
 
 -- ---- accepted: every rule holds
 
-pub accepts :
-    (rs : List Rule) (a b : Table) (m n : ℕ) → judged refused rs (accepted a m) ≡ accepted b n → Every rs × (a ≡ b) × (m ≡ n)
-accepts [] a b m n e = (none, cc, cc)
-accepts (r ∷ rs) a b m n e = go (r .holds) refl e (accepts rs a b m n)
-  where
-    go :
-        (h : Bool) → r .holds ≡ h → pick h (judged refused rs (accepted a m)) (refused (r .number) (r .offset)) ≡ accepted b n
-        → (judged refused rs (accepted a m) ≡ accepted b n → Every rs × (a ≡ b) × (m ≡ n))
-        → Every (r ∷ rs) × (a ≡ b) × (m ≡ n)
-    go true h e′ ih = (more h (ih e′ .0), ih e′ .1, ih e′ .2)
-    go false h e′ ih = absurd (let z : _≡_ {A = ℕ} 0 1 = cc in omega arith)
-
 -- what every rule of reading says, of a record whose nibbles make n
 record Taken (application : ℕ) (r : List ℕ) (n : ℕ) : Type 0 where
-  within : application < 32
-  long : length r ≡ 4 + headOf r / 32
-  in-range : InRange r
-  ours : headOf r % 32 ≡ application
+  frame : Framed application r
   known-kind : known (field 18 6 n) ≡ true
   clear : field 24 2 n ≡ 0
   decodes : sound (nibblesOf r) ≡ length (nibblesOf r)
@@ -67,26 +53,20 @@ held-number : (blockSize block : ℕ) → 12 ≤ blockSize → blockNumbered blo
 held-number blockSize block h e = rw (le-ltb blockSize 12 h) at e
 
 taken : (application : ℕ) (r : List ℕ) → Every (readRules application r) → Taken application r (whole 4 (nibblesOf r))
-unfolding frameRules frontRules wholeRules lengthRules tableOf
+unfolding frontRules wholeRules lengthRules tableOf
 taken application r e₀ =
-    let e₁ = others-hold e₀ in
-    let e₂ = others-hold e₁ in
-    let e₃ = others-hold e₂ in
-    let e₆ = others-hold (others-hold (others-hold e₃)) in
+    let body = bodyRules (headOf r) (nibblesOf r) in
+    let e₆ = others-hold (back-holds (framing application r) body e₀) in
     let e₈ = others-hold (others-hold e₆) in
     let e₉ = others-hold e₈ in
     let e₁₀ = others-hold e₉ in
     let e₁₁ = others-hold e₁₀ in
     let n = whole 4 (nibblesOf r) in
-    let o = both-true (leb (partOf r) 5) (eqb (secondOf r) 0) (first-holds e₂) in
     let p = both-true (known (field 18 6 n)) (eqb (field 24 2 n) 0) (first-holds e₆) in
     let q = both-true (eqb (field 8 10 n) (control (tableOf n))) (eqb (headOf r / 32) (size (tableOf n))) (first-holds e₁₁) in
     let size-said : headOf r / 32 ≡ size (tableOf n) = eqb-true (headOf r / 32) (size (tableOf n)) (q .1) in
     record {
-      within = ltb-true application 32 (first-holds e₀);
-      long = eqb-true (length r) (4 + headOf r / 32) (first-holds e₁);
-      in-range = record { part = leb-true (partOf r) 5 (o .0); second = eqb-true (secondOf r) 0 (o .1) };
-      ours = eqb-true (headOf r % 32) application (first-holds e₃);
+      frame = framed application r (front-holds (framing application r) body e₀);
       known-kind = p .0;
       clear = eqb-true (field 24 2 n) 0 (p .1);
       decodes = eqb-true (sound (nibblesOf r)) (length (nibblesOf r)) (first-holds e₈);
@@ -106,12 +86,6 @@ nibbles-sound : (sum reserved filling : ℕ) (t : Table) → sound (nibbles sum 
 unfolding nibbles
 nibbles-sound sum reserved filling t = parts-sound (size t) _
 
-header-of :
-    (application blockSize h : ℕ) → application < 32 → blockSize < 2048 → h % 32 ≡ application → h / 32 ≡ blockSize
-    → h ≡ laid (header application blockSize) 0
-unfolding laid
-header-of application blockSize h a b e f = omega arith
-
 -- ---- accepted as the table that it says
 
 says : (application : ℕ) (r : List ℕ) → Taken application r (whole 4 (nibblesOf r)) → Says application r (tableRead r)
@@ -123,11 +97,11 @@ says application r k =
     let filling = n / 2 ^ bits t in
     let s : Sendable t = read-sendable n (k .known-kind) (k .edition) (k .control-said) in
     let long : length ns ≡ size t =
-    unfold nibblesOf in omega (arith, length-map (drop 4 r) nib, length-drop 4 r, k .long, k .size-said) in
+    unfold nibblesOf in omega (arith, length-map (drop 4 r) nib, length-drop 4 r, k .frame .long, k .size-said) in
     let wide : length ns * 4 ≡ fill t + bits t = omega arith in
     let below : n < 2 ^ (fill t + bits t) = subst (λ (x : ℕ). n < 2 ^ x) wide (whole-lt 4 ns) in
     let h : headOf r ≡ laid (header application (size t)) 0 =
-    header-of application (size t) (headOf r) (k .within) (omega (arith, s .control-fits)) (k .ours) (k .size-said) in
+    header-of application (size t) (headOf r) (k .frame .within) (omega (arith, s .control-fits)) (k .frame .ours) (k .size-said) in
     let all : n ≡ laid (fields (field 0 8 n) (control t) reserved t) filling =
     relaid n (k .clear) ∙ ap (λ (c : ℕ). laid (fields (field 0 8 n) c reserved t) filling) (k .control-said) in
     let own : ns ≡ nibbles (field 0 8 n) reserved filling t =
@@ -138,7 +112,7 @@ says application r k =
     record {
       reserved = reserved;
       filling = filling;
-      within = k .within;
+      within = k .frame .within;
       sendable = sends t s;
       bit = field-lt 27 1 n;
       filled = shr-lt (fill t) (bits t) below;
@@ -152,20 +126,6 @@ says application r k =
 bits-any : (sum c reserved : ℕ) (t : Table) → width (fields sum c reserved t) ≡ bits t
 unfolding width fields
 bits-any sum c reserved t = refl
-
--- a block's 16 bits, and what they say
-module _ (application blockSize : ℕ) where
-  pub header-lt : laid (header application blockSize) 0 < 65536
-  unfolding laid
-  header-lt = omega arith
-
-  pub header-size : blockSize < 2048 → laid (header application blockSize) 0 / 32 ≡ blockSize
-  unfolding laid
-  header-size h = omega arith
-
-  headed : (h : ℕ) → application < 32 → blockSize < 2048 → h ≡ laid (header application blockSize) 0 → (h % 32 ≡ application) × (h / 32 ≡ blockSize)
-  unfolding laid
-  headed h a b e = (omega arith, ap (λ (x : ℕ). x / 32) e ∙ header-size b)
 
 module _ (application : ℕ) (r : List ℕ) (t : Table) (s : Says application r t) where
   sum : ℕ
@@ -218,10 +178,14 @@ module _ (application : ℕ) (r : List ℕ) (t : Table) (s : Says application r 
       unfold nibblesOf in omega (arith, long-said, length-map (drop 4 r) nib, length-drop 4 r, bits-of t) in
       let c = control t in
       record {
-        within = s .within;
-        long = long ∙ ap (λ (x : ℕ). 4 + x) (sym (head .1));
-        in-range = i;
-        ours = head .0;
+        frame =
+            record {
+              within = s .within;
+              long = long ∙ ap (λ (x : ℕ). 4 + x) (sym (head .1));
+              in-range = i;
+              ours = head .0;
+              eight = omega (arith, head .1, bits-of t);
+            };
         known-kind = rw kind-said at (can .kind-known);
         clear = rw whole-said (at-access sum c (s .reserved) (s .filling) t can);
         decodes = ap sound (s .body) ∙ nibbles-sound sum (s .reserved) (s .filling) t ∙ sym long-said;
@@ -235,24 +199,17 @@ module _ (application : ℕ) (r : List ℕ) (t : Table) (s : Says application r 
 -- ---- and so every rule holds
 
 every : (application : ℕ) (r : List ℕ) → Taken application r (whole 4 (nibblesOf r)) → Every (readRules application r)
-unfolding frameRules frontRules wholeRules lengthRules tableOf
+unfolding frontRules wholeRules lengthRules tableOf
 every application r k =
     let ns = nibblesOf r in
     let n = whole 4 ns in
     let t = tableOf n in
-    let big : 16 ≤ size t = omega (arith, bits-of t) in
     let long : length ns ≡ headOf r / 32 =
-    unfold nibblesOf in omega (arith, length-map (drop 4 r) nib, length-drop 4 r, k .long) in
-    let eight : 8 ≤ headOf r / 32 = omega (arith, k .size-said) in
-    let front = sound-take 8 ns (k .decodes) (omega arith) in
+    unfold nibblesOf in omega (arith, length-map (drop 4 r) nib, length-drop 4 r, k .frame .long) in
+    let front = sound-take 8 ns (k .decodes) (omega (arith, k .frame .eight)) in
     let numbers : blockNumbered (headOf r / 32) (field 28 16 n) ≡ true = rw (k .edition) (either-true (ltb (headOf r / 32) 12)) in
     let even : headOf r / 32 % 2 ≡ 0 = omega (arith, k .size-said) in
-    more (lt-ltb application 32 (k .within))
-    (more (eq-eqb (length r) (4 + headOf r / 32) (k .long))
-    (more
-    (both-holds (leb (partOf r) 5) (eqb (secondOf r) 0) (le-leb (partOf r) 5 (k .in-range .part)) (eq-eqb (secondOf r) 0 (k .in-range .second)))
-    (more (eq-eqb (headOf r % 32) application (k .ours))
-    (more (le-leb 8 (headOf r / 32) eight)
+    every-append (frame-holds application r (k .frame))
     (more (eq-eqb (sound (take 8 ns)) 8 front)
     (more (both-holds (known (field 18 6 n)) (eqb (field 24 2 n) 0) (k .known-kind) (eq-eqb (field 24 2 n) 0 (k .clear)))
     (more (eq-eqb (headOf r / 32 % 2) 0 even)
@@ -262,7 +219,7 @@ every application r k =
     (more
     (both-holds (eqb (field 8 10 n) (control t)) (eqb (headOf r / 32) (size t)) (eq-eqb (field 8 10 n) (control t) (k .control-said))
     (eq-eqb (headOf r / 32) (size t) (k .size-said)))
-    none)))))))))))
+    none)))))))
 
 -- ---- the second demand: of a record whose two new bytes are in range, a table of our application in clear is accepted, with a count,
 -- exactly when its bytes decode, its checksum agrees and its lengths fit, and the count is that of its mended bytes
@@ -275,7 +232,7 @@ unfolding readBlock
 accepted-says application r t c e =
     let a = accepts (readRules application r) (tableRead r) t (mendedIn r) c e in
     let k = taken application r (a .0) in
-    (subst (Says application r) (a .1) (says application r k), sym (a .2), k .in-range)
+    (subst (Says application r) (a .1) (says application r k), sym (a .2), k .frame .in-range)
 
 pub says-accepted :
     (application : ℕ) (r : List ℕ) (t : Table) → InRange r → Says application r t → readBlock application r ≡ accepted t (mendedIn r)
@@ -303,7 +260,7 @@ mended-most application r e =
     let n = whole 4 (nibblesOf r) in
     let harmed = harms-le (drop 4 r) in
     let c : control (tableOf n) < 1024 = rw (k .control-said) at (field-lt 8 10 n) in
-    omega (arith, harmed, length-drop 4 r, k .long, k .size-said, k .in-range .part)
+    omega (arith, harmed, length-drop 4 r, k .frame .long, k .size-said, k .frame .in-range .part)
 
 -- in particular each of its bytes decodes
 pub decodes-all :

@@ -14,6 +14,7 @@ use Rattle.table.specs.Lengths.{lengthRules}
 use Rattle.sums.specs.Sums.{checksum, sound}
 use Rattle.sums.specs.Block.{headLength, headOf, nibblesOf, mendedIn}
 use Rattle.frames.specs.Framing.{framing}
+pub use Rattle.frames.specs.Outcome.{Outcome, accepted, refused}
 
 -- 10 in its first eight bytes, 12 for kind and access, 13 for an odd size: what can be said of a block before it is read whole
 unfoldable pub frontRules : ℕ → List ℕ → List Rule
@@ -44,11 +45,6 @@ readRules application r = framing application r ++ bodyRules (headOf r) (nibbles
 abbrev pub tableRead : List ℕ → Table
 tableRead r = tableOf (whole 4 (nibblesOf r))
 
--- a table with the count of its block's mended bytes, or a number and an offset
-pub data Outcome : Type 0 where
-  accepted : Table → ℕ → Outcome
-  refused : ℕ → ℕ → Outcome
-
 -- what reading makes of a record, room apart
-unfoldable pub readBlock : ℕ → List ℕ → Outcome
+unfoldable pub readBlock : ℕ → List ℕ → Outcome Table
 readBlock application r = judged refused (readRules application r) (accepted (tableRead r) (mendedIn r))
