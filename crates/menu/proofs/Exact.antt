@@ -2,6 +2,7 @@
 -- count. What is read is spelled again into the same nibbles and codes, and what is spelled is read again. Assumes nothing.
 use mathlib.Core.Path.{_≡_, _∙_, refl, sym, ap, ap₂, subst}
 use mathlib.Core.Bool.{true}
+use mathlib.Core.Logic.{_↔_}
 use mathlib.Core.List.{List, [], _∷_, _++_, map}
 use Prim.Native.Nat.{ℕ, _+_, _-_, _*_, _/_, _%_, _^_, _≤_, _<_}
 use native.Mathlib.Omega.{arith}
@@ -13,23 +14,27 @@ use Rattle.laws.specs.Pick.{both}
 use Rattle.laws.proofs.Tests.{both-true, both-holds}
 use Rattle.laws.proofs.Maps.{map-take}
 use Rattle.answer.specs.Rules.{Rule, Every, none, more}
+use Rattle.answer.proofs.Judging.{passes, every-append}
+use Rattle.answer.proofs.Lent.{front-holds, back-holds}
 use Rattle.answer.proofs.Steps.{first-holds, others-hold}
 use Rattle.octet.specs.Decoding.{nib}
 use Rattle.blocks.specs.Block.{headOf}
-use Rattle.fields.specs.Fields.{Field, width, laid, fitting}
+use Rattle.fields.specs.Fields.{Field, width, fitting}
 use Rattle.fields.proofs.Laid.{field-lt, length-parts}
 use Rattle.forms.proofs.Forms.{Bytes}
 use Rattle.sums.specs.Sums.{checksum, sound}
-use Rattle.sums.specs.Block.{header, InRange}
 use Rattle.sums.proofs.Nibbles.{parts-sound, sound-take}
 use Rattle.sums.proofs.Summing.{checksum-lt}
+use Rattle.frames.specs.Framing.{framing}
+use Rattle.frames.specs.Outcome.{accepted, refused}
+use Rattle.frames.proofs.Framed.{Framed, framed, frame-holds, header-of, headed, accepts}
 use Rattle.strings.specs.Parity.{letter, odds}
 use Rattle.menu_forms.specs.Menus.{Menu, NI, zeros, fields, strings, control, size, sevens, fits}
 use Rattle.menu_forms.specs.Block.{spelled, nibbles, headBits, checksumOf, Says}
 use Rattle.menu_forms.proofs.Nibbled.{menu-nibbled, menu-bytes, menu-whole}
 use Rattle.menu_forms.proofs.Saying.{nibbles-long, sum-apart}
 use Rattle.menu.specs.Control.{bitsAt, menuOf}
-use Rattle.menu.specs.Reading.{controlLength, controlPart, stringPart, codeOf, frontRules, wholeRules, lengthRules, menuRead}
+use Rattle.menu.specs.Reading.{controlLength, controlPart, stringPart, codeOf, frontRules, wholeRules, lengthRules, menuRead, bodyRules, mendedIn, readRules, readMenu}
 use Rattle.menu.proofs.Places.{bits-take}
 use Rattle.menu.proofs.Strings.{letters-again, codes-seven, codes-again, letters-odd}
 use Rattle.menu.proofs.Back.{field-back, menu-back}
@@ -37,14 +42,7 @@ use Rattle.menu.proofs.Inverse.{spareIn, menu-fitting, spelled-again, s
 
 -- ---- what the rules say
 
--- of a record's frame
-record Framed (application : ℕ) (r : List ℕ) : Type 0 where
-  within : application < 32
-  long : length r ≡ 4 + headOf r / 32
-  in-range : InRange r
-  ours : headOf r % 32 ≡ application
-
--- of the nibbles and the string bytes behind it, and of the menu that they hold
+-- of the nibbles and the string bytes behind the frame, and of the menu that they hold
 record Bodied (head : ℕ) (ns bs : List ℕ) (m : Menu) : Type 0 where
   kind : bitsAt 18 6 ns ≡ NI
   clear : bitsAt 24 2 ns ≡ 0
@@ -120,12 +118,6 @@ at-least : (raw : List ℕ) → 8 ≤ controlLength raw
 at-least raw = omega arith
 
 -- ---- accepted as the menu that it says
-
-header-of :
-    (application blockSize h : ℕ) → application < 32 → blockSize < 2048 → h % 32 ≡ application → h / 32 ≡ blockSize
-    → h ≡ laid (header application blockSize) 0
-unfolding laid
-header-of application blockSize h a b e f = omega arith
 
 module _ (application : ℕ) (r : List ℕ) (b : Bytes r) (f : Framed application r) where
   abbrev raw : List ℕ
@@ -210,12 +202,6 @@ module _ (application : ℕ) (r : List ℕ) (b : Bytes r) (f : Framed applicatio
 
 -- ---- what says a menu is accepted as it
 
-headed :
-    (application blockSize h : ℕ) → application < 32 → blockSize < 2048 → h ≡ laid (header application blockSize) 0
-    → (h % 32 ≡ application) × (h / 32 ≡ blockSize)
-unfolding laid
-headed application blockSize h a b e = (omega arith, omega arith)
-
 module _ (application : ℕ) (r : List ℕ) (m : Menu) (s : Says application r m) where
   abbrev sum : ℕ
   sum = checksumOf application (s .spare) m
@@ -261,7 +247,7 @@ module _ (application : ℕ) (r : List ℕ) (m : Menu) (s : Says application r m
   enough =
       omega (arith, length-map (take (2 * control m) block) nib, length-take (2 * control m) block, ap length (s .body), sent-long)
 
-  sent-ends : controlLength block ≡ 2 * control m
+  pub sent-ends : controlLength block ≡ 2 * control m
   sent-ends =
       ends-there block (control m)
       (bits-front block (2 * control m) (omega (arith, nine m)) ∙ ap (bitsAt 8 10) (s .body) ∙ at-control)
@@ -273,7 +259,8 @@ module _ (application : ℕ) (r : List ℕ) (m : Menu) (s : Says application r m
   sent-strings : stringPart block ≡ map letter (strings m)
   sent-strings = ap (λ (l : ℕ). drop l block) sent-ends ∙ s .codes
 
-  menu-said : menuRead block ≡ m
+  -- the menu that is read is the one that was said
+  pub menu-said : menuRead block ≡ m
   menu-said =
       ap₂ menuOf sent-nibbles (ap (map codeOf) sent-strings ∙ codes-again (strings m) (sent-parts .1))
       ∙ menu-back sum (control m) (s .spare) m (s .sendable)
@@ -307,6 +294,7 @@ module _ (application : ℕ) (r : List ℕ) (m : Menu) (s : Says application r m
             );
         in-range = s .ranged;
         ours = headed-said .0;
+        eight = omega (arith, headed-said .1, nine m);
       }
 
   bodied-said : Bodied (headOf r) (map nib (controlPart block)) (stringPart block) (menuRead block)
@@ -325,3 +313,52 @@ module _ (application : ℕ) (r : List ℕ) (m : Menu) (s : Says application r m
       subst (λ (x : Menu). Bodied (headOf r) (map nib (controlPart block)) (stringPart block) x) (sym menu-said)
       (subst (λ (x : List ℕ). Bodied (headOf r) (map nib (controlPart block)) x m) (sym sent-strings)
       (subst (λ (x : List ℕ). Bodied (headOf r) x (map letter (strings m)) m) (sym sent-nibbles) k))
+
+-- ---- the second demand: a record of our application is accepted as a menu in clear, with a count, exactly when its two bytes are in range,
+-- its control bytes decode, its string bytes are odd, its checksum agrees and its lengths fit, and the count is that of its mended bytes
+
+-- what every rule of reading says
+taken :
+    (application : ℕ) (r : List ℕ) → Every (readRules application r)
+    → Framed application r
+    × Bodied (headOf r) (map nib (controlPart (drop 4 r))) (stringPart (drop 4 r)) (menuRead (drop 4 r))
+taken application r e =
+    let raw = drop 4 r in
+    let body = bodyRules (headOf r) raw in (
+      framed application r (front-holds (framing application r) body e),
+      bodied (headOf r) (map nib (controlPart raw)) (stringPart raw) (menuRead raw) (back-holds (framing application r) body e),
+    )
+
+-- what is accepted says the menu, and the count is its own
+pub accepted-says :
+    (application : ℕ) (r : List ℕ) (m : Menu) (c : ℕ) → Bytes r → readMenu application r ≡ accepted m c
+    → Says application r m × (c ≡ mendedIn r)
+unfolding readMenu
+accepted-says application r m c b e =
+    let a = accepts (readRules application r) (menuRead (drop 4 r)) m (mendedIn r) c e in
+    let k = taken application r (a .0) in
+    (subst (Says application r) (a .1) (says application r b (k .0) (k .1)), sym (a .2))
+
+-- and what says a menu is accepted as it
+pub says-rules : (application : ℕ) (r : List ℕ) (m : Menu) → Says application r m → Every (readRules application r)
+says-rules application r m s =
+    let raw = drop 4 r in
+    let eight : 8 ≤ length (map nib (controlPart raw)) =
+    omega (arith, ap length (sent-nibbles application r m s), sent-long application r m s, nine m) in
+    every-append (frame-holds application r (framed-said application r m s))
+    (body-holds (headOf r) (map nib (controlPart raw)) (stringPart raw) (menuRead raw) eight (bodied-said application r m s))
+
+pub says-accepted :
+    (application : ℕ) (r : List ℕ) (m : Menu) → Says application r m → readMenu application r ≡ accepted m (mendedIn r)
+unfolding readMenu
+says-accepted application r m s =
+    passes refused (accepted (menuRead (drop 4 r)) (mendedIn r)) (says-rules application r m s)
+    ∙ ap (λ (x : Menu). accepted x (mendedIn r)) (menu-said application r m s)
+
+pub reads-exactly :
+    (application : ℕ) (r : List ℕ) (m : Menu) (c : ℕ) → Bytes r
+    → (readMenu application r ≡ accepted m c) ↔ (Says application r m × (c ≡ mendedIn r))
+reads-exactly application r m c b = (accepted-says application r m c b, from)
+  where
+    from : Says application r m × (c ≡ mendedIn r) → readMenu application r ≡ accepted m c
+    from s = says-accepted application r m (s .0) ∙ ap (accepted m) (sym (s .1))

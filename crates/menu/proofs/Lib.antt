@@ -3,3 +3,5 @@ pub mod Places
 pub mod Strings
 pub mod Inverse
 pub mod Exact
+pub mod Written
+pub mod Calls

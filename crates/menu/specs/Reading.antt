@@ -4,12 +4,14 @@ use Prim.Native.Nat.{ℕ, _+_, _*_, _%_, min, max}
 use lib.Dec.{eqb, ltb}
 use lib.ListN.{length, take, drop}
 use Rattle.laws.specs.Pick.{both}
-use Rattle.answer.specs.Rules.{Rule, rule}
-use Rattle.blocks.specs.Block.{headLength, sizeOf, partOf}
+use Rattle.answer.specs.Rules.{Rule, rule, judged}
+use Rattle.blocks.specs.Block.{headLength, headOf, sizeOf, partOf}
 use Rattle.octet.specs.Decoding.{nib}
 use Rattle.octet.specs.Hearing.{harms}
 use Rattle.strings.specs.Parity.{odds}
 use Rattle.sums.specs.Sums.{checksum, sound}
+use Rattle.frames.specs.Framing.{framing}
+use Rattle.frames.specs.Outcome.{Outcome, accepted, refused}
 use Rattle.menu_forms.specs.Menus.{Menu, NI, control, size}
 use Rattle.menu.specs.Control.{bitsAt, menuOf}
 
@@ -62,3 +64,11 @@ bodyRules head raw =
 -- the count of mended bytes: the part, and the control bytes that aren't images; string bytes don't count (SCOPE 23.6)
 unfoldable pub mendedIn : List ℕ → ℕ
 mendedIn r = partOf r + harms (controlPart (drop headLength r))
+
+-- the rules of a record
+abbrev pub readRules : ℕ → List ℕ → List Rule
+readRules application r = framing application r ++ bodyRules (headOf r) (drop headLength r)
+
+-- what reading makes of a record, room apart
+unfoldable pub readMenu : ℕ → List ℕ → Outcome Menu
+readMenu application r = judged refused (readRules application r) (accepted (menuRead (drop headLength r)) (mendedIn r))

@@ -34,8 +34,8 @@ module _ (application : ℕ) (spare : Spare) (m : Menu) where
   abbrev sum : ℕ
   sum = checksumOf application spare m
 
-  long : 2 * control m ≡ length (map image (nibbles sum spare m))
-  long = sym (length-map (nibbles sum spare m) image ∙ nibbles-long sum spare m)
+  pub images-long : 2 * control m ≡ length (map image (nibbles sum spare m))
+  images-long = sym (length-map (nibbles sum spare m) image ∙ nibbles-long sum spare m)
 
   -- a record of a menu that can be sent, with any spare bits, says that menu
   pub record-says :
@@ -55,7 +55,7 @@ module _ (application : ℕ) (spare : Spare) (m : Menu) where
         second = s;
         head = omega arith;
         body =
-            ap (map nib) (ap (λ (k : ℕ). take k (xs ++ ys)) long ∙ take-append-seam xs ys)
+            ap (map nib) (ap (λ (k : ℕ). take k (xs ++ ys)) images-long ∙ take-append-seam xs ys)
             ∙ (unfold spelled in nibbles-back (width (fields sum (control m) spare m) / 4) (laid (fields sum (control m) spare m) 0));
-        codes = ap (λ (k : ℕ). drop k (xs ++ ys)) long ∙ drop-append-seam xs ys;
+        codes = ap (λ (k : ℕ). drop k (xs ++ ys)) images-long ∙ drop-append-seam xs ys;
       }

@@ -1,0 +1,69 @@
+-- What is written reads back as the same menu, and what is read can be written. Assumes nothing.
+use mathlib.Core.Path.{_≡_, _∙_, ap}
+use mathlib.Core.Bool.{true}
+use mathlib.Core.List.{List, _++_, map}
+use Prim.Native.Nat.{ℕ, _+_, _<_}
+use native.Mathlib.Nat.{zero-add}
+use native.Mathlib.Omega.{arith}
+use borrow.Author.Tests.{lt-ltb, ltb-true}
+use lib.ListN.{take}
+use lib.Seq.{take-append-seam}
+use Rattle.answer.specs.Rules.{Every, more}
+use Rattle.answer.proofs.Steps.{first-holds, others-hold}
+use Rattle.octet.specs.Image.{image}
+use Rattle.octet.specs.Hearing.{harms}
+use Rattle.octet.proofs.Hearing.{harms-images}
+use Rattle.forms.proofs.Forms.{Bytes}
+use Rattle.frames.specs.Outcome.{accepted}
+use Rattle.strings.specs.Parity.{letter}
+use Rattle.menu_forms.specs.Menus.{Menu, Spare, zeros, strings, fits}
+use Rattle.menu_forms.specs.Form.{form, menuIn}
+use Rattle.menu_forms.specs.Block.{nibbles, checksumOf, blockWith, recordWith, recordOf, Says}
+use Rattle.menu_forms.specs.Writing.{formRules, writeRules}
+use Rattle.menu_forms.proofs.Forms.{form-back, form-taken}
+use Rattle.menu_forms.proofs.Saying.{images-long, record-says}
+use Rattle.menu.specs.Reading.{mendedIn, readMenu}
+use Rattle.menu.proofs.Exact.{sent-ends, accepted-says, says-accepted}
+
+module _ (application : ℕ) (spare : Spare) (m : Menu) (s : Says application (recordWith application spare m) m) where
+  -- none of the bytes of a record that is made is mended
+  with-none : mendedIn (recordWith application spare m) ≡ 0
+  unfolding mendedIn blockWith
+  with-none =
+      let xs = map image (nibbles (checksumOf application spare m) spare m) in
+      let ys = map letter (strings m) in
+      zero-add _
+      ∙ ap harms (ap (λ (k : ℕ). take k (xs ++ ys)) (sent-ends application (recordWith application spare m) m s ∙ images-long application spare m) ∙ take-append-seam xs ys)
+      ∙ harms-images (nibbles (checksumOf application spare m) spare m)
+
+-- whatever the spare bits are, the same menu is read (SCOPE 23.3), and no byte was mended
+pub reads-any :
+    (application : ℕ) (spare : Spare) (m : Menu) → application < 32 → fits m ≡ true → spare .reserved < 2 → spare .first < 2
+    → spare .second < 16
+    → readMenu application (recordWith application spare m) ≡ accepted m 0
+reads-any application spare m a f p q t =
+    let r = recordWith application spare m in
+    let s : Says application r m = record-says application spare m a f p q t in
+    says-accepted application r m s ∙ ap (accepted m) (with-none application spare m s)
+
+-- what is written reads back, with nothing mended
+pub writes-back :
+    (application : ℕ) (m : Menu) → application < 32 → fits m ≡ true → readMenu application (recordOf application m) ≡ accepted m 0
+writes-back application m a f = reads-any application zeros m a f (omega arith) (omega arith) (omega arith)
+
+-- of a form that writing takes its menu is read back
+pub writes-back-form :
+    (application : ℕ) (f : List ℕ) → Every (writeRules application f)
+    → readMenu application (recordOf application (menuIn f)) ≡ accepted (menuIn f) 0
+unfolding formRules
+writes-back-form application f e =
+    writes-back application (menuIn f) (ltb-true application 32 (first-holds e))
+    (first-holds (others-hold (others-hold (others-hold (others-hold e)))))
+
+-- every accepted menu is one that writing takes, and its form stands for it
+pub accepted-writable :
+    (application : ℕ) (r : List ℕ) (m : Menu) (c : ℕ) → Bytes r → readMenu application r ≡ accepted m c
+    → Every (writeRules application (form m)) × (menuIn (form m) ≡ m)
+accepted-writable application r m c b e =
+    let s = accepted-says application r m c b e .0 in
+    (more (lt-ltb application 32 (s .within)) (form-taken m (s .sendable)), form-back m (s .sendable))
