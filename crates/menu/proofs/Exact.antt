@@ -9,7 +9,6 @@ use native.Mathlib.Omega.{arith}
 use borrow.Author.Tests.{ltb-true, lt-ltb, eqb-true, eq-eqb}
 use lib.Dec.{eqb, ltb}
 use lib.ListN.{length, take, drop, length-map, length-take, length-drop}
-use lib.Seq.{getD-drop}
 use Rattle.laws.specs.Pick.{both}
 use Rattle.laws.proofs.Tests.{both-true, both-holds}
 use Rattle.laws.proofs.Maps.{map-take}
@@ -31,6 +30,7 @@ use Rattle.frames.proofs.Framed.{Framed, framed, frame-holds, header-of, headed
 use Rattle.strings.specs.Parity.{letter, odds}
 use Rattle.menu_forms.specs.Menus.{Menu, NI, zeros, fields, strings, control, size, sevens, fits}
 use Rattle.menu_forms.specs.Block.{spelled, nibbles, headBits, checksumOf, Says}
+use Rattle.menu_forms.proofs.Formed.{bytes-behind}
 use Rattle.menu_forms.proofs.Nibbled.{menu-nibbled, menu-bytes, menu-whole}
 use Rattle.menu_forms.proofs.Saying.{nibbles-long, sum-apart}
 use Rattle.menu.specs.Control.{bitsAt, menuOf}
@@ -177,9 +177,6 @@ module _ (application : ℕ) (r : List ℕ) (b : Bytes r) (f : Framed applicatio
         k .agrees ∙ ap₂ checksum said-head own
         ∙ sum-apart (headBits application m) (bitsAt 0 8 ns) 0 (spareIn ns cs) m
 
-    string-bytes : Bytes (stringPart raw)
-    string-bytes i = rw (getD-drop (controlLength raw) raw i 0, getD-drop 4 r (controlLength raw + i) 0) (b (4 + (controlLength raw + i)))
-
     says : Says application r m
     says =
         record {
@@ -196,7 +193,7 @@ module _ (application : ℕ) (r : List ℕ) (b : Bytes r) (f : Framed applicatio
               ∙ ap (λ (s : ℕ). nibbles s (spareIn ns cs) m) said-sum;
           codes =
               ap (λ (l : ℕ). drop l raw) (sym ends)
-              ∙ sym (letters-again (stringPart raw) string-bytes (k .odd))
+              ∙ sym (letters-again (stringPart raw) (bytes-behind (controlLength raw) raw (bytes-behind 4 r b)) (k .odd))
               ∙ ap (map letter) said-strings;
         }
 
@@ -354,6 +351,14 @@ unfolding readMenu
 says-accepted application r m s =
     passes refused (accepted (menuRead (drop 4 r)) (mendedIn r)) (says-rules application r m s)
     ∙ ap (λ (x : Menu). accepted x (mendedIn r)) (menu-said application r m s)
+
+-- in particular each of its string bytes is of right parity
+pub odd-all :
+    (application : ℕ) (r : List ℕ) (m : Menu) (c : ℕ) → readMenu application r ≡ accepted m c
+    → odds (stringPart (drop 4 r)) ≡ length (stringPart (drop 4 r))
+unfolding readMenu
+odd-all application r m c e =
+    taken application r (accepts (readRules application r) (menuRead (drop 4 r)) m (mendedIn r) c e .0) .1 .odd
 
 pub reads-exactly :
     (application : ℕ) (r : List ℕ) (m : Menu) (c : ℕ) → Bytes r

@@ -1,15 +1,15 @@
 -- What control data and strings hold, spelled again, is that control data and those strings. Assumes nothing.
 use mathlib.Core.Path.{_≡_, _∙_, refl, sym, ap, ap₂, subst}
 use mathlib.Core.Bool.{Bool, true, false}
-use mathlib.Core.List.{List, [], _∷_, _++_, append-nil}
+use mathlib.Core.List.{List, [], _∷_, _++_}
 use Prim.Native.Nat.{ℕ, zero, suc, _+_, _*_, _/_, _%_, _^_, _<_}
-use native.Mathlib.Nat.{div-one, div-eq-of-lt, suc-add, zero-add}
+use native.Mathlib.Nat.{div-one, div-eq-of-lt}
 use native.Mathlib.Omega.{arith}
 use borrow.Author.Tests.{lt-ltb}
 use lib.Dec.{eqb, ltb}
-use lib.ListN.{length, drop, length-append}
+use lib.ListN.{length, drop}
 use lib.Pow.{shr-shr}
-use lib.Seq.{drop-drop, drop-nil}
+use lib.Seq.{drop-drop}
 use Rattle.laws.specs.Pick.{pick}
 use Rattle.laws.proofs.Tests.{both-holds}
 use Rattle.fields.specs.Fields.{Field, width, laid, fitting, field, parts, whole}
@@ -21,7 +21,8 @@ use Rattle.menu_forms.specs.Menus.{Descriptor, Escape, Text, Attribute, Event, 
 use Rattle.menu_forms.specs.Menus.{descriptorFields, escapeFields, attributeFields, textFields, eventFields, fillFields, fields}
 use Rattle.menu_forms.specs.Form.{codesIn}
 use Rattle.menu_forms.specs.Block.{spelled}
-use Rattle.menu_forms.proofs.Forms.{row-count, codes-count, codes-back}
+use Rattle.menu_forms.proofs.Forms.{row-count, codes-count}
+use Rattle.menu_forms.proofs.Formed.{Begins, begins-append, begins-codes, begins-all}
 use Rattle.menu_forms.proofs.Spelling.{each-nibbled, each-spelled}
 use Rattle.menu_forms.proofs.Nibbled.{descriptor-nibbled, escape-nibbled, attribute-nibbled, text-nibbled, event-nibbled, fill-nibbled, fill-same}
 use Rattle.menu.specs.Control.{bitsAt, descriptorAt, escapeAt, attributeAt, descriptorNibbles, escapeNibbles, attributeNibbles, textAt, eventAt, eventsAt, menuOf}
@@ -159,31 +160,17 @@ events-count (suc k) ns codes =
 
 -- ---- codes
 
-codes-join : (a b : ℕ) (cs : List ℕ) → codesIn (a + b) cs ≡ codesIn a cs ++ codesIn b (drop a cs)
-unfolding codesIn
-codes-join zero b cs = ap (λ (k : ℕ). codesIn k cs) (zero-add b)
-codes-join (suc a) b [] =
-    rw suc-add (ap (λ (x : List ℕ). 0 ∷ x) (codes-join a b [] ∙ ap (λ (x : List ℕ). codesIn a [] ++ codesIn b x) (drop-nil a)))
-codes-join (suc a) b (c ∷ cs) = rw suc-add (ap (λ (x : List ℕ). c ∷ x) (codes-join a b cs))
-
--- codes that are taken one after the other
-own-append :
-    (xs ys cs : List ℕ) → codesIn (length xs) cs ≡ xs → codesIn (length ys) (drop (length xs) cs) ≡ ys
-    → codesIn (length (xs ++ ys)) cs ≡ xs ++ ys
-own-append xs ys cs p q =
-    ap (λ (k : ℕ). codesIn k cs) (length-append xs ys) ∙ codes-join (length xs) (length ys) cs ∙ ap₂ (λ (x y : List ℕ). x ++ y) p q
-
-text-own : (ns cs : List ℕ) → codesIn (length (textAt ns cs .codes)) cs ≡ textAt ns cs .codes
+text-begins : (ns cs : List ℕ) → Begins cs (textAt ns cs .codes)
 unfolding textAt
-text-own ns cs = ap (λ (k : ℕ). codesIn k cs) (codes-count (bitsAt 0 8 _) cs)
+text-begins ns cs = begins-codes (bitsAt 0 8 _) cs
 
-events-own : (k : ℕ) (ns cs : List ℕ) → codesIn (length (each codesOf (eventsAt k ns cs))) cs ≡ each codesOf (eventsAt k ns cs)
+events-begin : (k : ℕ) (ns cs : List ℕ) → Begins cs (each codesOf (eventsAt k ns cs))
 unfolding each eventsAt
-events-own zero ns cs = unfold codesIn in refl
-events-own (suc k) ns cs =
+events-begin zero ns cs = unfold codesIn in refl
+events-begin (suc k) ns cs =
     let e = eventAt ns cs in
-    own-append (codesOf e) _ cs (unfold eventAt in text-own _ cs)
-    (events-own k (drop (length (spelled (eventFields e))) ns) (drop (length (codesOf e)) cs))
+    begins-append cs (codesOf e) _ (unfold eventAt in text-begins _ cs)
+    (events-begin k (drop (length (spelled (eventFields e))) ns) (drop (length (codesOf e)) cs))
 
 -- ---- the menu
 
@@ -357,16 +344,13 @@ module _ (ns cs : List ℕ) where
 
   -- ---- strings
 
-  -- as many codes as are taken
-  strings-own : codesIn (length (strings (menuOf ns cs))) cs ≡ strings (menuOf ns cs)
+  -- the codes begin with the menu's strings
+  strings-begin : Begins cs (strings (menuOf ns cs))
   unfolding strings menuOf
-  strings-own =
-      own-append (header .codes) (each codesOf lines) cs (text-own behind cs)
-      (events-own (bitsAt 46 4 ns) (drop 2 past) (drop (length (header .codes)) cs))
+  strings-begin =
+      begins-append cs (header .codes) (each codesOf lines) (text-begins behind cs)
+      (events-begin (bitsAt 46 4 ns) (drop 2 past) (drop (length (header .codes)) cs))
 
-  -- where the menu's lengths add up to all of them, they are its strings
+  -- and where its lengths add up to all of them, they are its strings
   pub strings-again : length (strings (menuOf ns cs)) ≡ length cs → cs ≡ strings (menuOf ns cs)
-  strings-again long =
-      sym (ap (codesIn (length cs)) (sym (append-nil cs)) ∙ codes-back cs [])
-      ∙ ap (λ (k : ℕ). codesIn k cs) (sym long)
-      ∙ strings-own
+  strings-again long = begins-all cs (strings (menuOf ns cs)) strings-begin (sym long)

@@ -5,3 +5,4 @@ pub mod Inverse
 pub mod Exact
 pub mod Written
 pub mod Calls
+pub mod Noise

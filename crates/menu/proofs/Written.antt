@@ -5,8 +5,8 @@ use mathlib.Core.List.{List, _++_, map}
 use Prim.Native.Nat.{ℕ, _+_, _<_}
 use native.Mathlib.Nat.{zero-add}
 use native.Mathlib.Omega.{arith}
-use borrow.Author.Tests.{lt-ltb, ltb-true}
-use lib.ListN.{take}
+use borrow.Author.Tests.{lt-ltb, ltb-true, eqb-true}
+use lib.ListN.{length, getD, take}
 use lib.Seq.{take-append-seam}
 use Rattle.answer.specs.Rules.{Every, more}
 use Rattle.answer.proofs.Steps.{first-holds, others-hold}
@@ -16,11 +16,12 @@ use Rattle.octet.proofs.Hearing.{harms-images}
 use Rattle.forms.proofs.Forms.{Bytes}
 use Rattle.frames.specs.Outcome.{accepted}
 use Rattle.strings.specs.Parity.{letter}
-use Rattle.menu_forms.specs.Menus.{Menu, Spare, zeros, strings, fits}
+use Rattle.menu_forms.specs.Menus.{Menu, Spare, NI, zeros, strings, fits}
 use Rattle.menu_forms.specs.Form.{form, menuIn}
 use Rattle.menu_forms.specs.Block.{nibbles, checksumOf, blockWith, recordWith, recordOf, Says}
 use Rattle.menu_forms.specs.Writing.{formRules, writeRules}
 use Rattle.menu_forms.proofs.Forms.{form-back, form-taken}
+use Rattle.menu_forms.proofs.Formed.{in-form}
 use Rattle.menu_forms.proofs.Saying.{images-long, record-says}
 use Rattle.menu.specs.Reading.{mendedIn, readMenu}
 use Rattle.menu.proofs.Exact.{sent-ends, accepted-says, says-accepted}
@@ -51,14 +52,19 @@ pub writes-back :
     (application : ℕ) (m : Menu) → application < 32 → fits m ≡ true → readMenu application (recordOf application m) ≡ accepted m 0
 writes-back application m a f = reads-any application zeros m a f (omega arith) (omega arith) (omega arith)
 
--- of a form that writing takes its menu is read back
+-- of a form that writing takes: its menu is read back, and that menu's form is the one that was written
 pub writes-back-form :
-    (application : ℕ) (f : List ℕ) → Every (writeRules application f)
-    → readMenu application (recordOf application (menuIn f)) ≡ accepted (menuIn f) 0
+    (application : ℕ) (f : List ℕ) → Bytes f → Every (writeRules application f)
+    → (readMenu application (recordOf application (menuIn f)) ≡ accepted (menuIn f) 0) × (form (menuIn f) ≡ f)
 unfolding formRules
-writes-back-form application f e =
-    writes-back application (menuIn f) (ltb-true application 32 (first-holds e))
-    (first-holds (others-hold (others-hold (others-hold (others-hold e)))))
+writes-back-form application f b e₀ =
+    let e₂ = others-hold (others-hold e₀) in
+    let e₃ = others-hold e₂ in
+    let a : application < 32 = ltb-true application 32 (first-holds e₀) in
+    let l : length f ≡ length (form (menuIn f)) = eqb-true (length f) (length (form (menuIn f))) (first-holds e₃) in (
+      writes-back application (menuIn f) a (first-holds (others-hold e₃)),
+      in-form f b (eqb-true (getD f 0 0) NI (first-holds e₂)) l,
+    )
 
 -- every accepted menu is one that writing takes, and its form stands for it
 pub accepted-writable :

@@ -1,4 +1,5 @@
 pub mod Forms
+pub mod Formed
 pub mod Nibbled
 pub mod Saying
 pub mod Spelling

@@ -1,11 +1,11 @@
 -- Laws of string bytes: a test that antt computes at every byte and hands out at each; and how a pass along a string finds the bytes of
 -- right parity. Assumes nothing.
-use mathlib.Core.Path.{_≡_, sym, subst}
+use mathlib.Core.Path.{_≡_, refl, sym, subst}
 use mathlib.Core.Bool.{Bool, true, false}
-use mathlib.Core.List.{List}
-use Prim.Native.Nat.{ℕ, _+_, _/_, _%_, _<_, _≤_}
+use mathlib.Core.List.{List, [], _∷_}
+use Prim.Native.Nat.{ℕ, zero, suc, _+_, _/_, _%_, _<_, _≤_}
 use native.Mathlib.Numerals.{add-one}
-use native.Mathlib.Nat.{add-zero}
+use native.Mathlib.Nat.{add-zero, le-of-suc-le-suc, not-suc-le-zero}
 use native.Mathlib.Omega.{arith}
 use borrow.Author.Tests.{eq-eqb}
 use lib.Dec.{T, eqb, eqb→eq}
@@ -60,6 +60,20 @@ odd-letter b h o =
     (all-at (λ (x : ℕ). pick (isOdd x) (eqb (letter (x % 128)) x) true) 256 tt b h))
 
 -- ---- the bytes of right parity
+
+-- where all are, so is each by itself
+pub odds-at : (bs : List ℕ) (k : ℕ) → odds bs ≡ length bs → k < length bs → isOdd (getD bs k 0) ≡ true
+unfolding odds
+odds-at [] k h l = absurd (not-suc-le-zero l)
+odds-at (b ∷ bs) k h l = go k (isOdd b) refl h l (λ (j : ℕ). odds-at bs j)
+  where
+    go :
+        (k : ℕ) (t : Bool) → isOdd b ≡ t → pick t (suc (odds bs)) 0 ≡ suc (length bs) → k < suc (length bs)
+        → ((j : ℕ) → odds bs ≡ length bs → j < length bs → isOdd (getD bs j 0) ≡ true)
+        → isOdd (getD (b ∷ bs) k 0) ≡ true
+    go zero true e h′ l′ ih = e
+    go (suc j) true e h′ l′ ih = ih j (omega arith) (le-of-suc-le-suc l′)
+    go k false e h′ l′ ih = absurd (omega arith)
 
 pub odds-step : (s : List ℕ) (i : ℕ) → i < length s → isOdd (getD s i 0) ≡ true → i + 1 + odds (drop (i + 1) s) ≡ i + odds (drop i s)
 unfolding odds

@@ -1,0 +1,79 @@
+-- What damage to string bytes can do. One flip is always found; two may give another letter of right parity, and then a menu is read that
+-- was not sent. So demand 3 can't be had for menus. Assumes nothing.
+use mathlib.Core.Path.{_≡_, _∙_, refl, sym, ap}
+use mathlib.Core.Bool.{false, true≢false}
+use mathlib.Core.List.{List, [], _∷_}
+use Prim.Native.Nat.{ℕ, _<_}
+use native.Mathlib.Omega.{arith}
+use lib.ListN.{length, getD, drop, set}
+use Rattle.octet.specs.Bits.{flips, differing, number}
+use Rattle.octet.specs.Image.{image, withParity}
+use Rattle.fields.specs.Fields.{width, laid, fitting, parts}
+use Rattle.sums.specs.Sums.{total, checksum}
+use Rattle.frames.specs.Outcome.{accepted}
+use Rattle.strings.specs.Parity.{isOdd, ones, letter}
+use Rattle.strings.proofs.Letters.{odds-at}
+use Rattle.menu_forms.specs.Rows.{each}
+use Rattle.menu_forms.specs.Menus.{Menu, textFields, fillFields, fields, strings, sevens, fits}
+use Rattle.menu_forms.specs.Block.{spelled, checksumOf, blockWith, recordOf}
+use Rattle.menu.specs.Reading.{stringPart, readMenu}
+use Rattle.menu.proofs.Exact.{odd-all}
+use Rattle.menu.proofs.Written.{writes-back}
+
+-- a record with a string byte of wrong parity is never accepted
+pub parity-refused :
+    (application k : ℕ) (r : List ℕ) (m : Menu) (c : ℕ) → k < length (stringPart (drop 4 r)) → isOdd (getD (stringPart (drop 4 r)) k 0) ≡ false
+    → readMenu application r ≡ accepted m c
+    → ⊥
+parity-refused application k r m c h b e =
+    true≢false (sym (odds-at (stringPart (drop 4 r)) k (odd-all application r m c e) h) ∙ b)
+
+-- a menu of one string
+abbrev titled : List ℕ → Menu
+titled codes =
+    record {
+      copyright = 0;
+      block = 0;
+      headerSize = 1;
+      messageSize = 0;
+      message = 0;
+      descriptors = [];
+      header = record { escapes = []; codes = codes };
+      events = [];
+    }
+
+-- "Golf" and "Gold"
+abbrev pub golf : Menu
+golf = titled (0x47 ∷ 0x6F ∷ 0x6C ∷ 0x66 ∷ [])
+
+abbrev pub gold : Menu
+gold = titled (0x47 ∷ 0x6F ∷ 0x6C ∷ 0x64 ∷ [])
+
+-- the record of "Golf" with its last byte changed
+abbrev pub damaged : List ℕ
+damaged = set (recordOf 1 golf) 29 0x64
+
+pub record Misread : Type 0 where
+  -- "Golf" is sent and can be read
+  pub sent : readMenu 1 (recordOf 1 golf) ≡ accepted golf 0
+  -- two bits of one byte arrive wrong
+  pub flipped : flips (getD (recordOf 1 golf) 29 0) 0x64 ≡ 2
+  -- and "Gold" is read, with nothing mended
+  pub heard : readMenu 1 damaged ≡ accepted gold 0
+  pub differs : golf ≡ gold → ⊥
+
+gold-made : damaged ≡ recordOf 1 gold
+unfolding blockWith checksumOf checksum total spelled fields textFields fillFields each strings width laid parts letter ones image withParity number
+gold-made = refl
+
+pub misread : Misread
+misread =
+    record {
+      sent = writes-back 1 golf (omega arith) (unfold fits fitting fields textFields fillFields each strings sevens width in refl);
+      flipped =
+          unfold blockWith checksumOf checksum total spelled fields textFields fillFields each strings width laid parts letter ones differing in refl;
+      heard =
+          ap (readMenu 1) gold-made
+          ∙ writes-back 1 gold (omega arith) (unfold fits fitting fields textFields fillFields each strings sevens width in refl);
+      differs = λ (e : golf ≡ gold). let n = ap (λ (m : Menu). getD (m .header .codes) 3 0) e in omega arith;
+    }
