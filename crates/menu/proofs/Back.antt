@@ -56,27 +56,31 @@ bits-back pre w v gs rest h l =
 
 -- ---- entries
 
-descriptor-back : (d : Descriptor) → fitting (descriptorFields d) ≡ true → (rest : List ℕ) → descriptorAt (descriptorNibbles d ++ rest) ≡ d
+-- three fields of whole nibbles
+three-back :
+    (u v w a b c : ℕ) (rest : List ℕ) → (u + (v + (w + 0))) % 4 ≡ 0 → fitting ((u, a) ∷ (v, b) ∷ (w, c) ∷ []) ≡ true
+    → (bitsAt 0 u (spelled ((u, a) ∷ (v, b) ∷ (w, c) ∷ []) ++ rest) ≡ a)
+    × (bitsAt (u + 0) v (spelled ((u, a) ∷ (v, b) ∷ (w, c) ∷ []) ++ rest) ≡ b)
+    × (bitsAt (u + (v + 0)) w (spelled ((u, a) ∷ (v, b) ∷ (w, c) ∷ []) ++ rest) ≡ c)
 unfolding fitting width
+three-back u v w a b c rest n h =
+    let p = both-true (ltb a (2 ^ u)) _ h in
+    let q = both-true (ltb b (2 ^ v)) _ (p .1) in
+    let r = both-first (ltb c (2 ^ w)) true (q .1) in (
+      bits-back [] u a ((v, b) ∷ (w, c) ∷ []) rest n (ltb-true a (2 ^ u) (p .0)),
+      bits-back ((u, a) ∷ []) v b ((w, c) ∷ []) rest n (ltb-true b (2 ^ v) (q .0)),
+      bits-back ((u, a) ∷ (v, b) ∷ []) w c [] rest n (ltb-true c (2 ^ w) r),
+    )
+
+descriptor-back : (d : Descriptor) → fitting (descriptorFields d) ≡ true → (rest : List ℕ) → descriptorAt (descriptorNibbles d ++ rest) ≡ d
 descriptor-back d h rest =
-    let p = both-true (ltb (d .which) 64) _ h in
-    let q = both-true (ltb (d .id) 64) _ (p .1) in
-    let r = both-first (ltb (d .eval) 256) true (q .1) in
-    let a = bits-back [] 6 (d .which) ((6, d .id) ∷ (8, d .eval) ∷ []) rest refl (ltb-true (d .which) 64 (p .0)) in
-    let b = bits-back ((6, d .which) ∷ []) 6 (d .id) ((8, d .eval) ∷ []) rest refl (ltb-true (d .id) 64 (q .0)) in
-    let c = bits-back ((6, d .which) ∷ (6, d .id) ∷ []) 8 (d .eval) [] rest refl (ltb-true (d .eval) 256 r) in
-    λ i. record { which = a i; id = b i; eval = c i }
+    let t = three-back 6 6 8 (d .which) (d .id) (d .eval) rest refl h in
+    λ i. record { which = t .0 i; id = t .1 i; eval = t .2 i }
 
 escape-back : (e : Escape) → fitting (escapeFields e) ≡ true → (rest : List ℕ) → escapeAt (escapeNibbles e ++ rest) ≡ e
-unfolding fitting width
 escape-back e h rest =
-    let p = both-true (ltb (e .position) 1024) _ h in
-    let q = both-true (ltb (e .mode) 64) _ (p .1) in
-    let r = both-first (ltb (e .content) 256) true (q .1) in
-    let a = bits-back [] 10 (e .position) ((6, e .mode) ∷ (8, e .content) ∷ []) rest refl (ltb-true (e .position) 1024 (p .0)) in
-    let b = bits-back ((10, e .position) ∷ []) 6 (e .mode) ((8, e .content) ∷ []) rest refl (ltb-true (e .mode) 64 (q .0)) in
-    let c = bits-back ((10, e .position) ∷ (6, e .mode) ∷ []) 8 (e .content) [] rest refl (ltb-true (e .content) 256 r) in
-    λ i. record { position = a i; mode = b i; content = c i }
+    let t = three-back 10 6 8 (e .position) (e .mode) (e .content) rest refl h in
+    λ i. record { position = t .0 i; mode = t .1 i; content = t .2 i }
 
 attribute-back : (x : Attribute) → fitting (attributeFields x) ≡ true → (rest : List ℕ) → attributeAt (attributeNibbles x ++ rest) ≡ x
 unfolding fitting width
