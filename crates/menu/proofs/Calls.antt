@@ -1,9 +1,11 @@
 -- The reading call and the outcome that is exact: given room, the call is accepted as a menu, with a count, exactly when the record says
 -- it and has that count. Assumes nothing.
-use mathlib.Core.Path.{_≡_, _∙_, sym, ap}
+use mathlib.Core.Path.{_≡_, _∙_, sym, ap, ap₂}
 use mathlib.Core.List.{List, _++_}
 use Prim.Native.Nat.{ℕ, _≤_}
 use lib.ListN.{length, drop}
+use Rattle.blocks.specs.Block.{headLength}
+use Rattle.answer.specs.Rules.{Every}
 use Rattle.answer.specs.Writing.{answered, left}
 use Rattle.answer.proofs.Judging.{passes}
 use Rattle.answer.proofs.Lent.{lent-accepted, lent-all}
@@ -13,29 +15,31 @@ use Rattle.frames.specs.declared.Read.{Read}
 use Rattle.frames.specs.declared.Read.the-variants.{Taken}
 use Rattle.frames.specs.Values.{counted}
 use Rattle.frames.proofs.Counting.{taken-done}
-use Rattle.menu_forms.specs.Menus.{Menu}
-use Rattle.menu_forms.specs.Form.{form}
-use Rattle.menu_forms.specs.Block.{Says}
+use Rattle.menu_forms.specs.Menus.{Menu, zeros}
+use Rattle.menu_forms.specs.Form.{form, menuIn}
+use Rattle.menu_forms.specs.Block.{recordOf, Says}
+use Rattle.menu_forms.specs.Writing.{writeRules}
 use Rattle.menu.specs.Reading.{mendedIn, menuRead, readRules, readMenu}
 use Rattle.menu.proofs.Exact.{accepted-says, says-rules, menu-said}
+use Rattle.menu.proofs.Written.{with-none, written-says, writes-back-form, says-writable}
+
+-- the menu that the call finds in a record
+abbrev pub found : List ℕ → Menu
+found r = menuRead (drop headLength r)
 
 module _ (application : ℕ) (r : List ℕ) (old : List ℕ) where
-  -- the menu that it finds
-  abbrev pub found : Menu
-  found = menuRead (drop 4 r)
-
   -- what the call answers
   abbrev pub callReads : Read
-  callReads = counted (mendedIn r) (answered (readRules application r) (form found) old)
+  callReads = counted (mendedIn r) (answered (readRules application r) (form (found r)) old)
 
   -- a record that says m, with room: m's form stands at the front of the output, and the count is its own
   pub call-takes :
       (m : Menu) → Says application r m → length (form m) ≤ length old
       → (callReads ≡ Taken (length (form m)) (mendedIn r))
-      × (left (readRules application r) (form found) old ≡ form m ++ drop (length (form m)) old)
+      × (left (readRules application r) (form (found r)) old ≡ form m ++ drop (length (form m)) old)
   call-takes m s h =
-      let e : found ≡ m = menu-said application r m s in
-      let p = lent-accepted (readRules application r) (form found) old (says-rules application r m s) (rw e h) in (
+      let e : found r ≡ m = menu-said application r m s in
+      let p = lent-accepted (readRules application r) (form (found r)) old (says-rules application r m s) (rw e h) in (
         ap (counted (mendedIn r)) (p .0) ∙ ap (λ (x : Menu). Taken (length (form x)) (mendedIn r)) e,
         p .1 ∙ ap (λ (x : Menu). form x ++ drop (length (form x)) old) e,
       )
@@ -43,16 +47,38 @@ module _ (application : ℕ) (r : List ℕ) (old : List ℕ) where
   -- a record that the call accepts says the menu whose form it hands out, and the count is its own
   pub call-says :
       (n c : ℕ) → Bytes r → callReads ≡ Taken n c
-      → Says application r found
-      × (n ≡ length (form found))
+      → Says application r (found r)
+      × (n ≡ length (form (found r)))
       × (c ≡ mendedIn r)
-      × (left (readRules application r) (form found) old ≡ form found ++ drop (length (form found)) old)
+      × (left (readRules application r) (form (found r)) old ≡ form (found r) ++ drop (length (form (found r))) old)
   unfolding readMenu
   call-says n c b e =
       let d = taken-done (mendedIn r) _ n c e in
-      let a = lent-all (readRules application r) (form found) old n (d .0) in (
-        accepted-says application r found (mendedIn r) b (passes refused (accepted found (mendedIn r)) (a .0)) .0,
+      let a = lent-all (readRules application r) (form (found r)) old n (d .0) in (
+        accepted-says application r (found r) (mendedIn r) b (passes refused (accepted (found r) (mendedIn r)) (a .0)) .0,
         a .2,
         sym (d .1),
-        lent-accepted (readRules application r) (form found) old (a .0) (a .1) .1,
+        lent-accepted (readRules application r) (form (found r)) old (a .0) (a .1) .1,
       )
+
+-- a form that writing takes, written and read again by calls with room: it comes back byte for byte, with nothing mended
+pub call-back :
+    (application : ℕ) (f old : List ℕ) → Bytes f → Every (writeRules application f) → length f ≤ length old
+    → (callReads application (recordOf application (menuIn f)) old ≡ Taken (length f) 0)
+    × (left (readRules application (recordOf application (menuIn f))) (form (found (recordOf application (menuIn f)))) old
+    ≡ f ++ drop (length f) old)
+call-back application f old b e h =
+    let m = menuIn f in
+    let r = recordOf application m in
+    let same : form m ≡ f = writes-back-form application f b e .1 in
+    let s : Says application r m = written-says application f e in
+    let p = call-takes application r old m s (rw same h) in (
+      p .0 ∙ ap₂ (λ (x : List ℕ) (c : ℕ). Taken (length x) c) same (with-none application zeros m s),
+      p .1 ∙ ap (λ (x : List ℕ). x ++ drop (length x) old) same,
+    )
+
+-- and what a call hands out writing takes, as the same menu
+pub call-writable :
+    (application : ℕ) (r old : List ℕ) (n c : ℕ) → Bytes r → callReads application r old ≡ Taken n c
+    → Every (writeRules application (form (found r))) × (menuIn (form (found r)) ≡ found r)
+call-writable application r old n c b e = says-writable application r (found r) (call-says application r old n c b e .0)

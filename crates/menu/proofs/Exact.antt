@@ -17,6 +17,7 @@ use Rattle.answer.proofs.Judging.{passes, every-append}
 use Rattle.answer.proofs.Lent.{front-holds, back-holds}
 use Rattle.answer.proofs.Steps.{first-holds, others-hold}
 use Rattle.octet.specs.Decoding.{nib}
+use Rattle.octet.proofs.Hearing.{harms-le}
 use Rattle.blocks.specs.Block.{headOf}
 use Rattle.fields.specs.Fields.{Field, width, fitting}
 use Rattle.fields.proofs.Laid.{field-lt, length-parts}
@@ -351,6 +352,15 @@ unfolding readMenu
 says-accepted application r m s =
     passes refused (accepted (menuRead (drop 4 r)) (mendedIn r)) (says-rules application r m s)
     ∙ ap (λ (x : Menu). accepted x (mendedIn r)) (menu-said application r m s)
+
+-- a count is at most 5 and twice the greatest control size
+pub mended-most : (application : ℕ) (r : List ℕ) → Every (readRules application r) → mendedIn r ≤ 2051
+unfolding mendedIn
+mended-most application r e =
+    let raw = drop 4 r in
+    let part = taken application r e .0 .in-range .part in
+    let small : bitsAt 8 10 (map nib (take 8 raw)) < 1024 = field-lt 8 10 _ in
+    omega (arith, part, small, harms-le (controlPart raw), length-take (controlLength raw) raw)
 
 -- in particular each of its string bytes is of right parity
 pub odd-all :

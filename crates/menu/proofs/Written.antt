@@ -28,7 +28,7 @@ use Rattle.menu.proofs.Exact.{sent-ends, accepted-says, says-accepted}
 
 module _ (application : ℕ) (spare : Spare) (m : Menu) (s : Says application (recordWith application spare m) m) where
   -- none of the bytes of a record that is made is mended
-  with-none : mendedIn (recordWith application spare m) ≡ 0
+  pub with-none : mendedIn (recordWith application spare m) ≡ 0
   unfolding mendedIn blockWith
   with-none =
       let xs = map image (nibbles (checksumOf application spare m) spare m) in
@@ -52,6 +52,13 @@ pub writes-back :
     (application : ℕ) (m : Menu) → application < 32 → fits m ≡ true → readMenu application (recordOf application m) ≡ accepted m 0
 writes-back application m a f = reads-any application zeros m a f (omega arith) (omega arith) (omega arith)
 
+-- a form that writing takes is of a menu that can be sent, and the record that is written says it
+pub written-says : (application : ℕ) (f : List ℕ) → Every (writeRules application f) → Says application (recordOf application (menuIn f)) (menuIn f)
+unfolding formRules
+written-says application f e₀ =
+    record-says application zeros (menuIn f) (ltb-true application 32 (first-holds e₀))
+    (first-holds (others-hold (others-hold (others-hold (others-hold e₀))))) (omega arith) (omega arith) (omega arith)
+
 -- of a form that writing takes: its menu is read back, and that menu's form is the one that was written
 pub writes-back-form :
     (application : ℕ) (f : List ℕ) → Bytes f → Every (writeRules application f)
@@ -59,17 +66,20 @@ pub writes-back-form :
 unfolding formRules
 writes-back-form application f b e₀ =
     let e₂ = others-hold (others-hold e₀) in
-    let e₃ = others-hold e₂ in
-    let a : application < 32 = ltb-true application 32 (first-holds e₀) in
-    let l : length f ≡ length (form (menuIn f)) = eqb-true (length f) (length (form (menuIn f))) (first-holds e₃) in (
-      writes-back application (menuIn f) a (first-holds (others-hold e₃)),
+    let l : length f ≡ length (form (menuIn f)) = eqb-true (length f) (length (form (menuIn f))) (first-holds (others-hold e₂)) in
+    let s = written-says application f e₀ in (
+      writes-back application (menuIn f) (s .within) (s .sendable),
       in-form f b (eqb-true (getD f 0 0) NI (first-holds e₂)) l,
     )
 
--- every accepted menu is one that writing takes, and its form stands for it
+-- a menu that a record says is one that writing takes, and its form stands for it
+pub says-writable :
+    (application : ℕ) (r : List ℕ) (m : Menu) → Says application r m → Every (writeRules application (form m)) × (menuIn (form m) ≡ m)
+says-writable application r m s =
+    (more (lt-ltb application 32 (s .within)) (form-taken m (s .sendable)), form-back m (s .sendable))
+
+-- so is every accepted menu
 pub accepted-writable :
     (application : ℕ) (r : List ℕ) (m : Menu) (c : ℕ) → Bytes r → readMenu application r ≡ accepted m c
     → Every (writeRules application (form m)) × (menuIn (form m) ≡ m)
-accepted-writable application r m c b e =
-    let s = accepted-says application r m c b e .0 in
-    (more (lt-ltb application 32 (s .within)) (form-taken m (s .sendable)), form-back m (s .sendable))
+accepted-writable application r m c b e = says-writable application r m (accepted-says application r m c b e .0)
