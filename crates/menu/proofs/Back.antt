@@ -97,7 +97,7 @@ attribute-back x h rest =
 
 -- ---- strings
 
-text-spelled :
+pub text-spelled :
     (t : Text)
     → spelled (textFields t) ≡ parts 4 2 (length (t .escapes)) ++ (each escapeNibbles (t .escapes) ++ parts 4 2 (length (t .codes)))
 unfolding textFields
@@ -140,22 +140,22 @@ text-back t h rest codes =
 
 -- ---- events
 
-heading : Event → List Field
+abbrev pub heading : Event → List Field
 heading e = (16, e .link) ∷ (4, e .linkType) ∷ (4, length (e .attributes)) ∷ []
 
-event-spelled :
+pub event-spelled :
     (e : Event) → spelled (eventFields e) ≡ spelled (heading e) ++ (each attributeNibbles (e .attributes) ++ spelled (textFields (e .text)))
-unfolding eventFields heading
+unfolding eventFields
 event-spelled e =
     let xs : List Field = each attributeFields (e .attributes) in
-    let nibbled : width (heading e) % 4 ≡ 0 = unfold heading width in refl in
+    let nibbled : width (heading e) % 4 ≡ 0 = unfold width in refl in
     spelled-append (heading e) (xs ++ textFields (e .text)) nibbled
     ∙ ap (λ (l : List ℕ). spelled (heading e) ++ l)
     (spelled-append xs (textFields (e .text)) (each-nibbled attributeFields attribute-nibbled (e .attributes))
     ∙ ap (λ (l : List ℕ). l ++ spelled (textFields (e .text))) (each-spelled attributeFields attribute-nibbled (e .attributes)))
 
-heading-long : (e : Event) → length (spelled (heading e)) ≡ 6
-unfolding heading width
+pub heading-long : (e : Event) → length (spelled (heading e)) ≡ 6
+unfolding width
 heading-long e = length-spelled (heading e)
 
 event-back :
@@ -206,7 +206,7 @@ events-back (e ∷ es) h rest codes =
 
 -- ---- the menu
 
-opening-long : (sum control : ℕ) (spare : Spare) (m : Menu) → length (spelled (openingFields sum control spare m)) ≡ 15
+pub opening-long : (sum control : ℕ) (spare : Spare) (m : Menu) → length (spelled (openingFields sum control spare m)) ≡ 15
 unfolding width
 opening-long sum control spare m = length-spelled (openingFields sum control spare m)
 
@@ -218,23 +218,23 @@ field-back fs pre w v gs e h l =
     ∙ bits-back pre w v gs [] (sym (ap (λ (x : List Field). width x % 4) e) ∙ h) l
 
 module _ (sum control : ℕ) (spare : Spare) (m : Menu) where
-  top : List ℕ
+  abbrev pub top : List ℕ
   top = spelled (openingFields sum control spare m)
 
-  ds : List ℕ
+  abbrev pub ds : List ℕ
   ds = each descriptorNibbles (m .descriptors)
 
-  fl : List ℕ
+  abbrev pub fl : List ℕ
   fl = spelled (fillFields (length (m .descriptors)) (spare .second))
 
-  tx : List ℕ
+  abbrev pub tx : List ℕ
   tx = spelled (textFields (m .header))
 
-  ev : List ℕ
+  abbrev pub ev : List ℕ
   ev = spelled (each eventFields (m .events))
 
-  menu-spelled : spelled (fields sum control spare m) ≡ top ++ (ds ++ (fl ++ (tx ++ (parts 4 2 (m .message) ++ ev))))
-  unfolding fields top ds fl tx ev
+  pub menu-spelled : spelled (fields sum control spare m) ≡ top ++ (ds ++ (fl ++ (tx ++ (parts 4 2 (m .message) ++ ev))))
+  unfolding fields
   menu-spelled =
       let open′ : List Field = openingFields sum control spare m in
       let each′ : List Field = each descriptorFields (m .descriptors) in
@@ -253,7 +253,7 @@ module _ (sum control : ℕ) (spare : Spare) (m : Menu) where
 
   -- control data and strings of a menu that can be sent hold that menu
   pub menu-back : fits m ≡ true → menuOf (spelled (fields sum control spare m)) (strings m) ≡ m
-  unfolding menuOf fields strings width parts top ds fl tx ev
+  unfolding menuOf fields strings width parts
   menu-back h =
       let p = fits-parts m h in
       let fs : List Field = fields sum control spare m in

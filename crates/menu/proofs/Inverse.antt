@@ -151,7 +151,7 @@ events-held (suc k) ns codes =
     held-append (whole 4 ns) fs gs (event-held ns codes)
     (subst (λ (x : ℕ). Held x gs) (whole-behind fs ns (event-nibbled e)) (events-held k up rest))
 
-events-count : (k : ℕ) (ns codes : List ℕ) → length (eventsAt k ns codes) ≡ k
+pub events-count : (k : ℕ) (ns codes : List ℕ) → length (eventsAt k ns codes) ≡ k
 unfolding eventsAt
 events-count zero ns codes = refl
 events-count (suc k) ns codes =

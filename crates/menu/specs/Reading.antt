@@ -50,24 +50,30 @@ unfoldable pub lengthRules : ℕ → ℕ → Menu → List Rule
 lengthRules controlSize blockSize m =
     rule (both (ltb (m .headerSize) 3) (both (eqb controlSize (control m)) (eqb blockSize (size m)))) 14 0 ∷ []
 
+-- the menu that control bytes and string bytes hold
+abbrev pub menuHeld : List ℕ → List ℕ → Menu
+menuHeld control strings = menuOf (map nib control) (map codeOf strings)
+
 -- the menu that raw bytes hold
 abbrev pub menuRead : List ℕ → Menu
-menuRead raw = menuOf (map nib (controlPart raw)) (map codeOf (stringPart raw))
+menuRead raw = menuHeld (controlPart raw) (stringPart raw)
 
--- what follows the frame
+-- what follows the frame, by its control bytes and its string bytes
+abbrev pub partRules : ℕ → List ℕ → List ℕ → List Rule
+partRules head control strings =
+    let ns = map nib control in
+    frontRules ns ++ (wholeRules head ns strings ++ lengthRules (bitsAt 8 10 ns) (sizeOf head) (menuHeld control strings))
+
+-- the same by its raw bytes
 abbrev pub bodyRules : ℕ → List ℕ → List Rule
-bodyRules head raw =
-    let ns = map nib (controlPart raw) in
-    frontRules ns
-    ++ (wholeRules head ns (stringPart raw) ++ lengthRules (bitsAt 8 10 ns) (sizeOf head) (menuRead raw))
+bodyRules head raw = partRules head (controlPart raw) (stringPart raw)
+
+abbrev pub readRules : ℕ → List ℕ → List Rule
+readRules application r = framing application r ++ bodyRules (headOf r) (drop headLength r)
 
 -- the count of mended bytes: the part, and the control bytes that aren't images; string bytes don't count (SCOPE 23.6)
 unfoldable pub mendedIn : List ℕ → ℕ
 mendedIn r = partOf r + harms (controlPart (drop headLength r))
-
--- the rules of a record
-abbrev pub readRules : ℕ → List ℕ → List Rule
-readRules application r = framing application r ++ bodyRules (headOf r) (drop headLength r)
 
 -- what reading makes of a record, room apart
 unfoldable pub readMenu : ℕ → List ℕ → Outcome Menu
