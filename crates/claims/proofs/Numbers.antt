@@ -17,6 +17,8 @@ use Rattle.forms.specs.Writing.{formRules, writeRules as Form·writeRules}
 use Rattle.frames.specs.Framing.{frameRules}
 use Rattle.table.specs.Reading.{frontRules, wholeRules, bodyRules, readRules as Table·readRules}
 use Rattle.table.specs.Lengths.{lengthRules}
+use Rattle.menu_forms.specs.Writing.{formRules as Menu·formRules, writeRules as Menu·writeRules}
+use Rattle.menu.specs.Reading.{frontRules as Menu·frontRules, wholeRules as Menu·wholeRules, lengthRules as Menu·lengthRules, readRules as Menu·readRules}
 use Rattle.sheets.specs.Calls.{rewriteRules, joinRules, addRules}
 
 pub writes-pes : (d : ℕ) (rs : List ℕ) → allRefusing (writeRules d rs) ≡ true
@@ -38,6 +40,14 @@ writes-block application f = refl
 pub reads-block : (application : ℕ) (r : List ℕ) → allRefusing (Table·readRules application r) ≡ true
 unfolding allRefusing frameRules frontRules wholeRules lengthRules
 reads-block application r = refl
+
+pub writes-menu : (application : ℕ) (f : List ℕ) → allRefusing (Menu·writeRules application f) ≡ true
+unfolding allRefusing Menu·formRules
+writes-menu application f = refl
+
+pub reads-menu : (application : ℕ) (r : List ℕ) → allRefusing (Menu·readRules application r) ≡ true
+unfolding allRefusing frameRules Menu·frontRules Menu·wholeRules Menu·lengthRules
+reads-menu application r = refl
 
 pub rewrites-sheet : (sheet : List ℕ) → allRefusing (rewriteRules sheet) ≡ true
 unfolding allRefusing rewriteRules
