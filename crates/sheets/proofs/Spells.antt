@@ -57,7 +57,7 @@ pub number-sound :
 unfolding numberAt
 number-sound name most bytes h =
     let n = numberFrom digitsMost 0 (drop (length name) bytes) in
-    let f = in-form (both (leb n most) (beginsWith (numberLine name n) bytes)) n (numberLine name n) bytes (λ e. both-true (leb n most) _ e .1) h in
+    let f = in-form _ n (numberLine name n) bytes (λ e. both-true (leb n most) _ e .1) h in
     (leb-true n most (both-true (leb n most) _ (f .0) .0), f .1)
 
 digit-is : (n : ℕ) → isDigit (48 + n % 10) ≡ true
@@ -118,7 +118,7 @@ pub kind-sound :
 unfolding kindAt
 kind-sound bytes h =
     let kind = pick (beginsWith kindTI bytes) TI LI in
-    let f = in-form (beginsWith (kindLine kind) bytes) kind (kindLine kind) bytes (λ e. e) h in
+    let f = in-form _ kind (kindLine kind) bytes (λ e. e) h in
     (is-known (beginsWith kindTI bytes), f .1)
   where
     is-known : (b : Bool) → known (pick b TI LI) ≡ true
@@ -139,7 +139,7 @@ pub page-sound : (bytes : List ℕ) → (pageAt bytes .long ≡ 0 → ⊥) → (
 unfolding pageAt hexWord
 page-sound bytes h =
     let w = hexWord bytes 5 in
-    (omega arith, in-form (beginsWith (pageLine w) bytes) w (pageLine w) bytes (λ e. e) h .1)
+    (omega arith, in-form _ w (pageLine w) bytes (λ e. e) h .1)
 
 nibble-digit : (n : ℕ) → n < 16 → nibbleOf (digit n) ≡ n
 nibble-digit n h = eqb-true (nibbleOf (digit n)) n (is-true _ (all-at (λ (k : ℕ). eqb (nibbleOf (digit k)) k) 16 (unfold nibbleOf digit in tt) n h))
@@ -177,7 +177,7 @@ pub language-sound :
 unfolding languageAt
 language-sound bytes h =
     let w = languageIn bytes 9 in
-    (language-fits bytes, in-form (beginsWith (languageLine w) bytes) w (languageLine w) bytes (λ e. e) h .1)
+    (language-fits bytes, in-form _ w (languageLine w) bytes (λ e. e) h .1)
   where
     language-fits : (bs : List ℕ) → languageIn bs 9 < 2 ^ 24
     language-fits bs = unfold languageIn hexWord whole in go (eqb (getD bs 12 0) 10) (getD bs 11 0) (getD bs 10 0) (getD bs 9 0) _
