@@ -151,7 +151,8 @@ module _
             → leb least (keyIn (head .network) (head .kind) (head .block)) ≡ k
             → pick (both s (both f k)) (somewhere head (head .long + t .long)) (nowhere false (head .long + t .long)) ≡ foundHere
         found-by s f k a b c =
-            let q : both (beginsWith emptyLine (drop (head .long + t .long) (drop at sheet))) (both (countsFit (head .kind) (head .block) t) (leb least (keyIn (head .network) (head .kind) (head .block)))) ≡ both s (both f k) =
+            let rising = leb least (keyIn (head .network) (head .kind) (head .block)) in
+            let q : both (beginsWith emptyLine (drop (head .long + t .long) (drop at sheet))) (both (countsFit (head .kind) (head .block) t) rising) ≡ both s (both f k) =
             rw (drop-drop (head .long + t .long) at sheet, a, b, c) in
             sym (ap (λ (x : Bool). pick x (somewhere head (head .long + t .long)) (nowhere false (head .long + t .long))) q) ∙ found-is whole-t
 

@@ -183,7 +183,8 @@ words-read :
     ≡ record { items = rows; fine = true; long = length (texts same wordsAt entryLines kind rows) }
 unfolding wordsOf
 words-read kind rows tail each ends =
-    row-back same wordsAt words-stepping Words entryLines (λ rest. Unit {0}) (λ s ws rest p m. words-back s ws rest p) (λ s ws rest p. tt) tail tt (λ s. no-words s tail ends) rows _ kind each (omega arith)
+    row-back same wordsAt words-stepping Words entryLines (λ rest. Unit {0}) (λ s ws rest p m. words-back s ws rest p) (λ s ws rest p. tt) tail tt
+    (λ s. no-words s tail ends) rows _ kind each (omega arith)
 
 -- ---- a descriptor
 

@@ -201,7 +201,14 @@ language-value w rest h = go (letters (w / 256 / 256 % 256 ∷ w / 256 % 256 ∷
     go true =
         three (w / 256 / 256 % 256) (w / 256 % 256) (w % 256) (omega arith) (omega arith) (omega arith) ∙ word-of w h
     go false =
-        rw (digit-ends-no-line (w / 256 % 256 % 16) (omega arith), byte-back (w / 256 / 256 % 256) (omega arith), byte-back (w / 256 % 256) (omega arith), byte-back (w % 256) (omega arith), word-of w h) (omega arith)
+        rw (
+          digit-ends-no-line (w / 256 % 256 % 16) (omega arith),
+          byte-back (w / 256 / 256 % 256) (omega arith),
+          byte-back (w / 256 % 256) (omega arith),
+          byte-back (w % 256) (omega arith),
+          word-of w h,
+        )
+        (omega arith)
 
 pub language-back : (w : ℕ) (rest : List ℕ) → w < 2 ^ 24 → languageAt (languageLine w ++ rest) ≡ lineOf true w (languageLine w)
 unfolding languageAt

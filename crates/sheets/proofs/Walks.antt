@@ -341,7 +341,8 @@ module _ (sheet : List ℕ) (at : ℕ) (l₁ : Line) (e₁ : l₁ ≡ numberAt s
               → record { stamp = l₁ .value; kind = l₂ .value; network = l₃ .value; block = 0; fine = false; long = l₁ .long + l₂ .long + l₃ .long }
               ≡ headOf (linesAt headReads (drop at sheet))
           head-unblock z =
-              let m = third ∙ ap (λ (x : Many ℕ). behind (l₁ .value) (l₁ .long) (behind (l₂ .value) (l₂ .long) (behind (l₃ .value) (l₃ .long) x))) (line-no block-read [] sheet (at + l₁ .long + l₂ .long + l₃ .long) l₄ e₄ z) in
+              let fourth = line-no block-read [] sheet (at + l₁ .long + l₂ .long + l₃ .long) l₄ e₄ z in
+              let m = third ∙ ap (λ (x : Many ℕ). behind (l₁ .value) (l₁ .long) (behind (l₂ .value) (l₂ .long) (behind (l₃ .value) (l₃ .long) x))) fourth in
               let a : l₁ .long + l₂ .long + l₃ .long ≡ l₁ .long + (l₂ .long + (l₃ .long + 0)) = omega arith in
               (rw (← a) refl) ∙ sym (ap headOf m)
 
@@ -350,7 +351,8 @@ module _ (sheet : List ℕ) (at : ℕ) (l₁ : Line) (e₁ : l₁ ≡ numberAt s
               → record { stamp = l₁ .value; kind = l₂ .value; network = l₃ .value; block = l₄ .value; fine = true; long = l₁ .long + l₂ .long + l₃ .long + l₄ .long }
               ≡ headOf (linesAt headReads (drop at sheet))
           head-all s₄ =
-              let m = third ∙ ap (λ (x : Many ℕ). behind (l₁ .value) (l₁ .long) (behind (l₂ .value) (l₂ .long) (behind (l₃ .value) (l₃ .long) x)))
-              (line-yes block-read [] sheet (at + l₁ .long + l₂ .long + l₃ .long) l₄ e₄ s₄ ∙ ap (behind (l₄ .value) (l₄ .long)) (no-more (drop (at + l₁ .long + l₂ .long + l₃ .long + l₄ .long) sheet))) in
+              let rest = no-more (drop (at + l₁ .long + l₂ .long + l₃ .long + l₄ .long) sheet) in
+              let fourth = line-yes block-read [] sheet (at + l₁ .long + l₂ .long + l₃ .long) l₄ e₄ s₄ ∙ ap (behind (l₄ .value) (l₄ .long)) rest in
+              let m = third ∙ ap (λ (x : Many ℕ). behind (l₁ .value) (l₁ .long) (behind (l₂ .value) (l₂ .long) (behind (l₃ .value) (l₃ .long) x))) fourth in
               let a : l₁ .long + l₂ .long + l₃ .long + l₄ .long ≡ l₁ .long + (l₂ .long + (l₃ .long + (l₄ .long + 0))) = omega arith in
               (rw (← a) refl) ∙ sym (ap headOf m)

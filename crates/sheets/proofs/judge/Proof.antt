@@ -26,13 +26,19 @@ refuse-requires-2 : tie.Need-refuse-requires-2
 refuse-requires-2 c κs = search needs
 
 returns-2 : tie.Need-returns-2
-returns-2 c = c .refuse2 .ensures ∙ judge-many (now (c .before .before .before .before .before .before .before .before .args .sheet)) (Done _) (search needs) (c .before .before .before .before .before .judge-lines .ensures) (c .before .before .before .count .given .1) (search needs)
+returns-2 c =
+    let s = c .before .before .before .before .before .before .before .before in
+    let judge-lines = c .before .before .before .before .before .judge-lines in
+    let count = c .before .before .before .count in
+    c .refuse2 .ensures ∙ judge-many (now (s .args .sheet)) (Done _) (search needs) (judge-lines .ensures) (count .given .1) (search needs)
 
 returns-3 : tie.Need-returns-3
 returns-3 c = judge-bad (now (c .before .before .before .before .before .before .args .sheet)) (Done _) (search needs) (c .before .before .before .judge-lines .ensures) (c .before .why .given .1)
 
 returns-4 : tie.Need-returns-4
-returns-4 c = judge-good (now (c .before .before .before .before .before .before .before .args .sheet)) (Done _) (search needs) (c .before .before .before .before .judge-lines .ensures) (c .before .before .count .given .1) (search needs)
+returns-4 c =
+    let s = c .before .before .before .before .before .before .before in
+    judge-good (now (s .args .sheet)) (Done _) (search needs) (c .before .before .before .before .judge-lines .ensures) (c .before .before .count .given .1) (search needs)
 
 pub judge-spec : {M : Type 1} → statement M
 judge-spec =

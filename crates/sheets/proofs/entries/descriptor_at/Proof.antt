@@ -20,23 +20,31 @@ ended-requires c κs = search needs
 
 returns : tie.Need-returns
 returns c =
+    let s = c .before .before .before .before .before in
     let e = c .ended .ensures in
-    (e ∙ descriptor-stop (now (c .before .before .before .before .before .args .sheet)) (c .before .before .before .before .before .args .at) (c .before .before .before .before .before .args .kind) _ (c .before .before .number-at .ensures) (c .before .if1 .taken), rw e (omega arith))
+    (e ∙ descriptor-stop (now (s .args .sheet)) (s .args .at) (s .args .kind) _ (c .before .before .number-at .ensures) (c .before .if1 .taken), rw e (omega arith))
 
 add-row-at : tie.Need-add-row-at
 add-row-at c =
-    let w = c .before .before .before .before .pre in
-    let r = number-room (now (c .before .before .before .before .args .sheet)) (c .before .before .before .before .args .at) (c .before .before .before .before .args .kind) _ (c .before .number-at .ensures) in
+    let s = c .before .before .before .before in
+    let w = s .pre in
+    let r = number-room (now (s .args .sheet)) (s .args .at) (s .args .kind) _ (c .before .number-at .ensures) in
     omega (arith, w .inside, w .short, simp length-drop at r)
 
 row-at-requires : tie.Need-row-at-requires
-row-at-requires c κs = within-on _ (c .before .before .before .before .pre) (number-room (now (c .before .before .before .before .args .sheet)) (c .before .before .before .before .args .at) (c .before .before .before .before .args .kind) _ (c .before .number-at .ensures))
+row-at-requires c κs =
+    let s = c .before .before .before .before in
+    within-on _ (s .pre) (number-room (now (s .args .sheet)) (s .args .at) (s .args .kind) _ (c .before .number-at .ensures))
 
 add-ended : tie.Need-add-ended
 add-ended c =
-    let w = c .before .before .before .before .before .before .before .pre in
-    let r = number-room (now (c .before .before .before .before .before .before .before .args .sheet)) (c .before .before .before .before .before .before .before .args .at) (c .before .before .before .before .before .before .before .args .kind) _ (c .before .before .before .before .number-at .ensures) in
-    let q = row-room (now (c .before .before .before .before .before .before .before .args .sheet)) (c .before .before .before .before .before .before .before .args .at) (c .before .before .before .before .before .before .before .args .kind) _ (c .before .before .before .before .number-at .ensures) (c .before .before .before .if1 .left) _ (c .before .before .row-at .ensures .0) in
+    let s = c .before .before .before .before .before .before .before in
+    let number-at = c .before .before .before .before .number-at in
+    let if1 = c .before .before .before .if1 in
+    let row-at = c .before .before .row-at in
+    let w = s .pre in
+    let r = number-room (now (s .args .sheet)) (s .args .at) (s .args .kind) _ (number-at .ensures) in
+    let q = row-room (now (s .args .sheet)) (s .args .at) (s .args .kind) _ (number-at .ensures) (if1 .left) _ (row-at .ensures .0) in
     omega (arith, w .short, simp length-drop at r, simp length-drop at q)
 
 ended-requires-2 : tie.Need-ended-requires-2
@@ -44,18 +52,33 @@ ended-requires-2 c κs = search needs
 
 returns-2 : tie.Need-returns-2
 returns-2 c =
+    let s = c .before .before .before .before .before .before .before .before in
+    let number-at = c .before .before .before .before .before .number-at in
+    let if1 = c .before .before .before .before .if1 in
+    let row-at = c .before .before .before .row-at in
+    let if2 = c .before .before .if2 in
     let e = c .ended2 .ensures in
-    (e ∙ descriptor-broken (now (c .before .before .before .before .before .before .before .before .args .sheet)) (c .before .before .before .before .before .before .before .before .args .at) (c .before .before .before .before .before .before .before .before .args .kind) _ (c .before .before .before .before .before .number-at .ensures) (c .before .before .before .before .if1 .left) _ (c .before .before .before .row-at .ensures .0) (not-true _ (c .before .before .if2 .taken)), rw e (omega arith))
+    (e ∙ descriptor-broken (now (s .args .sheet)) (s .args .at) (s .args .kind) _ (number-at .ensures) (if1 .left) _ (row-at .ensures .0) (not-true _ (if2 .taken)), rw e (omega arith))
 
 add-t12 : tie.Need-add-t12
 add-t12 c =
-    let w = c .before .before .before .before .before .before .before .pre in
-    let r = number-room (now (c .before .before .before .before .before .before .before .args .sheet)) (c .before .before .before .before .before .before .before .args .at) (c .before .before .before .before .before .before .before .args .kind) _ (c .before .before .before .before .number-at .ensures) in
-    let q = row-room (now (c .before .before .before .before .before .before .before .args .sheet)) (c .before .before .before .before .before .before .before .args .at) (c .before .before .before .before .before .before .before .args .kind) _ (c .before .before .before .before .number-at .ensures) (c .before .before .before .if1 .left) _ (c .before .before .row-at .ensures .0) in
+    let s = c .before .before .before .before .before .before .before in
+    let number-at = c .before .before .before .before .number-at in
+    let if1 = c .before .before .before .if1 in
+    let row-at = c .before .before .row-at in
+    let w = s .pre in
+    let r = number-room (now (s .args .sheet)) (s .args .at) (s .args .kind) _ (number-at .ensures) in
+    let q = row-room (now (s .args .sheet)) (s .args .at) (s .args .kind) _ (number-at .ensures) (if1 .left) _ (row-at .ensures .0) in
     omega (arith, w .short, simp length-drop at r, simp length-drop at q)
 
 returns-3 : tie.Need-returns-3
-returns-3 c = (descriptor-read (now (c .before .before .before .before .before .before .before .args .sheet)) (c .before .before .before .before .before .before .before .args .at) (c .before .before .before .before .before .before .before .args .kind) _ (c .before .before .before .before .number-at .ensures) (c .before .before .before .if1 .left) _ (c .before .before .row-at .ensures .0) (not-false _ (c .before .if2 .left)), omega (arith, c .before .before .row-at .ensures .1))
+returns-3 c =
+    let s = c .before .before .before .before .before .before .before in
+    let a = s .args in
+    let number-at = c .before .before .before .before .number-at in
+    let if1 = c .before .before .before .if1 in
+    let row-at = c .before .before .row-at in
+    (descriptor-read (now (a .sheet)) (a .at) (a .kind) _ (number-at .ensures) (if1 .left) _ (row-at .ensures .0) (not-false _ (c .before .if2 .left)), omega (arith, row-at .ensures .1))
 
 pub descriptor-at-spec : {M : Type 1} → statement M
 descriptor-at-spec =

@@ -20,13 +20,17 @@ stopped-requires-2 : tie.Need-stopped-requires-2
 stopped-requires-2 c κs = search needs
 
 returns-2 : tie.Need-returns-2
-returns-2 c = c .stopped2 .ensures ∙ entry-headless (now (c .before .before .before .before .before .args .sheet)) (c .before .before .before .before .before .args .at) (c .before .before .before .before .before .args .least) (search needs) _ (c .before .before .head-at .ensures) (not-true _ (c .before .if2 .taken))
+returns-2 c =
+    let s = c .before .before .before .before .before in
+    c .stopped2 .ensures ∙ entry-headless (now (s .args .sheet)) (s .args .at) (s .args .least) (search needs) _ (c .before .before .head-at .ensures) (not-true _ (c .before .if2 .taken))
 
 with-table-requires : tie.Need-with-table-requires
 with-table-requires c κs = (c .before .before .before .before .pre, c .before .head-at .ensures, not-false _ (c .if2 .left))
 
 returns-3 : tie.Need-returns-3
-returns-3 c = c .with-table .ensures ∙ entry-headed (now (c .before .before .before .before .before .args .sheet)) (c .before .before .before .before .before .args .at) (c .before .before .before .before .before .args .least) (search needs) _ (c .before .before .head-at .ensures) (not-false _ (c .before .if2 .left))
+returns-3 c =
+    let s = c .before .before .before .before .before in
+    c .with-table .ensures ∙ entry-headed (now (s .args .sheet)) (s .args .at) (s .args .least) (search needs) _ (c .before .before .head-at .ensures) (not-false _ (c .before .if2 .left))
 
 pub entry-at-spec : {M : Type 1} → statement M
 entry-at-spec =

@@ -25,22 +25,35 @@ entry-at-requires c κs = record { inside = c .loop .inv .0; short = c .before .
 
 add-t8 : tie.Need-add-t8 Inv-loop μ-loop
 add-t8 c =
-    let e = sheet-end (now (c .before .before .before .before .before .args .sheet)) (c .before .before .before .loop .at) (c .before .before .before .loop .least) _ (c .before .before .entry-at .ensures) (c .before .before .before .loop .count) (not-true _ (c .before .if1 .taken)) in
-    omega (arith, c .before .before .before .loop .inv .0, c .before .before .before .before .before .pre .short, simp length-drop at (e .0))
+    let s = c .before .before .before .before .before in
+    let loop = c .before .before .before .loop in
+    let entry-at = c .before .before .entry-at in
+    let e = sheet-end (now (s .args .sheet)) (loop .at) (loop .least) _ (entry-at .ensures) (loop .count) (not-true _ (c .before .if1 .taken)) in
+    omega (arith, loop .inv .0, s .pre .short, simp length-drop at (e .0))
 
 returns : tie.Need-returns Inv-loop μ-loop
 returns c =
-    let e = sheet-end (now (c .before .before .before .before .before .args .sheet)) (c .before .before .before .loop .at) (c .before .before .before .loop .least) _ (c .before .before .entry-at .ensures) (c .before .before .before .loop .count) (not-true _ (c .before .if1 .taken)) in
-    e .1 ∙ c .before .before .before .loop .inv .2
+    let s = c .before .before .before .before .before in
+    let loop = c .before .before .before .loop in
+    let entry-at = c .before .before .entry-at in
+    let e = sheet-end (now (s .args .sheet)) (loop .at) (loop .least) _ (entry-at .ensures) (loop .count) (not-true _ (c .before .if1 .taken)) in
+    e .1 ∙ loop .inv .2
 
 add-at : tie.Need-add-at Inv-loop μ-loop
 add-at c =
-    let e = sheet-on (now (c .before .before .before .before .before .args .sheet)) (c .before .before .before .loop .at) (c .before .before .before .loop .least) _ (c .before .before .entry-at .ensures) (c .before .before .before .loop .count) (not-false _ (c .before .if1 .left)) in
-    omega (arith, c .before .before .before .loop .inv .0, c .before .before .before .before .before .pre .short, simp length-drop at (e .1))
+    let s = c .before .before .before .before .before in
+    let loop = c .before .before .before .loop in
+    let entry-at = c .before .before .entry-at in
+    let e = sheet-on (now (s .args .sheet)) (loop .at) (loop .least) _ (entry-at .ensures) (loop .count) (not-false _ (c .before .if1 .left)) in
+    omega (arith, loop .inv .0, s .pre .short, simp length-drop at (e .1))
 
 add-least : tie.Need-add-least Inv-loop μ-loop
 add-least c =
-    let e = sheet-on (now (c .before .before .before .before .before .before .args .sheet)) (c .before .before .before .before .loop .at) (c .before .before .before .before .loop .least) _ (c .before .before .before .entry-at .ensures) (c .before .before .before .before .loop .count) (not-false _ (c .before .before .if1 .left)) in
+    let s = c .before .before .before .before .before .before in
+    let loop = c .before .before .before .before .loop in
+    let entry-at = c .before .before .before .entry-at in
+    let if1 = c .before .before .if1 in
+    let e = sheet-on (now (s .args .sheet)) (loop .at) (loop .least) _ (entry-at .ensures) (loop .count) (not-false _ (if1 .left)) in
     omega (arith, e .2)
 
 add-count : tie.Need-add-count Inv-loop μ-loop
@@ -48,12 +61,20 @@ add-count c = omega (arith, c .before .before .before .before .loop .inv .0, c .
 
 loop-less : tie.Need-loop-less Inv-loop μ-loop
 loop-less c =
-    let e = sheet-on (now (c .before .before .before .before .before .before .args .sheet)) (c .before .before .before .before .loop .at) (c .before .before .before .before .loop .least) _ (c .before .before .before .entry-at .ensures) (c .before .before .before .before .loop .count) (not-false _ (c .before .before .if1 .left)) in
-    omega (arith, e .0, c .before .before .before .before .loop .inv .0, simp length-drop at (e .1))
+    let s = c .before .before .before .before .before .before in
+    let loop = c .before .before .before .before .loop in
+    let entry-at = c .before .before .before .entry-at in
+    let if1 = c .before .before .if1 in
+    let e = sheet-on (now (s .args .sheet)) (loop .at) (loop .least) _ (entry-at .ensures) (loop .count) (not-false _ (if1 .left)) in
+    omega (arith, e .0, loop .inv .0, simp length-drop at (e .1))
 
 loop-again : tie.Need-loop-again Inv-loop μ-loop
 loop-again c =
-    let e = sheet-on (now (c .before .before .before .before .before .before .args .sheet)) (c .before .before .before .before .loop .at) (c .before .before .before .before .loop .least) _ (c .before .before .before .entry-at .ensures) (c .before .before .before .before .loop .count) (not-false _ (c .before .before .if1 .left)) in
+    let s = c .before .before .before .before .before .before in
+    let loop = c .before .before .before .before .loop in
+    let entry-at = c .before .before .before .entry-at in
+    let if1 = c .before .before .if1 in
+    let e = sheet-on (now (s .args .sheet)) (loop .at) (loop .least) _ (entry-at .ensures) (loop .count) (not-false _ (if1 .left)) in
     let l = c .before .before .before .before .loop in
     (omega (arith, l .inv .0, simp length-drop at (e .1)), omega (arith, e .0, l .inv .1), e .3 ∙ l .inv .2)
 

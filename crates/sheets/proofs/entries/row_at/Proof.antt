@@ -27,15 +27,21 @@ words-at-requires c κs = record { inside = c .loop .inv .1; short = c .before .
 
 add-t9 : tie.Need-add-t9 Inv-loop μ-loop
 add-t9 c =
-    let e = row-end (now (c .before .before .before .before .before .args .sheet)) (c .before .before .before .before .before .args .at) (c .before .before .before .loop .p) (c .before .before .before .before .before .args .kind) _ (c .before .before .words-at .ensures) (c .before .before .before .loop .inv .0) (c .before .before .before .loop .count) (not-true _ (c .before .if1 .taken)) in
-    omega (arith, c .before .before .before .loop .inv .1, c .before .before .before .before .before .pre .short, simp length-drop at (e .0))
+    let s = c .before .before .before .before .before in
+    let loop = c .before .before .before .loop in
+    let words-at = c .before .before .words-at in
+    let e = row-end (now (s .args .sheet)) (s .args .at) (loop .p) (s .args .kind) _ (words-at .ensures) (loop .inv .0) (loop .count) (not-true _ (c .before .if1 .taken)) in
+    omega (arith, loop .inv .1, s .pre .short, simp length-drop at (e .0))
 
 sub-t10 : tie.Need-sub-t10 Inv-loop μ-loop
 sub-t10 c = omega (arith, c .before .before .before .loop .inv .0)
 
 returns : tie.Need-returns Inv-loop μ-loop
 returns c =
-    let e = row-end (now (c .before .before .before .before .before .args .sheet)) (c .before .before .before .before .before .args .at) (c .before .before .before .loop .p) (c .before .before .before .before .before .args .kind) _ (c .before .before .words-at .ensures) (c .before .before .before .loop .inv .0) (c .before .before .before .loop .count) (not-true _ (c .before .if1 .taken)) in
+    let s = c .before .before .before .before .before in
+    let loop = c .before .before .before .loop in
+    let words-at = c .before .before .words-at in
+    let e = row-end (now (s .args .sheet)) (s .args .at) (loop .p) (s .args .kind) _ (words-at .ensures) (loop .inv .0) (loop .count) (not-true _ (c .before .if1 .taken)) in
     let l = c .before .before .before .loop in
     (e .1 ∙ l .inv .3, omega (arith, l .inv .0, l .inv .2))
 
@@ -44,18 +50,27 @@ add-count c = omega (arith, c .before .before .loop .inv .1, c .before .before .
 
 add-p : tie.Need-add-p Inv-loop μ-loop
 add-p c =
-    let e = row-on (now (c .before .before .before .before .before .args .sheet)) (c .before .before .before .before .before .args .at) (c .before .before .before .loop .p) (c .before .before .before .before .before .args .kind) _ (c .before .before .words-at .ensures) (c .before .before .before .loop .inv .0) (c .before .before .before .loop .count) (not-false _ (c .before .if1 .left)) in
-    omega (arith, c .before .before .before .loop .inv .1, c .before .before .before .before .before .pre .short, simp length-drop at (e .1))
+    let s = c .before .before .before .before .before in
+    let loop = c .before .before .before .loop in
+    let words-at = c .before .before .words-at in
+    let e = row-on (now (s .args .sheet)) (s .args .at) (loop .p) (s .args .kind) _ (words-at .ensures) (loop .inv .0) (loop .count) (not-false _ (c .before .if1 .left)) in
+    omega (arith, loop .inv .1, s .pre .short, simp length-drop at (e .1))
 
 loop-less : tie.Need-loop-less Inv-loop μ-loop
 loop-less c =
-    let e = row-on (now (c .before .before .before .before .before .args .sheet)) (c .before .before .before .before .before .args .at) (c .before .before .before .loop .p) (c .before .before .before .before .before .args .kind) _ (c .before .before .words-at .ensures) (c .before .before .before .loop .inv .0) (c .before .before .before .loop .count) (not-false _ (c .before .if1 .left)) in
-    omega (arith, e .0, c .before .before .before .loop .inv .1, simp length-drop at (e .1))
+    let s = c .before .before .before .before .before in
+    let loop = c .before .before .before .loop in
+    let words-at = c .before .before .words-at in
+    let e = row-on (now (s .args .sheet)) (s .args .at) (loop .p) (s .args .kind) _ (words-at .ensures) (loop .inv .0) (loop .count) (not-false _ (c .before .if1 .left)) in
+    omega (arith, e .0, loop .inv .1, simp length-drop at (e .1))
 
 loop-again : tie.Need-loop-again Inv-loop μ-loop
 loop-again c =
-    let e = row-on (now (c .before .before .before .before .before .args .sheet)) (c .before .before .before .before .before .args .at) (c .before .before .before .loop .p) (c .before .before .before .before .before .args .kind) _ (c .before .before .words-at .ensures) (c .before .before .before .loop .inv .0) (c .before .before .before .loop .count) (not-false _ (c .before .if1 .left)) in
-    let l = c .before .before .before .loop in (
+    let s = c .before .before .before .before .before in
+    let loop = c .before .before .before .loop in
+    let words-at = c .before .before .words-at in
+    let e = row-on (now (s .args .sheet)) (s .args .at) (loop .p) (s .args .kind) _ (words-at .ensures) (loop .inv .0) (loop .count) (not-false _ (c .before .if1 .left)) in
+    let l = loop in (
       omega (arith, l .inv .0),
       omega (arith, l .inv .1, simp length-drop at (e .1)),
       omega (arith, e .0, l .inv .0, l .inv .2),

@@ -30,15 +30,23 @@ descriptor-at-requires c κs = record { inside = c .loop .inv .1; short = c .bef
 
 add-t11 : tie.Need-add-t11 Inv-loop μ-loop
 add-t11 c =
-    let e = table-end (now (c .before .before .before .before .before .args .sheet)) (c .before .before .before .before .before .args .at) (c .before .before .before .loop .p) (c .before .before .before .before .before .args .kind) _ (c .before .before .descriptor-at .ensures .0) (c .before .before .before .loop .inv .0) (c .before .before .before .loop .count) (c .before .before .before .loop .entries) (c .before .before .before .loop .over) (not-true _ (c .before .if1 .taken)) in
-    omega (arith, c .before .before .before .loop .inv .1, c .before .before .before .before .before .pre .short, simp length-drop at (e .0))
+    let s = c .before .before .before .before .before in
+    let a = s .args in
+    let loop = c .before .before .before .loop in
+    let descriptor-at = c .before .before .descriptor-at in
+    let e = table-end (now (a .sheet)) (a .at) (loop .p) (a .kind) _ (descriptor-at .ensures .0) (loop .inv .0) (loop .count) (loop .entries) (loop .over) (not-true _ (c .before .if1 .taken)) in
+    omega (arith, loop .inv .1, s .pre .short, simp length-drop at (e .0))
 
 sub-t12 : tie.Need-sub-t12 Inv-loop μ-loop
 sub-t12 c = omega (arith, c .before .before .before .loop .inv .0)
 
 returns : tie.Need-returns Inv-loop μ-loop
 returns c =
-    let e = table-end (now (c .before .before .before .before .before .args .sheet)) (c .before .before .before .before .before .args .at) (c .before .before .before .loop .p) (c .before .before .before .before .before .args .kind) _ (c .before .before .descriptor-at .ensures .0) (c .before .before .before .loop .inv .0) (c .before .before .before .loop .count) (c .before .before .before .loop .entries) (c .before .before .before .loop .over) (not-true _ (c .before .if1 .taken)) in
+    let s = c .before .before .before .before .before in
+    let a = s .args in
+    let loop = c .before .before .before .loop in
+    let descriptor-at = c .before .before .descriptor-at in
+    let e = table-end (now (a .sheet)) (a .at) (loop .p) (a .kind) _ (descriptor-at .ensures .0) (loop .inv .0) (loop .count) (loop .entries) (loop .over) (not-true _ (c .before .if1 .taken)) in
     let l = c .before .before .before .loop in
     (e .1 ∙ l .inv .4, omega (arith, l .inv .0, l .inv .2), omega (arith, l .inv .0, l .inv .3))
 
@@ -47,31 +55,56 @@ add-count c = omega (arith, c .before .before .loop .inv .1, c .before .before .
 
 add-entries : tie.Need-add-entries Inv-loop μ-loop
 add-entries c =
-    let e = table-on (now (c .before .before .before .before .before .args .sheet)) (c .before .before .before .before .before .args .at) (c .before .before .before .loop .p) (c .before .before .before .before .before .args .kind) _ (c .before .before .descriptor-at .ensures .0) (c .before .before .before .loop .inv .0) (c .before .before .before .loop .count) (c .before .before .before .loop .entries) (c .before .before .before .loop .over) _ refl (not-false _ (c .before .if1 .left)) in
+    let s = c .before .before .before .before .before in
+    let a = s .args in
+    let loop = c .before .before .before .loop in
+    let descriptor-at = c .before .before .descriptor-at in
+    let e = table-on (now (a .sheet)) (a .at) (loop .p) (a .kind) _ (descriptor-at .ensures .0) (loop .inv .0) (loop .count) (loop .entries) (loop .over) _ refl (not-false _ (c .before .if1 .left)) in
     let l = c .before .before .before .loop in
-    omega (arith, l .inv .1, l .inv .3, c .before .before .before .before .before .pre .short, c .before .before .descriptor-at .ensures .1, simp length-drop at (e .1))
+    omega (arith, l .inv .1, l .inv .3, s .pre .short, descriptor-at .ensures .1, simp length-drop at (e .1))
 
 is-over-requires : tie.Need-is-over-requires Inv-loop μ-loop
 is-over-requires c κs = search needs
 
 add-p : tie.Need-add-p Inv-loop μ-loop
 add-p c =
-    let e = table-on (now (c .before .before .before .before .before .before .before .args .sheet)) (c .before .before .before .before .before .before .before .args .at) (c .before .before .before .before .before .loop .p) (c .before .before .before .before .before .before .before .args .kind) _ (c .before .before .before .before .descriptor-at .ensures .0) (c .before .before .before .before .before .loop .inv .0) (c .before .before .before .before .before .loop .count) (c .before .before .before .before .before .loop .entries) (c .before .before .before .before .before .loop .over) _ (c .before .is-over .ensures) (not-false _ (c .before .before .before .if1 .left)) in
-    omega (arith, c .before .before .before .before .before .loop .inv .1, c .before .before .before .before .before .before .before .pre .short, simp length-drop at (e .1))
+    let s = c .before .before .before .before .before .before .before in
+    let a = s .args in
+    let loop = c .before .before .before .before .before .loop in
+    let descriptor-at = c .before .before .before .before .descriptor-at in
+    let if1 = c .before .before .before .if1 in
+    let over = c .before .is-over .ensures in
+    let more = not-false _ (if1 .left) in
+    let e = table-on (now (a .sheet)) (a .at) (loop .p) (a .kind) _ (descriptor-at .ensures .0) (loop .inv .0) (loop .count) (loop .entries) (loop .over) _ over more in
+    omega (arith, loop .inv .1, s .pre .short, simp length-drop at (e .1))
 
 loop-less : tie.Need-loop-less Inv-loop μ-loop
 loop-less c =
-    let e = table-on (now (c .before .before .before .before .before .before .before .args .sheet)) (c .before .before .before .before .before .before .before .args .at) (c .before .before .before .before .before .loop .p) (c .before .before .before .before .before .before .before .args .kind) _ (c .before .before .before .before .descriptor-at .ensures .0) (c .before .before .before .before .before .loop .inv .0) (c .before .before .before .before .before .loop .count) (c .before .before .before .before .before .loop .entries) (c .before .before .before .before .before .loop .over) _ (c .before .is-over .ensures) (not-false _ (c .before .before .before .if1 .left)) in
-    omega (arith, e .0, c .before .before .before .before .before .loop .inv .1, simp length-drop at (e .1))
+    let s = c .before .before .before .before .before .before .before in
+    let a = s .args in
+    let loop = c .before .before .before .before .before .loop in
+    let descriptor-at = c .before .before .before .before .descriptor-at in
+    let if1 = c .before .before .before .if1 in
+    let over = c .before .is-over .ensures in
+    let more = not-false _ (if1 .left) in
+    let e = table-on (now (a .sheet)) (a .at) (loop .p) (a .kind) _ (descriptor-at .ensures .0) (loop .inv .0) (loop .count) (loop .entries) (loop .over) _ over more in
+    omega (arith, e .0, loop .inv .1, simp length-drop at (e .1))
 
 loop-again : tie.Need-loop-again Inv-loop μ-loop
 loop-again c =
-    let e = table-on (now (c .before .before .before .before .before .before .before .args .sheet)) (c .before .before .before .before .before .before .before .args .at) (c .before .before .before .before .before .loop .p) (c .before .before .before .before .before .before .before .args .kind) _ (c .before .before .before .before .descriptor-at .ensures .0) (c .before .before .before .before .before .loop .inv .0) (c .before .before .before .before .before .loop .count) (c .before .before .before .before .before .loop .entries) (c .before .before .before .before .before .loop .over) _ (c .before .is-over .ensures) (not-false _ (c .before .before .before .if1 .left)) in
-    let l = c .before .before .before .before .before .loop in (
+    let s = c .before .before .before .before .before .before .before in
+    let a = s .args in
+    let loop = c .before .before .before .before .before .loop in
+    let descriptor-at = c .before .before .before .before .descriptor-at in
+    let if1 = c .before .before .before .if1 in
+    let over = c .before .is-over .ensures in
+    let more = not-false _ (if1 .left) in
+    let e = table-on (now (a .sheet)) (a .at) (loop .p) (a .kind) _ (descriptor-at .ensures .0) (loop .inv .0) (loop .count) (loop .entries) (loop .over) _ over more in
+    let l = loop in (
       omega (arith, l .inv .0),
       omega (arith, l .inv .1, simp length-drop at (e .1)),
       omega (arith, e .0, l .inv .0, l .inv .2),
-      omega (arith, l .inv .0, l .inv .3, c .before .before .before .before .descriptor-at .ensures .1),
+      omega (arith, l .inv .0, l .inv .3, descriptor-at .ensures .1),
       e .2 ∙ l .inv .4,
     )
 

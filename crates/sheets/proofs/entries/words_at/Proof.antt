@@ -48,16 +48,23 @@ met-requires-3 c κs = search needs
 
 returns-3 : tie.Need-returns-3
 returns-3 c =
-    let a = c .before .before .before .before .before .before .before .args in
+    let s = c .before .before .before .before .before .before .before in
+    let language-at = c .before .before .before .before .before .language-at in
+    let if1 = c .before .before .before .before .if1 in
+    let page-at = c .before .before .page-at in
+    let a = s .args in
     c .met3 .ensures
-    ∙ words-unpaged (now (a .sheet)) (a .at) (a .kind) _ (c .before .before .before .before .before .language-at .ensures) (c .before .before .before .before .if1 .left) (search needs) _ (c .before .before .page-at .ensures) (c .before .if3 .taken)
+    ∙ words-unpaged (now (a .sheet)) (a .at) (a .kind) _ (language-at .ensures) (if1 .left) (search needs) _ (page-at .ensures) (c .before .if3 .taken)
 
 add-met : tie.Need-add-met
 add-met c =
-    let a = c .before .before .before .before .before .before .args in
-    let w = c .before .before .before .before .before .before .pre in
-    let r = language-room (now (a .sheet)) (a .at) (a .kind) _ (c .before .before .before .before .language-at .ensures) in
-    let q = page-room (now (a .sheet)) (a .at) (a .kind) _ (c .before .before .before .before .language-at .ensures) (c .before .before .before .if1 .left) (search needs) _ (c .before .page-at .ensures) in
+    let s = c .before .before .before .before .before .before in
+    let language-at = c .before .before .before .before .language-at in
+    let if1 = c .before .before .before .if1 in
+    let a = s .args in
+    let w = s .pre in
+    let r = language-room (now (a .sheet)) (a .at) (a .kind) _ (language-at .ensures) in
+    let q = page-room (now (a .sheet)) (a .at) (a .kind) _ (language-at .ensures) (if1 .left) (search needs) _ (c .before .page-at .ensures) in
     omega (arith, w .short, simp length-drop at r, simp length-drop at q)
 
 met-requires-4 : tie.Need-met-requires-4
@@ -65,9 +72,13 @@ met-requires-4 c κs = search needs
 
 returns-4 : tie.Need-returns-4
 returns-4 c =
-    let a = c .before .before .before .before .before .before .before .args in
+    let s = c .before .before .before .before .before .before .before in
+    let language-at = c .before .before .before .before .before .language-at in
+    let if1 = c .before .before .before .before .if1 in
+    let page-at = c .before .before .page-at in
+    let a = s .args in
     c .met4 .ensures
-    ∙ words-subtitle (now (a .sheet)) (a .at) (a .kind) _ (c .before .before .before .before .before .language-at .ensures) (c .before .before .before .before .if1 .left) (search needs) _ (c .before .before .page-at .ensures) (c .before .if3 .left)
+    ∙ words-subtitle (now (a .sheet)) (a .at) (a .kind) _ (language-at .ensures) (if1 .left) (search needs) _ (page-at .ensures) (c .before .if3 .left)
 
 pub words-at-spec : {M : Type 1} → statement M
 words-at-spec =

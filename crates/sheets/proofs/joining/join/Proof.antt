@@ -58,13 +58,16 @@ same-length c = search needs
 returns-3 : tie.Need-returns-3
 returns-3 c =
     let s = c .before .before .before .before .before .before .before .before .before .before .before .before in
+    let n = c .before .before .before .before .before .before .n in
+    let if1 = c .before .before .before .before .if1 in
+    let put-joined = c .before .before .put-joined in
     let f : List ℕ = now (s .args .first) in
     let g : List ℕ = now (s .args .second) in
     let j = c .before .before .before .before .before .before .before .before .judge-join .ensures in
-    let v = lent-value (joinRules f g) (sheetText (joinResult f g)) (now (s .args .out)) _ j (c .before .before .before .before .before .before .n .given .1) in
+    let v = lent-value (joinRules f g) (sheetText (joinResult f g)) (now (s .args .out)) _ j (n .given .1) in
     let p =
-    lent-done (joinRules f g) (sheetText (joinResult f g)) (now (s .args .out)) _ j (c .before .before .before .before .before .before .n .given .1) (omega (arith, v, c .before .before .before .before .if1 .left)) in
-    (ap Done v ∙ p .0, c .before .before .put-joined .ensures .0 ∙ p .1)
+    lent-done (joinRules f g) (sheetText (joinResult f g)) (now (s .args .out)) _ j (n .given .1) (omega (arith, v, if1 .left)) in
+    (ap Done v ∙ p .0, put-joined .ensures .0 ∙ p .1)
 
 pub join-spec : {M : Type 1} → statement M
 join-spec =

@@ -28,29 +28,38 @@ returns c =
 returns-2 : tie.Need-returns-2
 returns-2 c =
     let s = c .before .before .before .before .before .before .before .before in
+    let if1 = c .before .before .if1 in
     let x = drop (s .args .i) (now (s .args .first)) in
     let y = drop (s .args .j) (now (s .args .second)) in
     let f = c .before .before .before .before .before .entry-at in
     let g = c .before .before .before .before .entry-at2 in
-    by-second x (f .result) y (g .result) (not-false (g .result .more) (c .before .before .if1 .left)) (not-true (f .result .more) (c .if2 .taken)) ∙ turn-found x (f .result) y (g .result) (f .ensures) (g .ensures)
+    by-second x (f .result) y (g .result) (not-false (g .result .more) (if1 .left)) (not-true (f .result .more) (c .if2 .taken)) ∙ turn-found x (f .result) y (g .result) (f .ensures) (g .ensures)
 
 returns-3 : tie.Need-returns-3
 returns-3 c =
     let s = c .before .before .before .before .before .before .before .before .before .before .before in
-    let x = drop (s .args .i) (now (s .args .first)) in
-    let y = drop (s .args .j) (now (s .args .second)) in
+    let a = s .args in
+    let if1 = c .before .before .before .before .before .if1 in
+    let if2 = c .before .before .before .if2 in
+    let x = drop (a .i) (now (a .first)) in
+    let y = drop (a .j) (now (a .second)) in
     let f = c .before .before .before .before .before .before .before .before .entry-at in
     let g = c .before .before .before .before .before .before .before .entry-at2 in
-    by-less x (f .result) y (g .result) (not-false (g .result .more) (c .before .before .before .before .before .if1 .left)) (not-false (f .result .more) (c .before .before .before .if2 .left)) (c .if3 .taken) ∙ turn-found x (f .result) y (g .result) (f .ensures) (g .ensures)
+    by-less x (f .result) y (g .result) (not-false (g .result .more) (if1 .left)) (not-false (f .result .more) (if2 .left)) (c .if3 .taken)
+    ∙ turn-found x (f .result) y (g .result) (f .ensures) (g .ensures)
 
 returns-4 : tie.Need-returns-4
 returns-4 c =
     let s = c .before .before .before .before .before .before .before .before .before .before .before .before .before .before in
-    let x = drop (s .args .i) (now (s .args .first)) in
-    let y = drop (s .args .j) (now (s .args .second)) in
+    let a = s .args in
+    let if1 = c .before .before .before .before .before .before .before .before .if1 in
+    let if2 = c .before .before .before .before .before .before .if2 in
+    let x = drop (a .i) (now (a .first)) in
+    let y = drop (a .j) (now (a .second)) in
     let f = c .before .before .before .before .before .before .before .before .before .before .before .entry-at in
     let g = c .before .before .before .before .before .before .before .before .before .before .entry-at2 in
-    by-more x (f .result) y (g .result) (not-false (g .result .more) (c .before .before .before .before .before .before .before .before .if1 .left)) (not-false (f .result .more) (c .before .before .before .before .before .before .if2 .left)) (c .if4 .taken) ∙ turn-found x (f .result) y (g .result) (f .ensures) (g .ensures)
+    by-more x (f .result) y (g .result) (not-false (g .result .more) (if1 .left)) (not-false (f .result .more) (if2 .left)) (c .if4 .taken)
+    ∙ turn-found x (f .result) y (g .result) (f .ensures) (g .ensures)
 
 second-stays-requires : tie.Need-second-stays-requires
 second-stays-requires c κs =
@@ -64,13 +73,16 @@ second-stays-requires c κs =
 returns-5 : tie.Need-returns-5
 returns-5 c =
     let s = c .before .before .before .before .before .before .before .before .before .before .before .before .before .before .before in
+    let if3 = c .before .before .before .before .if3 in
+    let if1 = c .before .before .before .before .before .before .before .before .before .if1 in
+    let if2 = c .before .before .before .before .before .before .before .if2 in
     let x = drop (s .args .i) (now (s .args .first)) in
     let y = drop (s .args .j) (now (s .args .second)) in
     let f = c .before .before .before .before .before .before .before .before .before .before .before .before .entry-at in
     let g = c .before .before .before .before .before .before .before .before .before .before .before .entry-at2 in
-    let k : f .result .key ≡ g .result .key = omega (arith, c .before .before .before .before .if3 .left, c .before .if4 .left) in
+    let k : f .result .key ≡ g .result .key = omega (arith, if3 .left, c .before .if4 .left) in
     ap (turn (f .result .long) (g .result .long)) (c .second-stays .ensures)
-    ∙ by-same x (f .result) y (g .result) (not-false (g .result .more) (c .before .before .before .before .before .before .before .before .before .if1 .left)) (not-false (f .result .more) (c .before .before .before .before .before .before .before .if2 .left)) k
+    ∙ by-same x (f .result) y (g .result) (not-false (g .result .more) (if1 .left)) (not-false (f .result .more) (if2 .left)) k
     ∙ turn-found x (f .result) y (g .result) (f .ensures) (g .ensures)
 
 pub next-turn-spec : {M : Type 1} → statement M

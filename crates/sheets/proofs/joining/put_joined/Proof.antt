@@ -47,21 +47,25 @@ put-turn-requires c κs =
 
 add-i : tie.Need-add-i Inv-loop μ-loop
 add-i c =
+    let loop-test = c .before .before .before .before .before .before .loop-test in
+    let next-turn = c .before .before .before .before .before .next-turn in
     let l = c .before .before .before .before .before .before .before .loop in
     let s = c .before .before .before .before .before .before .before .before .before .before .before in
     let first : List ℕ = now (s .args .first) in
     let second : List ℕ = now (s .args .second) in
-    let u = along-turn first second (now (s .args .out)) (l .out) (l .i) (l .j) (l .n) (l .q) (l .inv .0) (c .before .before .before .before .before .before .loop-test .taken) (c .before .before .before .before .before .next-turn .ensures) in
+    let u = along-turn first second (now (s .args .out)) (l .out) (l .i) (l .j) (l .n) (l .q) (l .inv .0) (loop-test .taken) (next-turn .ensures) in
     let f = along-fits first second (now (s .args .out)) (l .out) (l .i) (l .j) (l .n) (l .q) (l .inv .0) u in
     omega (arith, s .pre .0 .within .short)
 
 add-j : tie.Need-add-j Inv-loop μ-loop
 add-j c =
+    let loop-test = c .before .before .before .before .before .before .before .loop-test in
+    let next-turn = c .before .before .before .before .before .before .next-turn in
     let l = c .before .before .before .before .before .before .before .before .loop in
     let s = c .before .before .before .before .before .before .before .before .before .before .before .before in
     let first : List ℕ = now (s .args .first) in
     let second : List ℕ = now (s .args .second) in
-    let u = along-turn first second (now (s .args .out)) (l .out) (l .i) (l .j) (l .n) (l .q) (l .inv .0) (c .before .before .before .before .before .before .before .loop-test .taken) (c .before .before .before .before .before .before .next-turn .ensures) in
+    let u = along-turn first second (now (s .args .out)) (l .out) (l .i) (l .j) (l .n) (l .q) (l .inv .0) (loop-test .taken) (next-turn .ensures) in
     let f = along-fits first second (now (s .args .out)) (l .out) (l .i) (l .j) (l .n) (l .q) (l .inv .0) u in
     omega (arith, s .pre .1 .within .short)
 
@@ -74,24 +78,29 @@ add-n c =
 
 loop-less : tie.Need-loop-less Inv-loop μ-loop
 loop-less c =
+    let loop-test = c .before .before .before .before .before .before .before .loop-test in
+    let next-turn = c .before .before .before .before .before .before .next-turn in
     let l = c .before .before .before .before .before .before .before .before .loop in
     let s = c .before .before .before .before .before .before .before .before .before .before .before .before in
     let first : List ℕ = now (s .args .first) in
     let second : List ℕ = now (s .args .second) in
-    let u = along-turn first second (now (s .args .out)) (l .out) (l .i) (l .j) (l .n) (l .q) (l .inv .0) (c .before .before .before .before .before .before .before .loop-test .taken) (c .before .before .before .before .before .before .next-turn .ensures) in
+    let u = along-turn first second (now (s .args .out)) (l .out) (l .i) (l .j) (l .n) (l .q) (l .inv .0) (loop-test .taken) (next-turn .ensures) in
     let f = along-fits first second (now (s .args .out)) (l .out) (l .i) (l .j) (l .n) (l .q) (l .inv .0) u in
     omega (arith, u .goes-on)
 
 loop-again : tie.Need-loop-again Inv-loop μ-loop
 loop-again c =
+    let loop-test = c .before .before .before .before .before .before .before .loop-test in
+    let next-turn = c .before .before .before .before .before .before .next-turn in
+    let put-turn = c .before .before .before .before .put-turn in
     let l = c .before .before .before .before .before .before .before .before .loop in
     let s = c .before .before .before .before .before .before .before .before .before .before .before .before in
     let first : List ℕ = now (s .args .first) in
     let second : List ℕ = now (s .args .second) in
-    let u = along-turn first second (now (s .args .out)) (l .out) (l .i) (l .j) (l .n) (l .q) (l .inv .0) (c .before .before .before .before .before .before .before .loop-test .taken) (c .before .before .before .before .before .before .next-turn .ensures) in
-    let e = c .before .before .before .before .put-turn .ensures in (
+    let u = along-turn first second (now (s .args .out)) (l .out) (l .i) (l .j) (l .n) (l .q) (l .inv .0) (loop-test .taken) (next-turn .ensures) in
+    let e = put-turn .ensures in (
       along-on first second (now (s .args .out)) (l .out) (l .i) (l .j) (l .n) (l .q) (l .inv .0) u (e .0) (e .1),
-      ap length (e .0) ∙ length-sets (l .out) (l .q) (turnText (c .before .before .before .before .before .before .next-turn .result) (drop (l .i) first) (drop (l .j) second)) ∙ l .inv .1,
+      ap length (e .0) ∙ length-sets (l .out) (l .q) (turnText (next-turn .result) (drop (l .i) first) (drop (l .j) second)) ∙ l .inv .1,
     )
 
 same-length : tie.Need-same-length Inv-loop μ-loop

@@ -38,10 +38,13 @@ line-of-requires c κs = let p = c .before .before .put-number .ensures in (sear
 
 returns-2 : tie.Need-returns-2
 returns-2 c =
-    let a = c .before .before .before .before .before .before .before .before .before .args in
+    let s = c .before .before .before .before .before .before .before .before .before in
+    let number-from = c .before .before .before .before .before .before .number-from in
+    let a = s .args in
     let p = c .before .before .before .put-number .ensures in
     let s = spelled-in 32 (p .0) (omega (arith, p .1)) in
-    c .line-of .ensures ∙ number-line _ _ _ (now (a .name)) (a .most) (c .before .before .before .before .before .before .number-from .ensures ∙ sym (ap (numberFrom 10 0) (drop-drop (length (now (a .name))) (a .at) (now (a .sheet))))) (search needs) (s .0)
+    let value = number-from .ensures ∙ sym (ap (numberFrom 10 0) (drop-drop (length (now (a .name))) (a .at) (now (a .sheet)))) in
+    c .line-of .ensures ∙ number-line _ _ _ (now (a .name)) (a .most) value (search needs) (s .0)
 
 pub number-at-spec : {M : Type 1} → statement M
 number-at-spec =
