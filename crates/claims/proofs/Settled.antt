@@ -25,6 +25,7 @@ use Rattle.wanted.proofs.next.Reads as wanted·next
 use Rattle.wanted.proofs.is_name.Reads as wanted·is-name
 use Rattle.wanted.proofs.stages.is_good.Reads as wanted·is-good
 use Rattle.wanted.proofs.names.plain.Reads as wanted·plain
+use Rattle.wanted.proofs.values.decimal.Reads as wanted·decimal
 use Rattle.texts.proofs.same.Reads as texts·same
 use Rattle.texts.proofs.holds.Reads as texts·holds
 use Rattle.texts.proofs.entries.Reads as texts·entries
@@ -33,6 +34,10 @@ use Rattle.orders.proofs.next.Reads as orders·next
 use Rattle.orders.proofs.role.Reads as orders·role
 use Rattle.orders.proofs.is_good.Reads as orders·is-good
 use Rattle.orders.proofs.stamps.stamp_of.Reads as orders·stamp-of
+use Rattle.asked.proofs.start.Reads as asked·start
+use Rattle.asked.proofs.next.Reads as asked·next
+use Rattle.asked.proofs.is_name.Reads as asked·is-name
+use Rattle.asked.proofs.is_good.Reads as asked·is-good
 use Rattle.units.proofs.unit_at.Reads as units·unit-at
 use Rattle.units.proofs.marks.is_text.Reads as units·is-text
 use Rattle.units.proofs.marks.line_fits.Reads as units·line-fits
@@ -394,6 +399,9 @@ wanted·is-good-settled κs a x y s t p q = same p q
 pub wanted·plain-settled : (κs : _) (a : _) (x y : _) (s t : _) → wanted·plain.Post κs a x s → wanted·plain.Post κs a y t → now (s .0) ≡ now (t .0)
 wanted·plain-settled κs a x y s t p q = same p q
 
+pub wanted·decimal-settled : (κs : _) (a : _) (x y : _) (s t : _) → wanted·decimal.Post κs a x s → wanted·decimal.Post κs a y t → x ≡ y
+wanted·decimal-settled κs a x y s t p q = same p q
+
 pub texts·same-settled : (κs : _) (a : _) (x y : _) (s t : _) → texts·same.Post κs a x s → texts·same.Post κs a y t → x ≡ y
 texts·same-settled κs a x y s t p q = same p q
 
@@ -417,6 +425,18 @@ orders·is-good-settled κs a x y s t p q = same p q
 
 pub orders·stamp-of-settled : (κs : _) (a : _) (x y : _) (s t : _) → orders·stamp-of.Post κs a x s → orders·stamp-of.Post κs a y t → x ≡ y
 orders·stamp-of-settled κs a x y s t p q = same p q
+
+pub asked·start-settled : (κs : _) (a : _) (x y : _) (s t : _) → asked·start.Post κs a x s → asked·start.Post κs a y t → x ≡ y
+asked·start-settled κs a x y s t p q = same p q
+
+pub asked·next-settled : (κs : _) (a : _) (x y : _) (s t : _) → asked·next.Post κs a x s → asked·next.Post κs a y t → x ≡ y
+asked·next-settled κs a x y s t p q = same p q
+
+pub asked·is-name-settled : (κs : _) (a : _) (x y : _) (s t : _) → asked·is-name.Post κs a x s → asked·is-name.Post κs a y t → x ≡ y
+asked·is-name-settled κs a x y s t p q = same p q
+
+pub asked·is-good-settled : (κs : _) (a : _) (x y : _) (s t : _) → asked·is-good.Post κs a x s → asked·is-good.Post κs a y t → x ≡ y
+asked·is-good-settled κs a x y s t p q = same p q
 
 -- ---- the test programs
 

@@ -11,7 +11,7 @@ use Rattle.wanted.specs.Values.{digitOf, decimalFrom, hexPairOf, noNumbe
 module _ (w : List ℕ) (i n : ℕ) (within : i < length w) where
   -- one digit more
   pub digit-taken :
-      digitOf (getD w i 0) < 10 → n < 100 → decimalFrom (drop (i + 1) w) (10 * n + digitOf (getD w i 0)) ≡ decimalFrom (drop i w) n
+      digitOf (getD w i 0) < 10 → n < 10000 → decimalFrom (drop (i + 1) w) (10 * n + digitOf (getD w i 0)) ≡ decimalFrom (drop i w) n
   unfolding decimalFrom
   digit-taken small few = rw (add-one, drop-cons w i 0, lt-ltb _ _ small, lt-ltb _ _ few)
 
@@ -19,7 +19,7 @@ module _ (w : List ℕ) (i n : ℕ) (within : i < length w) where
   unfolding decimalFrom
   digit-bad bad = rw (drop-cons w i 0, le-ltb _ _ bad)
 
-  pub too-large : digitOf (getD w i 0) < 10 → 100 ≤ n → decimalFrom (drop i w) n ≡ noNumber
+  pub too-large : digitOf (getD w i 0) < 10 → 10000 ≤ n → decimalFrom (drop i w) n ≡ noNumber
   unfolding decimalFrom
   too-large small many = rw (drop-cons w i 0, lt-ltb _ _ small, le-ltb _ _ many)
 

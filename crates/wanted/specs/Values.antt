@@ -10,9 +10,9 @@ use Rattle.wanted.specs.declared.values.Field.{Field}
 use Rattle.wanted.specs.declared.values.Field.the-variants.{Magazine, Page, Stream, Application}
 use Rattle.wanted.specs.declared.values.Outcome.{Outcome}
 
--- what stands for a number that can't be had: more than any field takes
+-- what stands for a number that can't be had: more than five digits say
 abbrev pub noNumber : ℕ
-noNumber = 1000
+noNumber = 100000
 
 abbrev pub noDigit : ℕ
 noDigit = 16
@@ -23,10 +23,10 @@ digitOf b =
     pick (both (leb 48 b) (leb b 57)) (b - 48)
     (pick (both (leb 65 b) (leb b 70)) (b - 55) (pick (both (leb 97 b) (leb b 102)) (b - 87) noDigit))
 
--- decimal digits up to the end, after those that stand for n; no number over 999
+-- decimal digits up to the end, after those that stand for n; no number over 99,999
 unfoldable pub decimalFrom : List ℕ → ℕ → ℕ
 decimalFrom [] n = n
-decimalFrom (b ∷ bs) n = pick (both (ltb (digitOf b) 10) (ltb n 100)) (decimalFrom bs (10 * n + digitOf b)) noNumber
+decimalFrom (b ∷ bs) n = pick (both (ltb (digitOf b) 10) (ltb n 10000)) (decimalFrom bs (10 * n + digitOf b)) noNumber
 
 -- a decimal number of at least one digit
 unfoldable pub decimalOf : List ℕ → ℕ

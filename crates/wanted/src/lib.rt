@@ -3,7 +3,7 @@
 // them all, and asks is_good, before it reads or prints anything; then it goes through them again for the names.
 pub mod names;
 pub mod stages;
-mod values;
+pub mod values;
 
 pub use names::plain;
 use packet::Setting;
@@ -12,6 +12,7 @@ pub use stages::Words;
 pub use stages::is_good;
 pub use stages::start;
 use values::Field;
+pub use values::decimal;
 ghost use mathlib.Core.Path.{_≡_};
 ghost use Rattle.wanted.specs.Words.{heard, setBy, takenAsName, wordOf, optionOf, looksLikeName, asksCounts, afterOptions, afterNames};
 ghost use Rattle.wanted.specs.Values.{valueOf};

@@ -18,8 +18,8 @@ pub struct Outcome {
     pub good: bool,
 }
 
-// No number: more than any field takes.
-const NO_NUMBER: u16 = 1000;
+// No number: more than a decimal of five digits.
+const NO_NUMBER: u32 = 100000;
 
 const NO_DIGIT: u8 = 16;
 
@@ -73,7 +73,7 @@ fn with(setting: Setting, field: Field, number: u8) -> Setting
 }
 
 // Whether the field takes the number.
-fn is_in(field: Field, number: u16) -> bool
+fn is_in(field: Field, number: u32) -> bool
     ensures { λ r. ⌜ r ≡ isIn field number ⌝ }
 {
     if number < least(field) {
@@ -82,7 +82,7 @@ fn is_in(field: Field, number: u16) -> bool
     number <= most(field)
 }
 
-fn least(field: Field) -> u16
+fn least(field: Field) -> u32
     ensures { λ r. ⌜ r ≡ leastOf field ⌝ }
 {
     match field {
@@ -93,7 +93,7 @@ fn least(field: Field) -> u16
     }
 }
 
-fn most(field: Field) -> u16
+fn most(field: Field) -> u32
     ensures { λ r. ⌜ r ≡ mostOf field ⌝ }
 {
     match field {
@@ -105,7 +105,7 @@ fn most(field: Field) -> u16
 }
 
 // The number that a word says for a field.
-fn number(field: Field, word: &[u8]) -> u16
+fn number(field: Field, word: &[u8]) -> u32
     ensures { λ r. ⌜ r ≡ valueOf field (now (word .entry)) ⌝ }
 {
     match field {
@@ -116,29 +116,30 @@ fn number(field: Field, word: &[u8]) -> u16
     }
 }
 
-fn decimal(word: &[u8]) -> u16
+// The number of five decimal digits at most, zeros before it not counted, that a word says, or NO_NUMBER.
+pub fn decimal(word: &[u8]) -> u32
     ensures { λ r. ⌜ r ≡ decimalOf (now (word .entry)) ⌝ }
 {
     if word.len() == 0 {
         return NO_NUMBER;
     }
-    let mut number: u16 = 0;
+    let mut number: u32 = 0;
     let mut i = 0;
     while i < word.len() {
         let d = digit(word[i]);
         if d >= 10 {
             return NO_NUMBER;
         }
-        if number >= 100 {
+        if number >= 10000 {
             return NO_NUMBER;
         }
-        number = 10 * number + d as u16;
+        number = 10 * number + d as u32;
         i += 1;
     }
     number
 }
 
-fn hex_pair(word: &[u8]) -> u16
+fn hex_pair(word: &[u8]) -> u32
     ensures { λ r. ⌜ r ≡ hexPairOf (now (word .entry)) ⌝ }
 {
     if word.len() != 2 {
@@ -152,7 +153,7 @@ fn hex_pair(word: &[u8]) -> u16
     if low >= NO_DIGIT {
         return NO_NUMBER;
     }
-    16 * high as u16 + low as u16
+    16 * high as u32 + low as u32
 }
 
 // What a hex digit of either case stands for.

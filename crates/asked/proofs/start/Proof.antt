@@ -1,0 +1,17 @@
+-- `asked::start` meets its contract: the desk's own start, and block 0. Assumes nothing.
+use mathlib.Core.Bool.{false}
+use mathlib.Core.Path.{ap}
+use Rattle.wanted.specs.declared.stages.Words.{Words}
+use Rattle.asked.specs.Asked.{asked}
+use borrow.Author.Needs.{needs}
+use Rattle.asked.proofs.start.Statement.{statement}
+use Rattle.asked.proofs.start.Tie as tie
+
+start-requires : tie.Need-start-requires
+start-requires c κs = search needs
+
+returns : tie.Need-returns
+returns c = ap (λ (ws : Words). asked 0 false ws) (c .start .ensures)
+
+pub start-spec : {M : Type 1} → statement M
+start-spec = tie.close (tie.spec start-requires returns)

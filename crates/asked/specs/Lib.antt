@@ -1,0 +1,2 @@
+-- The words that `menus` is called with.
+pub mod Asked
