@@ -3,7 +3,7 @@ use mathlib.Core.Path.{_≡_, _∙_, refl, sym, ap, ap₂}
 use mathlib.Core.Bool.{Bool, true, false}
 use mathlib.Core.Logic.{_↔_}
 use mathlib.Core.List.{List, [], _∷_, _++_, map}
-use Prim.Native.Nat.{ℕ, _+_, _%_, _≤_}
+use Prim.Native.Nat.{ℕ, _+_, _/_, _%_, _≤_}
 use native.Mathlib.Nat.{le-refl, add-assoc}
 use native.Mathlib.Omega.{arith}
 use lib.Dec.{eqb}
@@ -13,9 +13,9 @@ use Rattle.laws.specs.Pick.{pick}
 use Rattle.octet.specs.declared.Heard.the-variants.{Image, Mended, Neither}
 use Rattle.octet.specs.Image.{image}
 use Rattle.octet.specs.Decoding.{nib, undecodable}
-use Rattle.octet.specs.Hearing.{harm, harms, hearing, numberOf, mendedOf}
+use Rattle.octet.specs.Hearing.{harm, harms, mark, hearing, numberOf, mendedOf}
 use Rattle.octet.proofs.Lowest.{image-mod}
-use Rattle.octet.proofs.Laws.{nib-image}
+use Rattle.octet.proofs.Laws.{nib-le, nib-image}
 
 -- ---- a byte
 
@@ -46,6 +46,18 @@ harm-exact n b e = (λ h. clean (eqb b (image n)) refl (sym (harm-sent n b e) �
 -- an image has none
 pub harm-image : (n : ℕ) → harm (image n) ≡ 0
 harm-image n = harm-exact (n % 16) (image n) (nib-image n) .1 (image-mod n)
+
+-- ---- a byte's mark
+
+-- says what the byte decodes to
+pub mark-nib : (r b : ℕ) → r ≡ mark b → r % 32 ≡ nib b
+unfolding mark
+mark-nib r b e = omega (arith, e, nib-le b)
+
+-- and its harm
+pub mark-harm : (r b : ℕ) → r ≡ mark b → r / 32 ≡ harm b
+unfolding mark
+mark-harm r b e = omega (arith, e, nib-le b)
 
 -- ---- what is heard
 

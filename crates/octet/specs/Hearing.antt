@@ -1,7 +1,7 @@
 -- How a byte was heard (SCOPE 19.2): as the image of a nibble, as a byte that is mended to a nibble, or as neither; and how many bytes
 -- of a list differ from the image of their nibble.
 use mathlib.Core.List.{List, [], _∷_}
-use Prim.Native.Nat.{ℕ, _+_}
+use Prim.Native.Nat.{ℕ, _+_, _*_}
 use lib.Dec.{eqb}
 use Rattle.laws.specs.Pick.{pick}
 use Rattle.octet.specs.declared.Heard.{Heard}
@@ -17,6 +17,10 @@ harm b = pick (eqb b (image (nib b))) 0 1
 unfoldable pub harms : List ℕ → ℕ
 harms [] = 0
 harms (b ∷ bs) = harm b + harms bs
+
+-- a byte's nibble, or 16, and its harm in one number
+unfoldable pub mark : ℕ → ℕ
+mark b = nib b + 32 * harm b
 
 -- a byte that decodes to nothing is neither; another is an image or is mended, with the nibble that it decodes to
 unfoldable pub hearing : ℕ → Heard

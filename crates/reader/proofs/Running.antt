@@ -1,10 +1,10 @@
 -- Packets one after the other: one more is one step of the definition, and where there is no room for one, or none is left, it has
--- ended. Assumes nothing.
+-- ended; those of other magazines are passed by. Assumes nothing.
 use mathlib.Core.Path.{_≡_, _∙_, refl, sym, ap}
-use mathlib.Core.Bool.{false}
+use mathlib.Core.Bool.{true, false}
 use mathlib.Core.List.{List, _++_}
-use Prim.Native.Nat.{ℕ, zero, suc, _+_, _-_, _*_, _/_, _≤_, _<_}
-use native.Mathlib.Nat.{zero-add}
+use Prim.Native.Nat.{ℕ, zero, suc, _+_, _-_, _*_, _/_, _%_, _≤_, _<_}
+use native.Mathlib.Nat.{zero-add, le-refl}
 use native.Mathlib.Omega.{arith}
 use lib.ListN.{length, take, drop, length-append, length-drop}
 use lib.Seq.{sets, drop-drop, length-take-le}
@@ -13,21 +13,20 @@ use Rattle.laws.proofs.Lists.{sets-append, part-of}
 use Rattle.blocks.specs.Block.{Block, headLength, recordsOf}
 use Rattle.packet.specs.declared.Setting.{Setting}
 use Rattle.packet.specs.Packet.{packetLength}
+use Rattle.packet.specs.Address.{addressOf, elsewhere}
 use Rattle.reader.specs.declared.many.Going.{Going}
-use Rattle.reader.specs.declared.many.Taking.{Taking}
 use Rattle.pages.specs.Seen.{see}
 use Rattle.state.specs.Acting.{State, handed, dropped}
 use Rattle.walk.specs.Reading.{room}
 use Rattle.reader.specs.Many.{Ran, begun, ranOn, run}
 use Rattle.walk.specs.Internal.{Good, Kept}
-use Rattle.reader.specs.Internal.{Acted, stateIn, RanTo}
-use Rattle.walk.proofs.Keeping.{holds-mode}
+use Rattle.reader.specs.Internal.{Acted, stateIn, RanTo, taking, packetAt, Reached, Passed}
+use Rattle.walk.proofs.Keeping.{holds-mode, holds-kept}
 use Rattle.walk.proofs.Adding.{recordsOf-append}
 use Rattle.walk.proofs.Room.{head-each}
 use Rattle.state.proofs.Bounding.{packet-room}
-
-abbrev pub taking : Going → ℕ → Taking
-taking a count = record { going = a; packets = count }
+use Rattle.pages.proofs.Judged.{see-elsewhere}
+use Rattle.reader.proofs.Heeding.{act-other}
 
 -- ---- what has come
 
@@ -70,6 +69,10 @@ module _ {b : Ran} {a : Going} {count : ℕ} {store old mid : List ℕ} (w : Ran
 
 -- ---- what is left
 
+-- a packet's part of the list
+pub packet-length : (packets : List ℕ) (at : ℕ) → at + 42 ≤ length packets → length (take (at + 42 - at) (drop at packets)) ≡ packetLength
+packet-length packets at h = rw (part-of at 42 packets) (length-take-le 42 (drop at packets) (rw length-drop (omega arith)))
+
 -- where there is no room for one packet more, however many are left
 pub run-full : (s : Setting) (long n : ℕ) (b : Ran) (l : List ℕ) → long < length (recordsOf (b .blocks)) + room → b ≡ run s long n b l
 unfolding run
@@ -92,21 +95,39 @@ module _ (s : Setting) (long : ℕ) (packets : List ℕ) (at : ℕ) (b : Ran) wh
   unfolding run
   run-out h = let e : (length packets - at) / packetLength ≡ 0 = omega arith in rw e
 
-  -- one packet more, and what is left still comes to the same
-  pub further :
-      {whole : Ran} {a after : Going} {count : ℕ} {store store′ old mid new : List ℕ} → RanTo b (taking a count) store old mid
-      → at + 42 ≤ length packets → length (recordsOf (b .blocks)) + room ≤ long
-      → Acted (see s (take (at + 42 - at) (drop at packets))) (stateIn a store) a after store′ mid new
-      → run s long ((length packets - at) / packetLength) b (drop at packets) ≡ whole
-      → (b′ : Ran) × (RanTo b′ (taking after (count + 1)) store′ old new)
-      × (run s long ((length packets - (at + 42)) / packetLength) b′ (drop (at + 42) packets) ≡ whole)
-  further w h r x e = let p = take (at + 42 - at) (drop at packets) in (ranOn s b p, one-more w s p x, run-on h r ∙ e)
+-- one packet more, and what is left still comes to the same
+pub further :
+    (s : Setting) (long : ℕ) (packets : List ℕ) (at : ℕ) {whole : Ran} {a after : Going} {store store′ old mid new : List ℕ}
+    → at + 42 ≤ length packets → a .got .written + room ≤ long
+    → Acted (see s (packetAt packets at)) (stateIn a store) a after store′ mid new
+    → Reached s long packets at a store old mid whole → Reached s long packets (at + 42) after store′ old new whole
+further s long packets at {after = after} {store′ = store′} {old = old} {new = new} h r x (b, w, e) =
+    let p = packetAt packets at in
+    let k : at / packetLength + 1 ≡ (at + 42) / packetLength = omega arith in
+    let y : RanTo (ranOn s b p) (taking after (at / packetLength + 1)) store′ old new = one-more w s p x in
+    (ranOn s b p, rw k at y, run-on s long packets at b h (omega (arith, r, w .written)) ∙ e)
+
+-- nothing has been passed by yet
+pub passed-none : (s : Setting) (packets : List ℕ) (at : ℕ) → at ≤ length packets → (length packets - at) % packetLength ≡ 0 → Passed s packets at at
+passed-none s packets at h e = record { onward = le-refl at; within = h; even = e; reached = λ long a store old new whole r w. w }
+
+-- a packet more is another magazine's
+pub passed-one :
+    (s : Setting) (packets : List ℕ) (from at : ℕ) {x : ℕ} → Passed s packets from at → at + 42 ≤ length packets
+    → x ≡ addressOf (packetAt packets at) → elsewhere s x ≡ true → Passed s packets from (at + 42)
+passed-one s packets from at p h e t =
+    let o = see-elsewhere s (packetAt packets at) (packet-length packets at h) e t in
+    record {
+      onward = omega (arith, p .onward);
+      within = h;
+      even = omega (arith, p .even, h);
+      reached =
+          λ long a store old new whole r w.
+          let q = p .reached long a store old new whole r w in
+          further s long packets at h r (act-other a new (holds-kept _ (q .1 .holds)) o) q;
+    }
 
 -- ---- the room
-
--- a packet's part of the list
-pub packet-length : (packets : List ℕ) (at : ℕ) → at + 42 ≤ length packets → length (take (at + 42 - at) (drop at packets)) ≡ packetLength
-packet-length packets at h = rw (part-of at 42 packets) (length-take-le 42 (drop at packets) (rw length-drop (omega arith)))
 
 -- one packet writes no more than the room, and a head a block at least
 pub still-room :

@@ -3,13 +3,14 @@
 use mathlib.Core.Path.{_≡_}
 use mathlib.Core.Bool.{Bool, false}
 use mathlib.Core.List.{List}
-use Prim.Native.Nat.{ℕ, _/_}
-use lib.ListN.{length, getD, drop}
+use Prim.Native.Nat.{ℕ, _+_, _-_, _/_, _%_, _≤_, _<_}
+use lib.ListN.{length, getD, take, drop}
 use lib.Seq.{sets}
 use Rattle.octet.specs.Decoding.{nib}
 use Rattle.blocks.specs.Block.{Block, recordsOf}
 use Rattle.packet.specs.declared.Setting.{Setting}
 use Rattle.packet.specs.Packet.{packetLength}
+use Rattle.packet.specs.Address.{addressOf}
 use Rattle.pages.specs.declared.headers.Page.{Page}
 use Rattle.pages.specs.declared.headers.Verdict.{Verdict}
 use Rattle.pages.specs.Headers.{Seen}
@@ -18,6 +19,7 @@ use Rattle.walk.specs.declared.Got.{Got}
 use Rattle.walk.specs.declared.Taken.{Taken}
 use Rattle.walk.specs.Mode.{Mode, running}
 use Rattle.walk.specs.Store.{modeOf}
+use Rattle.walk.specs.Reading.{room}
 use Rattle.walk.specs.Internal.{Holds, Went, TookIn, ContinuedTo, ContinuedOn, ReadPacket, runs}
 use Rattle.state.specs.Acting.{State, heeded, heededBlocks, heededDrops, act, handed, dropped}
 use Rattle.reader.specs.declared.Heard.{Heard}
@@ -26,6 +28,7 @@ use Rattle.reader.specs.declared.many.HeardAll.{HeardAll}
 use Rattle.reader.specs.declared.many.HeardAll.the-variants.{TookAll, RefusedAll}
 use Rattle.reader.specs.declared.many.Going.{Going}
 use Rattle.reader.specs.declared.many.Taking.{Taking}
+use Rattle.reader.specs.declared.many.Met.{Met}
 use Rattle.reader.specs.Many.{Ran, begun, run}
 
 -- ---- one packet of our page
@@ -84,6 +87,33 @@ pub record RanTo (b : Ran) (r : Taking) (store old new : List ℕ) : Type 0 wher
   pub written : r .going .got .written ≡ length (recordsOf (b .blocks))
   pub dropped : r .going .got .dropped ≡ b .dropped
   pub out : new ≡ sets old 0 (recordsOf (b .blocks))
+
+abbrev pub taking : Going → ℕ → Taking
+taking a count = record { going = a; packets = count }
+
+-- the packets up to the place `at` have come to a, and what is left from there comes to the whole
+abbrev pub Reached : Setting → ℕ → List ℕ → ℕ → Going → List ℕ → List ℕ → List ℕ → Ran → Type 0
+Reached s long packets at a store old new whole =
+    (b : Ran) × (RanTo b (taking a (at / packetLength)) store old new)
+    × (run s long ((length packets - at) / packetLength) b (drop at packets) ≡ whole)
+
+-- the packet at a place of the list
+abbrev pub packetAt : List ℕ → ℕ → List ℕ
+packetAt packets at = take (at + 42 - at) (drop at packets)
+
+-- from one place to another only other magazines' packets stand
+pub record Passed (s : Setting) (packets : List ℕ) (from at : ℕ) : Type 0 where
+  pub onward : from ≤ at
+  pub within : at ≤ length packets
+  pub even : (length packets - at) % packetLength ≡ 0
+  pub reached :
+      (long : ℕ) (a : Going) (store old new : List ℕ) (whole : Ran) → a .got .written + room ≤ long
+      → Reached s long packets from a store old new whole → Reached s long packets at a store old new whole
+
+-- and the packet that is met there, if one is, has this address
+abbrev pub PassedTo : Setting → List ℕ → ℕ → Met → Type 0
+PassedTo s packets from r =
+    Passed s packets from (r .at) × (r .at < length packets → r .address ≡ addressOf (packetAt packets (r .at)))
 
 -- ---- a list of one
 

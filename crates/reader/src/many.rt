@@ -10,7 +10,7 @@ use walk::Got;
 use walk::Run;
 ghost use mathlib.Core.Path.{_≡_};
 ghost use mathlib.Core.Bool.{true, false};
-ghost use Prim.Native.Nat.{_%_, _≤_};
+ghost use Prim.Native.Nat.{_-_, _%_, _≤_};
 ghost use lib.ListN.{length, getD, drop};
 ghost use Rattle.laws.specs.Pick.{both};
 ghost use Rattle.packet.specs.Setting.{inRange};
@@ -19,7 +19,7 @@ ghost use Rattle.octet.specs.Decoding.{nib};
 ghost use Rattle.walk.specs.Internal.{Kept, PacketRoom};
 ghost use Rattle.state.specs.State.{readerInRange, Sixteen};
 ghost use Rattle.reader.specs.Many.{refusedAll, feedAllHeard, feedAllReader, feedAllOut};
-ghost use Rattle.reader.specs.Internal.{stateIn, Heeded, started, ranFrom, RanTo};
+ghost use Rattle.reader.specs.Internal.{stateIn, Heeded, started, ranFrom, RanTo, PassedTo};
 
 // What a list of packets gave: how many of them were taken, how many blocks they finished, as how many
 // bytes of records at the front of the output, and whether a block was dropped.
@@ -50,6 +50,12 @@ struct Going {
 struct Taking {
     going: Going,
     packets: usize,
+}
+
+// The place of a packet, and its address.
+struct Met {
+    at: usize,
+    address: usize,
 }
 
 // A list of packets of 42 bytes, taken one after the other, while at least 2,112 bytes of the output are
@@ -112,30 +118,47 @@ fn take_all(
 {
     let mut a = from;
     let mut at = 0;
-    let mut count = 0;
     while at < packets.len() {
         let got = a.got;
         let q = got.written;
         if out.len() - q < 2112 {
             return Taking {
                 going: a,
-                packets: count,
+                packets: at / 42,
             };
         }
-        let next = at + 42;
-        count += 1;
-        let address = packet::address(&packets[at..next]);
-        if !packet::passes_by(setting, address) {
+        let met = pass_on(setting, packets, at);
+        at = met.at;
+        if at < packets.len() {
+            let next = at + 42;
             let page = a.page;
-            let v = pages::judge(setting, page, a.index, address, &packets[at..next]);
+            let v = pages::judge(setting, page, a.index, met.address, &packets[at..next]);
             a = heed(v, a, store, &packets[at..next], out);
+            at = next;
         }
-        at = next;
     }
     Taking {
         going: a,
-        packets: count,
+        packets: at / 42,
     }
+}
+
+// The first packet from `from` on that isn't another magazine's; the end where there is none.
+fn pass_on(setting: Setting, packets: &[u8], from: usize) -> Met
+    requires { ⌜ from ≤ length (now packets) ⌝ }
+    requires { ⌜ (length (now packets) - from) % packetLength ≡ 0 ⌝ }
+    ensures { λ r. ⌜ PassedTo setting (now (packets .entry)) from r ⌝ }
+{
+    let mut at = from;
+    while at < packets.len() {
+        let next = at + 42;
+        let address = packet::address(&packets[at..next]);
+        if !packet::passes_by(setting, address) {
+            return Met { at, address };
+        }
+        at = next;
+    }
+    Met { at, address: 256 }
 }
 
 // What the verdict says: the running block is dropped or not, and then the packet's bytes are read or not.

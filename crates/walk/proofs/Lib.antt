@@ -1,6 +1,5 @@
 pub mod Staying
 pub mod Heading
-pub mod Evening
 pub mod Adding
 pub mod Along
 pub mod Keeping

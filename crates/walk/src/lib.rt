@@ -9,12 +9,8 @@ ghost use mathlib.Core.Path.{_≡_};
 ghost use Prim.Native.Nat.{_+_, _-_, _≤_, _<_};
 ghost use lib.ListN.{length, drop};
 ghost use Rattle.octet.specs.Decoding.{nib};
-ghost use Rattle.octet.specs.Hearing.{harm};
 ghost use Rattle.walk.specs.Reading.{pointedBy};
 ghost use Rattle.walk.specs.Places.{heads, aheadIn, nextOf};
-
-// Bit i is set where i has an even number of ones, for i below 16.
-const EVEN: u16 = 0x9669;
 
 // The running block: none; its start and so many nibbles of its 16 bits; its 16 bits, and how many
 // of its bytes are in the store. The part counts the start and the header bytes so far that weren't
@@ -84,13 +80,13 @@ pub fn head_on(s: &[u8], from: usize, got: u8, bits: u16, part: u8) -> Ahead
                 part: p,
             };
         }
-        let b = s[i];
-        let n = octet::quick::decode(b);
+        let mark = octet::quick::mark(s[i]);
+        let n = mark % 32;
         if n == 16 {
             return Ahead::Broken;
         }
         v = v / 16 + (n as u16) * 4096;
-        p += harmed(b) as u16;
+        p += (mark / 32) as u16;
         g += 1;
         i += 1;
     }
@@ -99,14 +95,4 @@ pub fn head_on(s: &[u8], from: usize, got: u8, bits: u16, part: u8) -> Ahead
         part: p,
         next: i,
     }
-}
-
-// 1 where a byte that decodes isn't the image of its nibble, else 0. Images have an odd number of ones, and one flip makes it
-// even; so no table is looked into.
-pub(crate) fn harmed(b: u8) -> u8
-    requires { ⌜ nib b < 16 ⌝ }
-    ensures { λ r. ⌜ r ≡ harm b ⌝ }
-    ensures { λ r. ⌜ r ≤ 1 ⌝ }
-{
-    ((EVEN >> ((b ^ (b / 16)) % 16)) % 2) as u8
 }

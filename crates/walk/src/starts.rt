@@ -21,11 +21,11 @@ pub fn find(s: &[u8], from: usize) -> Ahead
     if at >= s.len() {
         return Ahead::Nothing;
     }
-    let b = s[at];
-    if octet::quick::decode(b) != START {
+    let mark = octet::quick::mark(s[at]);
+    if mark % 32 != START {
         return Ahead::Nothing;
     }
-    crate::head_on(s, at + 1, 0, 0, crate::harmed(b))
+    crate::head_on(s, at + 1, 0, 0, mark / 32)
 }
 
 // Whether a block that has taken its bytes is lost at the pointed byte: it isn't whole, or more than

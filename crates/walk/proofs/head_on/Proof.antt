@@ -1,12 +1,13 @@
 -- `walk::head_on` meets its contract: what the nibbles still to come make of the bytes still to come is what they all make of all.
 -- Assumes nothing.
 use mathlib.Core.Path.{_≡_, _∙_, sym}
-use Prim.Native.Nat.{_+_, _-_, _^_, _≤_, _<_}
+use Prim.Native.Nat.{_+_, _-_, _/_, _%_, _^_, _≤_, _<_}
 use native.Mathlib.Omega.{arith}
 use lib.ListN.{length, getD, drop}
 use denote.Ref.{now}
 use borrow.Author.Needs.{needs}
 use Rattle.octet.proofs.Laws.{nib-le}
+use Rattle.octet.proofs.Hearing.{harm-le, mark-nib, mark-harm}
 use Rattle.walk.specs.Places.{heads}
 use Rattle.walk.proofs.Heading.{head-on, head-cut, head-broken, head-whole}
 use Rattle.walk.proofs.head_on.Statement.{statement}
@@ -29,42 +30,42 @@ returns c =
     let a = c .before .before .before .before .args in
     (sym (l .inv .4) ∙ head-cut (now (a .s)) (l .i) (l .g) (l .v) (l .p) (omega arith) (omega arith), (search needs, search needs))
 
-shared-slice-read-b : tie.Need-shared-slice-read-b Inv-loop μ-loop
-shared-slice-read-b c = search needs
+shared-slice-read-mark : tie.Need-shared-slice-read-mark Inv-loop μ-loop
+shared-slice-read-mark c = search needs
 
-decode-requires : tie.Need-decode-requires Inv-loop μ-loop
-decode-requires c κs = search needs
+mark-requires : tie.Need-mark-requires Inv-loop μ-loop
+mark-requires c κs = search needs
 
 returns-2 : tie.Need-returns-2 Inv-loop μ-loop
 returns-2 c =
     let l = c .before .before .before .before .before .loop in
     let a = c .before .before .before .before .before .before .before .args in
-    (sym (l .inv .4) ∙ head-broken (now (a .s)) (l .i) (l .g) (l .v) (l .p) (omega arith) (omega arith) (omega (arith, nib-le (getD (now (a .s)) (l .i) 0))), (search needs, search needs))
+    let b = getD (now (a .s)) (l .i) 0 in
+    let n = mark-nib (c .before .mark .result) b (c .before .mark .ensures) in
+    (sym (l .inv .4) ∙ head-broken (now (a .s)) (l .i) (l .g) (l .v) (l .p) (omega arith) (omega arith) (sym n ∙ c .if2 .taken), (search needs, search needs))
 
 cast-v : tie.Need-cast-v Inv-loop μ-loop
 cast-v c = search needs
 
--- a byte decodes to 16 at most, and past the test to less
-is-nibble : (c : tie.Else2 Inv-loop μ-loop) → c .before .decode .result ≤ 16
+-- a byte decodes to 16 at most, and past the test to less; and it adds one to the part at most
+is-nibble : (c : tie.Else2 Inv-loop μ-loop) → (c .before .mark .result % 32 ≤ 16) × (c .before .mark .result / 32 ≤ 1)
 is-nibble c =
     let l = c .before .before .before .before .before .loop in
-    let s = now (c .before .before .before .before .before .before .before .args .s) in
-    omega (arith, c .before .decode .ensures, nib-le (getD s (l .i) 0))
+    let b = getD (now (c .before .before .before .before .before .before .before .args .s)) (l .i) 0 in
+    let m = c .before .mark in
+    (omega (arith, mark-nib (m .result) b (m .ensures), nib-le b), omega (arith, mark-harm (m .result) b (m .ensures), harm-le b))
 
 mul-v : tie.Need-mul-v Inv-loop μ-loop
-mul-v c = omega (arith, is-nibble c)
+mul-v c = omega (arith, is-nibble c .0)
 
 add-v : tie.Need-add-v Inv-loop μ-loop
-add-v c = omega (arith, is-nibble c)
-
-harmed-requires : tie.Need-harmed-requires Inv-loop μ-loop
-harmed-requires c κs = omega (arith, is-nibble c, c .before .decode .ensures)
+add-v c = omega (arith, is-nibble c .0)
 
 cast-p : tie.Need-cast-p Inv-loop μ-loop
 cast-p c = search needs
 
 add-p : tie.Need-add-p Inv-loop μ-loop
-add-p c = search needs
+add-p c = omega (arith, is-nibble c .1)
 
 add-g : tie.Need-add-g Inv-loop μ-loop
 add-g c = search needs
@@ -77,16 +78,14 @@ loop-less c = search needs
 
 loop-again : tie.Need-loop-again Inv-loop μ-loop
 loop-again c =
-    let l = c .before .before .before .before .before .before .loop in
-    let s = now (c .before .before .before .before .before .before .before .before .args .s) in
-    let n = c .before .before .decode .result in
-    let e = c .before .before .decode .ensures in
-    let h = c .harmed .ensures in (
+    let l = c .before .before .before .before .before .loop in
+    let s = now (c .before .before .before .before .before .before .before .args .s) in
+    let m = c .before .mark in (
       λ w. omega arith,
       omega arith,
-      omega (arith, is-nibble (c .before)),
-      omega arith,
-      rw (h .0) (head-on s (l .i) (l .g) (l .v) (l .p) n (omega arith) (omega arith) e (c .before .if2 .left) ∙ l .inv .4),
+      omega (arith, is-nibble c .0),
+      omega (arith, is-nibble c .1),
+      head-on s (l .i) (l .g) (l .v) (l .p) (m .result) (omega arith) (omega arith) (m .ensures) (c .if2 .left) ∙ l .inv .4,
     )
 
 returns-3 : tie.Need-returns-3 Inv-loop μ-loop
@@ -103,13 +102,12 @@ head-on-spec =
     μ-loop
     loop-holds
     returns
-    shared-slice-read-b
-    decode-requires
+    shared-slice-read-mark
+    mark-requires
     returns-2
     cast-v
     mul-v
     add-v
-    harmed-requires
     cast-p
     add-p
     add-g

@@ -1,9 +1,11 @@
 -- `walk::starts::find` meets its contract: filler leads to the place, and what stands there decides. Assumes nothing.
-use mathlib.Core.Path.{_∙_}
+use mathlib.Core.Path.{_∙_, sym}
 use Prim.Native.Nat.{_+_, _-_}
 use native.Mathlib.Omega.{arith}
+use lib.ListN.{getD}
 use denote.Ref.{now}
 use borrow.Author.Needs.{needs}
+use Rattle.octet.proofs.Hearing.{mark-nib, mark-harm}
 use Rattle.walk.proofs.Stepping.{found-at, not-filler, found-none, found-stray, found-start, next-later}
 use Rattle.walk.proofs.starts.find.Statement.{statement}
 use Rattle.walk.proofs.starts.find.Tie as tie
@@ -18,18 +20,18 @@ returns c =
     let e = c .before .skip .ensures in
     (found-at (now (a .s)) (a .from) at e ∙ found-none (now (a .s)) at (c .if1 .taken), (search needs, search needs))
 
-shared-slice-read-b : tie.Need-shared-slice-read-b
-shared-slice-read-b c = search needs
+shared-slice-read-mark : tie.Need-shared-slice-read-mark
+shared-slice-read-mark c = search needs
 
-decode-requires : tie.Need-decode-requires
-decode-requires c κs = search needs
+mark-requires : tie.Need-mark-requires
+mark-requires c κs = search needs
 
 returns-2 : tie.Need-returns-2
 returns-2 c =
     let a = c .before .before .before .before .before .before .args in
     let at = c .before .before .before .before .skip .result in
     let e = c .before .before .before .before .skip .ensures in
-    let d = c .before .decode .ensures in (
+    let d = mark-nib (c .before .mark .result) (getD (now (a .s)) at 0) (c .before .mark .ensures) in (
       found-at (now (a .s)) (a .from) at e
           ∙ found-stray (now (a .s)) at (omega arith) (not-filler (now (a .s)) (a .from) at e (omega arith) (omega arith))
           (λ q. c .if2 .taken (d ∙ q)),
@@ -39,20 +41,20 @@ returns-2 c =
 add-head-on : tie.Need-add-head-on
 add-head-on c = search needs
 
-harmed-requires : tie.Need-harmed-requires
-harmed-requires c κs = omega arith
-
 head-on-requires : tie.Need-head-on-requires
 head-on-requires c κs = search needs
 
 returns-3 : tie.Need-returns-3
 returns-3 c =
-    let a = c .before .before .before .before .before .before .before .before .args in
-    let at = c .before .before .before .before .before .before .skip .result in
-    let e = c .before .before .before .before .before .before .skip .ensures in
+    let a = c .before .before .before .before .before .before .before .args in
+    let at = c .before .before .before .before .before .skip .result in
+    let e = c .before .before .before .before .before .skip .ensures in
+    let m = c .before .before .mark in
+    let b = getD (now (a .s)) at 0 in
+    let n = mark-nib (m .result) b (m .ensures) in
     let h = c .head-on .ensures in (
-      found-at (now (a .s)) (a .from) at e ∙ found-start (now (a .s)) at (omega arith) (omega arith)
-          ∙ rw (← c .before .harmed .ensures .0) (h .0),
+      found-at (now (a .s)) (a .from) at e ∙ found-start (now (a .s)) at (omega arith) (omega (arith, n))
+          ∙ rw (← mark-harm (m .result) b (m .ensures)) (h .0),
       (next-later (c .head-on .result) (at + 1 + (4 - 0)) (a .from + 5) (h .1 .0) (omega arith), h .1 .1 (omega arith)),
     )
 
@@ -62,10 +64,9 @@ find-spec =
     (tie.spec
     skip-requires
     returns
-    shared-slice-read-b
-    decode-requires
+    shared-slice-read-mark
+    mark-requires
     returns-2
     add-head-on
-    harmed-requires
     head-on-requires
     returns-3)
