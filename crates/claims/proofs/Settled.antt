@@ -96,6 +96,7 @@ use Rattle.printing.proofs.put_page.Reads as printing·put-page
 use Rattle.strings.proofs.letter.Reads as strings·letter
 use Rattle.strings.proofs.odds.Reads as strings·odds
 use Rattle.menu_forms.proofs.info_bytes.Reads as menu-forms·info-bytes
+use Rattle.menu.proofs.read_menu.Reads as menu·read-menu
 use Rattle.menu_writer.proofs.write_menu.Reads as menu-writer·write-menu
 use Rattle.sheets.proofs.rewrite.Reads as sheets·rewrite
 use Rattle.sheets.proofs.joining.join.Reads as sheets·join
@@ -476,6 +477,11 @@ strings·odds-settled κs a x y s t p q = same p q
 
 pub menu-forms·info-bytes-settled : (κs : _) (a : _) (x y : _) (s t : _) → menu-forms·info-bytes.Post κs a x s → menu-forms·info-bytes.Post κs a y t → x ≡ y
 menu-forms·info-bytes-settled κs a x y s t p q = same (p .0) (q .0)
+
+pub menu·read-menu-settled :
+    (κs : _) (a : _) (x y : _) (s t : _) → menu·read-menu.Post κs a x s → menu·read-menu.Post κs a y t
+    → (x ≡ y) × (now (s .1 .1 .0) ≡ now (t .1 .1 .0))
+menu·read-menu-settled κs a x y s t p q = (same (p .0) (q .0), same (p .1) (q .1))
 
 pub menu-writer·write-menu-settled :
     (κs : _) (a : _) (x y : _) (s t : _) → menu-writer·write-menu.Post κs a x s → menu-writer·write-menu.Post κs a y t → (x ≡ y) × (now (s .1 .1 .0) ≡ now (t .1 .1 .0))

@@ -2,7 +2,7 @@
 use mathlib.Core.Path.{_≡_, _∙_, refl, sym, ap}
 use mathlib.Core.List.{List, [], _∷_, _++_, append-assoc}
 use Prim.Native.Nat.{ℕ, _+_, _/_, _%_, _≤_, _<_}
-use borrow.Author.Tests.{lt-ltb, le-ltb, le-leb, lt-leb, eq-eqb, ne-eqb, eqb-true, leb-true}
+use borrow.Author.Tests.{lt-ltb, le-ltb, le-leb, lt-leb, eq-eqb, ne-eqb}
 use lib.ListN.{length}
 use Rattle.answer.specs.Rules.{Rule, judged}
 use Rattle.answer.specs.declared.Refusal.{Refusal}
@@ -11,7 +11,7 @@ use Rattle.answer.specs.declared.Answer.the-variants.{Done, Refused}
 use Rattle.answer.specs.Values.{refused}
 use Rattle.answer.specs.Writing.{room, answered, left}
 use Rattle.answer.proofs.Lent.{lent-refused}
-use Rattle.answer.proofs.Steps.{ends, goes-on, done-every, first-holds, others-hold}
+use Rattle.answer.proofs.Steps.{ends, goes-on}
 use Rattle.frames.specs.Framing.{frameRules}
 
 -- ---- the frame
@@ -72,17 +72,6 @@ module _ (application len head part second : ℕ) (a : Answer) where
                   eq-eqb (head % 32) application h₅,
                   le-leb 8 (head / 32) h,
                 )
-
--- a frame that is taken
-pub framed :
-    (application len head part second n m : ℕ) → judged refused (frameRules application len head part second) (Done n) ≡ Done m
-    → (len ≡ 4 + head / 32) × (8 ≤ head / 32)
-unfolding frameRules
-framed application len head part second n m e =
-    let all = done-every (frameRules application len head part second) n m e in (
-      eqb-true len (4 + head / 32) (first-holds (others-hold all)),
-      leb-true 8 (head / 32) (first-holds (others-hold (others-hold (others-hold (others-hold all))))),
-    )
 
 -- ---- the frame, then what follows it
 

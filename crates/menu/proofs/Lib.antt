@@ -6,3 +6,10 @@ pub mod Exact
 pub mod Written
 pub mod Calls
 pub mod Noise
+pub mod Going
+pub mod Rows
+pub mod Texts
+pub mod Found
+pub mod Entries
+pub mod Judging
+pub mod Mending

@@ -2,3 +2,4 @@
 -- by which it is taken.
 pub mod Control
 pub mod Reading
+pub mod Internal

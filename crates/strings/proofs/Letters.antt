@@ -3,9 +3,9 @@
 use mathlib.Core.Path.{_≡_, refl, sym, subst}
 use mathlib.Core.Bool.{Bool, true, false}
 use mathlib.Core.List.{List, [], _∷_}
-use Prim.Native.Nat.{ℕ, zero, suc, _+_, _/_, _%_, _<_, _≤_}
+use Prim.Native.Nat.{ℕ, zero, suc, _+_, _/_, _%_, _<_, _≤_, zero-le, suc-le-suc}
 use native.Mathlib.Numerals.{add-one}
-use native.Mathlib.Nat.{add-zero, le-of-suc-le-suc, not-suc-le-zero}
+use native.Mathlib.Nat.{le-refl, add-zero, le-of-suc-le-suc, not-suc-le-zero}
 use native.Mathlib.Omega.{arith}
 use borrow.Author.Tests.{eq-eqb}
 use lib.Dec.{T, eqb, eqb→eq}
@@ -60,6 +60,15 @@ odd-letter b h o =
     (all-at (λ (x : ℕ). pick (isOdd x) (eqb (letter (x % 128)) x) true) 256 tt b h))
 
 -- ---- the bytes of right parity
+
+pub odds-le : (bs : List ℕ) → odds bs ≤ length bs
+unfolding odds
+odds-le [] = le-refl 0
+odds-le (b ∷ bs) = go (isOdd b) (odds-le bs)
+  where
+    go : (t : Bool) → odds bs ≤ length bs → pick t (suc (odds bs)) 0 ≤ suc (length bs)
+    go true h = suc-le-suc h
+    go false h = zero-le
 
 -- where all are, so is each by itself
 pub odds-at : (bs : List ℕ) (k : ℕ) → odds bs ≡ length bs → k < length bs → isOdd (getD bs k 0) ≡ true

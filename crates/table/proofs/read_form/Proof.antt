@@ -10,15 +10,16 @@ use denote.Ref.{now}
 use Rattle.laws.proofs.Lists.{part-rest}
 use Rattle.answer.specs.declared.Answer.{Answer}
 use Rattle.answer.specs.Writing.{answered, after, left}
-use Rattle.answer.proofs.Steps.{done-value}
+use Rattle.answer.proofs.Steps.{done-value, done-every}
 use Rattle.octet.specs.Decoding.{nib}
 use Rattle.fields.specs.Fields.{whole}
 use Rattle.forms.specs.Form.{form}
-use Rattle.sums.specs.Block.{headOf, partOf, secondOf, nibblesOf}
+use Rattle.sums.specs.Block.{headOf, nibblesOf}
 use Rattle.table.specs.Control.{tableOf}
 use Rattle.frames.specs.Framing.{framing}
 use Rattle.table.specs.Reading.{bodyRules, tableRead}
-use Rattle.frames.proofs.Judging.{framed, frame-refused, frame-taken}
+use Rattle.frames.proofs.Framed.{framed}
+use Rattle.frames.proofs.Judging.{frame-refused, frame-taken}
 use Rattle.table.proofs.read_form.Statement.{statement}
 use Rattle.table.proofs.read_form.Tie as tie
 
@@ -38,9 +39,9 @@ taken :
     (length r ≡ 4 + headOf r / 32) × (8 ≤ headOf r / 32)
 taken c =
     let a = c .before .before .before .before .before .before .args in
-    let r : List ℕ = now (a .rec) in
-    framed (a .application) (length r) (headOf r) (partOf r) (secondOf r) _ _
-    (sym (c .before .before .before .judge .ensures) ∙ c .before .head .given .1)
+    let rules = framing (a .application) (now (a .rec)) in
+    let k = framed (a .application) (now (a .rec)) (done-every rules _ _ (sym (c .before .before .before .judge .ensures) ∙ c .before .head .given .1)) in
+    (k .long, k .eight)
 
 sub-read-body : tie.Need-sub-read-body
 sub-read-body c = omega (arith, taken c)
