@@ -97,7 +97,7 @@ attribute-back x h rest =
 
 -- ---- strings
 
-pub text-spelled :
+text-spelled :
     (t : Text)
     → spelled (textFields t) ≡ parts 4 2 (length (t .escapes)) ++ (each escapeNibbles (t .escapes) ++ parts 4 2 (length (t .codes)))
 unfolding textFields
@@ -140,10 +140,10 @@ text-back t h rest codes =
 
 -- ---- events
 
-abbrev pub heading : Event → List Field
+abbrev heading : Event → List Field
 heading e = (16, e .link) ∷ (4, e .linkType) ∷ (4, length (e .attributes)) ∷ []
 
-pub event-spelled :
+event-spelled :
     (e : Event) → spelled (eventFields e) ≡ spelled (heading e) ++ (each attributeNibbles (e .attributes) ++ spelled (textFields (e .text)))
 unfolding eventFields
 event-spelled e =
@@ -154,7 +154,7 @@ event-spelled e =
     (spelled-append xs (textFields (e .text)) (each-nibbled attributeFields attribute-nibbled (e .attributes))
     ∙ ap (λ (l : List ℕ). l ++ spelled (textFields (e .text))) (each-spelled attributeFields attribute-nibbled (e .attributes)))
 
-pub heading-long : (e : Event) → length (spelled (heading e)) ≡ 6
+heading-long : (e : Event) → length (spelled (heading e)) ≡ 6
 unfolding width
 heading-long e = length-spelled (heading e)
 
@@ -206,7 +206,7 @@ events-back (e ∷ es) h rest codes =
 
 -- ---- the menu
 
-pub opening-long : (sum control : ℕ) (spare : Spare) (m : Menu) → length (spelled (openingFields sum control spare m)) ≡ 15
+opening-long : (sum control : ℕ) (spare : Spare) (m : Menu) → length (spelled (openingFields sum control spare m)) ≡ 15
 unfolding width
 opening-long sum control spare m = length-spelled (openingFields sum control spare m)
 
@@ -218,22 +218,22 @@ field-back fs pre w v gs e h l =
     ∙ bits-back pre w v gs [] (sym (ap (λ (x : List Field). width x % 4) e) ∙ h) l
 
 module _ (sum control : ℕ) (spare : Spare) (m : Menu) where
-  abbrev pub top : List ℕ
+  abbrev top : List ℕ
   top = spelled (openingFields sum control spare m)
 
-  abbrev pub ds : List ℕ
+  abbrev ds : List ℕ
   ds = each descriptorNibbles (m .descriptors)
 
-  abbrev pub fl : List ℕ
+  abbrev fl : List ℕ
   fl = spelled (fillFields (length (m .descriptors)) (spare .second))
 
-  abbrev pub tx : List ℕ
+  abbrev tx : List ℕ
   tx = spelled (textFields (m .header))
 
-  abbrev pub ev : List ℕ
+  abbrev ev : List ℕ
   ev = spelled (each eventFields (m .events))
 
-  pub menu-spelled : spelled (fields sum control spare m) ≡ top ++ (ds ++ (fl ++ (tx ++ (parts 4 2 (m .message) ++ ev))))
+  menu-spelled : spelled (fields sum control spare m) ≡ top ++ (ds ++ (fl ++ (tx ++ (parts 4 2 (m .message) ++ ev))))
   unfolding fields
   menu-spelled =
       let open′ : List Field = openingFields sum control spare m in

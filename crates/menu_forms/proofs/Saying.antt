@@ -8,7 +8,7 @@ use lib.ListN.{length, take, drop, length-map}
 use lib.Seq.{take-append-seam, drop-append-seam}
 use Rattle.octet.specs.Image.{image}
 use Rattle.octet.specs.Decoding.{nib}
-use Rattle.fields.specs.Fields.{Field, width, laid, parts}
+use Rattle.fields.specs.Fields.{width, laid, parts}
 use Rattle.sums.specs.Sums.{total, checksum}
 use Rattle.sums.proofs.Nibbles.{nibbles-back}
 use Rattle.strings.specs.Parity.{letter}
@@ -22,13 +22,17 @@ pub nibbles-long : (sum : ℕ) (spare : Spare) (m : Menu) → length (nibbles su
 nibbles-long sum spare m =
     length-spelled (fields sum (control m) spare m) ∙ (omega (arith, menu-whole sum (control m) spare m))
 
--- the checksum is the same whatever stands in its place
+-- the checksum's two nibbles, and those of the fields behind it
+pub sum-first : (sum : ℕ) (spare : Spare) (m : Menu) → nibbles sum spare m ≡ parts 4 2 sum ++ spelled (drop 1 (fields 0 (control m) spare m))
+unfolding fields
+sum-first sum spare m = spelled-first 8 2 sum (drop 1 (fields 0 (control m) spare m)) refl
+
+-- so it is the same whatever stands in its place
 pub sum-apart : (head s₁ s₂ : ℕ) (spare : Spare) (m : Menu) → checksum head (nibbles s₁ spare m) ≡ checksum head (nibbles s₂ spare m)
-unfolding checksum fields parts
+unfolding checksum parts
 sum-apart head s₁ s₂ spare m =
-    let rest : List Field = drop 1 (fields 0 (control m) spare m) in
-    let behind : (s : ℕ) → drop 2 (nibbles s spare m) ≡ spelled rest = λ (s : ℕ). ap (drop 2) (spelled-first 8 2 s rest refl) in
-    ap (λ (ns : List ℕ). (256 - (total (parts 4 4 head) + total ns) % 256) % 256) (behind s₁ ∙ sym (behind s₂))
+    ap (λ (ns : List ℕ). (256 - (total (parts 4 4 head) + total (drop 2 ns)) % 256) % 256) (sum-first s₁ spare m)
+    ∙ sym (ap (λ (ns : List ℕ). (256 - (total (parts 4 4 head) + total (drop 2 ns)) % 256) % 256) (sum-first s₂ spare m))
 
 module _ (application : ℕ) (spare : Spare) (m : Menu) where
   abbrev sum : ℕ

@@ -27,15 +27,10 @@ use Rattle.menu_forms.specs.Menus.{Menu, zeros, fields, strings, control, size,
 use Rattle.menu_forms.specs.Form.{form, menuIn}
 use Rattle.menu_forms.specs.Writing.{formRules, writeRules}
 use Rattle.menu_forms.specs.Block.{spelled, nibbles, headBits, checksumOf, blockWith, recordOf}
-use Rattle.menu_forms.proofs.Spelling.{spelled-first, length-spelled}
+use Rattle.menu_forms.proofs.Saying.{nibbles-long as spelled-long, sum-first}
 use Rattle.menu_writer.specs.declared.Tally.{Tally}
 use Rattle.menu_writer.specs.Internal.{Whole}
 use Rattle.menu_writer.proofs.Storing.{store-on}
-
--- the checksum's value changes no width
-pub width-same : (s c : ℕ) (m : Menu) → width (fields s c zeros m) ≡ width (fields 0 0 zeros m)
-unfolding fields width
-width-same s c m = refl
 
 -- control data ends on a whole byte
 module _ (m : Menu) (c : ℕ) (whole : 8 * c ≡ width (fields 0 0 zeros m)) where
@@ -43,9 +38,7 @@ module _ (m : Menu) (c : ℕ) (whole : 8 * c ≡ width (fields 0 0 zeros m)) whe
   control-is = omega (arith, whole)
 
   pub nibbles-long : (s : ℕ) → length (map image (nibbles s zeros m)) ≡ 2 * c
-  nibbles-long s =
-      length-map (nibbles s zeros m) image ∙ length-spelled (fields s (control m) zeros m)
-      ∙ (omega (arith, whole, width-same s (control m) m))
+  nibbles-long s = length-map (nibbles s zeros m) image ∙ spelled-long s zeros m ∙ ap (λ (x : ℕ). 2 * x) (sym control-is)
 
   pub record-long : (application : ℕ) → length (recordOf application m) ≡ 4 + (2 * c + length (strings m))
   unfolding blockWith
@@ -72,8 +65,8 @@ rest : Menu → List ℕ
 rest m = spelled (drop 1 (fields 0 (control m) zeros m))
 
 split : (s : ℕ) (m : Menu) → nibbles s zeros m ≡ s % 16 ∷ s / 16 % 16 ∷ rest m
-unfolding rest fields parts
-split s m = spelled-first 8 2 s (drop 1 (fields 0 (control m) zeros m)) refl
+unfolding rest parts
+split s m = sum-first s zeros m
 
 module _ (application c : ℕ) (m : Menu) (la : application < 32) (ls : size m < 2048) (whole : 8 * c ≡ width (fields 0 0 zeros m)) (out : List ℕ)
     (room : 4 + size m ≤ length out) where
