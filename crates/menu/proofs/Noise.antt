@@ -1,24 +1,51 @@
--- What damage to string bytes can do. One flip is always found; two may give another letter of right parity, and then a menu is read that
--- was not sent. So demand 3 can't be had for menus. Assumes nothing.
+-- What damage to a record's bytes can do. Control bytes that are mended change nothing but the count. A string byte with one flip is always
+-- refused; with two it may be another letter of right parity, and then a menu is read that was not sent: demand 3 can't be had for menus.
+-- Assumes nothing.
 use mathlib.Core.Path.{_≡_, _∙_, refl, sym, ap}
 use mathlib.Core.Bool.{false, true≢false}
-use mathlib.Core.List.{List, [], _∷_}
-use Prim.Native.Nat.{ℕ, _<_}
+use mathlib.Core.List.{List, [], _∷_, map}
+use Prim.Native.Nat.{ℕ, _*_, _<_}
 use native.Mathlib.Omega.{arith}
-use lib.ListN.{length, getD, drop, set}
+use lib.ListN.{length, getD, take, drop, set}
+use Rattle.blocks.specs.Block.{headOf}
+use Rattle.octet.specs.Decoding.{nib}
 use Rattle.octet.specs.Bits.{flips, differing, number}
 use Rattle.octet.specs.Image.{image, withParity}
 use Rattle.fields.specs.Fields.{width, laid, fitting, parts}
+use Rattle.sums.specs.Block.{InRange}
 use Rattle.sums.specs.Sums.{total, checksum}
 use Rattle.frames.specs.Outcome.{accepted}
 use Rattle.strings.specs.Parity.{isOdd, ones, letter}
 use Rattle.strings.proofs.Letters.{odds-at}
 use Rattle.menu_forms.specs.Rows.{each}
-use Rattle.menu_forms.specs.Menus.{Menu, textFields, fillFields, fields, strings, sevens, fits}
-use Rattle.menu_forms.specs.Block.{spelled, checksumOf, blockWith, recordOf}
-use Rattle.menu.specs.Reading.{stringPart, readMenu}
-use Rattle.menu.proofs.Exact.{odd-all}
+use Rattle.menu_forms.specs.Menus.{Menu, textFields, fillFields, fields, strings, control, sevens, fits}
+use Rattle.menu_forms.specs.Block.{spelled, checksumOf, blockWith, recordOf, Says}
+use Rattle.menu.specs.Reading.{stringPart, mendedIn, readMenu}
+use Rattle.menu.proofs.Exact.{odd-all, says-accepted}
 use Rattle.menu.proofs.Written.{writes-back}
+
+-- a record with the same 16 bits as one that says a menu, whose control bytes decode alike and whose string bytes are the same: the same
+-- menu, with its own count
+pub reads-alike :
+    (application : ℕ) (r r′ : List ℕ) (m : Menu) → InRange r → headOf r ≡ headOf r′
+    → map nib (take (2 * control m) (drop 4 r)) ≡ map nib (take (2 * control m) (drop 4 r′))
+    → drop (2 * control m) (drop 4 r) ≡ drop (2 * control m) (drop 4 r′)
+    → Says application r′ m
+    → readMenu application r ≡ accepted m (mendedIn r)
+reads-alike application r r′ m i h n l s =
+    says-accepted application r m
+    (record {
+      spare = s .spare;
+      within = s .within;
+      sendable = s .sendable;
+      ranged = i;
+      reserved = s .reserved;
+      first = s .first;
+      second = s .second;
+      head = h ∙ s .head;
+      body = n ∙ s .body;
+      codes = l ∙ s .codes;
+    })
 
 -- a record with a string byte of wrong parity is never accepted
 pub parity-refused :
