@@ -17,6 +17,7 @@ use Rattle.octet.proofs.images.Reads as octet·images
 use Rattle.octet.proofs.faults.fault_place.Reads as octet·fault-place
 use Rattle.octet.proofs.turn.Reads as octet·turn
 use Rattle.octet.proofs.quick.decode.Reads as octet·quick-decode
+use Rattle.octet.proofs.quick.mark.Reads as octet·quick-mark
 use Rattle.fields.proofs.field_of.Reads as fields·field-of
 use Rattle.fields.proofs.opening_of.Reads as fields·opening-of
 use Rattle.forms.proofs.items.words_of.Reads as forms·words-of
@@ -360,6 +361,9 @@ listing·list-descriptors-settled κs a x y s t p q = (same (p .0) (q .0), same 
 
 pub octet·quick-decode-settled : (κs : _) (a : _) (x y : _) (s t : _) → octet·quick-decode.Post κs a x s → octet·quick-decode.Post κs a y t → x ≡ y
 octet·quick-decode-settled κs a x y s t p q = same p q
+
+pub octet·quick-mark-settled : (κs : _) (a : _) (x y : _) (s t : _) → octet·quick-mark.Post κs a x s → octet·quick-mark.Post κs a y t → x ≡ y
+octet·quick-mark-settled κs a x y s t p q = same p q
 
 pub fields·field-of-settled : (κs : _) (a : _) (x y : _) (s t : _) → fields·field-of.Post κs a x s → fields·field-of.Post κs a y t → x ≡ y
 fields·field-of-settled κs a x y s t p q = same (p .0) (q .0)

@@ -2,8 +2,8 @@
 // and the laws that other crates cite in proofs/Laid.antt.
 ghost use mathlib.Core.Path.{_≡_};
 ghost use mathlib.Core.List.{map};
-ghost use Prim.Native.Nat.{_+_, _-_, _%_, _^_, _<_, min};
-ghost use lib.ListN.{getD};
+ghost use Prim.Native.Nat.{_+_, _-_, _/_, _%_, _^_, _≤_, _<_, min};
+ghost use lib.ListN.{length, getD};
 ghost use Rattle.octet.specs.Decoding.{nib};
 ghost use Rattle.fields.specs.Fields.{field};
 ghost use Rattle.fields.specs.Compound.{compound};
@@ -148,8 +148,36 @@ fn further(at: usize, w: usize) -> usize
     if LAST - at < w { LAST } else { at + w }
 }
 
-// The w bits from the place `at` on; at most 24 are taken.
+// The w bits from the place `at` on; at most 24 are taken. A word is taken at once where its nibbles are there.
 fn field_at(s: &[u8], at: usize, w: usize) -> usize
+    ensures { λ r. ⌜ (r ≡ field at (min w 24) (compound (now (s .entry)))) × (r < 2 ^ min w 24) ⌝ }
+{
+    if w == WIDEST {
+        if at / 4 + 7 <= s.len() {
+            return word_at(s, at);
+        }
+    }
+    some_at(s, at, w)
+}
+
+// The 24 bits from the place `at` on: seven nibbles hold them wherever in the first they begin, so that the compiler knows how many.
+fn word_at(s: &[u8], at: usize) -> usize
+    requires { ⌜ at / 4 + 7 ≤ length (now s) ⌝ }
+    ensures { λ r. ⌜ (r ≡ field at 24 (compound (now (s .entry)))) × (r < 2 ^ 24) ⌝ }
+{
+    let first = at / 4;
+    let end = first + 7;
+    let mut i = end;
+    let mut n: usize = 0;
+    while first < i {
+        i -= 1;
+        n = n * 16 + nibble_in(s, i);
+    }
+    (n >> (at % 4)) % (1 << WIDEST)
+}
+
+// The same, nibble by nibble.
+fn some_at(s: &[u8], at: usize, w: usize) -> usize
     ensures { λ r. ⌜ (r ≡ field at (min w 24) (compound (now (s .entry)))) × (r < 2 ^ min w 24) ⌝ }
 {
     let wide = taken(w);
@@ -176,7 +204,15 @@ fn nibble_at(s: &[u8], i: usize) -> usize
     ensures { λ r. ⌜ r ≡ getD (map nib (now (s .entry))) i 0 % 16 ⌝ }
 {
     if i < s.len() {
-        return (octet::quick::decode(s[i]) % 16) as usize;
+        return nibble_in(s, i);
     }
     0
+}
+
+// The nibble i, which is there.
+fn nibble_in(s: &[u8], i: usize) -> usize
+    requires { ⌜ i < length (now s) ⌝ }
+    ensures { λ r. ⌜ r ≡ getD (map nib (now (s .entry))) i 0 % 16 ⌝ }
+{
+    (octet::quick::decode(s[i]) % 16) as usize
 }

@@ -1,11 +1,11 @@
 -- Puts one after the other are one. Assumes nothing.
 use mathlib.Core.Path.{_≡_, _∙_, refl, sym, ap}
 use mathlib.Core.List.{List, [], _∷_, _++_}
-use Prim.Native.Nat.{ℕ, _+_, _≤_, _<_}
+use Prim.Native.Nat.{ℕ, suc, _+_, _≤_, _<_}
 use native.Mathlib.Nat.{add-zero}
 use native.Mathlib.Numerals.{add-one}
 use native.Mathlib.Omega.{arith}
-use lib.ListN.{length, getD, drop, length-append, drop-of-length-le}
+use lib.ListN.{length, getD, set, drop, length-append, drop-of-length-le}
 use lib.Seq.{sets, drop-cons, set-out}
 use Rattle.laws.proofs.Lists.{sets-append}
 use borrow.Author.Tests.{le-leb, lt-leb}
@@ -62,6 +62,18 @@ text-on text i h = rw (add-one, drop-cons text i 0)
 
 pub text-end : (text : List ℕ) (i : ℕ) → length text ≤ i → drop i text ≡ []
 text-end text i h = drop-of-length-le text h
+
+-- the same where there is room for it
+pub store-start : (out : List ℕ) (q : ℕ) (text : List ℕ) → sets out (q + 0) text ≡ sets out q text
+store-start out q text = ap (λ (x : ℕ). sets out x text) (add-zero q)
+
+pub store-on :
+    (out : List ℕ) (q : ℕ) (text : List ℕ) (i : ℕ) → i < length text
+    → sets (set out (q + i) (getD text i 0)) (q + (i + 1)) (drop (i + 1) text) ≡ sets out (q + i) (drop i text)
+store-on out q text i h = let e : q + (i + 1) ≡ suc (q + i) = omega arith in rw (e, add-one, drop-cons text i 0)
+
+pub store-end : (out : List ℕ) (q : ℕ) (text : List ℕ) (i : ℕ) → length text ≤ i → sets out q (drop i text) ≡ out
+store-end out q text i h = rw drop-of-length-le
 
 -- a byte for which there is no room
 pub put-out : (out : List ℕ) (q b : ℕ) → length out ≤ q → Put out q (b ∷ []) out (q + 1)

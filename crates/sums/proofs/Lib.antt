@@ -1,3 +1,4 @@
+pub mod Clearing
 pub mod Summing
 pub mod Nibbles
 pub mod Cases

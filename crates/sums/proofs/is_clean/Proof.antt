@@ -1,5 +1,4 @@
--- `sums::is_clean` meets its contract: nothing was found so far and the rest has no harm, exactly where all from the first raw byte on has
--- none. The measure is what is left of the length. Assumes nothing.
+-- `sums::is_clean` meets its contract: nothing was found so far and the rest has no harm, exactly where all from the place on has none. The measure is what is left of the length. Assumes nothing.
 use borrow.Author.Needs.{needs}
 use mathlib.Core.Path.{_≡_, _∙_, refl, sym}
 use mathlib.Core.List.{List}
@@ -14,10 +13,10 @@ use Rattle.sums.proofs.is_clean.Statement.{statement}
 use Rattle.sums.proofs.is_clean.Tie as tie
 
 abbrev Inv-loop : tie.InvT-loop
-Inv-loop rec mix₀ i₀ mix i = both (eqb mix 0) (eqb (harms (drop i rec)) 0) ≡ eqb (harms (drop 4 rec)) 0
+Inv-loop s from mix₀ i₀ mix i = both (eqb mix 0) (eqb (harms (drop i s)) 0) ≡ eqb (harms (drop from s)) 0
 
 abbrev μ-loop : tie.MeasureT-loop
-μ-loop rec mix₀ i₀ mix i = length rec - i
+μ-loop s from mix₀ i₀ mix i = length s - i
 
 loop-holds : tie.Need-loop-holds Inv-loop μ-loop
 loop-holds c = refl
@@ -37,13 +36,13 @@ loop-less c = search needs
 loop-again : tie.Need-loop-again Inv-loop μ-loop
 loop-again c =
     let l = c .before .before .before .loop in
-    let s : List ℕ = now (c .before .before .before .before .before .args .rec) in
+    let s : List ℕ = now (c .before .before .before .before .before .args .s) in
     checked-on s (l .i) (l .mix) (c .checks .result) (search needs) (c .checks .ensures) ∙ l .inv
 
 returns : tie.Need-returns Inv-loop μ-loop
 returns c =
     let l = c .before .loop in
-    sym (checked-end (now (c .before .before .before .args .rec)) (l .i) (l .mix) (search needs)) ∙ l .inv
+    sym (checked-end (now (c .before .before .before .args .s)) (l .i) (l .mix) (search needs)) ∙ l .inv
 
 pub is-clean-spec : {M : Type 1} → statement M
 is-clean-spec = tie.close (tie.spec Inv-loop μ-loop loop-holds shared-slice-read-checks checks-requires add-i loop-less loop-again returns)

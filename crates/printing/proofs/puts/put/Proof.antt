@@ -1,75 +1,58 @@
--- `printing::puts::put` meets its contract: what is left to be put from here makes what was to be put. The measure is the bytes left. Assumes nothing.
-use borrow.Author.Needs.{needs}
-use mathlib.Core.List.{List}
-use mathlib.Core.Path.{_≡_, _∙_, refl}
-use Prim.Native.Nat.{ℕ, _+_, _-_, _≤_}
-use native.Mathlib.Omega.{arith}
-use lib.ListN.{length, drop}
+-- `printing::puts::put` meets its contract: all is stored where there is room for it. Assumes nothing.
+use mathlib.Core.Path.{refl}
 use denote.Ref.{now}
-use Rattle.printing.proofs.Putting.{Left, left-start, left-on, left-end, text-on, text-end, put-placed, put-beyond}
+use borrow.Author.Needs.{needs}
+use Rattle.printing.proofs.Putting.{put-placed, put-beyond}
 use Rattle.printing.proofs.puts.put.Statement.{statement}
 use Rattle.printing.proofs.puts.put.Tie as tie
 
-abbrev Inv-loop : tie.InvT-loop
-Inv-loop text out₀ q p₀ i₀ out p i = (i ≤ length text) × (length out ≡ length out₀) × (p + (length text - i) ≤ q + length text) × Left out p (drop i text) out₀ q text
-
-abbrev μ-loop : tie.MeasureT-loop
-μ-loop text out₀ q p₀ i₀ out p i = length text - i
-
-sub-if1 : tie.Need-sub-if1 Inv-loop μ-loop
+sub-if1 : tie.Need-sub-if1
 sub-if1 c = search needs
 
-returns : tie.Need-returns Inv-loop μ-loop
+returns : tie.Need-returns
 returns c =
     let a = c .before .before .before .args in
-    let t : List ℕ = now (a .text) in
-    (put-beyond (now (a .out)) (a .q) t (search needs), search needs)
+    (put-beyond (now (a .out)) (a .q) (now (a .text)) (search needs), search needs)
 
-loop-holds : tie.Need-loop-holds Inv-loop μ-loop
-loop-holds c = (search needs, refl, search needs, left-start _ _ _)
+add-if2 : tie.Need-add-if2
+add-if2 c = search needs
 
-shared-slice-read-put-byte : tie.Need-shared-slice-read-put-byte Inv-loop μ-loop
-shared-slice-read-put-byte c = search needs
+store-requires : tie.Need-store-requires
+store-requires c κs = search needs
 
-put-byte-requires : tie.Need-put-byte-requires Inv-loop μ-loop
-put-byte-requires c κs = search needs
+add-result : tie.Need-add-result
+add-result c = search needs
 
-add-i : tie.Need-add-i Inv-loop μ-loop
-add-i c = search needs
-
-loop-less : tie.Need-loop-less Inv-loop μ-loop
-loop-less c = search needs
-
-loop-again : tie.Need-loop-again Inv-loop μ-loop
-loop-again c =
-    let l = c .before .before .before .before .before .before .loop in
-    let s = c .before .before .before .before .before .before .before .before .before .before in
-    let t : List ℕ = now (s .args .text) in
-    let p = c .before .before .put-byte in
-    (search needs, p .kept .1 .0 ∙ l .inv .1, omega (arith, l .inv .2, p .ensures .1), left-on (text-on t (l .i) (search needs)) (p .ensures .0) (l .inv .3))
-
-same-length : tie.Need-same-length Inv-loop μ-loop
+same-length : tie.Need-same-length
 same-length c = search needs
 
-returns-2 : tie.Need-returns-2 Inv-loop μ-loop
+returns-2 : tie.Need-returns-2
 returns-2 c =
-    let l = c .before .loop in
-    let t : List ℕ = now (c .before .before .before .before .before .args .text) in
-    (put-placed (search needs) (left-end (text-end t (l .i) (search needs)) (l .inv .3)), search needs)
+    let t = now (c .before .before .before .before .before .before .before .before .args .text) in
+    (put-placed {xs = t} (search needs) (record { stored = c .before .before .store .ensures; moved = refl }), search needs)
+
+put-cut-requires : tie.Need-put-cut-requires
+put-cut-requires c κs = search needs
+
+same-length-2 : tie.Need-same-length-2
+same-length-2 c = search needs
+
+returns-3 : tie.Need-returns-3
+returns-3 c =
+    let e = c .before .before .put-cut .ensures in
+    (put-placed (search needs) (e .0), e .1)
 
 pub put-spec : {M : Type 1} → statement M
 put-spec =
     tie.close
     (tie.spec
-    Inv-loop
-    μ-loop
     sub-if1
     returns
-    loop-holds
-    shared-slice-read-put-byte
-    put-byte-requires
-    add-i
-    loop-less
-    loop-again
+    add-if2
+    store-requires
+    add-result
     same-length
-    returns-2)
+    returns-2
+    put-cut-requires
+    same-length-2
+    returns-3)

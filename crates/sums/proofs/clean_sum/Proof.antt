@@ -1,0 +1,105 @@
+-- `sums::clean_sum` meets its contract: the sum so far and the nibbles still to come make, modulo 256, the sum of all. The measure is what
+-- is left of the length. Assumes nothing.
+use borrow.Author.Needs.{needs}
+use mathlib.Core.Path.{_≡_, _∙_, ap}
+use mathlib.Core.List.{List, map}
+use Prim.Native.Nat.{ℕ, _+_, _-_, _%_, _<_}
+use native.Mathlib.Omega.{arith}
+use lib.ListN.{length, drop, getD}
+use denote.Ref.{now}
+use Rattle.laws.proofs.Maps.{map-drop}
+use Rattle.octet.specs.Decoding.{nib}
+use Rattle.fields.specs.Fields.{parts}
+use Rattle.sums.specs.Sums.{total}
+use Rattle.sums.proofs.Clearing.{clean-at}
+use Rattle.sums.proofs.Summing.{sum-step, sum-end}
+use Rattle.sums.proofs.clean_sum.Statement.{statement}
+use Rattle.sums.proofs.clean_sum.Tie as tie
+
+abbrev Inv-loop : tie.InvT-loop
+Inv-loop head body sum₀ i₀ sum i =
+    (sum < 256) × ((sum + total (map nib (drop i body))) % 256 ≡ (total (parts 4 4 head) + total (drop 2 (map nib body))) % 256)
+
+abbrev μ-loop : tie.MeasureT-loop
+μ-loop head body sum₀ i₀ sum i = length body - i
+
+head-total-requires : tie.Need-head-total-requires Inv-loop μ-loop
+head-total-requires c κs = search needs
+
+cast-sum : tie.Need-cast-sum Inv-loop μ-loop
+cast-sum c = search needs
+
+loop-holds : tie.Need-loop-holds Inv-loop μ-loop
+loop-holds c =
+    let s : List ℕ = now (c .before .before .args .body) in
+    (c .head-total .ensures .1, ap (λ (x : ℕ). (x + total (map nib (drop 2 s))) % 256) (c .head-total .ensures .0) ∙ rw map-drop)
+
+cast-sum-2 : tie.Need-cast-sum-2 Inv-loop μ-loop
+cast-sum-2 c = search needs
+
+shared-slice-read-image-nibble : tie.Need-shared-slice-read-image-nibble Inv-loop μ-loop
+shared-slice-read-image-nibble c = search needs
+
+image-nibble-requires : tie.Need-image-nibble-requires Inv-loop μ-loop
+image-nibble-requires c κs =
+    let b = c .before .before .before .before .before in
+    clean-at (now (b .args .body)) (c .before .before .loop .i) (b .pre) (search needs)
+
+cast-sum-3 : tie.Need-cast-sum-3 Inv-loop μ-loop
+cast-sum-3 c = search needs
+
+add-sum : tie.Need-add-sum Inv-loop μ-loop
+add-sum c = search needs
+
+cast-sum-4 : tie.Need-cast-sum-4 Inv-loop μ-loop
+cast-sum-4 c = search needs
+
+add-i : tie.Need-add-i Inv-loop μ-loop
+add-i c = search needs
+
+loop-less : tie.Need-loop-less Inv-loop μ-loop
+loop-less c = search needs
+
+loop-again : tie.Need-loop-again Inv-loop μ-loop
+loop-again c =
+    let l = c .before .before .before .loop in
+    let s : List ℕ = now (c .before .before .before .before .before .before .args .body) in (
+      search needs,
+      ap (λ (x : ℕ). ((l .sum + x) % 256 + total (map nib (drop (l .i + 1) s))) % 256) (c .image-nibble .ensures)
+          ∙ sum-step s (l .i) (l .sum) (search needs)
+          ∙ l .inv .1,
+    )
+
+cast-result : tie.Need-cast-result Inv-loop μ-loop
+cast-result c = search needs
+
+sub-result : tie.Need-sub-result Inv-loop μ-loop
+sub-result c = search needs
+
+returns : tie.Need-returns Inv-loop μ-loop
+returns c =
+    let l = c .before .loop in
+    let a = c .before .before .before .before .args in
+    sum-end (a .head) (now (a .body)) (l .i) (l .sum) (search needs) (l .inv .0) (l .inv .1)
+
+pub clean-sum-spec : {M : Type 1} → statement M
+clean-sum-spec =
+    tie.close
+    (tie.spec
+    Inv-loop
+    μ-loop
+    head-total-requires
+    cast-sum
+    loop-holds
+    cast-sum-2
+    shared-slice-read-image-nibble
+    image-nibble-requires
+    cast-sum-3
+    add-sum
+    cast-sum-4
+    add-i
+    loop-less
+    loop-again
+    cast-result
+    sub-result
+    returns)
