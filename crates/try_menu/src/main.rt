@@ -1,4 +1,6 @@
-// Runs cases of menus: op 33 writes one from its form, behind the application.
+// Runs cases of menus: op 32 reads one, op 33 writes one from its form. Both begin with the application.
+use answer::Answer;
+use frames::Read;
 use vectors::Case;
 use vectors::Line;
 use vectors::MOST;
@@ -37,8 +39,27 @@ fn run(case: Case, space: &[u8; SPACE], out: &mut [u8], text: &mut [u8; SPACE]) 
 // The call that op names, and what is told of it.
 fn call(op: u8, payload: &[u8], out: &mut [u8]) -> Line {
     match op {
+        32 => read(op, payload, out),
         33 => write(op, payload, out),
         _ => Line::Unknown(op),
+    }
+}
+
+fn read(op: u8, payload: &[u8], out: &mut [u8]) -> Line {
+    if payload.len() < 1 {
+        return Line::Unknown(op);
+    }
+    match menu::read_menu(payload[0], &payload[1..], out) {
+        Read::Taken { written, mended } => Line::Counted {
+            op: op,
+            answer: Answer::Done(written),
+            mended: mended,
+        },
+        Read::Refused(why) => Line::Counted {
+            op: op,
+            answer: Answer::Refused(why),
+            mended: 0,
+        },
     }
 }
 
