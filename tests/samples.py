@@ -1,11 +1,12 @@
-"""Small captures for the desk, and what it prints for each (magazine 1, page DF,
+"""Small captures for the desk and `menus`, and what they print for each (magazine 1, page DF,
 stream 1, application 1). Made by the model's writer; nothing is off the air."""
 
 from cases.form import LOST, Dice, with_bytes
 from cases.reader import Air
 from cases.table import CASE_G
-from model import Refused, guide, listing, pes, sheet, table, unpes
+from model import Refused, guide, listing, menu, pes, sheet, table, unpes
 from model.listing import DESK
+from model.menu import Event, Menu, String
 from model.table import LI, TI, Table
 
 LANGUAGES = [int.from_bytes(name, "big") for name in (b"dut", b"eng", b"fre", b"ger", b"ita", b"spa", b"swe", b"tur")]
@@ -162,6 +163,34 @@ def sheet_run():
     yield "stdout", sheet.fed(b"", [(EVENING, made["evening.t42"]), (MORNING, made["morning.t42"])])[1].encode()
 
 
+# --- menus ----------------------------------------------------------------------------
+
+def offered(number, header, *events):
+    """A menu's record: of each event its text, the type of its link and the number."""
+    made = Menu(0, number, 1, 2, 3, [], String([], header), [Event(to, type_, [], String([], text)) for text, type_, to in events])
+    return menu.write_menu(DESK.application, menu.form_of(made))
+
+
+def menus_run():
+    """What the gate runs `menus` on, and what it prints."""
+    packets = guide.cut(DESK, 0, 20, offered(0, b"TV Guide", (b"Themes", 1, 5), (b"More", 1, 9)) + offered(5, b"Themes", (b"Golf", 2, 0)))
+    return packets, menu.menus(packets)[0]
+
+
+def guide_menus():
+    """A guide's menus, sent twice among the tables of a night; one that is linked to never comes."""
+    dice = Dice(9)
+    menus = [
+        offered(0, b"TV Guide", (b"Tonight", 1, 1), (b"Themes", 1, 2), (b"Help", 1, 9)),
+        offered(1, b"Tonight", (b"20:00 News", 2, 301), (b"20:30 Film: The Lighthouse", 2, 302), (b"22:15 Late sports", 1, 4)),
+        offered(2, b"Themes", (b"Film", 2, 12), (b"Sports", 1, 4)),
+        offered(4, b"Sports", (b"Golf", 2, 40), (b"Ice hockey", 2, 41))]
+    capture = b"".join(aired(dice, night_list(dice, 2) + menus + night_list(dice, 2) + menus, 20))
+    text, left = menu.menus(capture)
+    assert left == 0 and text.endswith(b"missing=9\n")
+    return capture, text
+
+
 def make():
     """Each file of samples/ and its bytes."""
     dice = Dice(7)
@@ -179,3 +208,4 @@ def make():
         yield name[:-4] + ".txt", listing.desk(fed[name])
     yield "night.err", said.encode()        # what unpes says last on standard error
     yield from day().items()
+    yield from zip(("menus.t42", "menus.txt"), guide_menus())

@@ -48,27 +48,11 @@ from model import unpes as model_unpes
 
 CASES = {"octet": octet, "pes": pes, "guide": guide, "table": table, "listing": listing, "menu": menu, "sheet": sheet}
 
-# Of a program that doesn't have all its ops yet, those that it has; cases of the others are left out.
-STANDING = {"menu": {32, 33}}
-
 
 def make(name, seed=1, size=1):
     """stdin and stdout of program try_NAME, as bytes."""
     script = CASES[name].script_of(Dice(seed), size)
-    stdin, stdout = bytes(script.stdin), script.stdout().encode()
-    return standing(stdin, stdout, STANDING[name]) if name in STANDING else (stdin, stdout)
-
-
-def standing(stdin, stdout, ops):
-    """Of cases and their lines, one to a case, those of these ops."""
-    cases, lines, at = bytearray(), bytearray(), 0
-    for line in stdout.splitlines(keepends=True):
-        end = at + 9 + int.from_bytes(stdin[at + 5 : at + 9], "little")
-        if end <= len(stdin) and stdin[at] in ops:
-            cases += stdin[at:end]
-            lines += line
-        at = end
-    return bytes(cases), bytes(lines)
+    return bytes(script.stdin), script.stdout().encode()
 
 
 def make_unpes(seed=1, size=1):

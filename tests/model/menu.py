@@ -1,9 +1,10 @@
-"""Menus: the Navigation Information block (EN 300 707, clauses 11.6, 11.12.1, 11.12.4, 11.12.5, A.3 and A.4), and their listing."""
+"""Menus: the Navigation Information block (EN 300 707, clauses 11.6, 11.12.1, 11.12.4, 11.12.5, A.3 and A.4), their listing, and the program `menus`."""
 
 from typing import NamedTuple
 
 from . import Refused, need
-from .guide import HEAD, head_in, head_of, record_of, records_in
+from .guide import HEAD, head_in, head_of, read_all, record_of, records_in
+from .listing import DESK
 from .octet import images, mended
 from .table import COMMON, FIRST, Bits, Read, checksum, decoded, laid, opened
 
@@ -248,7 +249,7 @@ class Listing:
     """The menus of a list by their number, the first of each, and a walk over them that ends as soon as the room is full."""
 
     def __init__(self, application, records, room):
-        self.menus, self.text, self.room = {}, b"", room
+        self.menus, self.text, self.room = {}, bytearray(), room
         for record in records:
             try:
                 menu = menu_of(read_menu(application, record).form)
@@ -281,4 +282,36 @@ def list_menu(application, number, records, room=65536):
     need(application <= 31, 16)
     listing = Listing(application, records_in(records), room)
     listing.walk(number, 1)
-    return listing.text
+    return bytes(listing.text)
+
+
+# --- the program ----------------------------------------------------------------------
+
+STORE, TEXT = 1 << 19, 1 << 20      # the bytes of the records that are kept, and of the longest listing that is printed
+
+
+def kept(data, setting):
+    """The first accepted menu of each number in a capture, and how many numbers are left out: from the first that doesn't fit on, all."""
+    records, numbers, left = bytearray(), set(), 0
+    for record in read_all(setting, data):
+        try:
+            number = menu_of(read_menu(setting.application, record).form).block_no
+        except Refused:
+            continue
+        if number in numbers:
+            continue
+        numbers.add(number)
+        if left or len(records) + len(record) > STORE:
+            left += 1
+        else:
+            records += record
+    return bytes(records), left
+
+
+def menus(data, setting=DESK, number=0):
+    """What is printed of a capture, nothing where it would be too long, and how many numbers are left out."""
+    records, left = kept(data, setting)
+    try:
+        return list_menu(setting.application, number, records, TEXT), left
+    except Refused:
+        return None, left

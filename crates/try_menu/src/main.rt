@@ -1,4 +1,4 @@
-// Runs cases of menus: op 32 reads one, op 33 writes one from its form. Both begin with the application.
+// Runs cases of menus: op 32 reads one, op 33 writes one from its form, op 41 lists one of a number. All begin with the application.
 use answer::Answer;
 use frames::Read;
 use vectors::Case;
@@ -41,6 +41,7 @@ fn call(op: u8, payload: &[u8], out: &mut [u8]) -> Line {
     match op {
         32 => read(op, payload, out),
         33 => write(op, payload, out),
+        41 => list(op, payload, out),
         _ => Line::Unknown(op),
     }
 }
@@ -71,4 +72,19 @@ fn write(op: u8, payload: &[u8], out: &mut [u8]) -> Line {
         op: op,
         answer: menu_writer::write_menu(payload[0], &payload[1..], out),
     }
+}
+
+fn list(op: u8, payload: &[u8], out: &mut [u8]) -> Line {
+    if payload.len() < 3 {
+        return Line::Unknown(op);
+    }
+    let number = word(payload[1], payload[2]);
+    Line::Answered {
+        op: op,
+        answer: menu_listing::list_menu(payload[0], number, &payload[3..], out),
+    }
+}
+
+fn word(low: u8, high: u8) -> u16 {
+    low as u16 + 256 * high as u16
 }

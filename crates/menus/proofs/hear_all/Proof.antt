@@ -1,0 +1,50 @@
+-- `menus::hear_all` is safe and ends: it counts the words. Assumes nothing.
+use borrow.Author.Needs.{needs}
+use Prim.Native.Nat.{_-_}
+use Rattle.menus.proofs.hear_all.Statement.{statement}
+use Rattle.menus.proofs.hear_all.Tie as tie
+
+abbrev Inv-loop : tie.InvT-loop
+Inv-loop count asked₀ i₀ asked i = Unit {0}
+
+abbrev μ-loop : tie.MeasureT-loop
+μ-loop count asked₀ i₀ asked i = count - i
+
+arg-count-requires : tie.Need-arg-count-requires Inv-loop μ-loop
+arg-count-requires c κs = search needs
+
+start-requires : tie.Need-start-requires Inv-loop μ-loop
+start-requires c κs = search needs
+
+loop-holds : tie.Need-loop-holds Inv-loop μ-loop
+loop-holds c = search needs
+
+hear-requires : tie.Need-hear-requires Inv-loop μ-loop
+hear-requires c κs = search needs
+
+add-i : tie.Need-add-i Inv-loop μ-loop
+add-i c = search needs
+
+loop-less : tie.Need-loop-less Inv-loop μ-loop
+loop-less c = search needs
+
+loop-again : tie.Need-loop-again Inv-loop μ-loop
+loop-again c = search needs
+
+returns : tie.Need-returns Inv-loop μ-loop
+returns c = search needs
+
+pub hear-all-spec : {M : Type 1} → statement M
+hear-all-spec =
+    tie.close
+    (tie.spec
+    Inv-loop
+    μ-loop
+    arg-count-requires
+    start-requires
+    loop-holds
+    hear-requires
+    add-i
+    loop-less
+    loop-again
+    returns)

@@ -1,0 +1,343 @@
+// One capture: its packets are read in large pieces and fed to a fresh reader, the menus that come are kept, and one of them is listed
+// with those that it links to. Counts that a room hands back are held against the space that they count in, so that no proof here has to
+// know the room's definitions; a count that doesn't fit never comes.
+use crate::front;
+use crate::kept;
+use crate::kept::FORM;
+use crate::kept::Kept;
+use crate::kept::NUMBERS;
+use crate::kept::STORE;
+use crate::says;
+use answer::Answer;
+use blocks::Found;
+use frames::Read;
+use packet::Setting;
+use reader::HeardAll;
+use reader::Reader;
+ghost use Prim.Native.Nat.{_≤_, _<_};
+ghost use lib.ListN.{length};
+
+const PACKET: usize = 42;
+
+// 1,560 packets. A piece is read until it is full, so only the last can end within a packet.
+const PIECE: usize = 65520;
+
+// More than the records that the packets of one piece finish.
+const RECORDS: usize = 65536;
+
+// The longest listing that is printed.
+const TEXT: usize = 1048576;
+
+// What was read: so many bytes, fewer than asked for only where the input ended.
+enum Got {
+    Bytes(usize),
+    Failed,
+}
+
+// The reader, and what is kept of the blocks that it gave so far.
+struct Desk {
+    reader: Reader,
+    kept: Kept,
+}
+
+// After one call of the reader: how many bytes of packets it took.
+struct Turn {
+    desk: Desk,
+    taken: usize,
+}
+
+// Lists the menu of a block that comes from a descriptor, under a line with its name where that is asked for. A read that fails is told
+// with the name, and nothing is listed. Answers whether standard output took all.
+pub fn list(fd: i32, name: &[u8], is_titled: bool, setting: Setting, block: u16) -> bool {
+    let mut store = [0u8; STORE];
+    let kept = gather(fd, name, setting, &mut store);
+    if !kept.whole {
+        return true;
+    }
+    says::say_left(name, is_titled, kept.left);
+    list_kept(
+        name,
+        is_titled,
+        setting.application,
+        block,
+        &store,
+        kept.used,
+    )
+}
+
+fn list_kept(
+    name: &[u8],
+    is_titled: bool,
+    application: u8,
+    block: u16,
+    store: &[u8; STORE],
+    used: usize,
+) -> bool {
+    let mut text = [0u8; TEXT];
+    show(
+        name,
+        is_titled,
+        application,
+        block,
+        front(store, used),
+        &mut text,
+    )
+}
+
+// Prints the listing of a block, if it isn't too long.
+fn show(
+    name: &[u8],
+    is_titled: bool,
+    application: u8,
+    block: u16,
+    records: &[u8],
+    text: &mut [u8; TEXT],
+) -> bool {
+    let answer = menu_listing::list_menu(application, block, records, text);
+    match answer {
+        Answer::Done(n) => says::put_listing(name, is_titled, front(text, n)),
+        Answer::Refused(why) => {
+            says::refuse(name, block, why.no);
+            true
+        }
+    }
+}
+
+// The menus that come from a descriptor.
+fn gather(fd: i32, name: &[u8], setting: Setting, store: &mut [u8; STORE]) -> Kept {
+    let mut piece = [0u8; PIECE];
+    let mut records = [0u8; RECORDS];
+    let mut form = [0u8; FORM];
+    let mut numbers = [0u8; NUMBERS];
+    let mut desk = fresh();
+    let mut turns = u64::MAX;
+    while turns > 0 {
+        turns -= 1;
+        let got = fill(fd, &mut piece);
+        let Got::Bytes(n) = got else {
+            says::tell(name);
+            return kept::none();
+        };
+        desk = feed(
+            setting,
+            desk,
+            &piece,
+            n,
+            &mut records,
+            &mut form,
+            store,
+            &mut numbers,
+        );
+        if n < PIECE {
+            return kept::ended(desk.kept);
+        }
+    }
+    kept::none()
+}
+
+fn fresh() -> Desk {
+    Desk {
+        reader: reader::fresh(),
+        kept: kept::none(),
+    }
+}
+
+fn fill(fd: i32, piece: &mut [u8; PIECE]) -> Got {
+    fill_slice(fd, piece)
+}
+
+// Reads until the slice is full, the input ends or a read fails.
+fn fill_slice(fd: i32, slice: &mut [u8]) -> Got {
+    let mut n = 0;
+    while n < slice.len() {
+        let got = read_at(fd, slice, n);
+        let Got::Bytes(more) = got else {
+            return Got::Failed;
+        };
+        if more == 0 {
+            return Got::Bytes(n);
+        }
+        n = ahead(n, more, slice.len());
+    }
+    Got::Bytes(n)
+}
+
+// One read into the slice from a place on.
+fn read_at(fd: i32, slice: &mut [u8], n: usize) -> Got
+    requires { ⌜ n ≤ length (now slice) ⌝ }
+{
+    let got = libc::read(fd, &mut slice[n..]);
+    if got < 0 {
+        return Got::Failed;
+    }
+    Got::Bytes(io::count(got, &slice[n..]))
+}
+
+// The place so many bytes further on, or the end where that is nearer or the bytes are none.
+fn ahead(at: usize, more: usize, end: usize) -> usize
+    requires { ⌜ at < end ⌝ }
+    ensures { λ r. ⌜ (at < r) × (r ≤ end) ⌝ }
+{
+    if more == 0 {
+        return end;
+    }
+    if end - at <= more {
+        return end;
+    }
+    at + more
+}
+
+// Feeds the whole packets among the first n bytes of the piece.
+fn feed(
+    setting: Setting,
+    desk: Desk,
+    piece: &[u8; PIECE],
+    n: usize,
+    records: &mut [u8; RECORDS],
+    form: &mut [u8; FORM],
+    store: &mut [u8; STORE],
+    numbers: &mut [u8; NUMBERS],
+) -> Desk {
+    feed_packets(
+        setting,
+        desk,
+        front(piece, n - n % PACKET),
+        records,
+        form,
+        store,
+        numbers,
+    )
+}
+
+// Feeds packets, and keeps the menus that they finish.
+fn feed_packets(
+    setting: Setting,
+    desk: Desk,
+    packets: &[u8],
+    records: &mut [u8],
+    form: &mut [u8],
+    store: &mut [u8],
+    numbers: &mut [u8],
+) -> Desk {
+    let mut desk = desk;
+    let mut at = 0;
+    while at < packets.len() {
+        let turn = feed_once(setting, desk, &packets[at..], records, form, store, numbers);
+        desk = turn.desk;
+        at = ahead(at, turn.taken, packets.len());
+    }
+    desk
+}
+
+// One call of the reader. It takes all packets of a piece, since the room for records is enough for them.
+fn feed_once(
+    setting: Setting,
+    desk: Desk,
+    packets: &[u8],
+    records: &mut [u8],
+    form: &mut [u8],
+    store: &mut [u8],
+    numbers: &mut [u8],
+) -> Turn {
+    let reader = desk.reader;
+    let kept = desk.kept;
+    let fed = reader::feed_all(setting, reader, packets, records);
+    let reader = fed.reader;
+    let heard = fed.heard;
+    let finished = front(records, written(heard));
+    let kept = keep_records(kept, setting.application, finished, form, store, numbers);
+    Turn {
+        desk: Desk { reader, kept },
+        taken: taken(heard),
+    }
+}
+
+// How many bytes of records were written.
+fn written(heard: HeardAll) -> usize {
+    match heard {
+        HeardAll::TookAll {
+            packets: _,
+            blocks: _,
+            written,
+            dropped: _,
+        } => written,
+        HeardAll::RefusedAll(_) => 0,
+    }
+}
+
+// How many bytes of packets were taken.
+fn taken(heard: HeardAll) -> usize {
+    match heard {
+        HeardAll::TookAll {
+            packets,
+            blocks: _,
+            written: _,
+            dropped: _,
+        } => {
+            if packets > PIECE {
+                return 0;
+            }
+            PACKET * packets
+        }
+        HeardAll::RefusedAll(_) => 0,
+    }
+}
+
+fn keep_records(
+    kept: Kept,
+    application: u8,
+    records: &[u8],
+    form: &mut [u8],
+    store: &mut [u8],
+    numbers: &mut [u8],
+) -> Kept {
+    let mut kept = kept;
+    let mut at = 0;
+    while at < records.len() {
+        let next = record_end(records, at);
+        kept = keep_record(kept, application, &records[at..next], form, store, numbers);
+        at = next;
+    }
+    kept
+}
+
+// The place after the record at a place, or the end where none stands there.
+fn record_end(records: &[u8], at: usize) -> usize
+    requires { ⌜ at < length (now records) ⌝ }
+    ensures { λ r. ⌜ (at < r) × (r ≤ length (now (records .entry))) ⌝ }
+{
+    let found = blocks::record_at(records, at);
+    let Found::Record {
+        head: _,
+        raw: _,
+        next,
+    } = found
+    else {
+        return records.len();
+    };
+    if next <= at {
+        return records.len();
+    }
+    if records.len() < next {
+        return records.len();
+    }
+    next
+}
+
+// Keeps a record where menu reading accepts it. A block that isn't a menu of ours is passed over.
+fn keep_record(
+    kept: Kept,
+    application: u8,
+    record: &[u8],
+    form: &mut [u8],
+    store: &mut [u8],
+    numbers: &mut [u8],
+) -> Kept {
+    let answer = menu::read_menu(application, record, form);
+    match answer {
+        Read::Taken { written, mended: _ } => {
+            kept::keep(kept, record, front(form, written), store, numbers)
+        }
+        Read::Refused(_) => kept,
+    }
+}
