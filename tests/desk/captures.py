@@ -16,7 +16,7 @@ from model import guide, listing, octet, survey, table
 from model.guide import PACKET, Setting
 from model.listing import DESK
 from model.survey import PIECE
-from samples import aired, night_list, night_pes, packets_in, record
+from samples import aired, guide_menus, night_list, night_pes, packets_in, record
 
 
 def sent(setting, tables):
@@ -108,9 +108,14 @@ def editions():
     yield "editions", "", DESK, guide.cut(DESK, 0, 20, b"".join(later(CASE_G, n) for n in (0, 3, 0x8000, 1, 0x8001, 0xFFFF, 0)))
 
 
+def menus():
+    """Menus among tables count as refused."""
+    yield "menus", "", DESK, guide_menus()[0]
+
+
 def main(folder):
     dice = Dice(11)
-    for name, words, setting, data in (*elsewhere(dice), *long(dice), *halves(dice), *longest(), *editions(), *rough(dice), *without(dice)):
+    for name, words, setting, data in (*elsewhere(dice), *long(dice), *halves(dice), *longest(), *editions(), *menus(), *rough(dice), *without(dice)):
         (folder / f"{name}.t42").write_bytes(data)
         (folder / f"{name}.words").write_text("".join(word + "\n" for word in words.split()))
         (folder / f"{name}.txt").write_bytes(listing.desk(data, setting))
