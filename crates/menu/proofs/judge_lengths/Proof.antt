@@ -34,7 +34,7 @@ returns c =
     let cs : List ℕ = map codeOf (now (a .strings)) in
     let s = c .before .before .before .before .spell .ensures .0 in
     let lines = c .before .before .field-of .ensures .0 ∙ header-read ns cs in
-    c .refuse .ensures ∙ sym (lengths-header _ _ (menuOf ns cs) _ (subst (λ (x : ℕ). 2 < x) lines (c .before .if1 .taken)))
+    c .refuse .ensures ∙ sym (lengths-header _ _ (menuOf ns cs) _ (subst (λ (x : ℕ). 2 < x) lines (omega (arith, c .before .if1 .taken))))
 
 field-of-requires-2 : tie.Need-field-of-requires-2
 field-of-requires-2 c κs = search needs
