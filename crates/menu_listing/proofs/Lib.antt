@@ -1,0 +1,9 @@
+pub mod Bytes
+pub mod Formed
+pub mod Prints
+pub mod Pens
+pub mod Walks
+pub mod Accepted
+pub mod Records
+pub mod Rules
+pub mod Cases

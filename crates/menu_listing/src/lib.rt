@@ -1,0 +1,117 @@
+// Menus as text: one menu of a list of records, and those that its links lead to (SCOPE 23.8).
+mod finding;
+mod lines;
+
+ghost use mathlib.Core.Path.{_≡_};
+ghost use Prim.Native.Nat.{suc, _+_, _-_, _<_, _≤_};
+ghost use lib.ListN.{drop};
+ghost use Rattle.answer.specs.Writing.{answered, left};
+ghost use Rattle.menu_listing.specs.Listing.{levels, listing, listRules, linesOf};
+ghost use Rattle.menu_listing.specs.Internal.{Penned, menusIn, eventLinesAt, roomMost, beyond, placeMost};
+use answer::Answer;
+
+// How many levels are printed.
+const LEVELS: usize = 8;
+
+// How many levels are left below the first.
+const BELOW: usize = LEVELS - 1;
+
+// The longest form of a menu: no longer than its block.
+const FORM: usize = 2047;
+
+// The type of a link to another menu.
+const TO_MENU: usize = 1;
+
+// The menu with this number and those that its links lead to, as text, to the front of `out`. The text is measured before any of it is
+// written, by a walk that ends as soon as it is past the room: a list of 176 bytes can stand for 93 GB. So the time is at most that of the
+// room times the list: each menu that the walk comes to prints a line, and is looked up in the list once; a record with another number
+// isn't read.
+pub fn list_menu(application: u8, number: u16, records: &[u8], out: &mut [u8]) -> Answer
+    ensures answer { λ r.
+        ⌜ r ≡ answered (listRules application (now (records .entry))) (listing application number (now (records .entry))) (now (out .entry)) ⌝ }
+    ensures output { λ _.
+        ⌜ now (out .exit)
+        ≡ left (listRules application (now (records .entry))) (listing application number (now (records .entry))) (now (out .entry)) ⌝ }
+{
+    if 32 <= application {
+        return answer::refuse(16, 0);
+    }
+    if !finding::is_whole(records) {
+        return answer::refuse(13, 0);
+    }
+    let first = number as usize;
+    let room = out.len();
+    let mut scrap = [0u8; 1];
+    let need = walk_menu(application, first, BELOW, records, room, &mut scrap, 0);
+    if room < need {
+        return answer::refuse(1, 0);
+    }
+    let written = walk_menu(application, first, BELOW, records, room, out, 0);
+    Answer::Done(written)
+}
+
+// The menu walk: the lines of a menu, with so many levels left below it, and of what its events lead to. Past the room it puts nothing more.
+fn walk_menu(
+    application: u8,
+    number: usize,
+    below: usize,
+    records: &[u8],
+    room: usize,
+    out: &mut [u8],
+    q: usize,
+) -> usize
+    requires { ⌜ (below ≤ levels) × (room < roomMost) × (q ≤ room + beyond) ⌝ }
+    ensures { λ r.
+        ⌜ Penned room (now (out .entry)) q (linesOf (menusIn application (now (records .entry))) (suc below) number) (now (out .exit)) r
+        × (r ≤ room + beyond) ⌝ }
+{
+    if room < q {
+        return q;
+    }
+    let mut form = [0u8; FORM];
+    if !finding::find_menu(application, number, records, &mut form) {
+        return lines::put_line(b"missing=", number, out, q);
+    }
+    let level = LEVELS - below;
+    let mut left = forms::byte_at(&form, 8);
+    let mut i = lines::events_place(&form);
+    let mut p = lines::put_head(&form, level, number, out, q);
+    while 0 < left {
+        if room < p {
+            return p;
+        }
+        p = walk_event(application, &form, i, below, records, room, out, p);
+        i = lines::next_event(&form, i);
+        left -= 1;
+    }
+    p
+}
+
+// The event walk: the lines of the event at the place i of a form, and those of the menu that it leads to.
+fn walk_event(
+    application: u8,
+    form: &[u8],
+    i: usize,
+    below: usize,
+    records: &[u8],
+    room: usize,
+    out: &mut [u8],
+    q: usize,
+) -> usize
+    requires { ⌜ (below ≤ levels) × (i ≤ placeMost) × (room < roomMost) × (q ≤ room) ⌝ }
+    ensures { λ r.
+        ⌜ Penned room (now (out .entry)) q
+        (eventLinesAt (linesOf (menusIn application (now (records .entry))) below) (levels - below) (drop i (now (form .entry))))
+        (now (out .exit)) r
+        × (r ≤ room + beyond) ⌝ }
+{
+    let p = lines::put_event(form, i, LEVELS - below, out, q);
+    if forms::byte_at(form, i + 2) != TO_MENU {
+        return p;
+    }
+    let link = lines::link_at(form, i);
+    if below == 0 {
+        return lines::put_line(b"deeper=", link, out, p);
+    }
+    walk_menu(application, link, below - 1, records, room, out, p)
+}
