@@ -1,6 +1,6 @@
 -- The reading call and the outcome that is exact: given room, the call is accepted as a menu, with a count, exactly when the record says
 -- it and has that count. Assumes nothing.
-use mathlib.Core.Path.{_≡_, _∙_, sym, ap, ap₂}
+use mathlib.Core.Path.{_≡_, _∙_, ap, ap₂}
 use mathlib.Core.List.{List, _++_}
 use Prim.Native.Nat.{ℕ, _≤_}
 use lib.ListN.{length, drop}
@@ -8,13 +8,12 @@ use Rattle.blocks.specs.Block.{headLength}
 use Rattle.answer.specs.Rules.{Every}
 use Rattle.answer.specs.Writing.{answered, left}
 use Rattle.answer.proofs.Judging.{passes}
-use Rattle.answer.proofs.Lent.{lent-accepted, lent-all}
 use Rattle.forms.proofs.Forms.{Bytes}
 use Rattle.frames.specs.Outcome.{accepted, refused}
 use Rattle.frames.specs.declared.Read.{Read}
 use Rattle.frames.specs.declared.Read.the-variants.{Taken}
 use Rattle.frames.specs.Values.{counted}
-use Rattle.frames.proofs.Counting.{taken-done}
+use Rattle.frames.proofs.Counting.{counted-takes, counted-all}
 use Rattle.menu_forms.specs.Menus.{Menu, zeros}
 use Rattle.menu_forms.specs.Form.{form, menuIn}
 use Rattle.menu_forms.specs.Block.{recordOf, Says}
@@ -38,11 +37,7 @@ module _ (application : ℕ) (r : List ℕ) (old : List ℕ) where
       → (callReads ≡ Taken (length (form m)) (mendedIn r))
       × (left (readRules application r) (form (found r)) old ≡ form m ++ drop (length (form m)) old)
   call-takes m s h =
-      let e : found r ≡ m = menu-said application r m s in
-      let p = lent-accepted (readRules application r) (form (found r)) old (says-rules application r m s) (rw e h) in (
-        ap (counted (mendedIn r)) (p .0) ∙ ap (λ (x : Menu). Taken (length (form x)) (mendedIn r)) e,
-        p .1 ∙ ap (λ (x : Menu). form x ++ drop (length (form x)) old) e,
-      )
+      counted-takes form (readRules application r) (found r) (mendedIn r) old m (says-rules application r m s) (menu-said application r m s) h
 
   -- a record that the call accepts says the menu whose form it hands out, and the count is its own
   pub call-says :
@@ -53,13 +48,9 @@ module _ (application : ℕ) (r : List ℕ) (old : List ℕ) where
       × (left (readRules application r) (form (found r)) old ≡ form (found r) ++ drop (length (form (found r))) old)
   unfolding readMenu
   call-says n c b e =
-      let d = taken-done (mendedIn r) _ n c e in
-      let a = lent-all (readRules application r) (form (found r)) old n (d .0) in (
-        accepted-says application r (found r) (mendedIn r) b (passes refused (accepted (found r) (mendedIn r)) (a .0)) .0,
-        a .2,
-        sym (d .1),
-        lent-accepted (readRules application r) (form (found r)) old (a .0) (a .1) .1,
-      )
+      let a = counted-all form (readRules application r) (found r) (mendedIn r) old n c e in
+      let s = accepted-says application r (found r) (mendedIn r) b (passes refused (accepted (found r) (mendedIn r)) (a .0)) in
+      (s .0, a .1, a .2, a .3)
 
 -- a form that writing takes, written and read again by calls with room: it comes back byte for byte, with nothing mended
 pub call-back :

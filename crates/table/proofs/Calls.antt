@@ -1,19 +1,18 @@
 -- The reading call and the outcome that is exact: given room, the call is accepted as a table, with a count, exactly when the record says
 -- it and has that count. Assumes nothing.
-use mathlib.Core.Path.{_≡_, _∙_, sym, ap}
+use mathlib.Core.Path.{_≡_}
 use mathlib.Core.List.{List, _++_}
 use Prim.Native.Nat.{ℕ, _≤_}
 use lib.ListN.{length, drop}
 use Rattle.answer.specs.Writing.{answered, left}
 use Rattle.answer.proofs.Judging.{passes}
-use Rattle.answer.proofs.Lent.{lent-accepted, lent-all}
 use Rattle.forms.specs.Tables.{Table}
 use Rattle.forms.specs.Form.{form}
 use Rattle.sums.specs.Block.{mendedIn, InRange, Says}
 use Rattle.frames.specs.declared.Read.{Read}
 use Rattle.frames.specs.declared.Read.the-variants.{Taken}
 use Rattle.frames.specs.Values.{counted}
-use Rattle.frames.proofs.Counting.{taken-done}
+use Rattle.frames.proofs.Counting.{counted-takes, counted-all}
 use Rattle.table.specs.Reading.{accepted, refused, readRules, tableRead, readBlock}
 use Rattle.frames.proofs.Framed.{accepts}
 use Rattle.table.proofs.Exact.{accepted-says, says-accepted}
@@ -31,10 +30,7 @@ module _ (application : ℕ) (r : List ℕ) (old : List ℕ) where
   unfolding readBlock
   call-takes t i s h =
       let a = accepts (readRules application r) (tableRead r) t (mendedIn r) (mendedIn r) (says-accepted application r t i s) in
-      let p = lent-accepted (readRules application r) (form (tableRead r)) old (a .0) (rw (a .1) h) in (
-        ap (counted (mendedIn r)) (p .0) ∙ ap (λ (x : Table). Taken (length (form x)) (mendedIn r)) (a .1),
-        p .1 ∙ ap (λ (x : Table). form x ++ drop (length (form x)) old) (a .1),
-      )
+      counted-takes form (readRules application r) (tableRead r) (mendedIn r) old t (a .0) (a .1) h
 
   -- a record that the call accepts says the table whose form it hands out, and the count is its own
   pub call-says :
@@ -45,10 +41,6 @@ module _ (application : ℕ) (r : List ℕ) (old : List ℕ) where
       × (left (readRules application r) (form (tableRead r)) old ≡ form (tableRead r) ++ drop (length (form (tableRead r))) old)
   unfolding readBlock
   call-says n m e =
-      let d = taken-done (mendedIn r) _ n m e in
-      let a = lent-all (readRules application r) (form (tableRead r)) old n (d .0) in (
-        accepted-says application r (tableRead r) (mendedIn r) (passes refused (accepted (tableRead r) (mendedIn r)) (a .0)) .0,
-        a .2,
-        sym (d .1),
-        lent-accepted (readRules application r) (form (tableRead r)) old (a .0) (a .1) .1,
-      )
+      let a = counted-all form (readRules application r) (tableRead r) (mendedIn r) old n m e in
+      let s = accepted-says application r (tableRead r) (mendedIn r) (passes refused (accepted (tableRead r) (mendedIn r)) (a .0)) in
+      (s .0, a .1, a .2, a .3)
