@@ -1,9 +1,7 @@
 -- `printing::puts::store` meets its contract: the bytes still to come are stored from the place on. The measure is the bytes left. Assumes
 -- nothing.
-use mathlib.Core.List.{List}
 use mathlib.Core.Path.{_≡_, _∙_, refl, sym}
-use Prim.Native.Nat.{ℕ, _+_, _-_, _≤_}
-use native.Mathlib.Omega.{arith}
+use Prim.Native.Nat.{_+_, _-_}
 use lib.ListN.{length, drop, length-set}
 use lib.Seq.{sets}
 use denote.Ref.{now}
@@ -14,7 +12,7 @@ use Rattle.printing.proofs.puts.store.Tie as tie
 
 abbrev Inv-loop : tie.InvT-loop
 Inv-loop text out₀ q k₀ out k =
-    (k ≤ length text) × (length out ≡ length out₀) × (sets out (q + k) (drop k text) ≡ sets out₀ q text)
+    (length out ≡ length out₀) × (sets out (q + k) (drop k text) ≡ sets out₀ q text)
 
 abbrev μ-loop : tie.MeasureT-loop
 μ-loop text out₀ q k₀ out k = length text - k
@@ -22,7 +20,7 @@ abbrev μ-loop : tie.MeasureT-loop
 loop-holds : tie.Need-loop-holds Inv-loop μ-loop
 loop-holds c =
     let a = c .args in
-    (search needs, refl, store-start (now (a .out)) (a .q) (now (a .text)))
+    (refl, store-start (now (a .out)) (a .q) (now (a .text)))
 
 shared-slice-read-out : tie.Need-shared-slice-read-out Inv-loop μ-loop
 shared-slice-read-out c = search needs
@@ -43,7 +41,7 @@ loop-again : tie.Need-loop-again Inv-loop μ-loop
 loop-again c =
     let l = c .before .before .loop in
     let a = c .before .before .before .args in
-    (search needs, simp length-set (l .inv .1), store-on (l .out) (a .q) (now (a .text)) (l .k) (search needs) ∙ l .inv .2)
+    (simp length-set (l .inv .0), store-on (l .out) (a .q) (now (a .text)) (l .k) (search needs) ∙ l .inv .1)
 
 same-length : tie.Need-same-length Inv-loop μ-loop
 same-length c = search needs
@@ -52,7 +50,7 @@ returns : tie.Need-returns Inv-loop μ-loop
 returns c =
     let l = c .before .loop in
     let a = c .before .before .args in
-    sym (store-end (l .out) (a .q + l .k) (now (a .text)) (l .k) (search needs)) ∙ l .inv .2
+    sym (store-end (l .out) (a .q + l .k) (now (a .text)) (l .k) (search needs)) ∙ l .inv .1
 
 pub store-spec : {M : Type 1} → statement M
 store-spec =
