@@ -195,7 +195,7 @@ fn judge_lengths(size: usize, control: &[u8], strings: &[u8]) -> Answer
         (lengthRules (bitsAt 8 10 (map nib (now (control .entry)))) size (menuHeld (now (control .entry)) (now (strings .entry))))
         (Done (length (form (menuHeld (now (control .entry)) (now (strings .entry)))))) ⌝ }
 {
-    let mut nowhere = [0u8; 1];
+    let mut nowhere = [0u8; 0];
     let s = spelling::spell(control, strings, &mut nowhere);
     if 2 < fields::field_of(control, 44, 2) {
         return answer::refuse(14, 0);
