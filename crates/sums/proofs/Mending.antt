@@ -1,62 +1,42 @@
--- How a pass along a record counts the bytes that were mended: a byte that is the image of its nibble, one that isn't, the end; and how a
--- pass finds that there are none. Assumes nothing.
+-- How a pass along a record counts the bytes that were mended, run by run and byte by byte, and how a pass finds that there are none.
+-- Assumes nothing.
 use mathlib.Core.Path.{_≡_, _∙_, sym, ap}
 use mathlib.Core.Bool.{Bool, true, false}
 use mathlib.Core.List.{List}
-use Prim.Native.Nat.{ℕ, zero, suc, _+_, _%_, _≤_, _<_}
-use native.Mathlib.Nat.{zero-add, add-zero}
+use Prim.Native.Nat.{ℕ, zero, suc, _+_, _-_, _≤_, _<_}
+use native.Mathlib.Nat.{zero-add}
 use native.Mathlib.Numerals.{add-one}
 use native.Mathlib.Omega.{arith}
-use borrow.Author.Tests.{eqb-true, eq-eqb, ne-eqb}
+use borrow.Author.Tests.{ne-eqb}
 use lib.Bits.{bitOr, or-zero-l, or-add-and, and-le-r}
 use lib.Dec.{eqb}
-use lib.ListN.{length, getD, drop, drop-of-length-le}
-use lib.Seq.{drop-cons}
+use lib.ListN.{length, getD, take, drop, drop-of-length-le, take-append-drop}
+use lib.Seq.{drop-cons, drop-drop}
 use Rattle.laws.specs.Pick.{pick, both}
-use Rattle.laws.specs.Range.{tabulate}
 use Rattle.laws.proofs.Tests.{both-right}
-use Rattle.laws.proofs.Whole.{tabulate-at}
-use Rattle.octet.specs.Image.{image}
-use Rattle.octet.specs.Decoding.{nib}
 use Rattle.octet.specs.Hearing.{harm, harms}
-use Rattle.octet.proofs.Lowest.{image-mod}
-use Rattle.octet.proofs.Laws.{entry-at}
-use Rattle.sums.specs.Block.{mendedIn}
+use Rattle.octet.proofs.Hearing.{harms-append}
 
 -- ---- the count
 
--- where no raw byte is harmed, the part is all
-pub clean-in : (s : List ℕ) → eqb (harms (drop 4 s)) 0 ≡ true → getD s 2 0 ≡ mendedIn s
-unfolding mendedIn
-clean-in s e = rw (eqb-true (harms (drop 4 s)) 0 e) (sym (add-zero (getD s 2 0)))
+-- the harms of what is left are those of a run and of what is left after it
+pub harms-run :
+    (s : List ℕ) (i end : ℕ) → i ≤ end → harms (take (end - i) (drop i s)) + harms (drop end s) ≡ harms (drop i s)
+harms-run s i end h =
+    let e : i + (end - i) ≡ end = omega arith in
+    let d : drop (end - i) (drop i s) ≡ drop end s = drop-drop (end - i) i s ∙ ap (λ (n : ℕ). drop n s) e in
+    ap (λ (l : List ℕ). harms (take (end - i) (drop i s)) + harms l) (sym d)
+    ∙ sym (harms-append (take (end - i) (drop i s)) (drop (end - i) (drop i s)))
+    ∙ ap harms (take-append-drop (end - i) (drop i s))
 
--- the image of a byte's nibble by the two tables
-pub imaged :
-    (table images : List ℕ) → table ≡ tabulate nib 0 256 → images ≡ tabulate image 0 16
-    → (b : ℕ) → b < 256 → getD images (getD table b 0 % 16) 0 ≡ image (nib b)
-imaged table images e f b h =
-    ap (λ (n : ℕ). getD images (n % 16) 0) (entry-at table e b h)
-    ∙ ap (λ (l : List ℕ). getD l (nib b % 16) 0) f
-    ∙ tabulate-at image 16 (nib b % 16) (omega arith)
-    ∙ sym (image-mod (nib b))
+-- a byte and those after it
+pub harms-on : (s : List ℕ) (i : ℕ) → i < length s → harm (getD s i 0) + harms (drop (i + 1) s) ≡ harms (drop i s)
+unfolding harms
+harms-on s i h = rw (drop-cons s i 0 h, add-one)
 
-module _ (s : List ℕ) (i n whole : ℕ) (inv : n + harms (drop i s) ≡ whole) where
-  pub mended-on :
-      i < length s → (image (nib (getD s i 0)) ≡ getD s i 0 → ⊥) → n + 1 + harms (drop (i + 1) s) ≡ whole
-  unfolding harms harm
-  mended-on h d =
-      let e : harms (drop i s) ≡ 1 + harms (drop (i + 1) s) = rw (drop-cons s i 0 h, add-one, ne-eqb _ _ (λ x. d (sym x))) in
-      omega arith
-
-  pub clean-on : i < length s → image (nib (getD s i 0)) ≡ getD s i 0 → n + harms (drop (i + 1) s) ≡ whole
-  unfolding harms harm
-  clean-on h e =
-      let k : harms (drop i s) ≡ harms (drop (i + 1) s) = rw (drop-cons s i 0 h, add-one, eq-eqb _ _ (sym e)) (omega arith) in
-      omega arith
-
-  pub mended-end : length s ≤ i → n ≡ whole
-  unfolding harms
-  mended-end h = omega (arith, rw (drop-of-length-le s h) at inv)
+pub harms-end : (s : List ℕ) (i : ℕ) → length s ≤ i → harms (drop i s) ≡ 0
+unfolding harms
+harms-end s i h = rw (drop-of-length-le s h)
 
 -- ---- whether there is any
 

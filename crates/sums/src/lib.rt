@@ -1,7 +1,7 @@
 // A block's protected bytes: which of them can be decoded, how many were mended, and the checksum over them.
 ghost use mathlib.Core.Path.{_≡_};
 ghost use mathlib.Core.List.{map};
-ghost use Prim.Native.Nat.{_<_, _≤_};
+ghost use Prim.Native.Nat.{_+_, _<_, _≤_};
 ghost use lib.Dec.{eqb};
 ghost use lib.ListN.{length, drop};
 ghost use Rattle.laws.specs.Pick.{pick};
@@ -114,27 +114,50 @@ pub fn sound(s: &[u8]) -> usize
     i
 }
 
-// How many bytes of a record's block were mended: its part, and its raw bytes that aren't images. Of a clear
-// night nearly every block has none, and then its bytes aren't looked up.
+// How many bytes of a record's block were mended: its part, and its raw bytes that aren't images.
 pub fn mended_in(rec: &[u8]) -> usize
     ensures { λ r. ⌜ r ≡ mendedIn (now (rec .entry)) ⌝ }
 {
-    let part = forms::byte_at(rec, 2);
-    if is_clean(rec, HEAD) {
-        return part;
-    }
-    let table = octet::decodings();
-    let images = octet::images();
-    let mut count = part;
+    let mut count = forms::byte_at(rec, 2);
     let mut i = HEAD;
     while i < rec.len() {
-        let b = rec[i];
-        if images[(table[b as usize] % 16) as usize] != b {
-            count += 1;
-        }
+        let end = run_end(i, rec.len());
+        count += harms_in(&rec[i..end]) as usize;
+        i = end;
+    }
+    count
+}
+
+// Where a run of bytes ends whose harms a byte can count.
+fn run_end(i: usize, end: usize) -> usize
+    requires { ⌜ i < end ⌝ }
+    ensures { λ r. ⌜ (i < r) × (r ≤ end) × (r ≤ i + 240) ⌝ }
+{
+    if end - i < 240 {
+        return end;
+    }
+    i + 240
+}
+
+// How many of a few bytes aren't images: no byte ends the loop, and all go by bytes.
+fn harms_in(s: &[u8]) -> u8
+    requires { ⌜ length (now s) ≤ 255 ⌝ }
+    ensures { λ r. ⌜ r ≡ harms (now (s .entry)) ⌝ }
+{
+    let mut count: u8 = 0;
+    let mut i = 0;
+    while i < s.len() {
+        count += harm_of(s[i]);
         i += 1;
     }
     count
+}
+
+// 0 for an image, else 1.
+fn harm_of(b: u8) -> u8
+    ensures { λ r. ⌜ (r ≡ harm b) × (r ≤ 1) ⌝ }
+{
+    if checks(b) == 0 { 0 } else { 1 }
 }
 
 // Whether every byte from `from` on is an image: the checks of all of them are or-ed, so that no byte ends the loop.
