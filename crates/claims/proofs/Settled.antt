@@ -13,7 +13,6 @@ use Rattle.aerials.proofs.better.Reads as aerials·better
 use Rattle.octet.proofs.decode.Reads as octet·decode
 use Rattle.octet.proofs.decodings.Reads as octet·decodings
 use Rattle.octet.proofs.hear.Reads as octet·hear
-use Rattle.octet.proofs.images.Reads as octet·images
 use Rattle.octet.proofs.faults.fault_place.Reads as octet·fault-place
 use Rattle.octet.proofs.turn.Reads as octet·turn
 use Rattle.octet.proofs.quick.decode.Reads as octet·quick-decode
@@ -133,9 +132,6 @@ octet·decodings-settled κs a x y s t p q = same p q
 
 pub octet·hear-settled : (κs : _) (a : _) (x y : _) (s t : _) → octet·hear.Post κs a x s → octet·hear.Post κs a y t → x ≡ y
 octet·hear-settled κs a x y s t p q = same p q
-
-pub octet·images-settled : (κs : _) (a : _) (x y : _) (s t : _) → octet·images.Post κs a x s → octet·images.Post κs a y t → x ≡ y
-octet·images-settled κs a x y s t p q = same p q
 
 pub octet·fault-place-settled : (κs : _) (a : _) (x y : _) (s t : _) → octet·fault-place.Post κs a x s → octet·fault-place.Post κs a y t → x ≡ y
 octet·fault-place-settled κs a x y s t p q = same p q

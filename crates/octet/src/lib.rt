@@ -306,13 +306,6 @@ pub fn image(n: u8) -> u8
     CODE[(n % 16) as usize]
 }
 
-// The images themselves, from that of 0 on: for a loop, as `decodings` is.
-pub fn images() -> [u8; 16]
-    ensures { λ r. ⌜ r ≡ tabulate Image·image 0 16 ⌝ }
-{
-    CODE
-}
-
 // The table itself: what each byte decodes to. A loop over many bytes takes it before it starts, so that
 // it is laid out once, and then a byte is one load.
 pub fn decodings() -> [u8; 256]
