@@ -1,6 +1,11 @@
 -- What tests made of tests tell, as equations. Assumes nothing.
 use mathlib.Core.Path.{_≡_, _∙_, refl, sym}
 use mathlib.Core.Bool.{Bool, true, false}
+use Prim.Native.Nat.{ℕ, zero, suc}
+use native.Mathlib.Omega.{arith}
+use lib.Bits.{bitOr, or-zero-l, or-add-and, and-le-r}
+use lib.Dec.{eqb}
+use borrow.Author.Tests.{ne-eqb}
 use Rattle.laws.specs.Pick.{both, either}
 
 pub both-first : (a b : Bool) → both a b ≡ true → a ≡ true
@@ -46,3 +51,11 @@ either-true false = refl
 pub either-assoc : (a b c : Bool) → either (either a b) c ≡ either a (either b c)
 either-assoc true b c = refl
 either-assoc false b c = refl
+
+-- numbers or-ed are 0 where each is
+pub mixed-zero : (s b : ℕ) (z : Bool) → both (eqb (bitOr s b) 0) z ≡ both (eqb s 0) (both (eqb b 0) z)
+mixed-zero zero b z = rw (or-zero-l b)
+mixed-zero (suc s) b z =
+    let n : bitOr (suc s) b ≡ 0 → ⊥ = λ e. omega (arith, or-add-and (suc s) b, and-le-r (suc s) b, e) in
+    let m : suc s ≡ 0 → ⊥ = λ e. omega arith in
+    rw (ne-eqb _ _ n, ne-eqb _ _ m)

@@ -2,29 +2,21 @@
 use mathlib.Core.Path.{_≡_}
 use mathlib.Core.Bool.{Bool, true, false}
 use mathlib.Core.List.{List}
-use Prim.Native.Nat.{ℕ, zero, suc, _+_, _≤_, _<_}
+use Prim.Native.Nat.{ℕ, suc, _+_, _≤_, _<_}
 use native.Mathlib.Numerals.{add-one}
 use native.Mathlib.Omega.{arith}
 use lib.ListN.{length, getD, drop, drop-of-length-le}
 use lib.Seq.{drop-cons}
 use lib.Dec.{eqb}
-use lib.Bits.{bitOr, or-zero-l, or-add-and, and-le-r}
-use borrow.Author.Tests.{ne-eqb}
+use lib.Bits.{bitOr}
 use Rattle.laws.specs.Pick.{both}
-use Rattle.laws.proofs.Tests.{both-right}
+use Rattle.laws.proofs.Tests.{both-right, mixed-zero}
 use Rattle.state.specs.State.{zeros}
 
 pub untrue {ℓ} : {A : Type ℓ} → false ≡ true → A
 untrue e = let z : _≡_ {A = ℕ} 0 1 = cc in absurd (omega arith)
 
 -- ---- the store's zeros, all or-ed
-
-mixed-zero : (s b : ℕ) (z : Bool) → both (eqb (bitOr s b) 0) z ≡ both (eqb s 0) (both (eqb b 0) z)
-mixed-zero zero b z = rw (or-zero-l b)
-mixed-zero (suc s) b z =
-    let n : bitOr (suc s) b ≡ 0 → ⊥ = λ e. omega (arith, or-add-and (suc s) b, and-le-r (suc s) b, e) in
-    let m : suc s ≡ 0 → ⊥ = λ e. omega arith in
-    rw (ne-eqb _ _ n, ne-eqb _ _ m)
 
 pub clear-on :
     (l : List ℕ) (i s : ℕ) → i < length l

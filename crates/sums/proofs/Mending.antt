@@ -3,17 +3,17 @@
 use mathlib.Core.Path.{_≡_, _∙_, sym, ap}
 use mathlib.Core.Bool.{Bool, true, false}
 use mathlib.Core.List.{List}
-use Prim.Native.Nat.{ℕ, zero, suc, _+_, _-_, _≤_, _<_}
+use Prim.Native.Nat.{ℕ, suc, _+_, _-_, _≤_, _<_}
 use native.Mathlib.Nat.{zero-add}
 use native.Mathlib.Numerals.{add-one}
 use native.Mathlib.Omega.{arith}
 use borrow.Author.Tests.{ne-eqb}
-use lib.Bits.{bitOr, or-zero-l, or-add-and, and-le-r}
+use lib.Bits.{bitOr}
 use lib.Dec.{eqb}
 use lib.ListN.{length, getD, take, drop, drop-of-length-le, take-append-drop}
 use lib.Seq.{drop-cons, drop-drop}
 use Rattle.laws.specs.Pick.{pick, both}
-use Rattle.laws.proofs.Tests.{both-right}
+use Rattle.laws.proofs.Tests.{both-right, mixed-zero}
 use Rattle.octet.specs.Hearing.{harm, harms}
 use Rattle.octet.proofs.Hearing.{harms-append}
 
@@ -40,13 +40,6 @@ harms-end s i h = rw (drop-of-length-le s h)
 
 -- ---- whether there is any
 
-mixed-none : (s f : ℕ) (z : Bool) → both (eqb (bitOr s f) 0) z ≡ both (eqb s 0) (both (eqb f 0) z)
-mixed-none zero f z = rw (or-zero-l f)
-mixed-none (suc s) f z =
-    let n : bitOr (suc s) f ≡ 0 → ⊥ = λ e. omega (arith, or-add-and (suc s) f, and-le-r (suc s) f, e) in
-    let m : suc s ≡ 0 → ⊥ = λ e. omega arith in
-    rw (ne-eqb _ _ n, ne-eqb _ _ m)
-
 -- no harm in one, and none in the others
 none-more : (f n : ℕ) → eqb (pick (eqb f 0) 0 1 + n) 0 ≡ both (eqb f 0) (eqb n 0)
 none-more f n = go (eqb f 0)
@@ -60,7 +53,7 @@ pub checked-on :
     → both (eqb (bitOr s f) 0) (eqb (harms (drop (i + 1) l)) 0) ≡ both (eqb s 0) (eqb (harms (drop i l)) 0)
 unfolding harms
 checked-on l i s f h e =
-    rw (drop-cons l i 0, add-one, e, none-more f (harms (drop (suc i) l))) (mixed-none s f (eqb (harms (drop (suc i) l)) 0))
+    rw (drop-cons l i 0, add-one, e, none-more f (harms (drop (suc i) l))) (mixed-zero s f (eqb (harms (drop (suc i) l)) 0))
 
 pub checked-end : (l : List ℕ) (i s : ℕ) → length l ≤ i → both (eqb s 0) (eqb (harms (drop i l)) 0) ≡ eqb s 0
 unfolding harms
