@@ -67,6 +67,9 @@ pub fn unpack(fd: i32, name: &[u8], tally: Tally, seen: &mut [u8; 17]) -> Tally 
     let mut space = [0u8; SPACE];
     let mut packets = [0u8; LONGEST];
     let mut tally = begin(tally, &mut packets);
+    if !tally.sound {
+        return tally;
+    }
     let mut held = Held {
         at: 0,
         end: 0,
@@ -249,7 +252,7 @@ fn strip_on(tally: Tally, pes: &[u8], packets: &mut [u8; LONGEST], seen: &mut [u
             refused: tally.refused,
             left: tally.left,
             begun: true,
-            sound: put(front(packets, n)),
+            sound: put(tally.sound, front(packets, n)),
         },
         Stripped::Lost(r) => refuse(tally, r.no, packets, seen),
         Stripped::Refused(r) => refuse(tally, r.no, packets, seen),
@@ -339,16 +342,13 @@ fn further(at: usize, n: usize, end: usize) -> usize {
 
 // One packet that can't be decoded goes out.
 fn lose(tally: Tally, packets: &mut [u8; LONGEST]) -> Tally {
-    if !tally.sound {
-        return tally;
-    }
     stripped::blank(packets);
     Tally {
         read: tally.read,
         refused: tally.refused,
         left: tally.left,
         begun: true,
-        sound: put(front(packets, PACKET)),
+        sound: put(tally.sound, front(packets, PACKET)),
     }
 }
 
@@ -370,8 +370,12 @@ fn plus(a: u64, b: u64) -> u64 {
     a + b
 }
 
-// Writes to standard output, and answers whether it took all. A failure is told.
-fn put(bytes: &[u8]) -> bool {
+// Writes to standard output where it took all so far, and answers whether it still did. A failure is told, and nothing
+// goes out after it, though a later write might succeed: what is missing between the two is what nobody could see.
+fn put(is_sound: bool, bytes: &[u8]) -> bool {
+    if !is_sound {
+        return false;
+    }
     if io::write_all(STDOUT_FILENO, bytes) {
         return true;
     }
