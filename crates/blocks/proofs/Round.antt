@@ -10,7 +10,8 @@ use lib.Seq.{take-at, drop-at, length-take-le}
 use borrow.Author.Tests.{le-leb}
 use Rattle.laws.specs.Pick.{pick}
 use Rattle.blocks.specs.Block.{Block, headLength, sizeOf, recordOf, recordsOf, headOf, recordLength, begins, blockOf, whole, blocksWithin, blocks}
-use Rattle.blocks.specs.Sizes.{Sized, none, more}
+use Rattle.laws.specs.Each.{Each, nil, and}
+use Rattle.blocks.specs.Sizes.{Sized}
 use Rattle.blocks.proofs.Walking.{whole-end, whole-step, blocks-step, begins-fits}
 
 module _ (b : Block) (rest : List ℕ) (h : sizeOf (b .head) ≡ length (b .raw)) where
@@ -41,35 +42,35 @@ module _ (b : Block) (rest : List ℕ) (h : sizeOf (b .head) ≡ length (b .raw)
       let e : recordLength first ≡ suc (suc (suc (suc (sizeOf (headOf first))))) = omega arith in
       rw e (drop-at (b .raw) rest (sizeOf (headOf first)) first-size)
 
-pub whole-records : {bs : List Block} → Sized bs → whole (recordsOf bs) ≡ true
+pub whole-records : {bs : List Block} → Each Sized bs → whole (recordsOf bs) ≡ true
 unfolding recordsOf
-whole-records none = whole-end [] refl
-whole-records (more {b = b} {bs = bs} h s) =
+whole-records nil = whole-end [] refl
+whole-records (and {a = b} {l = bs} h s) =
     whole-step (recordOf b ++ recordsOf bs) (first-begins b (recordsOf bs) h)
     ∙ rw (first-rest b (recordsOf bs) h) (whole-records s)
 
-pub blocks-records : {bs : List Block} → Sized bs → blocks (recordsOf bs) ≡ bs
+pub blocks-records : {bs : List Block} → Each Sized bs → blocks (recordsOf bs) ≡ bs
 unfolding recordsOf blocksWithin
-blocks-records none = refl
-blocks-records (more {b = b} {bs = bs} h s) =
+blocks-records nil = refl
+blocks-records (and {a = b} {l = bs} h s) =
     blocks-step (recordOf b ++ recordsOf bs) (first-begins b (recordsOf bs) h)
     ∙ ap₂ {C = List Block} (λ c cs. c ∷ cs) (first-block b (recordsOf bs) h)
     (ap blocks (first-rest b (recordsOf bs) h) ∙ blocks-records s)
 
 -- and the blocks of any list have the sizes they say
-sized-within : (f : ℕ) (l : List ℕ) → Sized (blocksWithin f l)
+sized-within : (f : ℕ) (l : List ℕ) → Each Sized (blocksWithin f l)
 unfolding blocksWithin
-sized-within zero l = none
+sized-within zero l = nil
 sized-within (suc f) l = go (begins l) refl (sized-within f (drop (recordLength l) l))
   where
     go :
-        (t : Bool) → begins l ≡ t → Sized (blocksWithin f (drop (recordLength l) l))
-        → Sized (pick t (blockOf l ∷ blocksWithin f (drop (recordLength l) l)) [])
-    go false e s = none
+        (t : Bool) → begins l ≡ t → Each Sized (blocksWithin f (drop (recordLength l) l))
+        → Each Sized (pick t (blockOf l ∷ blocksWithin f (drop (recordLength l) l)) [])
+    go false e s = nil
     go true e s =
-        more
+        and
         (sym (length-take-le (sizeOf (headOf l)) (drop headLength l) (omega (arith, begins-fits l e, length-drop headLength l))))
         s
 
-pub blocks-sized : (l : List ℕ) → Sized (blocks l)
+pub blocks-sized : (l : List ℕ) → Each Sized (blocks l)
 blocks-sized l = sized-within (length l) l

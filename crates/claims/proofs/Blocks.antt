@@ -10,6 +10,7 @@ use native.Mathlib.Nat.{mod-eq-of-lt}
 use native.Mathlib.Omega.{arith}
 use lib.Dec.{leb}
 use borrow.Author.Tests.{leb-true}
+use Rattle.laws.specs.Each.{Each, nil, and}
 use Rattle.laws.proofs.Tests.{both-true}
 use Rattle.octet.specs.Decoding.{nib}
 use Rattle.octet.proofs.Laws.{nib-image}
@@ -23,7 +24,7 @@ use Rattle.writer.proofs.Counting.{covered}
 use Rattle.writer.proofs.Numbering.{FortyTwo, more, packets-forty}
 use Rattle.state.specs.State.{readerOf, freshState}
 use Rattle.state.proofs.Ranging.{sound-fresh}
-use Rattle.claims.specs.Noise.{Flipped, Hears, Aired, ended, sent, between, Came, Each, nil, and, Fits}
+use Rattle.claims.specs.Noise.{Flipped, Hears, Aired, ended, sent, between, Came, Fits}
 use Rattle.claims.specs.Damage.{streamIn, Sending, sendings, landed, unmarked}
 use Rattle.claims.specs.Feeding.{Call, packetsOf, comesOut}
 use Rattle.claims.proofs.Losing.{near-length, came-exactly}

@@ -13,6 +13,8 @@ use lib.Dec.{leb}
 use lib.ListN.{length, drop}
 use lib.Seq.{take-append-seam}
 use borrow.Author.Tests.{le-leb}
+use Rattle.laws.specs.Each.{Each, nil, and}
+use Rattle.laws.proofs.Eaches.{each-first, each-left, each-right, each-all}
 use Rattle.laws.specs.Pick.{both}
 use Rattle.answer.specs.declared.Answer.{Answer}
 use Rattle.answer.specs.declared.Answer.the-variants.{Done}
@@ -38,14 +40,14 @@ use Rattle.table.specs.Reading.{Outcome, accepted as Reading·accepted, refused
 use Rattle.frames.specs.declared.Read.{Read}
 use Rattle.frames.specs.Values.{counted}
 use Rattle.table.proofs.Back.{writes-back, accepted-writable}
-use Rattle.claims.specs.Noise.{Flipped, Aired, Came, Each, nil, and}
+use Rattle.claims.specs.Noise.{Flipped, Aired, Came}
 use Rattle.claims.specs.Damage.{streamIn, Sending, sendings, damage, Counted, damaged}
 use Rattle.claims.specs.Lists.{Among}
 use Rattle.claims.specs.Feeding.{packetsOf}
 use Rattle.claims.specs.Tables.{recordsOf, sent, taken, tablesOf}
 use Rattle.claims.specs.Calls.{Writes, write-block, Cuts, cut-pages, cut, Starts, fresh, Reads, read-block, reported, accepted}
 use Rattle.claims.specs.Calls.{Written, no-table, table, ReadOut, no-block, block, Through, Delivers}
-use Rattle.claims.proofs.Losing.{each-first, each-split, each-all, came-each, came-map, came-exactly, came-among}
+use Rattle.claims.proofs.Losing.{came-each, came-map, came-exactly, came-among}
 use Rattle.claims.proofs.Blocks.{range, aired-long}
 use Rattle.claims.proofs.Tables.{all-fit, all-sized, records-same}
 use Rattle.claims.proofs.Demands.{carried}
@@ -162,10 +164,10 @@ module _ (application : ℕ) where
   unfolding tablesOf
   all-read most no-block short = refl
   all-read most (block {b = b} {bs = bs} enough call rest) short =
-      let p = each-split (taken (readBlock application (Block·recordOf b))) short in
+      let here = taken (readBlock application (Block·recordOf b)) in
       ap₂ (λ (a l : List (Counted (List ℕ))). a ++ l)
-      (record-read (Block·recordOf b) call (each-all (λ t h. omega arith) (p .0)))
-      (all-read most rest (p .1))
+      (record-read (Block·recordOf b) call (each-all (λ t h. omega arith) (each-left here (tablesOf application bs) short)))
+      (all-read most rest (each-right here (tablesOf application bs) short))
       ∙ sym (map-append formed (taken (readBlock application (Block·recordOf b))) (tablesOf application bs))
 
 -- what is true of each table is true of each with its count

@@ -11,6 +11,7 @@ use native.Mathlib.Omega.{arith}
 use lib.ListN.{length, drop, length-drop, length-map}
 use lib.Seq.{drop-drop}
 use borrow.Author.Tests.{le-leb, le-ltb, eq-eqb}
+use Rattle.laws.specs.Each.{Each}
 use Rattle.laws.proofs.Picks.{same}
 use Rattle.octet.specs.Decoding.{undecodable}
 use Rattle.blocks.specs.Block.{Block}
@@ -29,7 +30,7 @@ use Rattle.state.specs.Acting.{State, act, handed}
 use Rattle.pages.specs.Judging.{incomplete, breaks}
 use Rattle.walk.specs.Reading.{dropIf, readMode, readBlocks}
 use Rattle.state.specs.State.{freshState}
-use Rattle.claims.specs.Noise.{Hears, Near, Elsewhere, Aired, ended, sent, between, Came, over, Each, Fits}
+use Rattle.claims.specs.Noise.{Hears, Near, Elsewhere, Aired, ended, sent, between, Came, over, Fits}
 use Rattle.claims.specs.Damage.{carriedIn, streamIn, sendings, landed}
 use Rattle.claims.specs.Carrying.{heardBlocks}
 use Rattle.claims.proofs.Losing.{near-length, lost-all, came-append}

@@ -8,6 +8,7 @@ use Prim.Native.Nat.{ℕ, suc, _+_, _<_}
 use native.Mathlib.Omega.{arith}
 use lib.Dec.{ltb, lit<}
 use lib.ListN.{length}
+use Rattle.laws.specs.Each.{Each, nil, and}
 use Rattle.laws.specs.Pick.{pick}
 use Rattle.octet.specs.Image.{image}
 use Rattle.octet.specs.Decoding.{nib, undecodable}
@@ -15,7 +16,7 @@ use Rattle.octet.specs.Hearing.{harm}
 use Rattle.blocks.specs.Block.{Block}
 use Rattle.symbols.specs.Stream.{Symbol, start, fill, bits, raw, beforeStart}
 use Rattle.walk.specs.Mode.{Mode, off, scan, heading, body, shifted, full, blockWith, step, emitted, ends, gives, behind, goesOn, continues, finished, unfinished}
-use Rattle.claims.specs.Noise.{Hears, over, Each, nil, and}
+use Rattle.claims.specs.Noise.{Hears, over}
 use Rattle.claims.proofs.Losing.{lost-all, came-refl}
 use Rattle.claims.proofs.Telling.{stands-nib, stands-heard, Told, heard, symbolOf, cameOf, standing, stood, Noisy}
 use Rattle.claims.proofs.Walking.{Fit, skips, opens, nibble, byte, Plain, sentEnds, sentGives, known, Blocks}

@@ -6,13 +6,14 @@ use mathlib.Core.Bool.{true}
 use mathlib.Core.List.{List, [], _∷_, map}
 use Prim.Native.Nat.{ℕ, _≤_, _<_}
 use native.Mathlib.Omega.{arith}
+use Rattle.laws.specs.Each.{Each}
 use Rattle.octet.proofs.Noise.{near}
 use Rattle.blocks.specs.Block.{Block, blocks}
 use Rattle.packet.specs.declared.Setting.{Setting}
 use Rattle.packet.specs.Setting.{inRange}
 use Rattle.state.specs.State.{readerOf, freshState}
 use Rattle.forms.specs.Tables.{Table, fits}
-use Rattle.claims.specs.Noise.{Flipped, Hears, Aired, Came, Each, Fits}
+use Rattle.claims.specs.Noise.{Flipped, Hears, Aired, Came, Fits}
 use Rattle.claims.specs.Damage.{streamIn, Sending, sendings, landed, Counted, damaged}
 use Rattle.claims.specs.Lists.{Among}
 use Rattle.claims.specs.Feeding.{Call, packetsOf, comesOut}

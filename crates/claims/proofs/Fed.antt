@@ -8,18 +8,21 @@ use lib.Dec.{lit≤}
 use lib.ListN.{length, replicate, take, drop}
 use lib.Seq.{take-append-seam}
 use borrow.Author.Tests.{le-leb, eq-eqb}
+use Rattle.laws.specs.Each.{Each, nil}
+use Rattle.laws.proofs.Eaches.{each-append}
 use Rattle.blocks.specs.Block.{Block, blocks}
 use Rattle.blocks.proofs.Round.{blocks-records}
 use Rattle.packet.specs.declared.Setting.{Setting}
 use Rattle.packet.specs.Setting.{inRange}
 use Rattle.writer.proofs.Numbering.{FortyTwo, more}
 use Rattle.state.specs.declared.Reader.{Reader}
+use Rattle.pages.specs.Headers.{Seen}
 use Rattle.pages.specs.Seen.{see}
 use Rattle.state.specs.Acting.{State, act, handed, dropped}
 use Rattle.state.specs.State.{stateOf, readerOf, readerInRange}
 use Rattle.reader.specs.Feeding.{feedHeard, feedReader, feedOut, handedBytes}
 use Rattle.state.proofs.Ranging.{Sound, sound-after, state-held, reader-in-range}
-use Rattle.state.proofs.Sizing.{handed-sized}
+use Rattle.state.proofs.Handing.{handed-sized}
 use Rattle.claims.specs.Carrying.{heardBlocks}
 use Rattle.claims.specs.Feeding.{Call, packetsOf, writtenOf, numberOf, countOf, comesOut, droppedOf}
 
@@ -90,6 +93,14 @@ module _ (s : Setting) (a : inRange s ≡ true) (st : State) (r : Sound st) (c :
   pub call-drops : droppedOf (feedHeard s (readerOf st) (c .packet) (c .lent)) ≡ dropped st (see s (c .packet))
   call-drops =
       taken-drops s (readerOf st) (c .packet) (c .lent) a b l (c .enough) ∙ ap (λ (x : State). dropped x (see s (c .packet))) held
+
+-- what holds of each block that a packet gives holds of each that a list of packets gives
+pub heard-each :
+    (P : Block → Type 0) → ((st : State) (x : Seen) → Sound st → Each P (handed st x)) → (s : Setting) (st : State) → Sound st
+    → (ps : List (List ℕ)) → Each P (heardBlocks s st ps)
+unfolding heardBlocks
+heard-each P each s st r [] = nil
+heard-each P each s st r (p ∷ ps) = each-append (each st (see s p) r) (heard-each P each s (act st (see s p)) (sound-after s st p r) ps)
 
 pub fed-blocks :
     (s : Setting) → inRange s ≡ true → (st : State) → Sound st → (cs : List Call) → FortyTwo (packetsOf cs)

@@ -8,9 +8,9 @@ use Prim.Native.Nat.{ℕ, suc, _+_, _≤_, _<_}
 use native.Mathlib.Omega.{arith}
 use lib.ListN.{length, take, drop, take-append-drop}
 use lib.Seq.{take-append-seam, drop-at}
+use Rattle.laws.specs.Each.{Each, nil, and}
 use Rattle.blocks.specs.Block.{Block, blocks, recordsOf}
 use Rattle.blocks.specs.Sizes.{Sized}
-use Rattle.blocks.specs.Sizes
 use Rattle.blocks.proofs.Round.{blocks-records}
 use Rattle.packet.specs.declared.Setting.{Setting}
 use Rattle.packet.specs.Setting.{inRange}
@@ -22,16 +22,15 @@ use Rattle.state.specs.declared.Reader.{Reader}
 use Rattle.state.specs.Acting.{State, act}
 use Rattle.state.specs.State.{readerOf}
 use Rattle.state.proofs.Ranging.{Sound, sound-after}
-use Rattle.state.proofs.Sizing.{sized-append, handed-sized}
+use Rattle.state.proofs.Handing.{handed-sized}
 use Rattle.reader.specs.declared.Heard.{Heard}
 use Rattle.reader.specs.Feeding.{feedHeard, feedReader, feedOut}
 use Rattle.reader.specs.declared.many.HeardAll.{HeardAll}
 use Rattle.reader.specs.Many.{feedAllHeard, feedAllReader, feedAllOut}
-use Rattle.claims.specs.Noise.{Each, nil, and}
 use Rattle.claims.specs.Carrying.{heardBlocks}
 use Rattle.claims.specs.Feeding.{Call, packetsOf, writtenOf, numberOf, comesOut, numberOfAll, packetsOfAll, writtenOfAll, leaves, inOne, AsCalls}
 use Rattle.claims.specs.Calls.{Feeds, feed, FeedsAll, feed-all, Fed, end, one, many}
-use Rattle.claims.proofs.Fed.{callsFor, packets-of-calls, call-reader, call-taken, fed-blocks}
+use Rattle.claims.proofs.Fed.{heard-each, callsFor, packets-of-calls, call-reader, call-taken, fed-blocks}
 use Rattle.claims.proofs.Many.{one-by-one}
 
 -- ---- what the two calls say
@@ -84,14 +83,9 @@ module _ (s : Setting) (i : inRange s ≡ true) where
   leaves-sound st r (c ∷ cs) (more l f) =
       rw (call-reader s i st r c l) (leaves-sound (act st (see s (c .packet))) (sound-after s st (c .packet) r) cs f)
 
-  heard-sized : (st : State) → Sound st → (ps : List (List ℕ)) → Sized (heardBlocks s st ps)
-  unfolding heardBlocks
-  heard-sized st r [] = Sizes.none
-  heard-sized st r (p ∷ ps) = sized-append (handed-sized st (see s p) r) (heard-sized (act st (see s p)) (sound-after s st p r) ps)
-
   -- what they give is whole records
   comes-back : (st : State) → Sound st → (cs : List Call) → FortyTwo (packetsOf cs) → blocks (recordsOf (comesOut s (readerOf st) cs)) ≡ comesOut s (readerOf st) cs
-  comes-back st r cs f = rw (fed-blocks s i st r cs f) (blocks-records (heard-sized st r (packetsOf cs)))
+  comes-back st r cs f = rw (fed-blocks s i st r cs f) (blocks-records (heard-each Sized handed-sized s st r (packetsOf cs)))
 
   -- ---- a list in one call
 

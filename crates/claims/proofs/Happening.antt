@@ -9,6 +9,8 @@ use native.Mathlib.Omega.{arith}
 use lib.Dec.{lit≤}
 use lib.ListN.{length, replicate, length-replicate}
 use denote.Ref.{RefT}
+use Rattle.laws.specs.Each.{Each, nil, and}
+use Rattle.laws.proofs.Eaches.{each-all}
 use Rattle.answer.specs.declared.Answer.{Answer}
 use Rattle.answer.specs.Writing.{answered, left}
 use Rattle.blocks.specs.Block.{Block, whole, recordOf as Block·recordOf}
@@ -25,11 +27,10 @@ use Rattle.forms.specs.Writing.{writeRules}
 use Rattle.sums.specs.Block.{mendedIn, recordOf}
 use Rattle.frames.specs.Values.{counted}
 use Rattle.table.specs.Reading.{readRules, tableRead}
-use Rattle.claims.specs.Noise.{Aired, Each, nil, and}
+use Rattle.claims.specs.Noise.{Aired}
 use Rattle.claims.specs.Damage.{Counted}
 use Rattle.claims.specs.Tables.{sent}
 use Rattle.claims.specs.Calls.{Writes, write-block, Cuts, cut-pages, Starts, fresh, Feeds, feed, Reads, read-block, Written, no-table, table, Fed, end, one, ReadOut, no-block, block, Through}
-use Rattle.claims.proofs.Losing.{each-all}
 use Rattle.claims.proofs.Blocks.{range}
 use Rattle.claims.proofs.Calls.{its-bytes, tables-written, all-whole, cut-holds}
 

@@ -9,6 +9,7 @@ use native.Mathlib.Omega.{arith}
 use lib.ListN.{length, getD, drop}
 use lib.Seq.{getD-drop}
 use borrow.Author.Tests.{lt-ltb, eq-eqb, ne-eqb, le-leb}
+use Rattle.laws.specs.Each.{Each, nil, and}
 use Rattle.octet.specs.Image.{image}
 use Rattle.octet.specs.Decoding.{nib, undecodable}
 use Rattle.packet.specs.declared.Setting.{Setting}
@@ -17,7 +18,7 @@ use Rattle.packet.specs.Address.{decodes}
 use Rattle.pages.specs.Headers.{junk, other, ours, packetY, seeZero}
 use Rattle.pages.specs.Seen.{see, seeY}
 use Rattle.pages.proofs.Judged.{sees, see-junk}
-use Rattle.claims.specs.Noise.{Hears, Near, more, Each, nil, and, Elsewhere}
+use Rattle.claims.specs.Noise.{Hears, Near, more, Elsewhere}
 use Rattle.claims.proofs.Losing.{near-length, near-drop}
 
 -- l begins with bytes that decode to these nibbles

@@ -10,13 +10,14 @@ use lib.Dec.{eqb}
 use lib.ListN.{length, take, drop, length-append}
 use lib.Seq.{drop-nil, drop-drop}
 use borrow.Author.Tests.{eq-eqb}
+use Rattle.laws.specs.Each.{Each, nil, and}
 use Rattle.laws.specs.Pick.{pick}
 use Rattle.blocks.specs.Block.{Block}
 use Rattle.packet.specs.declared.Setting.{Setting}
 use Rattle.packet.specs.Packet.{packetOf}
 use Rattle.symbols.specs.Stream.{Symbol, fill, raw, byteOf, perPacket, symbols, fillAfter, cellsOf, streamOf, grab}
 use Rattle.writer.specs.Cutting.{dataPacket, dataPackets, afterPackets, pages}
-use Rattle.claims.specs.Noise.{Near, none, more, Aired, ended, sent, between, Each, nil, and}
+use Rattle.claims.specs.Noise.{Near, none, more, Aired, ended, sent, between}
 use Rattle.claims.specs.Lists.{Paired}
 use Rattle.claims.specs.Lists
 use Rattle.claims.specs.Damage.{unlike, carriedIn, streamIn, Sending, sendings, bytesOf, damage, leadDamage, landed, unmarked}

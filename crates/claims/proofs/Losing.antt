@@ -3,7 +3,8 @@ use mathlib.Core.Path.{_≡_, refl, sym, ap, ap₂, subst}
 use mathlib.Core.List.{List, [], _∷_, _++_, map}
 use Prim.Native.Nat.{ℕ, zero, suc}
 use lib.ListN.{length, take, drop}
-use Rattle.claims.specs.Noise.{Near, none, more, Came, over, kept, lost, Each, nil, and}
+use Rattle.laws.specs.Each.{Each, nil, and}
+use Rattle.claims.specs.Noise.{Near, none, more, Came, over, kept, lost}
 use Rattle.claims.specs.Lists.{Among, Paired}
 use Rattle.claims.specs.Lists
 
@@ -43,18 +44,6 @@ module _ {ℓ} {A B : Type ℓ} {L : Type 0} {R : A → B → Type 0} where
 pub came-refl : {A : Type 0} {L : Type 0} (l : List A) → Came L _≡_ l l
 came-refl [] = over
 came-refl (a ∷ l) = kept refl (came-refl l)
-
-module _ {ℓ} {A : Type ℓ} where
-  pub each-first : {P : A → Type 0} {a : A} {l : List A} → Each P (a ∷ l) → P a
-  each-first (and p r) = p
-
-  pub each-split : {P : A → Type 0} (l : List A) {m : List A} → Each P (l ++ m) → Each P l × Each P m
-  each-split [] r = (nil, r)
-  each-split (a ∷ l) (and p r) = let s = each-split l r in (and p (s .0), s .1)
-
-  pub each-all : {P Q : A → Type 0} → ((a : A) → P a → Q a) → {l : List A} → Each P l → Each Q l
-  each-all f nil = nil
-  each-all f (and {a = a} p r) = and (f a p) (each-all f r)
 
 -- what is true of each that was sent is true of each that comes
 pub came-each : {A : Type 0} {L : Type 0} (P : A → Type 0) {l m : List A} → Came L _≡_ l m → Each P l → Each P m

@@ -8,14 +8,16 @@ use native.Mathlib.Decide.{decLt}
 use native.Mathlib.Omega.{arith}
 use lib.ListN.{length, take, drop, take-append-drop}
 use borrow.Author.Tests.{le-leb}
+use Rattle.laws.specs.Each.{Each}
+use Rattle.laws.proofs.Eaches.{each-left, each-right}
 use Rattle.laws.proofs.Maps.{map-take, map-drop}
 use Rattle.blocks.specs.Block.{Block}
 use Rattle.symbols.specs.Stream.{Symbol, start, fill, bits, raw, beforeStart, pointerOf}
 use Rattle.writer.proofs.Filling.{before-le}
 use Rattle.walk.specs.Mode.{Mode, off, scan, heading, body, step, ends, gives, continues, finished, unfinished}
 use Rattle.walk.specs.Reading.{readMode, readBlocks}
-use Rattle.claims.specs.Noise.{Hears, Each}
-use Rattle.claims.proofs.Losing.{lost-all, came-append, each-split}
+use Rattle.claims.specs.Noise.{Hears}
+use Rattle.claims.proofs.Losing.{lost-all, came-append}
 use Rattle.claims.proofs.Telling.{Told, heard, symbolOf, cameOf, stood, Noisy}
 use Rattle.claims.proofs.Walking.{Fit, opens, Plain, sentEnds, sentGives, Runs, Sim, same, gone, Blocks, flow-follows}
 use Rattle.claims.proofs.Carrying.{Between, continues-follows, out-of, runs-on}
@@ -106,9 +108,8 @@ split-heard :
     → Heard L m (xs ++ ys) (unfinished (ends scan (map cameOf ys)))
     (finished (continues true k (map cameOf xs)) ++ gives scan (map cameOf ys))
 split-heard R L hears m k xs ys plain none-before e noisy held =
-    let n = each-split xs noisy in
-    let c = continues-follows R L hears true xs (plain-left m xs ys plain) none-before (n .0) held in
-    let f = flow-follows R L hears ys (subst (λ (x : Mode). Plain x ys) e (plain-right m xs ys plain)) (n .1) (same tt) in
+    let c = continues-follows R L hears true xs (plain-left m xs ys plain) none-before (each-left xs ys noisy) held in
+    let f = flow-follows R L hears ys (subst (λ (x : Mode). Plain x ys) e (plain-right m xs ys plain)) (each-right xs ys noisy) (same tt) in
     record {
       mode = rw (sentEnds-append m xs ys, e) (sim-between (f .mode));
       blocks = rw (sentGives-append m xs ys, e) (came-append (out-of c) (f .blocks));

@@ -7,27 +7,25 @@ use Prim.Native.Nat.{ℕ, _≤_, _<_}
 use native.Mathlib.Omega.{arith}
 use lib.Dec.{leb, eqb}
 use borrow.Author.Tests.{lt-ltb, le-leb, eq-eqb}
+use Rattle.laws.specs.Each.{Each, nil, and}
 use Rattle.laws.specs.Pick.{pick, both}
 use Rattle.answer.specs.Rules.{Rule, judged}
 use Rattle.blocks.specs.Block.{Block, recordOf}
-use Rattle.blocks.specs.Parts.{Parted, empty, next}
+use Rattle.blocks.specs.Parts.{Parted}
 use Rattle.packet.specs.declared.Setting.{Setting}
 use Rattle.packet.specs.Setting.{inRange}
 use Rattle.writer.proofs.Numbering.{FortyTwo}
-use Rattle.pages.specs.Seen.{see}
-use Rattle.state.specs.Acting.{State, act}
+use Rattle.state.specs.Acting.{State}
 use Rattle.state.specs.State.{readerOf}
-use Rattle.state.proofs.Ranging.{Sound, sound-after}
-use Rattle.state.proofs.Parting.{parted-append, handed-parted}
+use Rattle.state.proofs.Ranging.{Sound}
+use Rattle.state.proofs.Handing.{handed-parted}
 use Rattle.frames.specs.Framing.{frameRules}
 use Rattle.forms.specs.Tables.{Table}
 use Rattle.table.specs.Reading.{Outcome, accepted, refused, frontRules, wholeRules, readRules, tableRead, readBlock}
 use Rattle.sums.specs.Block.{mendedIn}
 use Rattle.table.specs.Lengths.{lengthRules}
-use Rattle.claims.specs.Noise.{Each, nil, and}
-use Rattle.claims.specs.Carrying.{heardBlocks}
 use Rattle.claims.specs.Feeding.{Call, packetsOf, comesOut}
-use Rattle.claims.proofs.Fed.{fed-blocks}
+use Rattle.claims.proofs.Fed.{heard-each, fed-blocks}
 
 -- every rule with number 16 holds
 abbrev Holds16 : List Rule → Type 0
@@ -71,10 +69,5 @@ never-sixteen application b offset a p s e =
 
 -- of each record that calls write, from a reader that calls leave
 module _ (s : Setting) (i : inRange s ≡ true) where
-  heard-parted : (st : State) → Sound st → (ps : List (List ℕ)) → Parted (heardBlocks s st ps)
-  unfolding heardBlocks
-  heard-parted st r [] = empty
-  heard-parted st r (p ∷ ps) = parted-append (handed-parted st (see s p) r) (heard-parted (act st (see s p)) (sound-after s st p r) ps)
-
-  pub comes-parted : (st : State) → Sound st → (cs : List Call) → FortyTwo (packetsOf cs) → Parted (comesOut s (readerOf st) cs)
-  comes-parted st r cs f = subst Parted (sym (fed-blocks s i st r cs f)) (heard-parted st r (packetsOf cs))
+  pub comes-parted : (st : State) → Sound st → (cs : List Call) → FortyTwo (packetsOf cs) → Each Parted (comesOut s (readerOf st) cs)
+  comes-parted st r cs f = subst (Each Parted) (sym (fed-blocks s i st r cs f)) (heard-each Parted handed-parted s st r (packetsOf cs))

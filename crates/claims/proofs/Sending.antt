@@ -9,6 +9,7 @@ use lib.Dec.{eqb, lit<}
 use lib.ListN.{length, length-append, length-map, length-replicate, length-drop, replicate, take, drop, take-append-drop}
 use lib.Seq.{drop-nil, drop-drop, length-take-le, drop-append-add}
 use borrow.Author.Tests.{ne-eqb, le-leb, lt-leb, lt-ltb}
+use Rattle.laws.specs.Each.{Each, nil, and}
 use Rattle.laws.specs.Pick.{pick}
 use Rattle.octet.specs.Image.{image}
 use Rattle.octet.specs.Decoding.{nib, undecodable}
@@ -16,7 +17,7 @@ use Rattle.octet.specs.Hearing.{harm}
 use Rattle.blocks.specs.Block.{Block, sizeOf}
 use Rattle.symbols.specs.Stream.{Symbol, start, fill, bits, raw, byteOf, symbols, fillAfter, cell, cellsOf, streamOf}
 use Rattle.walk.specs.Mode.{Mode, scan, heading, body, shifted, full, blockWith, step, emitted, ends, gives}
-use Rattle.claims.specs.Noise.{Fits, Each, nil, and}
+use Rattle.claims.specs.Noise.{Fits}
 use Rattle.claims.specs.Damage.{unlike, Sending, sendings, landed}
 use Rattle.claims.proofs.Telling.{stands-nib, stands-harm, Told, heard, symbolOf, standing, stood, told}
 use Rattle.claims.proofs.Walking.{Fit, skips, opens, nibble, byte, Plain, sentEnds, sentGives, known, step-fill, step-start}

@@ -7,13 +7,14 @@ use mathlib.Core.List.{List, [], _∷_, _++_, map}
 use Prim.Native.Nat.{ℕ, zero, suc, _+_, _/_, _%_, _≤_, _<_}
 use native.Mathlib.Omega.{arith}
 use lib.ListN.{length, length-map, getD, take, drop}
+use Rattle.laws.specs.Each.{Each, nil, and}
+use Rattle.laws.proofs.Eaches.{each-all, each-map}
 use Rattle.octet.specs.Image.{image}
 use Rattle.octet.specs.Decoding.{nib, undecodable}
 use Rattle.octet.specs.Hearing.{harms}
 use Rattle.octet.proofs.Hearing.{harm-sent}
 use Rattle.blocks.specs.Block.{Block, blocks, recordOf as Block·recordOf, recordsOf as Block·recordsOf}
 use Rattle.blocks.specs.Sizes.{Sized}
-use Rattle.blocks.specs.Sizes
 use Rattle.blocks.proofs.Round.{blocks-records}
 use Rattle.fields.specs.Fields.{parts}
 use Rattle.fields.proofs.Laid.{length-parts}
@@ -26,7 +27,7 @@ use Rattle.sums.proofs.Nibbles.{nibbles-again}
 use Rattle.frames.proofs.Framed.{header-lt, header-size}
 use Rattle.table.proofs.Back.{writes-back}
 use Rattle.table.proofs.Noise.{reads-alike, broken-refused}
-use Rattle.claims.specs.Noise.{Hears, Near, none, more, Came, over, kept, lost, Each, nil, and, Fits}
+use Rattle.claims.specs.Noise.{Hears, Near, none, more, Came, over, kept, lost, Fits}
 use Rattle.claims.specs.Damage.{unlike, Sending, sendings, damage, leadDamage, landed, Counted, damaged}
 use Rattle.claims.specs.Tables.{recordsOf, taken, tablesOf}
 use Rattle.claims.proofs.Telling.{eqb-turned}
@@ -59,12 +60,10 @@ table-fits application t f =
     }
 
 pub all-fit : (application : ℕ) {ts : List Table} → Each (λ t. fits t ≡ true) ts → Each Fits (map (tableBlock application) ts)
-all-fit application nil = nil
-all-fit application (and {a = t} f r) = and (table-fits application t f) (all-fit application r)
+all-fit application e = each-map (tableBlock application) (table-fits application) e
 
-pub all-sized : {bs : List Block} → Each Fits bs → Sized bs
-all-sized nil = Sizes.none
-all-sized (and f r) = Sizes.more (sym (f .size)) (all-sized r)
+pub all-sized : {bs : List Block} → Each Fits bs → Each Sized bs
+all-sized e = each-all (λ b f. sym (f .size)) e
 
 pub records-same : (application : ℕ) (ts : List Table) → recordsOf application ts ≡ Block·recordsOf (map (tableBlock application) ts)
 unfolding recordsOf Block·recordsOf

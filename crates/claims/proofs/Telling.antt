@@ -12,6 +12,7 @@ use lib.Dec.{eqb, eqb→eq}
 use lib.ListN.{length, drop}
 use lib.Seq.{drop-nil}
 use borrow.Author.Tests.{eq-eqb, ne-eqb, eqb-true, eqb-false}
+use Rattle.laws.specs.Each.{Each, nil, and}
 use Rattle.laws.specs.Pick.{pick, both}
 use Rattle.laws.proofs.Whole.{both-left, both-right, all-at}
 use Rattle.octet.specs.Bits.{differing, number}
@@ -21,7 +22,7 @@ use Rattle.octet.specs.Hearing.{harm}
 use Rattle.octet.proofs.Laws.{nib-image}
 use Rattle.octet.proofs.Hearing.{harm-sent}
 use Rattle.symbols.specs.Stream.{Symbol, start, fill, bits, raw, byteOf, grab}
-use Rattle.claims.specs.Noise.{Hears, Near, none, more, Each, nil, and}
+use Rattle.claims.specs.Noise.{Hears, Near, none, more}
 
 pub eqb-turned : (a b : ℕ) → eqb a b ≡ eqb b a
 eqb-turned a b = go (eqb b a) refl

@@ -5,13 +5,14 @@ use mathlib.Core.Bool.{true}
 use mathlib.Core.List.{List, map}
 use Prim.Native.Nat.{ℕ, _≤_, _<_}
 use native.Mathlib.Omega.{arith}
+use Rattle.laws.specs.Each.{Each}
 use Rattle.blocks.specs.Block.{blocks}
 use Rattle.packet.specs.declared.Setting.{Setting}
 use Rattle.packet.specs.Setting.{inRange}
 use Rattle.writer.specs.Cutting.{usualPage}
 use Rattle.forms.specs.Tables.{Table, fits}
 use Rattle.forms.specs.Form.{form}
-use Rattle.claims.specs.Noise.{Flipped, Each}
+use Rattle.claims.specs.Noise.{Flipped}
 use Rattle.claims.specs.Damage.{streamIn, sendings, Counted, damaged}
 use Rattle.claims.specs.Lists.{Among}
 use Rattle.claims.specs.Calls.{Through, Delivers}

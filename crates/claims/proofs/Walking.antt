@@ -9,6 +9,7 @@ use Prim.Native.Nat.{ℕ, suc, _+_, _<_}
 use native.Mathlib.Omega.{arith}
 use lib.Dec.{eqb, ltb, lit<}
 use borrow.Author.Tests.{ne-eqb}
+use Rattle.laws.specs.Each.{Each, nil, and}
 use Rattle.laws.specs.Pick.{pick}
 use Rattle.octet.specs.Image.{image}
 use Rattle.octet.specs.Decoding.{nib, undecodable}
@@ -16,7 +17,7 @@ use Rattle.octet.specs.Hearing.{harm}
 use Rattle.blocks.specs.Block.{Block}
 use Rattle.symbols.specs.Stream.{Symbol, start, fill, bits, raw}
 use Rattle.walk.specs.Mode.{Mode, off, scan, heading, body, shifted, full, headed, step, emitted, ends, gives}
-use Rattle.claims.specs.Noise.{Hears, Came, over, Each, nil, and}
+use Rattle.claims.specs.Noise.{Hears, Came, over}
 use Rattle.claims.proofs.Losing.{lost-all, came-refl, came-append}
 use Rattle.claims.proofs.Telling.{stands, stands-nib, stands-heard, Told, heard, symbolOf, cameOf, standing, stood, Noisy}
 

@@ -9,6 +9,7 @@ use Prim.Native.Nat.{ℕ, zero, suc, _≤_}
 use native.Mathlib.Omega.{arith}
 use lib.Dec.{lit<, lit≤}
 use lib.ListN.{length, length-append, replicate, getD, set, take, drop}
+use Rattle.laws.specs.Each.{Each, nil, and}
 use Rattle.laws.specs.Pick.{either}
 use Rattle.octet.specs.Bits.{bits, number, differing, flips}
 use Rattle.octet.specs.Image.{image, withParity}
@@ -39,7 +40,7 @@ use Rattle.forms.specs.Tables.{Table, per, loops, fields, fits, entire}
 use Rattle.sums.specs.Sums.{total, checksum}
 use Rattle.sums.specs.Block.{nibbles, checksumOf, blockWith}
 use Rattle.table.proofs.Cases.{G, H}
-use Rattle.claims.specs.Noise.{Flipped, Near, none, more, Aired, ended, sent as Aired·sent, Each, nil, and}
+use Rattle.claims.specs.Noise.{Flipped, Near, none, more, Aired, ended, sent as Aired·sent}
 use Rattle.claims.specs.Carrying.{heardBlocks}
 use Rattle.claims.specs.Feeding.{Call, packetsOf, writtenOf, countOf, comesOut, droppedOf}
 use Rattle.claims.specs.Damage.{unlike, carriedIn, sendings, Counted, damaged}

@@ -6,6 +6,7 @@ use mathlib.Core.List.{List, [], _∷_, _++_, map}
 use Prim.Native.Nat.{ℕ, _≤_}
 use lib.ListN.{length, take, drop}
 use denote.Ref.{now}
+use Rattle.laws.specs.Each.{Each}
 use Rattle.answer.specs.declared.Answer.{Answer}
 use Rattle.answer.specs.declared.Answer.the-variants.{Done, Refused}
 use Rattle.blocks.specs.Block.{Block, blocks as Block·blocks, recordOf as Block·recordOf}
@@ -28,7 +29,7 @@ use Rattle.reader.proofs.many.feed_all.Reads as reader·feed-all
 use Rattle.frames.specs.declared.Read.{Read}
 use Rattle.frames.specs.declared.Read.the-variants.{Taken, Refused as Read·Refused}
 use Rattle.table.proofs.read_block.Reads as table·read-block
-use Rattle.claims.specs.Noise.{Aired, Came, Each}
+use Rattle.claims.specs.Noise.{Aired, Came}
 use Rattle.claims.specs.Damage.{streamIn, sendings, Counted, damaged}
 use Rattle.claims.specs.Feeding.{writtenOf, numberOf, numberOfAll, packetsOfAll, writtenOfAll}
 use Rattle.claims.specs.Tables.{sent as Tables·sent}

@@ -4,10 +4,11 @@ use mathlib.Core.Path.{_≡_}
 use mathlib.Core.Bool.{true}
 use mathlib.Core.List.{List}
 use Prim.Native.Nat.{ℕ, _≤_, _<_}
+use Rattle.laws.specs.Each.{Each}
 use Rattle.packet.specs.declared.Setting.{Setting}
 use Rattle.packet.specs.Setting.{inRange}
 use Rattle.forms.specs.Tables.{Table, fits}
-use Rattle.claims.specs.Noise.{Flipped, Aired, Each}
+use Rattle.claims.specs.Noise.{Flipped, Aired}
 use Rattle.claims.specs.Feeding.{Call, packetsOf}
 use Rattle.claims.specs.Damage.{Counted}
 use Rattle.claims.specs.Tables.{sent, sentDamaged}

@@ -53,8 +53,3 @@ pub data Came {ℓ} {A B : Type ℓ} (L : Type 0) (R : A → B → Type 0) : Lis
 pub record Fits (b : Block) : Type 0 where
   pub head : b .head < 65536
   pub size : length (b .raw) ≡ sizeOf (b .head)
-
--- every one of them has P
-pub data Each {ℓ} {A : Type ℓ} (P : A → Type 0) : List A → Type ℓ where
-  nil : Each P []
-  and : {a : A} {l : List A} → P a → Each P l → Each P (a ∷ l)

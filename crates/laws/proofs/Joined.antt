@@ -10,7 +10,8 @@ use native.Mathlib.Omega.{arith}
 use lib.Dec.{eqb}
 use borrow.Author.Tests.{eqb-true}
 use Rattle.laws.specs.Pick.{pick}
-use Rattle.laws.specs.Keyed.{risingFrom, lookup, merge, chosen, Each, end, and}
+use Rattle.laws.specs.Each.{Each, nil, and}
+use Rattle.laws.specs.Keyed.{risingFrom, lookup, merge, chosen}
 use Rattle.laws.specs.Orders.{greater, Ordered, Decides}
 use Rattle.laws.proofs.Merging.{merge-right, merge-less, merge-same, merge-more, along, rising-first, rising-rest, rising-cons, rising-behind, rising-only, lookup-here, lookup-past, lookup-below, at-key}
 use Rattle.laws.proofs.Ordering.{leq-itself, greater-first, greater-second, greater-one, greater-itself, greater-either, greater-grouping}
@@ -145,8 +146,8 @@ module _ {A : Type 0} (key : A → ℕ) where
   -- what stands at a key has that key, and what holds of each entry
   looked-up : {P : A → Type 0} (k : ℕ) {xs : List A} → Each P xs → Held (λ (w : A). P w × (key w ≡ k)) (lookup key k xs)
   unfolding lookup
-  looked-up k end = nothing
-  looked-up {P} k (and {x} {xs} p ps) = go (eqb (key x) k) refl (looked-up k ps)
+  looked-up k nil = nothing
+  looked-up {P} k (and {a = x} {l = xs} p ps) = go (eqb (key x) k) refl (looked-up k ps)
     where
       go :
           (t : Bool) → eqb (key x) k ≡ t → Held (λ (w : A). P w × (key w ≡ k)) (lookup key k xs)

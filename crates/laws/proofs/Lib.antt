@@ -1,4 +1,5 @@
 pub mod Countdown
+pub mod Eaches
 pub mod Joined
 pub mod Lists
 pub mod Maps

@@ -10,13 +10,15 @@ use lib.Dec.{ltb, eqb}
 use lib.ListN.{length}
 use borrow.Author.Tests.{leb-true, ltb-true, ltb-false}
 use Rattle.laws.specs.Pick.{pick}
-use Rattle.laws.specs.Keyed.{risingFrom, rising, lookup, merge, chosen, Each, end, and}
+use Rattle.laws.specs.Each.{Each, nil, and}
+use Rattle.laws.specs.Keyed.{risingFrom, rising, lookup, merge, chosen}
 use Rattle.laws.specs.Orders.{greater, Decides}
 use Rattle.laws.specs.Together.{Reordered, Tree, one, two, leaves, mergeAll, mergeTree, Measure, longer, added, measured, together, total, totals, Within, Allowed}
 use Rattle.laws.proofs.Merging.{merge-right, merge-less, merge-same, merge-more, along, rising-rest, rising-behind, lookup-here, lookup-past, lookup-below, at-key}
 use Rattle.laws.proofs.Ordering.{ordered-numbers, ordered-on, greater-first, greater-second, greater-one}
 use Rattle.laws.proofs.Joined.{join-lookup, join-itself}
-use Rattle.laws.proofs.Trees.{Good, good-join, good-all, all-append, all-reordered, either-grouping, each-left, each-right}
+use Rattle.laws.proofs.Eaches.{each-left, each-right, each-all}
+use Rattle.laws.proofs.Trees.{Good, good-join, good-all, all-append, all-reordered, either-grouping}
 
 -- ---- measures are keyed lists, joined by the longer
 
@@ -50,7 +52,7 @@ GoodM = Good place Any longer decides
 
 any : (ms : List Measure) → Each Any ms
 unfolding Any
-any [] = end
+any [] = nil
 any (m ∷ ms) = and (record {}) (any ms)
 
 -- ---- one list of measures needs no more than another
@@ -219,8 +221,8 @@ module _ {A : Type 0} (key size : A → ℕ) where
 
   good-rows : {xss : List (List A)} → Each Rising xss → Each GoodM (rows xss)
   unfolding rows
-  good-rows end = end
-  good-rows (and {x} p e) = and (good-measured x p) (good-rows e)
+  good-rows nil = nil
+  good-rows (and {a = x} p e) = and (good-measured x p) (good-rows e)
 
   good-together : {xss : List (List A)} → Each Rising xss → GoodM (together key size xss)
   good-together {xss} e = rw (together-all xss) (good-all place Any longer decides (good-rows e))
@@ -286,8 +288,7 @@ module _ {A : Type 0} (key size : A → ℕ) where
     GoodA = Good key Fit leq d
 
     all-rising : {xss : List (List A)} → Each GoodA xss → Each Rising xss
-    all-rising end = end
-    all-rising (and g e) = and (g .rises) (all-rising e)
+    all-rising e = each-all (λ xs g. g .rises) e
 
     measure-chosen : (a b : Option A) → Below (measure (chosen (greater leq) a b)) (chosen (greater longer) (measure a) (measure b))
     unfolding measure chosen

@@ -2,28 +2,28 @@
 -- reordered. Assumes nothing.
 use mathlib.Core.Path.{_≡_, _∙_, refl, sym, ap}
 use mathlib.Core.Bool.{Bool, true}
-use mathlib.Core.List.{List, [], _∷_, _++_}
+use mathlib.Core.List.{List, [], _∷_, _++_, map}
 use Prim.Native.Nat.{ℕ}
-use Rattle.laws.specs.Keyed.{risingFrom, rising, merge, Each, end, and}
+use Rattle.laws.specs.Each.{Each, nil, and}
+use Rattle.laws.specs.Keyed.{risingFrom, rising, merge}
 use Rattle.laws.specs.Orders.{greater, Decides}
 use Rattle.laws.specs.Together.{Reordered, none, keep, swap, then, Tree, one, two, leaves, mergeAll, mergeTree}
+use Rattle.laws.proofs.Eaches.{each-left, each-right}
 use Rattle.laws.proofs.Merging.{merge-right}
 use Rattle.laws.proofs.Joined.{join-rises, join-each, join-either, join-grouping}
 
 module _ {B : Type 0} {P : B → Type 0} where
-  pub each-left : (xs ys : List B) → Each P (xs ++ ys) → Each P xs
-  each-left [] ys e = end
-  each-left (x ∷ xs) ys (and p e) = and p (each-left xs ys e)
-
-  pub each-right : (xs ys : List B) → Each P (xs ++ ys) → Each P ys
-  each-right [] ys e = e
-  each-right (x ∷ xs) ys (and p e) = each-right xs ys e
-
   pub each-reordered : {xs ys : List B} → Reordered xs ys → Each P xs → Each P ys
   each-reordered none e = e
   each-reordered (keep r) (and p e) = and p (each-reordered r e)
   each-reordered swap (and p (and q e)) = and q (and p e)
   each-reordered (then r s) e = each-reordered s (each-reordered r e)
+
+pub reordered-map : {B C : Type 0} (f : B → C) {xs ys : List B} → Reordered xs ys → Reordered (map f xs) (map f ys)
+reordered-map f none = none
+reordered-map f (keep r) = keep (reordered-map f r)
+reordered-map f swap = swap
+reordered-map f (then r s) = then (reordered-map f r) (reordered-map f s)
 
 module _ {A : Type 0} (key : A → ℕ) (Fit : A → Type 0) (leq : A → A → Bool) (d : Decides key Fit leq) where
   abbrev join : List A → List A → List A
@@ -39,7 +39,7 @@ module _ {A : Type 0} (key : A → ℕ) (Fit : A → Type 0) (leq : A → A → 
 
   pub good-none : Good []
   unfolding risingFrom
-  good-none = record { rises = refl; fit = end }
+  good-none = record { rises = refl; fit = nil }
 
   pub good-join : {xs ys : List A} → Good xs → Good ys → Good (join xs ys)
   good-join {xs} {ys} g h =
@@ -50,7 +50,7 @@ module _ {A : Type 0} (key : A → ℕ) (Fit : A → Type 0) (leq : A → A → 
 
   pub good-all : {xss : List (List A)} → Each Good xss → Good (all xss)
   unfolding mergeAll
-  good-all end = good-none
+  good-all nil = good-none
   good-all (and g e) = good-join g (good-all e)
 
   pub either-order : {xs ys : List A} → Good xs → Good ys → join xs ys ≡ join ys xs

@@ -41,8 +41,3 @@ unfoldable pub chosen : {A : Type 0} → (A → A → A) → Option A → Option
 chosen choose none b = b
 chosen choose (some x) none = some x
 chosen choose (some x) (some y) = some (choose x y)
-
--- P holds of each entry of a list
-pub data Each {A : Type 0} (P : A → Type 0) : List A → Type 0 where
-  end : Each P []
-  and : {x : A} {xs : List A} → P x → Each P xs → Each P (x ∷ xs)

@@ -1,4 +1,4 @@
--- Where a PES packet begins among bytes that may be anything.
+-- Where a PES packet begins among bytes that may be anything (SCOPE 6.13).
 use mathlib.Core.Bool.{Bool}
 use mathlib.Core.List.{List, [], _∷_}
 use Prim.Native.Nat.{ℕ, suc}

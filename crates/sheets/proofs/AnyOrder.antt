@@ -9,13 +9,15 @@ use lib.Dec.{leb}
 use lib.ListN.{length, drop, length-append}
 use borrow.Author.Tests.{leb-true, le-leb}
 use Rattle.laws.specs.Pick.{pick}
-use Rattle.laws.specs.Keyed.{risingFrom, rising, Each, end, and}
+use Rattle.laws.specs.Each.{Each, nil, and}
+use Rattle.laws.specs.Keyed.{risingFrom, rising}
 use Rattle.laws.specs.Orders.{greater, Ordered, Decides}
-use Rattle.laws.specs.Together.{Reordered, none, keep, swap, then, Tree, one, two, leaves, mergeTree, total, Within, Allowed}
+use Rattle.laws.specs.Together.{Reordered, none, keep, Tree, one, two, leaves, mergeTree, total, Within, Allowed}
 use Rattle.laws.proofs.Tests.{both-true, both-holds}
+use Rattle.laws.proofs.Eaches.{each-left, each-right, each-all, each-map}
 use Rattle.laws.proofs.Ordering.{ordered-numbers, ordered-on, ordered-before, ordered-turn, before-only, in-turn}
 use Rattle.laws.proofs.Joined.{join-itself as itself}
-use Rattle.laws.proofs.Trees.{Good, good-join, either-order, any-tree, each-left, each-right, each-reordered}
+use Rattle.laws.proofs.Trees.{Good, good-join, either-order, any-tree, each-reordered, reordered-map}
 use Rattle.laws.proofs.Needs.{within-left, within-right, within-reordered, within-allowed}
 use Rattle.answer.specs.declared.Answer.{Answer}
 use Rattle.answer.specs.declared.Answer.the-variants.{Done}
@@ -36,13 +38,13 @@ Fit e = written e ≡ true
 
 fit-all : (es : List Entry) → allWritten es ≡ true → Each Fit es
 unfolding allWritten
-fit-all [] w = end
+fit-all [] w = nil
 fit-all (e ∷ es) w = let p = both-true (written e) (allWritten es) w in and (p .0) (fit-all es (p .1))
 
 all-fit : {es : List Entry} → Each Fit es → allWritten es ≡ true
 unfolding allWritten
-all-fit end = refl
-all-fit (and {x} {xs} p e) = both-holds (written x) (allWritten xs) p (all-fit e)
+all-fit nil = refl
+all-fit (and {a = x} {l = xs} p e) = both-holds (written x) (allWritten xs) p (all-fit e)
 
 pub text-length : (es : List Entry) → length (sheetText es) ≡ total sizeOf es
 unfolding sheetText total
@@ -59,12 +61,6 @@ swap-tests false false a r = refl
 unfoldable mapped : Tree (List ℕ) → Tree (List Entry)
 mapped (one sheet) = one (entriesOf sheet)
 mapped (two s t) = two (mapped s) (mapped t)
-
-reordered-map : {B C : Type 0} (f : B → C) {xs ys : List B} → Reordered xs ys → Reordered (map f xs) (map f ys)
-reordered-map f none = none
-reordered-map f (keep r) = keep (reordered-map f r)
-reordered-map f swap = swap
-reordered-map f (then r s) = then (reordered-map f r) (reordered-map f s)
 
 first-two :
     {a b c sheet : List ℕ} → Run (two (two (one a) (one b)) (one c)) sheet → (ab : List ℕ) × Joins a b ab × Joins ab c sheet
@@ -189,9 +185,8 @@ unfolding leaves mapped
 leaves-map (one sheet) = refl
 leaves-map (two s t) = rw (leaves-map s, leaves-map t) (sym (map-append entriesOf (leaves s) (leaves t)))
 
-sheets-of : {sheets : List (List ℕ)} → Each InForm sheets → Each Sheet (map entriesOf sheets)
-sheets-of end = end
-sheets-of (and {x} f e) = and (sheet-of x f) (sheets-of e)
+pub sheets-of : {sheets : List (List ℕ)} → Each InForm sheets → Each Sheet (map entriesOf sheets)
+sheets-of e = each-map entriesOf sheet-of e
 
 good-leaves : (t : Tree (List ℕ)) → Each InForm (leaves t) → Each Sheet (leaves (mapped t))
 good-leaves t e = rw (leaves-map t) (sheets-of e)
@@ -201,8 +196,7 @@ abbrev whole : Tree (List ℕ) → List Entry
 whole t = mergeTree keyOf (greater atMost) (mapped t)
 
 rising-leaves : {xss : List (List Entry)} → Each Sheet xss → Each (λ (es : List Entry). rising keyOf es ≡ true) xss
-rising-leaves end = end
-rising-leaves (and g e) = and (g .rises) (rising-leaves e)
+rising-leaves e = each-all (λ es g. g .rises) e
 
 room-at : (t : Tree (List ℕ)) → Room (leaves t) → Within keyOf sizeOf entryLimit byteLimit (leaves (mapped t))
 room-at t r = rw (leaves-map t) r
@@ -252,7 +246,7 @@ unfolding leaves
 join-either-grouping a b c f g h r =
     let s = two (two (one a) (one b)) (one c) in
     let t = two (one a) (two (one b) (one c)) in
-    let x = any-order s t (and f (and g (and h end))) (keep (keep (keep none))) r in
+    let x = any-order s t (and f (and g (and h nil))) (keep (keep (keep none))) r in
     let p = first-two (x .1) in
     let q = last-two (x .2) in
     (p .0, q .0, x .0, p .1, p .2, q .1, q .2)

@@ -10,7 +10,8 @@ use native.Mathlib.Omega.{arith}
 use lib.ListN.{length, take, drop}
 use lib.Seq.{take-append-le}
 use borrow.Author.Tests.{leb-true}
-use Rattle.laws.specs.Keyed.{lookup, Each, end, and}
+use Rattle.laws.specs.Each.{Each, nil, and}
+use Rattle.laws.specs.Keyed.{lookup}
 use Rattle.laws.specs.Together.{together, totals}
 use Rattle.laws.proofs.Ordering.{ordered-numbers, ordered-on, ordered-before, in-turn}
 use Rattle.laws.proofs.Joined.{never-back-first, never-back-second, join-one}
@@ -26,7 +27,7 @@ use Rattle.sheets.specs.Joining.{atMost, joined}
 use Rattle.sheets.specs.Calls.{entriesOf, joinRules, joinResult}
 use Rattle.sheets.specs.AnyOrder.{joinAnswer, joinLeft, InForm, sizeOf, Room}
 use Rattle.sheets.proofs.Exact.{read-written}
-use Rattle.sheets.proofs.AnyOrder.{Fit, decides, join-either-order, sheet-of, text-of, text-length, sheet-joined}
+use Rattle.sheets.proofs.AnyOrder.{Fit, decides, join-either-order, sheet-of, sheets-of, text-of, text-length, sheet-joined}
 
 -- ---- never back
 
@@ -89,10 +90,6 @@ either-order-outputs first second out out′ f g l =
 
 -- ---- the premise
 
-sheets-of : {sheets : List (List ℕ)} → Each InForm sheets → Each (Good keyOf Fit atMost decides) (map entriesOf sheets)
-sheets-of end = end
-sheets-of (and {x} h e) = and (sheet-of x h) (sheets-of e)
-
 -- it is closed under joining: where it holds of all the sheets, it holds with two of them joined
 pub room-joined :
     (first second : List ℕ) (others : List (List ℕ)) → InForm first → InForm second → Each InForm others → Room (first ∷ second ∷ others)
@@ -109,8 +106,8 @@ lengths (sheet ∷ sheets) = length sheet + lengths sheets
 
 lengths-total : {sheets : List (List ℕ)} → Each InForm sheets → totals sizeOf (map entriesOf sheets) ≡ lengths sheets
 unfolding lengths totals
-lengths-total end = refl
-lengths-total (and {x} h e) =
+lengths-total nil = refl
+lengths-total (and {a = x} h e) =
     let l = text-length (entriesOf x) in
     let m = ap length (read-written x 0 h .0) in
     let n = lengths-total e in

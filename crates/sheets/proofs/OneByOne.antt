@@ -6,9 +6,10 @@ use Prim.Native.Nat.{ℕ, _≤_}
 use native.Mathlib.Omega.{arith}
 use lib.ListN.{length, replicate, length-replicate}
 use borrow.Author.Tests.{leb-true, eqb-true}
-use Rattle.laws.specs.Keyed.{Each, end, and}
-use Rattle.laws.specs.Together.{Reordered, none, keep, swap, then, Tree, one, two, leaves}
-use Rattle.laws.proofs.Trees.{each-reordered}
+use Rattle.laws.specs.Each.{Each, nil, and}
+use Rattle.laws.specs.Together.{Reordered, keep, Tree, one, two, leaves}
+use Rattle.laws.proofs.Eaches.{each-map}
+use Rattle.laws.proofs.Trees.{each-reordered, reordered-map}
 use Rattle.answer.specs.declared.Answer.the-variants.{Done}
 use Rattle.answer.specs.Rules.{Every}
 use Rattle.answer.specs.Values.{refused}
@@ -75,8 +76,8 @@ spine-run :
     (t : Tree (List ℕ)) {cs : List Captured} {result : List ℕ} → Each Takes cs → Run (spine t cs) result
     → (sheet : List ℕ) × Run t sheet × Added sheet cs result
 unfolding spine
-spine-run t {result = result} end r = (result, r, all result)
-spine-run t {result = result} (and {x} p e) r =
+spine-run t {result = result} nil r = (result, r, all result)
+spine-run t {result = result} (and {a = x} p e) r =
     let q = spine-run (two t (one (sheetOfOne x))) e r in last-call p (q .1) (q .2)
   where
     last-call :
@@ -88,15 +89,11 @@ one-run : {sheet result : List ℕ} → Run (one sheet) result → result ≡ sh
 one-run (lent s) = refl
 
 ones-in-form : {cs : List Captured} → Each Takes cs → Each InForm (map sheetOfOne cs)
-ones-in-form end = end
-ones-in-form (and {x} p e) =
-    and (one-read (stamped (x .stamp) (x .form)) (stamped-written (x .stamp) (x .form) (p .stamp-fits) (judged-by (x .form) (p .form-holds))) .0) (ones-in-form e)
-
-reordered-ones : {cs ds : List Captured} → Reordered cs ds → Reordered (map sheetOfOne cs) (map sheetOfOne ds)
-reordered-ones none = none
-reordered-ones (keep r) = keep (reordered-ones r)
-reordered-ones swap = swap
-reordered-ones (then r s) = then (reordered-ones r) (reordered-ones s)
+ones-in-form e =
+    each-map sheetOfOne
+    (λ x p.
+    one-read (stamped (x .stamp) (x .form)) (stamped-written (x .stamp) (x .form) (p .stamp-fits) (judged-by (x .form) (p .form-holds))) .0)
+    e
 
 -- tables added one by one in any order give the same sheet, and no call is refused, where the premise holds of the sheet and of the sheets of
 -- the one entries
@@ -108,7 +105,7 @@ added-in-any-order sheet cs ds f t o r =
     let l = spine-leaves (one sheet) cs in
     let m = spine-leaves (one sheet) ds in
     let x =
-    any-order (spine (one sheet) cs) (spine (one sheet) ds) (rw l (and f (ones-in-form t))) (rw (l, m) (keep (reordered-ones o))) (rw l r) in
+    any-order (spine (one sheet) cs) (spine (one sheet) ds) (rw l (and f (ones-in-form t))) (rw (l, m) (keep (reordered-map sheetOfOne o))) (rw l r) in
     let a = spine-run (one sheet) t (x .1) in
     let b = spine-run (one sheet) (each-reordered o t) (x .2) in
     (x .0, rw (one-run (a .1)) at (a .2), rw (one-run (b .1)) at (b .2))

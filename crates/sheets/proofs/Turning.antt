@@ -11,7 +11,8 @@ use lib.ListN.{length, take, drop, length-append, length-drop, length-take}
 use lib.Seq.{sets, take-append-seam, drop-append-seam, drop-drop, length-take-le}
 use borrow.Author.Tests.{lt-ltb, le-ltb, le-leb, lt-leb, ltb-true, ltb-false}
 use Rattle.laws.specs.Pick.{pick}
-use Rattle.laws.specs.Keyed.{merge, into, Each, and}
+use Rattle.laws.specs.Keyed.{merge, into}
+use Rattle.laws.proofs.Eaches.{each-first, each-rest}
 use Rattle.laws.specs.Orders.{before, greater}
 use Rattle.laws.proofs.Lists.{sets-append}
 use Rattle.laws.proofs.Merging.{merge-less, merge-same, merge-more, rising-rest, rising-lower}
@@ -117,13 +118,7 @@ turned-by {xs} {ys} xs′ ys′ z t f g f′ g′ l m o p q r j =
 -- a sheet without its first entry
 sheet-rest : {x : Entry} {xs : List Entry} → Sheet (x ∷ xs) → Fit x × Sheet xs
 sheet-rest {x} {xs} g =
-    (first-fit (g .fit), record { rises = rising-lower keyOf (suc (keyOf x)) 0 xs (omega arith) (rising-rest keyOf 0 x xs (g .rises)); fit = rest-fit (g .fit) })
-  where
-    first-fit : {y : Entry} {ys : List Entry} → Each Fit (y ∷ ys) → Fit y
-    first-fit (and p e) = p
-
-    rest-fit : {y : Entry} {ys : List Entry} → Each Fit (y ∷ ys) → Each Fit ys
-    rest-fit (and p e) = e
+    (each-first (g .fit), record { rises = rising-lower keyOf (suc (keyOf x)) 0 xs (omega arith) (rising-rest keyOf 0 x xs (g .rises)); fit = each-rest (g .fit) })
 
 no-sheet : Sheet []
 no-sheet = good-none keyOf Fit atMost decides

@@ -2,5 +2,4 @@ pub mod Bounding
 pub mod Clearing
 pub mod Holding
 pub mod Ranging
-pub mod Sizing
-pub mod Parting
+pub mod Handing
