@@ -16,12 +16,12 @@
 #include "../firmware/guide.h"
 #include "plain.h"
 
-/* crates/bench. Those of the reader are weak: they may not stand yet. */
+/* crates/bench. */
 uint8_t bench_decode(const uint8_t *s, size_t n);
 uint8_t bench_turn(const uint8_t *s, size_t n);
 size_t bench_pes(const uint8_t *packet, size_t n, uint8_t *out, size_t room);
-__attribute__((weak)) uint64_t bench_feed(const uint8_t *packets, size_t n, uint8_t *out, size_t room);
-__attribute__((weak)) uint64_t bench_feed_all(const uint8_t *packets, size_t n, uint8_t *out, size_t room);
+uint64_t bench_feed(const uint8_t *packets, size_t n, uint8_t *out, size_t room);
+uint64_t bench_feed_all(const uint8_t *packets, size_t n, uint8_t *out, size_t room);
 
 enum { ROUNDS = 25, BYTES = 1 << 16 };
 
@@ -157,7 +157,6 @@ struct timed {
     const char *name;
     unsigned long (*run)(void);
     double best;                        /* nanoseconds for one unit */
-    int there;
 };
 
 static double now(void)
@@ -173,15 +172,13 @@ static void measure(const char *what, const char *unit, size_t units, struct tim
     unsigned long answer = timed[0].run();
     unsigned repeat = 1 + (unsigned)(4000000 / (units + 1) / (strcmp(unit, "byte") == 0 ? 1 : 40));
     for (size_t i = 0; i < n; i++)
-        if (timed[i].there && timed[i].run() != answer) {
+        if (timed[i].run() != answer) {
             fprintf(stderr, "measure: %s: %s answers otherwise\n", what, timed[i].name);
             exit(1);
         }
     for (unsigned round = 0; round < ROUNDS; round++)
         for (size_t i = 0; i < n; i++) {
             double begin = now(), took;
-            if (!timed[i].there)
-                continue;
             for (unsigned k = 0; k < repeat; k++)
                 timed[i].run();
             took = (now() - begin) / repeat / (double)units;
@@ -189,10 +186,7 @@ static void measure(const char *what, const char *unit, size_t units, struct tim
                 timed[i].best = took;
         }
     for (size_t i = 0; i < n; i++)
-        if (timed[i].there)
-            printf("| %s | %s | %.2f ns a %s | %.2f |\n", what, timed[i].name, timed[i].best, unit, timed[i].best / timed[0].best);
-        else
-            printf("| %s | %s | not there yet | |\n", what, timed[i].name);
+        printf("| %s | %s | %.2f ns a %s | %.2f |\n", what, timed[i].name, timed[i].best, unit, timed[i].best / timed[0].best);
 }
 
 #define ALL(list) list, sizeof list / sizeof *list
@@ -200,10 +194,10 @@ static void measure(const char *what, const char *unit, size_t units, struct tim
 static void packets(const char *what, const char *name)
 {
     struct timed list[] = {
-        { "libzvbi, vbi_pfc_demux_feed", zvbi_feed, 0, 1 },
-        { "plain C", plain, 0, 1 },
-        { "ours, `feed`", our_feed, 0, bench_feed != NULL },
-        { "ours, `feed_all`", our_feed_all, 0, bench_feed_all != NULL },
+        { "libzvbi, vbi_pfc_demux_feed", zvbi_feed, 0 },
+        { "plain C", plain, 0 },
+        { "ours, `feed`", our_feed, 0 },
+        { "ours, `feed_all`", our_feed_all, 0 },
     };
     load(name);
     measure(what, "packet", length / PLAIN_PACKET, ALL(list));
@@ -212,18 +206,18 @@ static void packets(const char *what, const char *name)
 int main(int argc, char **argv)
 {
     struct timed decode[] = {
-        { "libzvbi, vbi_unham8 in a loop", zvbi_decode, 0, 1 },
-        { "ours, in a loop of ours", our_decode, 0, 1 },
-        { "ours, called from C for each byte", called_decode, 0, 1 },
+        { "libzvbi, vbi_unham8 in a loop", zvbi_decode, 0 },
+        { "ours, in a loop of ours", our_decode, 0 },
+        { "ours, called from C for each byte", called_decode, 0 },
     };
     struct timed turn[] = {
-        { "libzvbi, vbi_rev8 in a loop", zvbi_turn, 0, 1 },
-        { "ours, in a loop of ours", our_turn, 0, 1 },
-        { "ours, called from C for each byte", called_turn, 0, 1 },
+        { "libzvbi, vbi_rev8 in a loop", zvbi_turn, 0 },
+        { "ours, in a loop of ours", our_turn, 0 },
+        { "ours, called from C for each byte", called_turn, 0 },
     };
     struct timed pes[] = {
-        { "libzvbi, vbi_dvb_demux_feed", zvbi_pes, 0, 1 },
-        { "ours, `pes::read`", our_pes, 0, 1 },
+        { "libzvbi, vbi_dvb_demux_feed", zvbi_pes, 0 },
+        { "ours, `pes::read`", our_pes, 0 },
     };
     if (argc != 3 && argc != 4) {
         fprintf(stderr, "usage: measure DENSE MIXED [PES]\n");
