@@ -3,14 +3,14 @@
 use mathlib.Core.Path.{_≡_, _∙_, refl, sym, ap, subst}
 use mathlib.Core.Bool.{Bool, true, false}
 use mathlib.Core.List.{List, [], _∷_, _++_, map}
-use Prim.Native.Nat.{ℕ, zero, suc, _%_, _<_, _≤_}
+use Prim.Native.Nat.{ℕ, suc}
 use native.Mathlib.Omega.{arith}
 use borrow.Author.Tests.{eq-eqb}
 use lib.Dec.{ltb}
 use lib.ListN.{length, getD, set, take, drop, take-append-drop}
 use Rattle.laws.specs.Pick.{pick}
 use Rattle.packet.specs.declared.Setting.{Setting}
-use Rattle.packet.specs.Packet.{address, packetLength}
+use Rattle.packet.specs.Packet.{packetLength}
 use Rattle.aerials.specs.Better.{judgedBytes, addressLength, brokenIn, betterOf}
 use Rattle.octet.specs.Bits.{bits, number, differing}
 use Rattle.octet.specs.Image.{image, withParity}
@@ -38,7 +38,7 @@ use Rattle.writer.proofs.Cases.{desk}
 use Rattle.state.specs.State.{freshState}
 use Rattle.claims.specs.Carrying.{heardBlocks}
 use Rattle.claims.specs.Tables.{recordsOf, sent as Tables·sent, tablesOf}
-use Rattle.claims.specs.Noise.{Near, none, more, Elsewhere, Aired, ended, sent, between}
+use Rattle.claims.specs.Noise.{Near, Aired, ended, sent, between}
 use Rattle.claims.specs.Twice.{glued, Both, of-first, of-second, Twice}
 use Rattle.claims.specs.Twice.{ended as Twice·ended, sent as Twice·sent, between as Twice·between}
 use Rattle.claims.proofs.Losing.{near-length, near-append, near-drop, near-take}

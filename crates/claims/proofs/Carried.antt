@@ -6,9 +6,8 @@ use mathlib.Core.Bool.{false}
 use mathlib.Core.Logic.{_⊎_, inl, inr}
 use mathlib.Core.List.{List, [], _∷_, _++_, map}
 use Prim.Native.Nat.{ℕ, zero, suc, _+_, _*_, _%_, _≤_, _<_}
-use native.Mathlib.Nat.{zero-mul, suc-mul}
 use native.Mathlib.Omega.{arith}
-use lib.ListN.{length, drop, length-drop, length-map}
+use lib.ListN.{length, drop, length-map}
 use lib.Seq.{drop-drop}
 use borrow.Author.Tests.{le-leb, le-ltb, eq-eqb}
 use Rattle.laws.specs.Each.{Each}

@@ -2,7 +2,7 @@
 -- allowed, has been dropped. Assumes nothing.
 use mathlib.Core.Path.{_≡_, refl, sym, subst}
 use mathlib.Core.Bool.{Bool, true, false}
-use mathlib.Core.Logic.{_⊎_, inl, inr, ⊎-elim}
+use mathlib.Core.Logic.{_⊎_, ⊎-elim}
 use mathlib.Core.List.{List, [], _∷_, _++_, map, append-assoc, append-nil}
 use Prim.Native.Nat.{ℕ, suc, _+_, _<_}
 use native.Mathlib.Omega.{arith}
@@ -15,7 +15,7 @@ use Rattle.octet.specs.Decoding.{nib, undecodable}
 use Rattle.octet.specs.Hearing.{harm}
 use Rattle.blocks.specs.Block.{Block}
 use Rattle.symbols.specs.Stream.{Symbol, start, fill, bits, raw, beforeStart}
-use Rattle.walk.specs.Mode.{Mode, off, scan, heading, body, shifted, full, blockWith, step, emitted, ends, gives, behind, goesOn, continues, finished, unfinished}
+use Rattle.walk.specs.Mode.{Mode, off, scan, heading, body, full, blockWith, step, emitted, ends, gives, behind, goesOn, continues, finished, unfinished}
 use Rattle.claims.specs.Noise.{Hears, over}
 use Rattle.claims.proofs.Losing.{lost-all, came-refl}
 use Rattle.claims.proofs.Telling.{stands-nib, stands-heard, Told, heard, symbolOf, cameOf, standing, stood, Noisy}

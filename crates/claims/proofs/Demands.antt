@@ -14,7 +14,7 @@ use Rattle.packet.specs.Setting.{inRange}
 use Rattle.state.specs.State.{readerOf, freshState}
 use Rattle.forms.specs.Tables.{Table, fits}
 use Rattle.claims.specs.Noise.{Flipped, Hears, Aired, Came, Fits}
-use Rattle.claims.specs.Damage.{streamIn, Sending, sendings, landed, Counted, damaged}
+use Rattle.claims.specs.Damage.{streamIn, sendings, landed, Counted, damaged}
 use Rattle.claims.specs.Lists.{Among}
 use Rattle.claims.specs.Feeding.{Call, packetsOf, comesOut}
 use Rattle.claims.specs.Tables.{recordsOf, sent, sentDamaged, received}

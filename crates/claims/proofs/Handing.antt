@@ -27,7 +27,6 @@ use Rattle.reader.specs.declared.Heard.{Heard}
 use Rattle.reader.specs.Feeding.{feedHeard, feedReader, feedOut}
 use Rattle.reader.specs.declared.many.HeardAll.{HeardAll}
 use Rattle.reader.specs.Many.{feedAllHeard, feedAllReader, feedAllOut}
-use Rattle.claims.specs.Carrying.{heardBlocks}
 use Rattle.claims.specs.Feeding.{Call, packetsOf, writtenOf, numberOf, comesOut, numberOfAll, packetsOfAll, writtenOfAll, leaves, inOne, AsCalls}
 use Rattle.claims.specs.Calls.{Feeds, feed, FeedsAll, feed-all, Fed, end, one, many}
 use Rattle.claims.proofs.Fed.{heard-each, callsFor, packets-of-calls, call-reader, call-taken, fed-blocks}

@@ -8,7 +8,7 @@ use native.Mathlib.Nat.{zero-add, suc-add, zero-mul, suc-mul, add-comm, sub-zero
 use native.Mathlib.Omega.{arith}
 use lib.Dec.{eqb}
 use lib.ListN.{length, take, drop, length-append}
-use lib.Seq.{drop-nil, drop-drop}
+use lib.Seq.{drop-nil}
 use borrow.Author.Tests.{eq-eqb}
 use Rattle.laws.specs.Each.{Each, nil, and}
 use Rattle.laws.specs.Pick.{pick}

@@ -5,7 +5,7 @@ use mathlib.Core.Bool.{Bool, true, false}
 use mathlib.Core.List.{List, [], _∷_, flatMap}
 use Prim.Native.Nat.{ℕ}
 use Rattle.laws.specs.Pick.{pick}
-use Rattle.answer.specs.Rules.{Rule, allRefusing}
+use Rattle.answer.specs.Rules.{allRefusing}
 use Rattle.answer.proofs.Judging.{refusing-append}
 use Rattle.packet.specs.declared.Setting.{Setting}
 use Rattle.units.specs.Units.{byteAt, stuffingId, unitRules, textRules, rulesAt}
@@ -15,7 +15,7 @@ use Rattle.pes_writer.specs.Records.{writeRules}
 use Rattle.writer.specs.Cutting.{cutRules}
 use Rattle.forms.specs.Writing.{formRules, writeRules as Form·writeRules}
 use Rattle.frames.specs.Framing.{frameRules}
-use Rattle.table.specs.Reading.{frontRules, wholeRules, bodyRules, readRules as Table·readRules}
+use Rattle.table.specs.Reading.{frontRules, wholeRules, readRules as Table·readRules}
 use Rattle.table.specs.Lengths.{lengthRules}
 use Rattle.menu_forms.specs.Writing.{formRules as Menu·formRules, writeRules as Menu·writeRules}
 use Rattle.menu.specs.Reading.{frontRules as Menu·frontRules, wholeRules as Menu·wholeRules, lengthRules as Menu·lengthRules, readRules as Menu·readRules}

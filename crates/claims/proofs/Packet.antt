@@ -1,6 +1,6 @@
 -- One packet of our page: along its 39 bytes the reader that hears them does what the reader of those that stand for them does, or has
 -- dropped. The pointer names the first start, so the bytes before it are the running block's and filler. Assumes nothing.
-use mathlib.Core.Path.{_≡_, _∙_, refl, sym, ap, subst}
+use mathlib.Core.Path.{_≡_, _∙_, refl, ap, subst}
 use mathlib.Core.Bool.{true, false}
 use mathlib.Core.List.{List, [], _∷_, _++_, map, map-append, append-assoc}
 use Prim.Native.Nat.{ℕ, suc, _+_, _*_, _≤_, _<_}

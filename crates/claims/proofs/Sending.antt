@@ -1,24 +1,23 @@
 -- The round trip without loss: the walk along what stands for the bytes that arrive of a list of blocks meets fitting symbols, gives those
 -- blocks as they landed and ends with nothing running. It holds of any bytes at all. Equations only. Assumes nothing.
-use mathlib.Core.Path.{_≡_, _∙_, refl, sym, ap, ap₂, subst, subst₂}
+use mathlib.Core.Path.{_≡_, _∙_, refl, sym, ap, ap₂, subst}
 use mathlib.Core.Bool.{true, false}
 use mathlib.Core.List.{List, [], _∷_, _++_, map, append-assoc}
 use Prim.Native.Nat.{ℕ, zero, suc, _+_, _-_, _*_, _/_, _%_, _≤_, _<_}
 use native.Mathlib.Omega.{arith}
 use lib.Dec.{eqb, lit<}
-use lib.ListN.{length, length-append, length-map, length-replicate, length-drop, replicate, take, drop, take-append-drop}
-use lib.Seq.{drop-nil, drop-drop, length-take-le, drop-append-add}
-use borrow.Author.Tests.{ne-eqb, le-leb, lt-leb, lt-ltb}
+use lib.ListN.{length, length-append, length-map, length-drop, replicate, take, drop}
+use lib.Seq.{drop-drop, length-take-le}
+use borrow.Author.Tests.{le-leb, lt-leb, lt-ltb}
 use Rattle.laws.specs.Each.{Each, nil, and}
 use Rattle.laws.specs.Pick.{pick}
 use Rattle.octet.specs.Image.{image}
-use Rattle.octet.specs.Decoding.{nib, undecodable}
 use Rattle.octet.specs.Hearing.{harm}
 use Rattle.blocks.specs.Block.{Block, sizeOf}
-use Rattle.symbols.specs.Stream.{Symbol, start, fill, bits, raw, byteOf, symbols, fillAfter, cell, cellsOf, streamOf}
-use Rattle.walk.specs.Mode.{Mode, scan, heading, body, shifted, full, blockWith, step, emitted, ends, gives}
+use Rattle.symbols.specs.Stream.{Symbol, start, fill, bits, raw, symbols, fillAfter, cell, cellsOf, streamOf}
+use Rattle.walk.specs.Mode.{Mode, scan, heading, body, full, blockWith, step, emitted, ends, gives}
 use Rattle.claims.specs.Noise.{Fits}
-use Rattle.claims.specs.Damage.{unlike, Sending, sendings, landed}
+use Rattle.claims.specs.Damage.{unlike, sendings, landed}
 use Rattle.claims.proofs.Telling.{stands-nib, stands-harm, Told, heard, symbolOf, standing, stood, told}
 use Rattle.claims.proofs.Walking.{Fit, skips, opens, nibble, byte, Plain, sentEnds, sentGives, known, step-fill, step-start}
 use Rattle.claims.proofs.Packet.{sentEnds-append, sentGives-append, plain-append, plain-left, plain-right}

@@ -109,7 +109,6 @@ use Rattle.firmware.proofs.guide_decode.Reads as firmware·guide-decode
 use Rattle.vectors.proofs.start.Reads as vectors·start
 use Rattle.vectors.proofs.lent.lend.Reads as vectors·lend
 use Rattle.vectors.proofs.cases.payload.Reads as vectors·payload
-use Rattle.vectors.specs.declared.cases.Input.{Input}
 use Rattle.moves.proofs.fill.Reads as moves·fill
 use Rattle.firmware.proofs.guide_turn.Reads as firmware·guide-turn
 use Rattle.firmware.proofs.guide_unit_at.Reads as firmware·guide-unit-at

@@ -6,7 +6,7 @@ use mathlib.Core.Logic.{_⊎_, inl, inr}
 use mathlib.Core.List.{List, [], _∷_, _++_, map}
 use Prim.Native.Nat.{ℕ, zero, suc, _+_, _/_, _%_, _≤_, _<_}
 use native.Mathlib.Omega.{arith}
-use lib.ListN.{length, length-map, getD, take, drop}
+use lib.ListN.{length, length-map, getD, drop}
 use Rattle.laws.specs.Each.{Each, nil, and}
 use Rattle.laws.proofs.Eaches.{each-all, each-map}
 use Rattle.octet.specs.Image.{image}
@@ -19,8 +19,7 @@ use Rattle.blocks.proofs.Round.{blocks-records}
 use Rattle.fields.specs.Fields.{parts}
 use Rattle.fields.proofs.Laid.{length-parts}
 use Rattle.forms.specs.Tables.{Table, fits, size}
-use Rattle.symbols.specs.Stream.{symbols}
-use Rattle.sums.specs.Block.{nibblesOf, mendedIn, InRange, nibbles, checksumOf, blockWith, recordOf}
+use Rattle.sums.specs.Block.{nibblesOf, mendedIn, nibbles, checksumOf, blockWith, recordOf}
 use Rattle.table.specs.Reading.{Outcome, accepted, refused, readBlock}
 use Rattle.forms.proofs.Sendable.{sendable}
 use Rattle.sums.proofs.Nibbles.{nibbles-again}

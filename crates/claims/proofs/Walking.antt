@@ -16,7 +16,7 @@ use Rattle.octet.specs.Decoding.{nib, undecodable}
 use Rattle.octet.specs.Hearing.{harm}
 use Rattle.blocks.specs.Block.{Block}
 use Rattle.symbols.specs.Stream.{Symbol, start, fill, bits, raw}
-use Rattle.walk.specs.Mode.{Mode, off, scan, heading, body, shifted, full, headed, step, emitted, ends, gives}
+use Rattle.walk.specs.Mode.{Mode, off, scan, heading, body, full, step, emitted, ends, gives}
 use Rattle.claims.specs.Noise.{Hears, Came, over}
 use Rattle.claims.proofs.Losing.{lost-all, came-refl, came-append}
 use Rattle.claims.proofs.Telling.{stands, stands-nib, stands-heard, Told, heard, symbolOf, cameOf, standing, stood, Noisy}

@@ -7,7 +7,7 @@ use Prim.Native.Nat.{ℕ, suc, _≤_, _<_}
 use native.Mathlib.Omega.{arith}
 use lib.Dec.{leb, ltb, eqb}
 use borrow.Author.Tests.{ltb-true, ltb-false, leb-true, eqb-true, eqb-false, lt-ltb, le-ltb, le-leb, eq-eqb, ne-eqb}
-use Rattle.laws.specs.Keyed.{risingFrom, rising, lookup, into, merge}
+use Rattle.laws.specs.Keyed.{risingFrom, lookup, into, merge}
 use Rattle.laws.proofs.Tests.{both-true, both-holds}
 
 module _ {A : Type 0} (key : A → ℕ) (choose : A → A → A) where

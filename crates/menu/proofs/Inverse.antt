@@ -24,7 +24,7 @@ use Rattle.menu_forms.specs.Block.{spelled}
 use Rattle.menu_forms.proofs.Forms.{row-count, codes-count}
 use Rattle.menu_forms.proofs.Formed.{Begins, begins-append, begins-codes, begins-all}
 use Rattle.menu_forms.proofs.Spelling.{each-nibbled, each-spelled}
-use Rattle.menu_forms.proofs.Nibbled.{descriptor-nibbled, escape-nibbled, attribute-nibbled, text-nibbled, event-nibbled, fill-nibbled, fill-same}
+use Rattle.menu_forms.proofs.Nibbled.{descriptor-nibbled, escape-nibbled, attribute-nibbled, text-nibbled, event-nibbled, fill-nibbled, fill-same, fill-fits}
 use Rattle.menu.specs.Control.{bitsAt, descriptorAt, escapeAt, attributeAt, descriptorNibbles, escapeNibbles, attributeNibbles, textAt, eventAt, eventsAt, menuOf}
 use Rattle.menu.proofs.Places.{whole-drop, whole-behind}
 
@@ -181,14 +181,6 @@ fill-held k n = go (eqb (k % 2) 0)
     go : (b : Bool) → Held n (pick b ((4, field 0 4 n) ∷ []) [])
     go true = held-from n _ (held-next 0 4 n [] (held-end (n / 2 ^ 4)))
     go false = held-end n
-
-fill-fits : (k : ℕ) → fitting (fillFields k 0) ≡ true
-unfolding fillFields fitting
-fill-fits k = go (eqb (k % 2) 0)
-  where
-    go : (b : Bool) → fitting (pick b ((4, 0) ∷ []) []) ≡ true
-    go true = refl
-    go false = refl
 
 module _ (ns cs : List ℕ) where
   abbrev found : List Descriptor

@@ -8,7 +8,7 @@ use borrow.Author.Tests.{eqb-true, eqb-false}
 use lib.Dec.{eqb}
 use lib.ListN.{length, length-append}
 use Rattle.laws.specs.Pick.{pick}
-use Rattle.fields.specs.Fields.{Field, width}
+use Rattle.fields.specs.Fields.{Field, width, fitting}
 use Rattle.fields.proofs.Laid.{width-append}
 use Rattle.menu_forms.specs.Rows.{each}
 use Rattle.menu_forms.specs.Menus.{Descriptor, Escape, Text, Attribute, Event, Menu, Spare, zeros, control as controlSize}
@@ -71,6 +71,15 @@ unfolding fillFields width
 fill-nibbled d filling = go (eqb (d % 2) 0)
   where
     go : (b : Bool) → width (pick b ((4, filling) ∷ []) []) % 4 ≡ 0
+    go true = refl
+    go false = refl
+
+-- and 0 fits there
+pub fill-fits : (d : ℕ) → fitting (fillFields d 0) ≡ true
+unfolding fillFields fitting
+fill-fits d = go (eqb (d % 2) 0)
+  where
+    go : (b : Bool) → fitting (pick b ((4, 0) ∷ []) []) ≡ true
     go true = refl
     go false = refl
 

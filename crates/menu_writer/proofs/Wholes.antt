@@ -6,10 +6,10 @@ use Prim.Native.Nat.{ℕ, _+_, _-_, _*_, _/_, _%_, _<_}
 use native.Mathlib.Nat.{mod-eq-of-lt}
 use native.Mathlib.Omega.{arith}
 use borrow.Author.Tests.{lt-ltb, ltb-true, eq-eqb, ne-eqb}
-use lib.Dec.{ltb, eqb}
+use lib.Dec.{ltb}
 use lib.ListN.{length, getD, drop, length-append, length-map}
 use lib.Seq.{drop-drop}
-use Rattle.laws.specs.Pick.{pick, both}
+use Rattle.laws.specs.Pick.{both}
 use Rattle.laws.proofs.Tests.{both-false}
 use Rattle.octet.specs.Image.{image}
 use Rattle.fields.specs.Fields.{Field, width, laid, fitting, parts, whole}
@@ -21,7 +21,7 @@ use Rattle.menu_forms.specs.Form.{descriptorForm, descriptorIn, textForm, textI
 use Rattle.menu_forms.specs.Block.{spelled}
 use Rattle.menu_forms.proofs.Forms.{row-count}
 use Rattle.menu_forms.proofs.Spelling.{spelled-append, spelled-one, spelled-first, each-nibbled, length-spelled}
-use Rattle.menu_forms.proofs.Nibbled.{descriptor-nibbled, text-nibbled, fill-nibbled, descriptors-width, fill-width}
+use Rattle.menu_forms.proofs.Nibbled.{descriptor-nibbled, text-nibbled, fill-nibbled, descriptors-width, fill-width, fill-fits}
 use Rattle.menu_writer.specs.declared.Tally.{Tally}
 use Rattle.menu_writer.specs.declared.Loop.the-variants.{Descriptors}
 use Rattle.menu_writer.specs.Internal.{loopLength, loopFine, loopBytes, Told, Whole, openingFine}
@@ -37,14 +37,6 @@ even-fill d h = rw (eq-eqb (d % 2) 0 h) (ap (map image) (spelled-one 4 1 0 refl)
 pub odd-fill : (d : ℕ) → (d % 2 ≡ 0 → ⊥) → map image (spelled (fillFields d 0)) ≡ []
 unfolding fillFields spelled width parts
 odd-fill d h = rw (ne-eqb (d % 2) 0 h)
-
-fill-fits : (d : ℕ) → fitting (fillFields d 0) ≡ true
-unfolding fillFields fitting
-fill-fits d = go (eqb (d % 2) 0)
-  where
-    go : (b : Bool) → fitting (pick b ((4, 0) ∷ []) []) ≡ true
-    go true = refl
-    go false = refl
 
 order :
     (c h3 h4 n m d g x h s e t : Bool) → (h3 ≡ true → h4 ≡ true)

@@ -1,11 +1,9 @@
 // A form by its counts: how long it is, what its block takes, and whether its values fit.
 ghost use mathlib.Core.Path.{_≡_};
 ghost use Prim.Native.Nat.{_+_, _*_, _<_, _≤_};
-ghost use lib.ListN.{length, drop};
-ghost use Rattle.laws.specs.Pick.{both as Pick·both};
-ghost use Rattle.fields.specs.Fields.{width, fitting};
+ghost use lib.ListN.{drop};
 ghost use Rattle.menu_forms.specs.Rows.{each, inRow};
-ghost use Rattle.menu_forms.specs.Menus.{textFields, eventFields, codesOf, sevens};
+ghost use Rattle.menu_forms.specs.Menus.{textFields, eventFields, codesOf};
 ghost use Rattle.menu_forms.specs.Form.{textIn, textForm, eventIn, eventForm};
 ghost use Rattle.menu_writer.specs.Internal.{Told, Whole, openingFine};
 use crate::Loop;

@@ -1,8 +1,8 @@
 -- Bits in the other order, in steps: of twice k bits the lower k, turned, go above the upper k, turned. Once over the width.
 -- Assumes nothing.
-use mathlib.Core.Path.{_≡_, _∙_, refl, ap}
+use mathlib.Core.Path.{_≡_, refl, ap}
 use mathlib.Core.List.{List, [], _∷_, _++_, reverse, reverse-append}
-use Prim.Native.Nat.{ℕ, zero, suc, _+_, _*_, _/_, _%_, _^_}
+use Prim.Native.Nat.{ℕ, zero, suc, _+_, _*_, _/_, _^_}
 use native.Mathlib.Nat.{zero-add, suc-add, div-one, mul-assoc, pow-succ'}
 use native.Mathlib.Omega.{arith}
 use lib.ListN.{length, length-reverse}

@@ -1,8 +1,8 @@
 -- The words that the sheet is called with, one after the other (SCOPE 20.12 to 20.14).
-use mathlib.Core.Bool.{Bool, true, false}
+use mathlib.Core.Bool.{Bool, false}
 use mathlib.Core.List.{List}
 use Prim.Native.Nat.{ℕ}
-use Rattle.laws.specs.Pick.{pick, both}
+use Rattle.laws.specs.Pick.{pick}
 use Rattle.wanted.specs.declared.stages.Words.{Words}
 use Rattle.wanted.specs.Stages.{startWords, isWhole}
 use Rattle.wanted.specs.Words.{heard, takenAsName}

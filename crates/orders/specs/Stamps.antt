@@ -1,5 +1,5 @@
 -- The stamp that a word says (SCOPE 20.14): `0`, or a digit 1 to 9 and digits, up to 4294967295.
-use mathlib.Core.Bool.{Bool, true, false}
+use mathlib.Core.Bool.{Bool, true}
 use mathlib.Core.List.{List, [], _∷_}
 use Prim.Native.Nat.{ℕ, _+_, _-_, _*_}
 use lib.Dec.{eqb, leb, ltb}

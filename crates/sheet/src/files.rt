@@ -5,7 +5,6 @@ use crate::says;
 use crate::work;
 use crate::work::Work;
 use answer::Answer;
-ghost use mathlib.Core.Path.{_≡_};
 ghost use Prim.Native.Nat.{_≤_, _<_};
 ghost use lib.ListN.{length};
 

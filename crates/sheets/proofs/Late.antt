@@ -15,7 +15,6 @@ use Rattle.laws.specs.Keyed.{lookup}
 use Rattle.laws.specs.Together.{together, totals}
 use Rattle.laws.proofs.Ordering.{ordered-numbers, ordered-on, ordered-before, in-turn}
 use Rattle.laws.proofs.Joined.{never-back-first, never-back-second, join-one}
-use Rattle.laws.proofs.Trees.{Good}
 use Rattle.laws.proofs.Needs.{within-joined, within-sum, within-itself}
 use Rattle.answer.specs.declared.Answer.{Answer}
 use Rattle.answer.specs.declared.Answer.the-variants.{Done, Refused}

@@ -6,7 +6,6 @@ use mathlib.Core.Logic.{⊎-elim}
 use mathlib.Core.List.{List, [], _∷_, _++_, flatMap}
 use Prim.Native.Nat.{ℕ, suc, _+_, _*_, _/_, _≤_, _<_}
 use native.Mathlib.Omega.{arith}
-use lib.Dec.{leb}
 use lib.ListN.{length, take, drop, length-append, length-map, length-take, length-drop}
 use lib.Seq.{sets, take-length}
 use borrow.Author.Tests.{le-leb, lt-leb}
@@ -19,7 +18,7 @@ use Rattle.answer.specs.Values.{refusal, refused}
 use Rattle.answer.proofs.Judging.{passes, refuses, decided}
 use Rattle.answer.proofs.Lent.{front-holds, back-holds}
 use Rattle.answer.proofs.Steps.{done-every, done-value}
-use Rattle.pes.specs.Texts.{textOf, withText}
+use Rattle.pes.specs.Texts.{withText}
 use Rattle.pes.proofs.Runs.{text-fits}
 use Rattle.units.specs.Units.{byteAt, stuffingId, rulesAt}
 use Rattle.units.proofs.Meets.{text-unit}

@@ -1,6 +1,6 @@
 -- The counts go with the reader: as long as its page and the counts agree on the packets that are read, they still do after the next
 -- packet, and a numbered packet counts as our page's exactly where the reader reads it. Assumes nothing.
-use mathlib.Core.Path.{_≡_, refl, ap}
+use mathlib.Core.Path.{_≡_, refl}
 use mathlib.Core.Bool.{Bool, true, false}
 use mathlib.Core.List.{List}
 use Prim.Native.Nat.{ℕ, _≤_}

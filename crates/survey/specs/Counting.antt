@@ -1,10 +1,8 @@
 -- How many packets of a capture there are of each kind, by what each is to the reader (SCOPE 13.10).
-use mathlib.Core.Bool.{Bool, true, false}
-use mathlib.Core.List.{List}
+use mathlib.Core.Bool.{Bool, true}
 use Prim.Native.Nat.{ℕ, _+_}
 use lib.Dec.{leb, ltb}
 use Rattle.laws.specs.Pick.{pick}
-use Rattle.packet.specs.declared.Setting.{Setting}
 use Rattle.pages.specs.Headers.{Seen, junk, other, foreign, ours, packetY}
 use Rattle.survey.specs.declared.Counts.{Counts}
 

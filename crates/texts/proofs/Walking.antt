@@ -9,7 +9,7 @@ use borrow.Author.Tests.{eq-eqb, ne-eqb}
 use lib.Dec.{eqb}
 use lib.ListN.{length, drop, take, getD, drop-of-length-le}
 use lib.Seq.{drop-cons}
-use Rattle.laws.specs.Pick.{pick, both, either}
+use Rattle.laws.specs.Pick.{pick, both}
 use Rattle.laws.proofs.Lists.{part-rest}
 use Rattle.texts.specs.Texts.{beginsWith, standsIn, emptyFrom}
 

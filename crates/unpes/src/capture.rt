@@ -9,7 +9,6 @@ use pes::Start;
 use stripped::Stripped;
 ghost use mathlib.Core.Path.{_≡_};
 ghost use Prim.Native.Nat.{_≤_, _<_};
-ghost use lib.ListN.{length};
 
 // The bytes of a packet that goes out.
 const PACKET: usize = 42;

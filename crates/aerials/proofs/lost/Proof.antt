@@ -1,7 +1,6 @@
 -- `aerials::lost` meets its contract, by its one test. Assumes nothing.
 use native.Mathlib.Omega.{arith}
 use borrow.Author.Needs.{needs}
-use mathlib.Core.Path.{_∙_, sym}
 use Rattle.aerials.proofs.Counting.{lost-yes, lost-no}
 use Rattle.aerials.proofs.lost.Statement.{statement}
 use Rattle.aerials.proofs.lost.Tie as tie

@@ -1,6 +1,6 @@
 -- `fields::field_at` meets its contract: a word is a field of 24 bits. Assumes nothing.
 use mathlib.Core.Path.{_≡_}
-use Prim.Native.Nat.{ℕ, min}
+use Prim.Native.Nat.{min}
 use native.Mathlib.Omega.{arith}
 use borrow.Author.Needs.{needs}
 use Rattle.fields.proofs.field_at.Statement.{statement}

@@ -1,5 +1,5 @@
 -- `orders::is_good` meets its contract: its tests in order. Assumes nothing.
-use mathlib.Core.Path.{_≡_, _∙_, sym}
+use mathlib.Core.Path.{_∙_, sym}
 use Rattle.orders.specs.Orders.{isGood}
 use borrow.Author.Needs.{needs}
 use borrow.Author.Tests.{not-true, not-false}

@@ -1,5 +1,5 @@
 -- `orders::name` meets its contract: a name that fits its role is counted. Assumes nothing.
-use mathlib.Core.Path.{_∙_, sym, refl}
+use mathlib.Core.Path.{_∙_, sym}
 use borrow.Author.Tests.{not-true, not-false}
 use Rattle.orders.proofs.Naming.{bad-name, good-name}
 use borrow.Author.Needs.{needs}

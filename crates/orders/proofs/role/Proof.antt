@@ -1,5 +1,5 @@
 -- `orders::role` meets its contract: what isn't a name is nothing. Assumes nothing.
-use mathlib.Core.Path.{_≡_, _∙_, sym}
+use mathlib.Core.Path.{_∙_, sym}
 use Rattle.orders.specs.Orders.{roleTaken}
 use borrow.Author.Needs.{needs}
 use borrow.Author.Tests.{not-true, not-false}

@@ -1,6 +1,6 @@
 -- `packet::address` meets its contract: no two bytes, one that can't be decoded, or both nibbles. Assumes nothing.
 use mathlib.Core.List.{List}
-use Prim.Native.Nat.{ℕ, _<_}
+use Prim.Native.Nat.{ℕ}
 use native.Mathlib.Omega.{arith}
 use lib.ListN.{getD}
 use denote.Ref.{now}

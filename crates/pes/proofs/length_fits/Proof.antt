@@ -1,7 +1,6 @@
 -- `pes::length_fits` meets its contract, by its two tests. Assumes nothing.
 use borrow.Author.Needs.{needs}
 use borrow.Author.Tests.{not-true, not-false}
-use mathlib.Core.Path.{_∙_, sym}
 use Rattle.pes.proofs.length_fits.Statement.{statement}
 use Rattle.pes.proofs.length_fits.Tie as tie
 

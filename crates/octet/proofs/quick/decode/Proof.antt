@@ -1,5 +1,4 @@
 -- `octet::quick::decode` meets its contract: the mark without its 32. Assumes nothing.
-use mathlib.Core.Path.{_∙_}
 use borrow.Author.Needs.{needs}
 use Rattle.octet.proofs.Hearing.{mark-nib}
 use Rattle.octet.proofs.quick.decode.Statement.{statement}

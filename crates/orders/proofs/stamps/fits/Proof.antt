@@ -1,8 +1,4 @@
 -- `orders::stamps::fits` meets its contract, role by role. Assumes nothing.
-use mathlib.Core.Path.{ap}
-use Rattle.orders.specs.Stamps.{most}
-use Rattle.laws.specs.Pick.{pick}
-use lib.Dec.{leb}
 use borrow.Author.Needs.{needs}
 use Rattle.orders.proofs.stamps.fits.Statement.{statement}
 use Rattle.orders.proofs.stamps.fits.Tie as tie

@@ -1,5 +1,4 @@
 -- `orders::stamps::stamp_of` meets its contract: a number that is no more than the greatest stamp fits 32 bits. Assumes nothing.
-use borrow.Author.Tests.{le-leb, lt-leb}
 use native.Mathlib.Omega.{arith}
 use Rattle.orders.proofs.Stamping.{no-stamp, a-stamp}
 use borrow.Author.Needs.{needs}

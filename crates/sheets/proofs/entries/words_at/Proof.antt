@@ -1,11 +1,11 @@
 -- `sheets::entries::words_at` meets its contract: a law for each way. Assumes nothing.
 use borrow.Author.Needs.{needs}
-use mathlib.Core.Path.{_≡_, _∙_, sym, ap}
+use mathlib.Core.Path.{_∙_}
 use native.Mathlib.Omega.{arith}
 use denote.Ref.{now}
 use lib.ListN.{length-drop}
 use Rattle.sheets.proofs.Walks.{within-on, language-room, page-room, words-stop, words-language, words-unpaged, words-subtitle}
-use mathlib.Core.Path.{_≡_, _∙_, sym, ap}
+use mathlib.Core.Path.{_∙_}
 use native.Mathlib.Omega.{arith}
 use denote.Ref.{now}
 use Rattle.sheets.proofs.Walks.{within-on, words-stop, words-language, words-unpaged, words-subtitle}

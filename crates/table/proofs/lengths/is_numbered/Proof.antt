@@ -1,6 +1,5 @@
 -- `table::lengths::is_numbered` meets its contract: a block too short to hold a number, or its number. Assumes nothing.
 use borrow.Author.Needs.{needs}
-use mathlib.Core.Path.{_∙_}
 use borrow.Author.Tests.{lt-ltb, le-ltb}
 use Rattle.table.proofs.lengths.is_numbered.Statement.{statement}
 use Rattle.table.proofs.lengths.is_numbered.Tie as tie

@@ -1,8 +1,8 @@
 -- `unpes::capture::shift` is safe and ends: what it moves lies within the space. Assumes nothing.
 use borrow.Author.Needs.{needs}
-use mathlib.Core.Path.{_≡_, _∙_}
+use mathlib.Core.Path.{_≡_}
 use Prim.Native.Nat.{_+_, _-_, _≤_}
-use lib.ListN.{length, length-set}
+use lib.ListN.{length}
 use Rattle.unpes.proofs.capture.shift.Statement.{statement}
 use Rattle.unpes.proofs.capture.shift.Tie as tie
 

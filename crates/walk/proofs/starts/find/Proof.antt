@@ -1,5 +1,5 @@
 -- `walk::starts::find` meets its contract: filler leads to the place, and what stands there decides. Assumes nothing.
-use mathlib.Core.Path.{_∙_, sym}
+use mathlib.Core.Path.{_∙_}
 use Prim.Native.Nat.{_+_, _-_}
 use native.Mathlib.Omega.{arith}
 use lib.ListN.{getD}
