@@ -2,9 +2,10 @@
 expects on standard output.
 
 Standard input is a list of cases. A case is an op (1 byte), a room (4 bytes, low
-byte first: how long the lent output is), a length (the same way) and so many
-bytes, the payload; a room or length over 65,536 is taken as 65,536. The program
-fills the output with A5 before each call and prints a line for each case:
+byte first: how long the lent output is; over 65,536 is taken as 65,536), a length
+(the same way, at most 65,536; the programs take more as 65,536, and no case has more)
+and so many bytes, the payload. The program fills the output with A5 before each call
+and prints a line for each case:
 
     op=N no=N at=N out=HEX kept=yes
 

@@ -3,6 +3,7 @@
 from model import Refused
 
 LOST = 0x16  # case B: a byte that can't be decoded
+MOST = 65536  # bytes of a payload, and of a lent output
 
 
 class Dice:
@@ -45,9 +46,10 @@ class Script:
 
     def case(self, op, room, payload):
         payload = bytes(payload)
+        assert len(payload) <= MOST
         self.stdin += bytes([op]) + room.to_bytes(4, "little")
         self.stdin += len(payload).to_bytes(4, "little") + payload
-        self.lines.append(f"op={op} " + self.expected(op, min(room, 65536), payload))
+        self.lines.append(f"op={op} " + self.expected(op, min(room, MOST), payload))
 
     def expected(self, op, room, payload):
         fixed, call = self.ops.get(op, (0, None))
