@@ -4,7 +4,7 @@ from model import listing, table
 from model.table import Table
 
 from .form import Script, line, room_tried, with_bytes
-from .table import CASE_G, LATER, extreme_tables, limits, shaped, some_table
+from .table import CASE_G, LATER, extreme_tables, limits, shaped, some_table, unwritable
 
 
 def list_call(payload, room=2 ** 32):
@@ -39,7 +39,9 @@ def script_of(dice, size):
     show(form + b"\x00")
     for block_no in LATER:
         other = with_bytes(form, (2, block_no % 256), (3, block_no // 256))
-        show(other), show(other, 0), show(other[:-1]), show(other[:4]), show(other[:3]), show(with_bytes(other, (0, 3)))
+        show(other), show(other, 0), show(other[:-1]), show(other[:5]), show(other[:4]), show(other[:3]), show(with_bytes(other, (0, 3)))
+    for t in unwritable():                              # 22 before 15
+        show(table.form_of(t._replace(block_no=3)))
     for at, value in ((0, 0), (0, 6), (0, 9), (0, 255), (1, 2), (1, 255), (2, 1), (3, 1), (3, 0x80), (3, 0xC0), (5, 1), (5, 3), (5, 64), (6, 64),
                       (14, 255), (7, 16), (7, 0)):
         show(with_bytes(form, (at, value))), show(with_bytes(form, (at, value)), 0), show(with_bytes(form, (at, value))[:-1])

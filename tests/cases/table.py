@@ -73,6 +73,18 @@ def limits():
     yield shaped(table.LI, spread(326, 28)), shaped(table.LI, spread(327, 28))
 
 
+def unwritable():
+    """Tables that can't be written: an id, the copyright bit, entries, descriptors or, by the least that there is, bits over their limit."""
+    yield CASE_G._replace(descriptors=[(64, [0x647574, 0x000888])])
+    yield CASE_G._replace(copyright=2)
+    for kind in (table.TI, table.LI):
+        yield shaped(kind, [16])
+        yield shaped(kind, [0] * 64)
+    for _, over in list(limits())[4:]:
+        assert table.width(over) == table.MOST_BITS + 2
+        yield over
+
+
 # Annex L.1's block as printed: header, then control data without its checksum, then strings.
 L1_PRINTED = bytes.fromhex(
     "02FDC715 1564D0151549021515026415 9B151515C7155EC78C73155EC7151564 8C15B664D0154915EA64B6A1"
@@ -206,7 +218,7 @@ def script_of(dice, size):
         read(with_bytes(most, (at, LOST)))
     for record in l1_records():
         read(record)
-    number_cases(read, write, dice)
+    number_cases(read, write, dice), pair_cases(read)
     # writing: 16, 22, 13, 15, 1
     form = table.form_of(some_table(dice, table.TI, 2, 2)._replace(descriptors=[(9, [1, 2]), (3, [4, 5, 6, 7])]))
     for application in (0, 31, 32, 255):
@@ -230,6 +242,8 @@ def script_of(dice, size):
             long = shaped(kind, [0] * descriptors)
             write(table.form_of(long)), write(table.form_of(long)[:-1])
     write(with_bytes(form, (1, 2)), room=0), write(form, room=0)
+    for t in unwritable():                              # 22 before 15
+        write(table.form_of(t._replace(block_no=3)))
     for _ in range(60 * size):                          # forms and records with anything changed
         t = some_table(dice, most=3)
         form = table.form_of(t)
@@ -276,6 +290,16 @@ def number_cases(read, write, dice):
             blank = with_field([0] * max(size, 12), "block_no", block_no)[:size]
             blank = with_field(blank, "datatype_id", dice.pick([7, 8]))
             read(table.summed(1, blank)), read(table.summed(1, with_field(blank, "control_block_size", size // 2)))
+
+
+def pair_cases(read):
+    """10, 12, the odd size's 13 and 22, each with an application, a part and a second byte out of range before it and no room behind it."""
+    good = table.write_block(1, table.form_of(CASE_G))
+    nibbles = nibbles_in(good)
+    lost = [with_bytes(good, (at, LOST)) for at in (HEAD, HEAD + 7, HEAD + 8, len(good) - 1)]
+    kinds = [table.summed(1, with_field(nibbles, name, 3)) for name in ("datatype_id", "CA_mode")]
+    for record in (*lost, *kinds, table.summed(1, nibbles + [0]), later(CASE_G, 3), guide.record_of(guide.head_of(1, 7), bytes(7))):
+        read(record, 32), read(record, 255), read(with_bytes(record, (2, 6))), read(with_bytes(record, (3, 1))), read(record, room=0)
 
 
 def mended_cases(read, dice, good, size):
