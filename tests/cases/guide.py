@@ -2,6 +2,7 @@
 
 from model import guide
 from model.guide import Setting
+from model.listing import DESK
 
 from . import aerials
 from . import reader as hearing
@@ -44,5 +45,9 @@ def script_of(dice, size):
         script.case(20, 0, payload)
     for payload in (b"", b"\x01\xdf\x01\x00"):
         script.case(22, 3000, payload)
+    script.case(20, 0, bytes(DESK) + b"\xff")           # a byte more than the setting's four
+    packets = guide.cut(DESK, 0, 1, guide.record_of(guide.head_of(1, 3), b"\x01\x02\x03"))
+    for at in range(0, len(packets), guide.PACKET):
+        script.case(21, guide.ROOM, packets[at:at + guide.PACKET])
     script.cut_short(b"\x15\x40\x08\x00\x00\x2a\x00\x00\x00" + bytes(41))
     return script

@@ -29,7 +29,7 @@ def script_of(dice, size):
     script.case(5, 0, [0x14]), script.case(5, 1, [0x14])    # no output is lent, so the room isn't looked at
     for op in (0, 6, 9, 10, 21, 255):
         script.case(op, 1, [0])
-    for op in (1, 2, 3, 4, 5):
-        script.case(op, 1, [])
+    for op in (1, 2, 3, 4, 5):             # too few bytes, and more than are looked at
+        script.case(op, 1, []), script.case(op, 2, [0x14, 0x16])
     script.cut_short(b"\x01\x01\x00")
     return script
