@@ -8,6 +8,7 @@ from .form import LOST, Script, line, room_tried, with_bytes
 from .table import CASE_G, hit
 
 KINDS = (0x00, 0x02, 0x10, 0x18, 0x20, 0x27, 0x30, 0x40, 0x41, 0x7E, 0x7F, 0x80, 0x81, 0xBE, 0xBF, 0xC0, 0xC8, 0xC9, 0xDE, 0xDF, 0xE0, 0xE1, 0xFE, 0xFF)
+DATATYPES = (0, 1, 2, 3, 4, 5, 6, 7, 8, 0x0B, 0x13, 0x23, 0x33, 0x3B, 0x3E, 0x3F)     # a menu's, and others that share bits with it or don't
 
 
 # --- menus ------------------------------------------------------------------------
@@ -67,13 +68,26 @@ def filled(control, strings):
     return made
 
 
-def worded(length):
+def worded(length, events=7):
     """A menu with a block of so many bytes, most of them codes."""
-    events = [Event(0, 0, [], plain(b"w" * 255)) for _ in range(7)]
-    made = EMPTY._replace(events=events)
+    made = EMPTY._replace(events=[Event(0, 0, [], plain(b"w" * 255)) for _ in range(events)])
     made = made._replace(header=plain(b"w" * (length - menu.block_size(made))))
     assert menu.block_size(made) == length
     return made
+
+
+def fullest():
+    """Every value, count and length at its most: a block of over 30,000 bytes."""
+    string = plain(b"\x7f" * 255, [Escape(1023, 63, 255)] * 255)
+    made = Menu(1, 65535, 2, 7, 255, [(63, 63, 255)] * 63, string, [Event(65535, 15, [(0xFF, 0xFFFFFFFF)] * 15, string)] * 15)
+    assert menu.block_size(made) > 30000
+    return made
+
+
+def inner(**change):
+    """A menu of three events with two escapes and two attributes each; something else in the one in the middle."""
+    event = Event(1, 2, [(0x20, 1), (0xC8, 2)], plain(b"ab", [Escape(1, 2, 3), Escape(4, 5, 6)]))
+    return EMPTY._replace(header=event.string, events=[event, event._replace(**change), event])
 
 
 # --- blocks that aren't as they should be -------------------------------------------
@@ -103,6 +117,19 @@ class Block:
 
 
 CONTROL, KIND, ACCESS, HEADER_SIZE, EVENTS, DESCRIPTORS = (8, 10), (18, 6), (24, 2), (44, 2), (46, 4), (54, 6)
+
+
+def spare_fields(count):
+    """reserved, fill_up_1 and, where the number of descriptors is even, fill_up_2, as (place, width)."""
+    return ((27, 1), (53, 1), (60 + 20 * count, 4))[:3 - count % 2]
+
+
+def changed(made, place, width, value):
+    """A menu's record with another value in a field."""
+    block = Block(made)
+    block.field(place, width, value)
+    return block.record()
+
 
 FAULTS = {
     "setting": lambda b: setattr(b, "application", 32),
@@ -138,7 +165,7 @@ def size_cases(read, dice):
     """Control sizes that don't fit: under 4, past the block, one off; then what is a control byte and what a string byte goes by them."""
     for made in (SAMPLE, EMPTY, some_menu(dice, descriptors=2)):
         right = menu.width(made) // 8
-        for control in (0, 1, 3, 4, 5, right - 1, right + 1, right + 3, right + 4, 500, 1023):
+        for control in (0, 1, 2, 3, 4, 5, right - 1, right + 1, right + 3, right + 4, 500, 1023):
             block = Block(made)
             block.field(*CONTROL, control)
             whole = block.record()
@@ -149,6 +176,7 @@ def size_cases(read, dice):
                 again = menu.summed(1, nibbles, whole[HEAD + count:])
                 strings = bytes(with_parity(b & 0x7F) for b in again[HEAD + count:])
                 read(again), read(again[:HEAD + count] + strings), read(with_bytes(again, (HEAD + count - 1, LOST)))
+                read(with_bytes(again, (HEAD, octet.image(octet.decode(again[HEAD]) ^ 1))))        # 11 before 14
                 if strings:
                     read(again[:HEAD + count] + strings[:-1] + bytes([strings[-1] ^ 0x80]))
         for descriptors in (0, 1, 2, 3, 63):
@@ -173,6 +201,42 @@ def size_cases(read, dice):
         block = Block(SAMPLE._replace(descriptors=[]))
         block.field(27, 1, 1), block.field(53, 1, bit % 2), block.field(60, 4, 1 << bit)
         read(block.record())
+    for count in range(5):                                           # each of them alone
+        for place, width in spare_fields(count):
+            for value in range(1, 1 << width):
+                read(changed(SAMPLE._replace(descriptors=[(7, 1, 0)] * count), place, width, value))
+
+
+def odd_cases(read):
+    """An odd size. Where twice the control size is one above it the last byte is a control byte, where it is one below a string byte."""
+    for size in (9, 11, 29, 301):
+        for control in (size + 1) // 2, (size - 1) // 2:
+            block = Block(SAMPLE)
+            block.nibbles, block.strings = (block.nibbles + [7] * size)[:size - 1] + [0], b""
+            block.field(*CONTROL, control)
+            for block.off in 0, 1:
+                record = block.record()
+                read(record), read(with_bytes(record, (-1, LOST))), read(with_bytes(record, (-1, record[-1] ^ 8)))
+
+
+def far_cases(read):
+    """A byte that can't be decoded and one of wrong parity, early and late in a large block; the first counts."""
+    control, words = listed(1, filled(1023, 1)), listed(1, worded(2047))
+    for at in (255, 256, 1501, 2049):
+        read(with_bytes(control, (at, LOST), (2049, LOST))), read(with_bytes(words, (at, 0), (-1, 0)))
+    read(with_bytes(control, (-1, 0)))
+
+
+def head_cases(read):
+    """What stands before the raw bytes: a record longer than its size says, one that hasn't got a head, part and second byte."""
+    good = listed(1, SAMPLE)
+    for more in (1, 2, 3, 4, 100, 256, 2048):
+        read((good * 30)[:len(good) + more])
+    for application in (1, 31, 32, 33, 255):
+        for length in (0, 1, 2, 3, len(good)):
+            read(good[:length], application)
+    for part, second in ((0, 2), (0, 255), (128, 0), (255, 0), (255, 255), (1, 1), (2, 1), (3, 1), (4, 1), (5, 1)):
+        read(with_bytes(good, (2, part), (3, second)))
 
 
 def parity_cases(read, dice):
@@ -208,22 +272,34 @@ def write_faults(write, dice):
     for length in range(len(form)):
         write(form[:length])
     write(form + b"\x00"), write(form + form)
-    for kind in (0, 1, 2, 4, 7, 8, 0x43, 255):
+    for kind in (0, 1, 2, 4, 7, 8, 0x43, 0x83, 255):
         for length in (8, 9, 10, len(form)):
             write(with_bytes(form, (0, kind))[:length])
+        write(with_bytes(form, (0, kind)), 32), write(with_bytes(form, (0, kind)), room=0)
+    write(form, 32, 0), write(form[:-1], room=0), write(form[:8], room=0)
     for at in range(len(form)):                                      # each byte at the ends of its range and past them
         for value in (0, 1, 2, 3, 7, 8, 15, 16, 63, 64, 0x7F, 0x80, 255) if at < 12 else (3, 4, 16, 64, 0x80, 255):
             write(with_bytes(form, (at, value)))
+    second = [plain(b"", [Escape(0, 0, 0), wrong]) for wrong in (Escape(1024, 0, 0), Escape(0, 64, 0))]
     too_many = (
         EMPTY._replace(descriptors=[(0, 0, 0)] * 64), EMPTY._replace(descriptors=[(0, 0, 0)] * 255), EMPTY._replace(events=[Event(0, 0, [], plain(b""))] * 16),
         EMPTY._replace(events=[Event(0, 0, [(0, 0)] * 16, plain(b""))]), EMPTY._replace(header=plain(b"", [Escape(1024, 0, 0)])),
         EMPTY._replace(header=plain(b"", [Escape(0xFFFF, 0, 0)])), EMPTY._replace(header=plain(b"", [Escape(0, 64, 0)])), EMPTY._replace(header=plain(b"\x80")),
         EMPTY._replace(events=[Event(0, 16, [], plain(b""))]), EMPTY._replace(header_size=3), EMPTY._replace(header_size=4), EMPTY._replace(message_size=8),
         EMPTY._replace(copyright=2), EMPTY._replace(descriptors=[(64, 0, 0)]), EMPTY._replace(descriptors=[(0, 64, 0)]),
-        EMPTY._replace(events=[Event(0, 0, [], plain(b"a\xff"))]))
+        EMPTY._replace(events=[Event(0, 0, [], plain(b"a\xff"))]),
+        *(inner()._replace(header=string) for string in second), *(inner(string=string) for string in second), inner(string=plain(b"ab\x80c")),
+        inner(link_type=16), inner(attributes=[(0x80, 0)] * 16), inner()._replace(descriptors=[(1, 1, 1), (64, 1, 1), (1, 1, 1)]))
     for made in too_many:
         form = menu.form_of(made)
         write(form), write(form, room=0), write(form[:-1]), write(form, 32)
+    for count in (16, 17, 32, 255):
+        for made in (EMPTY._replace(events=[Event(0, 0, [], plain(b""))] * count), inner(attributes=[(0x20, 1)] * count)):
+            write(menu.form_of(made)), write(menu.form_of(made)[:-1])
+    form = menu.form_of(inner())
+    for at, byte in enumerate(form):                                 # an attribute of another width than its counts make room for
+        if byte in (0x20, 0xC8):
+            write(with_bytes(form, (at, byte ^ 0xE8)))
 
 
 # --- listings -----------------------------------------------------------------------
@@ -245,6 +321,8 @@ def list_cases(script, dice, size):
     for number in (0, 5, 9, 256, 65535):
         show(number, sample), show(number, sample, 2), show(number, b""), show(number, sample, 32), show(number, sample[:-1]), show(number, sample, room=0)
     show(0, sample[:-1], 32), show(0, b"\x01"), show(0, sample + b"\x01\x00\x00"), show(0, sample[:-1], room=0), show(9, b"", room=9), show(9, b"", room=10)
+    for application in (0, 31, 32, 33, 255):
+        show(0, listed(min(application, 31), SAMPLE), application), show(0, sample, application, 0)
     # levels: a row of menus each linking to the next, of seven, eight, nine and ten; the last links on
     for levels in (7, 8, 9, 10):
         show(1, listed(1, *(linked(n, n + 1) for n in range(1, levels + 1))))
@@ -268,6 +346,7 @@ def list_cases(script, dice, size):
     bad = Block(one)
     bad.field(*HEADER_SIZE, 3)
     show(4, bad.record() + listed(1, two)), show(4, guide.record_of(guide.head_of(1, 0), b"") + listed(1, two))
+    passed_over(show), long_cases(show)
     # what is printed for each code
     show(1, listed(1, EMPTY._replace(block_no=1, header=plain(bytes(range(0x80))), events=[Event(65535, 0, [], plain(bytes(range(0x7F, -1, -1))))])))
     for number in (0, 9, 10, 99, 100, 9999, 10000, 65535):
@@ -282,6 +361,56 @@ def list_cases(script, dice, size):
         show(dice.below(numbers), records, room=dice.pick([65536, 4096, 500]))
     for payload in (b"", b"\x01", b"\x01\x00"):
         script.case(41, 99, payload)
+
+
+def passed_over(show):
+    """A record of the number that is asked for, before another: refused for each cause, or taken with what isn't as it is written."""
+    one, two = linked(4, 8, 9, header=b"one"), listed(1, linked(4, header=b"two"))
+    for fault in ("part", "second", "size", "first", "kind", "access", "rest", "parity", "sum", "header", "lengths"):
+        block = Block(one)
+        FAULTS[fault](block)
+        show(4, block.record() + two), show(4, block.record())
+    whole = listed(1, one)
+    for at in range(HEAD + 11, HEAD + menu.width(one) // 4, 7):      # bytes behind its number
+        show(4, with_bytes(whole, (at, LOST)) + two)
+    for kind in DATATYPES:
+        show(4, changed(one, *KIND, kind) + two)
+    show(4, b"".join(table.write_block(1, table.form_of(CASE_G._replace(kind=kind, descriptors=[]))) for kind in (table.LI, table.TI)) + two)
+    for part in range(6):
+        show(4, with_bytes(whole, (2, part)) + two)
+    for bit in range(8):                                             # a third of its control bytes mended
+        show(4, with_bytes(whole, *((at, whole[at] ^ 1 << bit) for at in range(HEAD + bit % 3, HEAD + menu.width(one) // 4, 3))) + two)
+    for place, width in spare_fields(0):
+        show(4, changed(one, place, width, (1 << width) - 1) + two)
+
+
+def long_listing(length):
+    """Menus of which 1 has a listing of so many bytes: it links twice to 2, that fifteen times to 3; its own strings make up the rest."""
+    deep = [linked(2, *[3] * 15), worded(2047)._replace(block_no=3)]
+    first = linked(1, 2, 2, header=b"")
+    left = length - len(menu.list_menu(1, 1, listed(1, first, *deep)))
+    for at, event in enumerate(first.events):
+        some = min(left, 253)
+        first.events[at] = event._replace(string=plain(event.string.codes + b"." * some))
+        left -= some
+    assert left == 0
+    return listed(1, first, *deep)
+
+
+def long_cases(show):
+    """A large record, a hundred records, the longest listing that the room can hold and one byte more, bytes behind the last record."""
+    large, small = worded(2047), linked(1, 2)
+    show(0, listed(1, large)), show(1, listed(1, large, small, large)), show(0, listed(1, small, large), room=2000)
+    hundred = [linked(n, 99 - n) for n in range(100)]
+    for number in (0, 57, 99, 100):
+        show(number, listed(1, *hundred))
+    show(3, listed(1, *[linked(3, header=b"%d" % n) for n in range(100)]))
+    show(1, long_listing(65536), room=65536), show(1, long_listing(65536), room=65535)
+    for room in (65536, 65537, 2 ** 32 - 1):                         # no more than 65,536 is ever lent
+        show(1, long_listing(65537), room=room), show(0, listed(1, SAMPLE), room=room)
+    for length in (1, 2, 3):
+        show(1, listed(1, small) + listed(1, small)[:length]), show(1, listed(1, small)[:length])
+        show(1, listed(1, small) + listed(1, small)[:length], room=0)
 
 
 def list_call(payload, room=65536):
@@ -318,6 +447,10 @@ def script_of(dice, size):
         rooms(made, dice.below(32))
     for descriptors in (*range(8), 31, 32, 61, 62, 63):
         both(some_menu(dice, descriptors=descriptors, events=descriptors % 3))
+    for count in range(64):
+        both(EMPTY._replace(descriptors=[(at, 63 - at, 255 - 4 * at) for at in range(count)]))
+    for kind in (0x00, 0x7F, 0x80, 0xBF, 0xC0, 0xDF, 0xE0, 0xFF):     # no bits and all bits
+        both(EMPTY._replace(events=[Event(0, 0, [(kind, info) for info in (0, (1 << 8 * menu.info_bytes(kind)) - 1, 0)], plain(b""))]))
     for kind in KINDS:
         both(EMPTY._replace(events=[Event(1, 2, [some_attribute(dice, kind), (0, 1), some_attribute(dice, kind)], plain(b"k"))]))
     for count in (14, 15):
@@ -335,9 +468,14 @@ def script_of(dice, size):
         both(made)
     for made in (filled(1023, 2), filled(1024, 0), filled(1022, 4), worded(2048)):
         write(menu.form_of(made)), write(menu.form_of(made)[:-1]), write(menu.form_of(made), room=0)
+    for made in (worded(2049), *(worded(length, 15) for length in (4095, 4096, 4097)), fullest()):
+        write(menu.form_of(made))
+    for room in (65536, 65537, 2 ** 32 - 1):
+        both(SAMPLE, room=room)
     record = menu.write_menu(1, menu.form_of(filled(1023, 1)))
     read(with_bytes(hit(dice, record[:-1], 2046) + record[-1:], (2, 5)), room=8192)
     fault_cases(read), size_cases(read, dice), parity_cases(read, dice), write_faults(write, dice)
+    head_cases(read), odd_cases(read), far_cases(read)
     good = menu.write_menu(1, menu.form_of(SAMPLE))
     for length in range(0, len(good), 3):
         read(good[:length])
@@ -345,7 +483,7 @@ def script_of(dice, size):
         head = guide.head_of(1, n)
         for raw in (octet.images([0] * n), bytes([LOST]) * n, dice.bytes(n)):
             read(guide.record_of(head, raw)), read(guide.record_of(head, raw, 6))
-    for kind in (0, 1, 2, 3, 4, 7, 8, 0x3F):
+    for kind in DATATYPES:
         for access in range(4):
             block = Block(SAMPLE)
             block.field(*KIND, kind), block.field(*ACCESS, access)
