@@ -5,7 +5,7 @@ from model.sheet import MOST_BYTES, MOST_ENTRIES, MOST_STAMP, Entry
 from model.table import LI, TI, Table
 
 from .form import Script, line, room_tried
-from .table import LATER, limits, shaped, some_word, spread
+from .table import CASE_G, LATER, limits, shaped, some_word, spread, unwritable
 
 BLOCKS = table.NUMBERS
 
@@ -45,6 +45,14 @@ def sized(length):
         digits = 1 + min(9, length - len(sheet.written(entries)))
         entries[at] = entries[at]._replace(stamp=int("1" * digits))
     assert len(sheet.written(entries)) == length and sheet.read(sheet.written(entries)) == entries
+    return entries
+
+
+def most_entries():
+    """The most entries that there is room for, 448: most of the least length, and with so many of block 32768 it is 16,384 bytes."""
+    tables = [Table(kind, 0, 0, network, []) for network in range(256) for kind in (LI, TI)][:434]
+    entries = sheet.joined([Entry(0, t) for t in tables], [Entry(0, t._replace(block_no=0x8000)) for t in tables[:14]])
+    assert len(entries) == 448 and len(sheet.written(entries)) == MOST_BYTES
     return entries
 
 
@@ -106,6 +114,10 @@ class Sheets:
     def both(self, first, second, room=MOST_BYTES):
         self.join(first, second, room), self.join(second, first, room)
 
+    def everywhere(self, text):
+        """A sheet in each place where one is lent."""
+        self.rewrite(text), self.add(1, text, form_of(SAMPLE[1])), self.both(text, sheet.written(SAMPLE[1:2]))
+
 
 # --- reading --------------------------------------------------------------------
 
@@ -151,6 +163,8 @@ def value_faults(sheets, dice):
     for digits in (b"9" * 3000, b"1" + b"0" * 4999, b"0" * 2000, b"18446744073709551616" * 100):
         for old in (b"stamp=1", b"descriptor=3"):
             given(old, old.partition(b"=")[0] + b"=" + digits)
+    for old in (b"network=2", b"block=0", b"language=dut", b"page=000888"):
+        given(old, old.partition(b"=")[0] + b"=1" + b"0" * 1999)
     for value in (b"du", b"dutc", b"Dut", b"DUT", b"du1", b"d t", b"647574", b"64757A", b"64757a", b"64757b", b"647560", b"607574", b"617574",
                   b"7a7a7a", b"616161", b"606161", b"7b7a7a", b"61607a", b"aaaaaa", b"abcdef", b"000000", b"ffffff", b"FFFFFF", b"12345", b"1234567",
                   b"12345g", b"", b"`aa", b"{aa", b"aaz", b"zza", b"64757", b"zzzzzz"):
@@ -183,7 +197,7 @@ def key_faults(sheets, dice):
     for within, over in list(limits())[:2]:
         for t in (within, over):
             sheets.rewrite(sheet.written([Entry(0, t)]), 0)     # in form or not is judged before the room
-    sheets.rewrite(sheet.written([largest()]))
+    sheets.rewrite(sheet.written([largest()]), 0)
     for block_no in LATER[::2]:                                 # a number of a later edition is a table that can't be written
         for kind in (LI, TI):
             t = Table(kind, 0, block_no, 3, [(1, [])])
@@ -191,42 +205,72 @@ def key_faults(sheets, dice):
             sheets.rewrite(text), sheets.join(b"", text), sheets.rewrite(text + b"x"), sheets.rewrite(text.replace(b"descriptor=1\n", b"descriptor=\n"))
 
 
+def lent_faults(sheets):
+    """Keys that don't rise and tables that can't be written, in each place where a sheet is lent. They are told at the entry's empty line:
+    not where a line before that is bad, or the sheet ends there."""
+    before, behind = (Entry(1, Table(LI, 0, 0, network, [])) for network in (0, 255))
+    pairs = [[Entry(1, Table(kind, 0, block, network, [(1, [])])) for network, kind, block in pair] for pair in (
+        ((3, TI, 0), (3, TI, 0)), ((3, TI, 0), (2, TI, 0)), ((3, TI, 0), (3, LI, 0)), ((3, LI, 0x8000), (3, LI, 0)))]
+    for t in (shaped(LI, [16]), shaped(TI, [0] * 64), CASE_G._replace(block_no=3)):
+        bad = Entry(1, t._replace(network=7))
+        pairs.append([before, bad]), sheets.everywhere(sheet.written([bad, behind]))
+    for pair in pairs:
+        text = sheet.written(pair)
+        sheets.everywhere(text), sheets.everywhere(text[:-2]), sheets.rewrite(text[:-1]), sheets.rewrite(text[:-1] + b"x\n\n")
+    within, (_, over_ti), (_, over_li) = list(limits())[2][0], *list(limits())[4:]         # 8,184 bits; 8,186
+    sheets.rewrite(sheet.written([Entry(0, within)]), 0), sheets.rewrite(sheet.written([Entry(0, over_ti)]))
+    sheets.everywhere(sheet.written([before, Entry(0, over_li._replace(network=7))]))
+
+
 # --- limits ---------------------------------------------------------------------
 
 def limit_cases(sheets, dice):
     full, over = sheet.written(sized(MOST_BYTES)), sheet.written(sized(MOST_BYTES + 1))
-    sheets.rewrite(full), sheets.rewrite(over, 0), sheets.rewrite(b"x" + full)
+    sheets.rewrite(full, MOST_BYTES - 1), sheets.rewrite(b"x" + full, 0)
     for count in (64, 65):
-        sheets.rewrite(sheet.written(small(count))), sheets.rewrite(sheet.written(small(count)), 0)
-    text = sheet.written(small(100))
-    sheets.rewrite(text), sheets.rewrite(text + b"stamp=01\n"), sheets.rewrite(text + b"\n"), sheets.rewrite(text[:-1])
-    many = small(460)
-    while len(sheet.written(many)) > MOST_BYTES:
-        many.pop()
-    sheets.rewrite(sheet.written(many))
+        text = sheet.written(small(count))
+        sheets.rewrite(text), sheets.rewrite(text, 0)
+    sheets.rewrite(text + b"stamp=01\n"), sheets.rewrite(text + b"\n"), sheets.rewrite(text[:-1])
+    sheets.rewrite(sheet.written(most_entries()))
     # a result of 64 entries or of 16,384 bytes, and one more
     one = Entry(5, Table(LI, 0, 0, 200, []))
     for count in (63, 64):
         text = sheet.written(small(count))
-        sheets.add(5, text, form_of(one)), sheets.add(5, text, form_of(one), 0), sheets.add(5, text, form_of(small(1)[0]))
-        sheets.both(text, sheet.written([one])), sheets.join(text, sheet.written(small(64, 1)))
-    for length in (MOST_BYTES, MOST_BYTES + 1):
-        text = sheet.written(sized(length - len(sheet.text_of(one))))
-        sheets.add(5, text, form_of(one))
-    sheets.join(sheet.written([one]), text)
-    # one entry is put for another: by its length the result fits or doesn't
-    for length in (MOST_BYTES - 1, MOST_BYTES):
-        entries = sized(length)
-        other = entries[-1]._replace(stamp=entries[-1].stamp * 10 + 1)
-        sheets.add(other.stamp, sheet.written(entries), form_of(other), 0)
+        sheets.add(5, text, form_of(one)), sheets.add(5, text, form_of(one), 0), sheets.both(text, sheet.written([one]))
+    sheets.add(5, text, form_of(small(1)[0])), sheets.join(text, sheet.written(small(64, 1)))
+    text = sheet.written(sized(MOST_BYTES + 1 - len(sheet.text_of(one))))
+    sheets.add(5, text, form_of(one)), sheets.join(sheet.written([one]), text)
+    # one entry is put for another that is a byte shorter
+    entries = sized(MOST_BYTES - 1)
+    other = entries[-1]._replace(stamp=entries[-1].stamp * 10 + 1)
+    sheets.add(other.stamp, sheet.written(entries), form_of(other), 0)
     sheets.add(MOST_STAMP, b"", form_of(largest())), sheets.add(MOST_STAMP, b"", form_of(largest()), 5923)
-    three = [largest()._replace(table=largest().table._replace(network=network)) for network in (1, 2)]
-    sheets.join(sheet.written(three), sheet.written([largest()]))
-    # a lent sheet that is too long comes before one out of form, of the first or the second
-    for first, second in ((over, b"x"), (b"x", over), (b"x", b""), (b"", b"x"), (b"y", b"\nx"), (sheet.written(SAMPLE)[:-1], b"\n"),
+    # a lent sheet that is too long comes before one out of form, be it that sheet, the first or the second
+    for first, second in ((b"x" + full, b"x"), (b"x", b"x" + full), (b"x", b""), (b"", b"x"), (b"y", b"\nx"), (sheet.written(SAMPLE)[:-1], b"\n"),
                           (b"\n", sheet.written(SAMPLE)[:-1])):
         sheets.join(first, second, 0)
-    sheets.add(0, over, form_of(one), 0), sheets.add(0, over, form_of(one)[:-1]), sheets.add(0, b"x", form_of(one), 0)
+    sheets.add(0, b"x" + full, form_of(one), 0), sheets.add(0, over, form_of(one)[:-1]), sheets.add(0, b"x", form_of(one), 0)
+    for wrong in (CASE_G._replace(block_no=3), CASE_G._replace(descriptors=[(64, [])])):        # and behind the form's own, 22 and 15
+        sheets.add(0, over, table.form_of(wrong))
+
+
+def full_cases(sheets):
+    """A lent sheet of just 16,384 bytes: one of its entries is put for another of its length, and all of them for shorter ones."""
+    full = sized(MOST_BYTES)
+    later = full[7]._replace(stamp=full[7].stamp + 1)
+    sheets.join(sheet.written(full), sheet.written([later]))
+    thin = [Entry(MOST_STAMP, entry.table._replace(descriptors=[])) for entry in full]
+    sheets.join(sheet.written(thin), sheet.written(full))
+
+
+def many_cases(sheets):
+    """Lent sheets of over 64 entries, in form: the result has as many, so it is 21. Out of form, and it is 20."""
+    many, most, one = small(65), most_entries(), Entry(5, Table(LI, 0, 0, 255, []))
+    text, other = sheet.written(many), sheet.written([one])
+    sheets.add(5, text, form_of(many[30])), sheets.add(5, text, form_of(one), 0), sheets.both(text, other)
+    sheets.add(5, text[:-1], form_of(one)), sheets.both(text[:-1], other)
+    sheets.add(5, sheet.written(most), form_of(one)), sheets.add(5, sheet.written(most)[:-1], form_of(one))     # over both limits
+    sheets.join(sheet.written(most[::2]), sheet.written(most[1::2] + [one]))
 
 
 # --- adding and joining ---------------------------------------------------------
@@ -251,6 +295,9 @@ def choice_cases(sheets, dice):
             entries = [Entry(stamp, t) for stamp, t in zip((one, other), tables)]
             sheets.join(sheet.written(entries[:1]), sheet.written(entries[1:]))
             sheets.add(other, sheet.written(entries[:1]), form_of(entries[1], dice.below(2)))
+    for one, other in ((0, 1), (1, 4), (4, 6), (4, 5), (4, 10)):        # a prefix of the other, or before it: which was there, which comes
+        for old, new in ((one, other), (other, one), (other, other)):
+            sheets.add(3, sheet.written([Entry(3, RIVALS[old])]), form_of(Entry(3, RIVALS[new])))
     pages = [Table(TI, 0, 0, 7, [(5, [0x647574, page])]) for page in (0x000888, 0x000889, 0x00088A, 0xA00888)]
     for one in pages:
         for other in pages:
@@ -277,10 +324,16 @@ def add_cases(sheets, dice, size):
         other = form_of(Entry(0, SAMPLE[2].table._replace(block_no=block_no)))
         for wrong in (other, other[:-1], other[:6], other[:5], other[:4], other[:3], b"\x03" + other[1:], b"\x08\x02" + other[2:]):
             sheets.add(1, dice.pick([text, b"", b"x", text + b"\n"]), wrong, dice.pick([0, 999]))
+    for wrong in unwritable():
+        for block_no in (0, 3):
+            sheets.add(1, b"x", table.form_of(wrong._replace(block_no=block_no)), 0)
+    few = sheet.written(SAMPLE[:1])
+    for room in (MOST_BYTES + 1, 65536, 65537):
+        sheets.add(1, few, form, room), sheets.rewrite(few, room), sheets.join(few, few, room)
     for at in range(0, len(text), 7):                   # a sheet out of form
         sheets.add(1, text[:at] + b"?" + text[at + 1:], form)
-    for _ in range(15 * size):
-        sheets.add(some_stamp(dice), sheet.written(some_sheet(dice, dice.below(12), 6)), form_of(some_entry(dice, dice.below(6)), dice.below(2)))
+    for _ in range(8 * size):
+        sheets.add(some_stamp(dice), sheet.written(some_sheet(dice, dice.below(6), 3)), form_of(some_entry(dice, dice.below(3)), dice.below(2)))
     for payload in (b"", bytes(7), bytes(8), bytes(4) + b"\x01\x00\x00\x00", bytes(4) + b"\xff\xff\xff\xff" + bytes(90)):
         sheets.script.case(51, 99, payload)
 
@@ -291,11 +344,11 @@ def join_cases(sheets, dice, size):
     sheets.both(sheet.written(SAMPLE[::2]), sheet.written(SAMPLE[1::2])), sheets.both(sheet.written(SAMPLE[:2]), sheet.written(SAMPLE[2:]))
     room_tried(sheets.script, 50, text, sheet.rewrite)
     room_tried(sheets.script, 52, join_payload(text, sheet.written(SAMPLE[:3])), join_call)
-    for _ in range(8 * size):
-        first, second, third = (sheet.written(some_sheet(dice, dice.below(6), 3)) for _ in range(3))
+    for _ in range(4 * size):
+        first, second, third = (sheet.written(some_sheet(dice, dice.below(4), 2)) for _ in range(3))
         sheets.both(first, second), sheets.rewrite(third)
         sheets.join(sheet.join(first, second), third), sheets.join(first, sheet.join(second, third))
-    for _ in range(30 * size):                          # anything changed: a byte, a line
+    for _ in range(10 * size):                          # anything changed: a byte, a line
         first, second = (bytearray(sheet.written(some_sheet(dice, 4, 4)) or text) for _ in range(2))
         spoilt(dice, dice.pick([first, second])), sheets.join(bytes(first), bytes(second))
         spoilt(dice, first), sheets.rewrite(bytes(first))
@@ -322,6 +375,7 @@ def spoilt(dice, text):
 def script_of(dice, size):
     sheets = Sheets()
     line_faults(sheets, dice), value_faults(sheets, dice), key_faults(sheets, dice), limit_cases(sheets, dice), choice_cases(sheets, dice)
+    lent_faults(sheets), full_cases(sheets), many_cases(sheets)
     add_cases(sheets, dice, size), join_cases(sheets, dice, size)
     for op in (0, 49, 53, 255):
         sheets.script.case(op, 99, sheet.written(SAMPLE))
