@@ -1,6 +1,6 @@
 -- What stands at a place, by the tests that tell: the number of bytes left, and the 16 bits there. Assumes nothing.
-use mathlib.Core.Path.{_≡_, _∙_, sym, ap₂}
-use mathlib.Core.Bool.{true, false}
+use mathlib.Core.Path.{_≡_, _∙_, refl, sym, ap₂}
+use mathlib.Core.Bool.{Bool, true, false}
 use mathlib.Core.List.{List}
 use Prim.Native.Nat.{ℕ, _+_, _-_, _*_, _/_, _<_, _≤_}
 use native.Mathlib.Nat.{add-zero, add-assoc}
@@ -12,8 +12,8 @@ use borrow.Author.Tests.{eq-eqb, ne-eqb, le-leb, lt-leb}
 use Rattle.laws.proofs.Tests.{both-false}
 use Rattle.blocks.specs.declared.Found.the-variants.{End, Record, Broken}
 use Rattle.blocks.specs.Block.{headLength, headOf, recordLength, begins}
-use Rattle.blocks.specs.Place.{foundAt}
-use Rattle.blocks.proofs.Walking.{begins-not}
+use Rattle.blocks.specs.Place.{foundAt, afterFound, afterAt}
+use Rattle.blocks.proofs.Walking.{begins-fits, begins-not}
 
 pub found-end : (l : List ℕ) (p : ℕ) → p ≡ length l → foundAt l p ≡ End
 unfolding foundAt
@@ -63,3 +63,16 @@ left-whole l p n h g =
     rw (le-leb headLength (length (drop p l)) (omega (arith, length-drop p l)))
     (le-leb (recordLength (drop p l)) (length (drop p l)) (omega (arith, length-drop p l))) in
     sym (found-record l p n b ∙ rw (e, ← add-assoc p headLength (headAt l p / 32)))
+
+-- ---- a walk along a list of anything goes on, and stays within it
+
+pub after-within : (l : List ℕ) (p : ℕ) → p < length l → (p < afterAt l p) × (afterAt l p ≤ length l)
+unfolding afterAt
+after-within l p h = go (begins (drop p l)) refl
+  where
+    off : p ≡ length l → ⊥
+    off e = omega arith
+
+    go : (t : Bool) → begins (drop p l) ≡ t → (p < afterFound (length l) (foundAt l p)) × (afterFound (length l) (foundAt l p) ≤ length l)
+    go true e = rw (found-record l p off e) (omega arith, omega (arith, begins-fits (drop p l) e, length-drop p l))
+    go false e = rw (found-broken l p off e) (omega arith, omega arith)

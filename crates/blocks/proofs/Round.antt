@@ -1,18 +1,17 @@
 -- Blocks to records and back: the records of any blocks that have the sizes they say are a list of whole records, and those
 -- blocks are what it holds. Assumes nothing.
 use mathlib.Core.Path.{_≡_, _∙_, refl, sym, ap, ap₂}
-use mathlib.Core.Bool.{Bool, true, false}
+use mathlib.Core.Bool.{true}
 use mathlib.Core.List.{List, [], _∷_, _++_}
-use Prim.Native.Nat.{ℕ, zero, suc}
+use Prim.Native.Nat.{ℕ, suc}
 use native.Mathlib.Omega.{arith}
-use lib.ListN.{length, drop, length-append, length-drop}
-use lib.Seq.{take-at, drop-at, length-take-le}
+use lib.ListN.{length, drop, length-append}
+use lib.Seq.{take-at, drop-at}
 use borrow.Author.Tests.{le-leb}
-use Rattle.laws.specs.Pick.{pick}
 use Rattle.blocks.specs.Block.{Block, headLength, sizeOf, recordOf, recordsOf, headOf, recordLength, begins, blockOf, whole, blocksWithin, blocks}
 use Rattle.laws.specs.Each.{Each, nil, and}
 use Rattle.blocks.specs.Sizes.{Sized}
-use Rattle.blocks.proofs.Walking.{whole-end, whole-step, blocks-step, begins-fits}
+use Rattle.blocks.proofs.Walking.{whole-end, whole-step, blocks-step}
 
 module _ (b : Block) (rest : List ℕ) (h : sizeOf (b .head) ≡ length (b .raw)) where
   abbrev first : List ℕ
@@ -56,21 +55,3 @@ blocks-records (and {a = b} {l = bs} h s) =
     blocks-step (recordOf b ++ recordsOf bs) (first-begins b (recordsOf bs) h)
     ∙ ap₂ {C = List Block} (λ c cs. c ∷ cs) (first-block b (recordsOf bs) h)
     (ap blocks (first-rest b (recordsOf bs) h) ∙ blocks-records s)
-
--- and the blocks of any list have the sizes they say
-sized-within : (f : ℕ) (l : List ℕ) → Each Sized (blocksWithin f l)
-unfolding blocksWithin
-sized-within zero l = nil
-sized-within (suc f) l = go (begins l) refl (sized-within f (drop (recordLength l) l))
-  where
-    go :
-        (t : Bool) → begins l ≡ t → Each Sized (blocksWithin f (drop (recordLength l) l))
-        → Each Sized (pick t (blockOf l ∷ blocksWithin f (drop (recordLength l) l)) [])
-    go false e s = nil
-    go true e s =
-        and
-        (sym (length-take-le (sizeOf (headOf l)) (drop headLength l) (omega (arith, begins-fits l e, length-drop headLength l))))
-        s
-
-pub blocks-sized : (l : List ℕ) → Each Sized (blocks l)
-blocks-sized l = sized-within (length l) l

@@ -15,3 +15,13 @@ foundAt l place =
     let rest = drop place l in
     pick (eqb place (length l)) End
     (pick (begins rest) (Record (headOf rest) (place + headLength) (place + recordLength rest)) Broken)
+
+-- the place after what was found; where it is no record, the end of the list
+abbrev pub afterFound : ℕ → Found → ℕ
+afterFound end (Record head raw next) = next
+afterFound end End = end
+afterFound end Broken = end
+
+-- the place after the record at a place
+unfoldable pub afterAt : List ℕ → ℕ → ℕ
+afterAt l place = afterFound (length l) (foundAt l place)

@@ -1,7 +1,7 @@
 // Blocks as they go between the calls: a record has a block's 16 bits in two bytes, the low one first, its part (SCOPE 19.3),
 // a byte 0, and its raw bytes (SCOPE 10.3). The reader hands out records, one after the other; the writer and block reading take them.
 ghost use mathlib.Core.Path.{_≡_};
-ghost use Rattle.blocks.specs.Place.{foundAt};
+ghost use Rattle.blocks.specs.Place.{foundAt, afterAt};
 
 // How many bytes of a record stand before its raw bytes.
 pub const HEAD: usize = 4;
@@ -43,5 +43,21 @@ pub fn record_at(records: &[u8], place: usize) -> Found
         head,
         raw,
         next: raw + size,
+    }
+}
+
+// The place after the record that stands at a place, or the end of the list where none does. To walk a list of anything,
+// start at 0 and go on there: each turn takes a whole record, and the last one what is left.
+pub fn after(records: &[u8], place: usize) -> usize
+    ensures { λ r. ⌜ r ≡ afterAt (now (records .entry)) place ⌝ }
+{
+    match record_at(records, place) {
+        Found::Record {
+            head: _,
+            raw: _,
+            next,
+        } => next,
+        Found::End => records.len(),
+        Found::Broken => records.len(),
     }
 }

@@ -44,12 +44,14 @@ use Rattle.units.proofs.marks.line_fits.Reads as units·line-fits
 use Rattle.pes.proofs.read.Reads as pes·read
 use Rattle.pes.proofs.judge.Reads as pes·judge
 use Rattle.pes.proofs.find.Reads as pes·find
+use Rattle.pes.proofs.has_code.Reads as pes·has-code
 use Rattle.pes_writer.proofs.write.Reads as pes-writer·write
 use Rattle.stripped.proofs.strip.Reads as stripped·strip
 use Rattle.stripped.proofs.loss.blank.Reads as stripped·blank
 use Rattle.pes.proofs.ebu.is_ebu.Reads as pes·is-ebu
 use Rattle.pes.proofs.ebu.turn_run.Reads as pes·turn-run
 use Rattle.blocks.proofs.record_at.Reads as blocks·record-at
+use Rattle.blocks.proofs.after.Reads as blocks·after
 use Rattle.packet.proofs.is_in_range.Reads as packet·is-in-range
 use Rattle.symbols.proofs.step.Reads as symbols·step
 use Rattle.symbols.proofs.cells.first.Reads as symbols·first
@@ -67,7 +69,6 @@ use Rattle.pages.proofs.judge.Reads as pages·judge
 use Rattle.survey.proofs.count.Reads as survey·count
 use Rattle.survey.proofs.find.Reads as survey·find
 use Rattle.survey.proofs.turn_all.Reads as survey·turn-all
-use Rattle.survey.proofs.is_pes.Reads as survey·is-pes
 use Rattle.survey.proofs.seen.note.Reads as survey·note
 use Rattle.packet.proofs.address.Reads as packet·address
 use Rattle.packet.proofs.passes_by.Reads as packet·passes-by
@@ -157,6 +158,9 @@ pes·judge-settled κs a x y s t p q = same p q
 pub pes·find-settled : (κs : _) (a : _) (x y : _) (s t : _) → pes·find.Post κs a x s → pes·find.Post κs a y t → x ≡ y
 pes·find-settled κs a x y s t p q = same p q
 
+pub pes·has-code-settled : (κs : _) (a : _) (x y : _) (s t : _) → pes·has-code.Post κs a x s → pes·has-code.Post κs a y t → x ≡ y
+pes·has-code-settled κs a x y s t p q = same p q
+
 pub pes·is-ebu-settled : (κs : _) (a : _) (x y : _) (s t : _) → pes·is-ebu.Post κs a x s → pes·is-ebu.Post κs a y t → x ≡ y
 pes·is-ebu-settled κs a x y s t p q = same p q
 
@@ -181,6 +185,9 @@ aerials·better-settled κs a x y s t p q = same p q
 
 pub blocks·record-at-settled : (κs : _) (a : _) (x y : _) (s t : _) → blocks·record-at.Post κs a x s → blocks·record-at.Post κs a y t → x ≡ y
 blocks·record-at-settled κs a x y s t p q = same p q
+
+pub blocks·after-settled : (κs : _) (a : _) (x y : _) (s t : _) → blocks·after.Post κs a x s → blocks·after.Post κs a y t → x ≡ y
+blocks·after-settled κs a x y s t p q = same p q
 
 pub packet·is-in-range-settled : (κs : _) (a : _) (x y : _) (s t : _) → packet·is-in-range.Post κs a x s → packet·is-in-range.Post κs a y t → x ≡ y
 packet·is-in-range-settled κs a x y s t p q = same p q
@@ -378,9 +385,6 @@ survey·find-settled κs a x y s t p q = same p q
 
 pub survey·turn-all-settled : (κs : _) (a : _) (x y : _) (s t : _) → survey·turn-all.Post κs a x s → survey·turn-all.Post κs a y t → now (s .0) ≡ now (t .0)
 survey·turn-all-settled κs a x y s t p q = same p q
-
-pub survey·is-pes-settled : (κs : _) (a : _) (x y : _) (s t : _) → survey·is-pes.Post κs a x s → survey·is-pes.Post κs a y t → x ≡ y
-survey·is-pes-settled κs a x y s t p q = same p q
 
 pub survey·note-settled : (κs : _) (a : _) (x y : _) (s t : _) → survey·note.Post κs a x s → survey·note.Post κs a y t → now (s .0) ≡ now (t .0)
 survey·note-settled κs a x y s t p q = same p q

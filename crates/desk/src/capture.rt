@@ -7,7 +7,6 @@ use crate::sight;
 use crate::sight::PAGES;
 use crate::sight::Sight;
 use answer::Answer;
-use blocks::Found;
 use frames::Read;
 use packet::Setting;
 use reader::HeardAll;
@@ -316,34 +315,11 @@ fn list_records(
     let mut tally = tally;
     let mut at = 0;
     while at < records.len() {
-        let next = record_end(records, at);
+        let next = blocks::after(records, at);
         tally = list_record(tally, application, &records[at..next], text, form);
         at = next;
     }
     tally
-}
-
-// The place after the record at a place, or the end where none stands there.
-fn record_end(records: &[u8], at: usize) -> usize
-    requires { ⌜ at < length (now records) ⌝ }
-    ensures { λ r. ⌜ (at < r) × (r ≤ length (now (records .entry))) ⌝ }
-{
-    let found = blocks::record_at(records, at);
-    let Found::Record {
-        head: _,
-        raw: _,
-        next,
-    } = found
-    else {
-        return records.len();
-    };
-    if next <= at {
-        return records.len();
-    }
-    if records.len() < next {
-        return records.len();
-    }
-    next
 }
 
 // Lists a record where block reading accepts it.

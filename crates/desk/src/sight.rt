@@ -82,7 +82,7 @@ fn begin(sight: Sight, bytes: &[u8]) -> Sight {
     let mut sight = sight;
     if !sight.any {
         sight.any = true;
-        sight.pes = survey::is_pes(bytes);
+        sight.pes = pes::has_code(bytes);
     }
     sight
 }

@@ -9,7 +9,6 @@ use crate::kept::NUMBERS;
 use crate::kept::STORE;
 use crate::says;
 use answer::Answer;
-use blocks::Found;
 use frames::Read;
 use packet::Setting;
 use reader::HeardAll;
@@ -294,34 +293,11 @@ fn keep_records(
     let mut kept = kept;
     let mut at = 0;
     while at < records.len() {
-        let next = record_end(records, at);
+        let next = blocks::after(records, at);
         kept = keep_record(kept, application, &records[at..next], form, store, numbers);
         at = next;
     }
     kept
-}
-
-// The place after the record at a place, or the end where none stands there.
-fn record_end(records: &[u8], at: usize) -> usize
-    requires { ⌜ at < length (now records) ⌝ }
-    ensures { λ r. ⌜ (at < r) × (r ≤ length (now (records .entry))) ⌝ }
-{
-    let found = blocks::record_at(records, at);
-    let Found::Record {
-        head: _,
-        raw: _,
-        next,
-    } = found
-    else {
-        return records.len();
-    };
-    if next <= at {
-        return records.len();
-    }
-    if records.len() < next {
-        return records.len();
-    }
-    next
 }
 
 // Keeps a record where menu reading accepts it. A block that isn't a menu of ours is passed over.

@@ -1,15 +1,19 @@
 -- What a header tells that passes its rules: how long the packet is. Assumes nothing.
 use mathlib.Core.Path.{_≡_, refl}
-use mathlib.Core.Bool.{true}
+use mathlib.Core.Bool.{true, false}
 use mathlib.Core.List.{List}
-use Prim.Native.Nat.{ℕ, _+_, _-_, _*_, _/_, _≤_}
+use Prim.Native.Nat.{ℕ, _+_, _-_, _*_, _/_, _≤_, _<_}
 use native.Mathlib.Omega.{arith}
 use lib.Dec.{eqb, leb}
-use lib.ListN.{length}
+use lib.ListN.{length, List·getD-eq-default}
 use borrow.Author.Tests.{le-leb, leb-true, eq-eqb, eqb-true}
 use Rattle.laws.specs.Pick.{both}
-use Rattle.laws.proofs.Tests.{both-first, both-second}
+use Rattle.laws.proofs.Tests.{both-first, both-second, both-false}
 use Rattle.pes.specs.Header.{startsRight, lengthFits}
+
+-- fewer than four bytes don't begin a packet
+pub too-short : (l : List ℕ) → length l < 4 → startsRight l ≡ false
+too-short l h = rw (List·getD-eq-default l 0 {n = 3} (omega arith), both-false, both-false, both-false)
 
 pub started : (pes : List ℕ) → both (leb 45 (length pes)) (startsRight pes) ≡ true → 45 ≤ length pes
 started pes h = leb-true 45 (length pes) (both-first _ (startsRight pes) h)

@@ -97,6 +97,25 @@ pub fn find(bytes: &[u8], from: usize) -> Start
     Start::Nowhere
 }
 
+// Whether bytes begin as a PES packet of teletext does: 00 00 01 BD.
+pub fn has_code(bytes: &[u8]) -> bool
+    ensures { λ r. ⌜ r ≡ startsRight (now (bytes .entry)) ⌝ }
+{
+    if bytes.len() < 4 {
+        return false;
+    }
+    if bytes[0] != 0x00 {
+        return false;
+    }
+    if bytes[1] != 0x00 {
+        return false;
+    }
+    if bytes[2] != 0x01 {
+        return false;
+    }
+    bytes[3] == 0xBD
+}
+
 // Whether a packet begins at the front.
 fn begins(bytes: &[u8]) -> bool
     ensures { λ r. ⌜ r ≡ beginsPacket (now (bytes .entry)) ⌝ }
@@ -139,23 +158,6 @@ fn starts(pes: &[u8]) -> bool
         return false;
     }
     has_code(pes)
-}
-
-// Whether bytes begin 00 00 01 BD.
-fn has_code(pes: &[u8]) -> bool
-    requires { ⌜ 4 ≤ length (now pes) ⌝ }
-    ensures { λ r. ⌜ r ≡ startsRight (now (pes .entry)) ⌝ }
-{
-    if pes[0] != 0x00 {
-        return false;
-    }
-    if pes[1] != 0x00 {
-        return false;
-    }
-    if pes[2] != 0x01 {
-        return false;
-    }
-    pes[3] == 0xBD
 }
 
 // Whether PES_packet_length, by its two bytes, is that of some N times 184 bytes, and the packet is as

@@ -9,7 +9,6 @@ use crate::says;
 use crate::work;
 use crate::work::Work;
 use answer::Answer;
-use blocks::Found;
 use frames::Read;
 use packet::Setting;
 use reader::HeardAll;
@@ -353,7 +352,7 @@ fn add_records(
     let mut added = added;
     let mut at = 0;
     while at < records.len() {
-        let next = record_end(records, at);
+        let next = blocks::after(records, at);
         added = add_record(
             added,
             stamp,
@@ -370,29 +369,6 @@ fn add_records(
         at = next;
     }
     added
-}
-
-// The place after the record at a place, or the end where none stands there.
-fn record_end(records: &[u8], at: usize) -> usize
-    requires { ⌜ at < length (now records) ⌝ }
-    ensures { λ r. ⌜ (at < r) × (r ≤ length (now (records .entry))) ⌝ }
-{
-    let found = blocks::record_at(records, at);
-    let Found::Record {
-        head: _,
-        raw: _,
-        next,
-    } = found
-    else {
-        return records.len();
-    };
-    if next <= at {
-        return records.len();
-    }
-    if records.len() < next {
-        return records.len();
-    }
-    next
 }
 
 // Adds the table of a record where block reading accepts it. A block that isn't a table of ours is passed over.

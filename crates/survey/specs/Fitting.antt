@@ -2,9 +2,8 @@
 use mathlib.Core.Bool.{Bool, true, false}
 use mathlib.Core.List.{List, [], _∷_}
 use Prim.Native.Nat.{ℕ, suc}
-use lib.Dec.{eqb, leb}
-use lib.ListN.{length, getD, take}
-use Rattle.laws.specs.Pick.{pick, both}
+use lib.ListN.{take}
+use Rattle.laws.specs.Pick.{pick}
 use Rattle.packet.specs.declared.Setting.{Setting}
 use Rattle.packet.specs.Packet.{packetLength}
 use Rattle.pages.specs.Headers.{Seen, junk, other, foreign, ours, packetY}
@@ -27,9 +26,3 @@ fits s l = isOurs (see s (take packetLength l))
 unfoldable pub firstIn : Setting → List ℕ → ℕ → Place
 firstIn s [] at = Place.Nowhere
 firstIn s (b ∷ bs) at = pick (fits s (b ∷ bs)) (Place.At at) (firstIn s bs (suc at))
-
--- bytes begin as a PES packet does: 00 00 01 BD
-unfoldable pub beginsPes : List ℕ → Bool
-beginsPes l =
-    both (leb 4 (length l))
-    (both (eqb (getD l 0 0) 0x00) (both (eqb (getD l 1 0) 0x00) (both (eqb (getD l 2 0) 0x01) (eqb (getD l 3 0) 0xBD))))

@@ -12,7 +12,7 @@ ghost use mathlib.Core.List.{map};
 ghost use Rattle.octet.specs.Turning.{turned};
 ghost use Rattle.pages.specs.Seen.{see};
 ghost use Rattle.survey.specs.Counting.{more, moreIf, counted};
-ghost use Rattle.survey.specs.Fitting.{fits, firstIn, beginsPes};
+ghost use Rattle.survey.specs.Fitting.{fits, firstIn};
 ghost use Rattle.survey.specs.Internal.{asked, mostOf, heeded};
 
 // The bytes of a packet.
@@ -67,25 +67,6 @@ pub fn turn_all(bytes: &mut [u8])
         bytes[i] = octet::turn(bytes[i]);
         i += 1;
     }
-}
-
-// Whether bytes begin as a PES packet of teletext does: 00 00 01 BD.
-pub fn is_pes(bytes: &[u8]) -> bool
-    ensures { λ r. ⌜ r ≡ beginsPes (now (bytes .entry)) ⌝ }
-{
-    if bytes.len() < 4 {
-        return false;
-    }
-    if bytes[0] != 0x00 {
-        return false;
-    }
-    if bytes[1] != 0x00 {
-        return false;
-    }
-    if bytes[2] != 0x01 {
-        return false;
-    }
-    bytes[3] == 0xBD
 }
 
 // Whether a packet 0 of our page and stream stands at the front.

@@ -1,46 +1,53 @@
--- `pes::has_code` meets its contract, by its four tests. Assumes nothing.
+-- `pes::has_code` meets its contract: its tests in order. Fewer than four bytes have no BD at place 3. Assumes nothing.
 use borrow.Author.Needs.{needs}
+use mathlib.Core.Path.{sym}
+use denote.Ref.{now}
 use borrow.Author.Tests.{eq-eqb, ne-eqb}
+use Rattle.pes.proofs.Heading.{too-short}
 use Rattle.pes.proofs.has_code.Statement.{statement}
 use Rattle.pes.proofs.has_code.Tie as tie
 
-shared-slice-read-if1 : tie.Need-shared-slice-read-if1
-shared-slice-read-if1 c = search needs
-
 returns : tie.Need-returns
-returns c = rw (ne-eqb _ _ (c .if1 .taken))
+returns c = sym (too-short (now (c .before .args .bytes)) (c .if1 .taken))
 
 shared-slice-read-if2 : tie.Need-shared-slice-read-if2
 shared-slice-read-if2 c = search needs
 
 returns-2 : tie.Need-returns-2
-returns-2 c = rw (eq-eqb _ _ (c .before .before .if1 .left), ne-eqb _ _ (c .if2 .taken))
+returns-2 c = rw (ne-eqb _ _ (c .if2 .taken))
 
 shared-slice-read-if3 : tie.Need-shared-slice-read-if3
 shared-slice-read-if3 c = search needs
 
 returns-3 : tie.Need-returns-3
-returns-3 c =
+returns-3 c = rw (eq-eqb _ _ (c .before .before .if2 .left), ne-eqb _ _ (c .if3 .taken))
+
+shared-slice-read-if4 : tie.Need-shared-slice-read-if4
+shared-slice-read-if4 c = search needs
+
+returns-4 : tie.Need-returns-4
+returns-4 c =
     let d = c .before .before in
-    rw (eq-eqb _ _ (d .before .before .if1 .left), eq-eqb _ _ (d .if2 .left), ne-eqb _ _ (c .if3 .taken))
+    rw (eq-eqb _ _ (d .before .before .if2 .left), eq-eqb _ _ (d .if3 .left), ne-eqb _ _ (c .if4 .taken))
 
 shared-slice-read-result : tie.Need-shared-slice-read-result
 shared-slice-read-result c = search needs
 
-returns-4 : tie.Need-returns-4
-returns-4 c =
+returns-5 : tie.Need-returns-5
+returns-5 c =
     let d = c .before .before .before in
-    rw (eq-eqb _ _ (d .before .before .if1 .left), eq-eqb _ _ (d .if2 .left), eq-eqb _ _ (c .before .if3 .left))
+    rw (eq-eqb _ _ (d .before .before .if2 .left), eq-eqb _ _ (d .if3 .left), eq-eqb _ _ (c .before .if4 .left))
 
 pub has-code-spec : {M : Type 1} → statement M
 has-code-spec =
     tie.close
     (tie.spec
-    shared-slice-read-if1
     returns
     shared-slice-read-if2
     returns-2
     shared-slice-read-if3
     returns-3
+    shared-slice-read-if4
+    returns-4
     shared-slice-read-result
-    returns-4)
+    returns-5)

@@ -1,8 +1,11 @@
 -- `desk::capture::list_records` is safe and ends: each turn goes on to a place further on, and not past the end. Assumes nothing.
 use borrow.Author.Needs.{needs}
-use mathlib.Core.Path.{_≡_}
-use Prim.Native.Nat.{_≤_, _-_}
+use mathlib.Core.Path.{_≡_, sym, subst}
+use Prim.Native.Nat.{ℕ, _≤_, _<_, _-_}
+use native.Mathlib.Omega.{arith}
 use lib.ListN.{length}
+use denote.Ref.{now}
+use Rattle.blocks.proofs.Placing.{after-within}
 use Rattle.desk.proofs.capture.list_records.Statement.{statement}
 use Rattle.desk.proofs.capture.list_records.Tie as tie
 
@@ -15,26 +18,35 @@ abbrev μ-loop : tie.MeasureT-loop
 loop-holds : tie.Need-loop-holds Inv-loop μ-loop
 loop-holds c = search needs
 
-record-end-requires : tie.Need-record-end-requires Inv-loop μ-loop
-record-end-requires c κs = search needs
+after-requires : tie.Need-after-requires Inv-loop μ-loop
+after-requires c κs = search needs
+
+-- the next record begins further on, and not past the end
+goes-on :
+    (c : tie.After-after Inv-loop μ-loop)
+    → (c .before .before .loop .at < c .after .result) × (c .after .result ≤ length (now (c .before .before .before .before .before .before .args .records)))
+goes-on c =
+    subst (λ (n : ℕ). (c .before .before .loop .at < n) × (n ≤ length (now (c .before .before .before .before .before .before .args .records))))
+    (sym (c .after .ensures))
+    (after-within (now (c .before .before .before .before .before .before .args .records)) (c .before .before .loop .at) (search needs))
 
 sub-list-record : tie.Need-sub-list-record Inv-loop μ-loop
-sub-list-record c = search needs
+sub-list-record c = omega (arith, goes-on c)
 
 part-list-record-start : tie.Need-part-list-record-start Inv-loop μ-loop
-part-list-record-start c = search needs
+part-list-record-start c = omega (arith, goes-on c)
 
 part-list-record-end : tie.Need-part-list-record-end Inv-loop μ-loop
-part-list-record-end c = search needs
+part-list-record-end c = omega (arith, goes-on c)
 
 list-record-requires : tie.Need-list-record-requires Inv-loop μ-loop
 list-record-requires c κs = search needs
 
 loop-less : tie.Need-loop-less Inv-loop μ-loop
-loop-less c = search needs
+loop-less c = omega (arith, goes-on (c .before .before .before .before .before .before .before .before))
 
 loop-again : tie.Need-loop-again Inv-loop μ-loop
-loop-again c = search needs
+loop-again c = let g = goes-on (c .before .before .before .before .before .before .before .before) in search needs
 
 same-length : tie.Need-same-length Inv-loop μ-loop
 same-length c = search needs
@@ -52,7 +64,7 @@ list-records-spec =
     Inv-loop
     μ-loop
     loop-holds
-    record-end-requires
+    after-requires
     sub-list-record
     part-list-record-start
     part-list-record-end

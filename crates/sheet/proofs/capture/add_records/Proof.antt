@@ -1,7 +1,10 @@
 -- `sheet::capture::add_records` is safe and ends: each turn goes on to a place further on, and not past the end. Assumes nothing.
-use mathlib.Core.Path.{_≡_}
-use Prim.Native.Nat.{_≤_, _-_}
+use mathlib.Core.Path.{_≡_, sym, subst}
+use Prim.Native.Nat.{ℕ, _≤_, _<_, _-_}
+use native.Mathlib.Omega.{arith}
 use lib.ListN.{length}
+use denote.Ref.{now}
+use Rattle.blocks.proofs.Placing.{after-within}
 use borrow.Author.Needs.{needs}
 use Rattle.sheet.proofs.capture.add_records.Statement.{statement}
 use Rattle.sheet.proofs.capture.add_records.Tie as tie
@@ -15,17 +18,26 @@ abbrev μ-loop : tie.MeasureT-loop
 loop-holds : tie.Need-loop-holds Inv-loop μ-loop
 loop-holds c = search needs
 
-record-end-requires : tie.Need-record-end-requires Inv-loop μ-loop
-record-end-requires c κs = search needs
+after-requires : tie.Need-after-requires Inv-loop μ-loop
+after-requires c κs = search needs
+
+-- the next record begins further on, and not past the end
+goes-on :
+    (c : tie.After-after Inv-loop μ-loop)
+    → (c .before .before .loop .at < c .after .result) × (c .after .result ≤ length (now (c .before .before .before .before .before .before .before .before .args .records)))
+goes-on c =
+    subst (λ (n : ℕ). (c .before .before .loop .at < n) × (n ≤ length (now (c .before .before .before .before .before .before .before .before .args .records))))
+    (sym (c .after .ensures))
+    (after-within (now (c .before .before .before .before .before .before .before .before .args .records)) (c .before .before .loop .at) (search needs))
 
 sub-add-record : tie.Need-sub-add-record Inv-loop μ-loop
-sub-add-record c = search needs
+sub-add-record c = omega (arith, goes-on c)
 
 part-add-record-start : tie.Need-part-add-record-start Inv-loop μ-loop
-part-add-record-start c = search needs
+part-add-record-start c = omega (arith, goes-on c)
 
 part-add-record-end : tie.Need-part-add-record-end Inv-loop μ-loop
-part-add-record-end c = search needs
+part-add-record-end c = omega (arith, goes-on c)
 
 add-record-requires : tie.Need-add-record-requires Inv-loop μ-loop
 add-record-requires c κs = search needs
@@ -46,10 +58,10 @@ returns : tie.Need-returns Inv-loop μ-loop
 returns c = search needs
 
 loop-less : tie.Need-loop-less Inv-loop μ-loop
-loop-less c = search needs
+loop-less c = omega (arith, goes-on (c .before .before .before .before .before .before .before .before .before .before .before .before .before .before .before .before))
 
 loop-again : tie.Need-loop-again Inv-loop μ-loop
-loop-again c = search needs
+loop-again c = let g = goes-on (c .before .before .before .before .before .before .before .before .before .before .before .before .before .before .before .before) in search needs
 
 same-length-5 : tie.Need-same-length-5 Inv-loop μ-loop
 same-length-5 c = search needs
@@ -73,7 +85,7 @@ add-records-spec =
     Inv-loop
     μ-loop
     loop-holds
-    record-end-requires
+    after-requires
     sub-add-record
     part-add-record-start
     part-add-record-end
