@@ -34,7 +34,7 @@ use Rattle.listing.proofs.Room.{number-room, kind-room, wordsOf, descriptors-ro
 use Rattle.sheets.specs.Entries.{Entry, stampName, stampMost, headLines, entryText, sheetText, written, byteLimit}
 use Rattle.sheets.specs.Joining.{joined}
 use Rattle.sheets.specs.Calls.{entriesOf, short, formed, limited, stamped, addResult, addRules, joinRules, joinResult}
-use Rattle.sheets.specs.Turns.{Judged, entryMost, headMost}
+use Rattle.sheets.specs.Internal.{Judged, entryMost, headMost}
 use Rattle.sheets.proofs.AnyOrder.{Fit, one-read}
 
 -- ---- the form

@@ -20,12 +20,6 @@ written-sendable e w =
     let p = both-true (leb (e .stamp) stampMost) _ w in
     sendable (e .table) (both-true (eqb (e .table .copyright) 0) _ (p .1) .1)
 
-pub written-copyright : (e : Entry) → written e ≡ true → e .table .copyright ≡ 0
-unfolding written
-written-copyright e w =
-    let p = both-true (leb (e .stamp) stampMost) _ w in
-    eqb-true (e .table .copyright) 0 (both-true (eqb (e .table .copyright) 0) _ (p .1) .0)
-
 -- ---- the key
 
 -- a test's value as a bit

@@ -15,7 +15,7 @@ use Rattle.answer.proofs.Steps.{done-every, first-holds, others-hold}
 use Rattle.sheets.specs.Entries.{sheetText, entryLimit, byteLimit}
 use Rattle.sheets.specs.Reading.{sheetOf}
 use Rattle.sheets.specs.Calls.{joinRules, joinResult}
-use Rattle.sheets.specs.Turns.{Halfway}
+use Rattle.sheets.specs.Internal.{Halfway}
 
 -- ---- the size of what is joined
 

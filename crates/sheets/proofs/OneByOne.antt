@@ -21,7 +21,7 @@ use Rattle.forms.specs.Writing.{formRules}
 use Rattle.sheets.specs.Entries.{sheetText, byteLimit}
 use Rattle.sheets.specs.Calls.{stamped, joinRules, joinResult}
 use Rattle.sheets.specs.AnyOrder.{InForm, Joins, Run, lent, call, Room, Captured, sheetOfOne, Adds, Added, all, next, Takes}
-use Rattle.sheets.specs.Turns.{Judged}
+use Rattle.sheets.specs.Internal.{Judged}
 use Rattle.sheets.proofs.AnyOrder.{any-order, one-read}
 use Rattle.sheets.proofs.Added.{stamped-written, add-answers, add-leaves, add-goes-on}
 

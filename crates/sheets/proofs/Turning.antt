@@ -16,7 +16,7 @@ use Rattle.laws.proofs.Eaches.{each-first, each-rest}
 use Rattle.laws.specs.Orders.{before, greater}
 use Rattle.laws.proofs.Lists.{sets-append}
 use Rattle.laws.proofs.Merging.{merge-less, merge-same, merge-more, rising-rest, rising-lower}
-use Rattle.laws.proofs.Trees.{Good, good-none}
+use Rattle.laws.proofs.Trees.{Good}
 use Rattle.sheets.specs.declared.entries.Found.{Found}
 use Rattle.sheets.specs.declared.joining.Turn.{Turn}
 use Rattle.sheets.specs.Entries.{Entry, keyOf, headLines, tableLines, emptyLine, entryText, sheetText}
@@ -25,8 +25,7 @@ use Rattle.sheets.specs.Many.{many}
 use Rattle.sheets.specs.Joining.{atMost, joined}
 use Rattle.sheets.specs.Calls.{entriesOf, joinResult}
 use Rattle.sheets.specs.AnyOrder.{InForm}
-use Rattle.sheets.specs.Internal.{foundOf}
-use Rattle.sheets.specs.Turns.{Halfway, Lies, foundLines, secondStays, turn, turnBy, turnOf, turnText}
+use Rattle.sheets.specs.Internal.{foundOf, Halfway, Lies, foundLines, secondStays, turn, turnBy, turnOf, turnText}
 use Rattle.sheets.proofs.AnyOrder.{Fit, decides, sheet-of, text-of}
 use Rattle.sheets.proofs.Entered.{entry-back}
 use Rattle.sheets.proofs.Exact.{read-written}
@@ -119,9 +118,6 @@ turned-by {xs} {ys} xs′ ys′ z t f g f′ g′ l m o p q r j =
 sheet-rest : {x : Entry} {xs : List Entry} → Sheet (x ∷ xs) → Fit x × Sheet xs
 sheet-rest {x} {xs} g =
     (each-first (g .fit), record { rises = rising-lower keyOf (suc (keyOf x)) 0 xs (omega arith) (rising-rest keyOf 0 x xs (g .rises)); fit = each-rest (g .fit) })
-
-no-sheet : Sheet []
-no-sheet = good-none keyOf Fit atMost decides
 
 front-fits : (x : Entry) (rest : List ℕ) → length (entryText x) ≤ length (entryText x ++ rest)
 front-fits x rest = let e = length-append (entryText x) rest in omega arith

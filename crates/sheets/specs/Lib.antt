@@ -7,4 +7,3 @@ pub mod Joining
 pub mod Calls
 pub mod AnyOrder
 pub mod Internal
-pub mod Turns

@@ -9,7 +9,7 @@ ghost use Rattle.printing.specs.Putting.{Put};
 ghost use Rattle.listing.specs.Lines.{kindLine, descriptorLinesOf};
 ghost use Rattle.sheets.specs.Entries.{headLines, entryText, sheetText};
 ghost use Rattle.sheets.specs.Calls.{short, formed, limited, stamped, addResult, addRules};
-ghost use Rattle.sheets.specs.Turns.{Judged, entryMost, headMost};
+ghost use Rattle.sheets.specs.Internal.{Judged, entryMost, headMost};
 use crate::joining;
 use answer::Answer;
 

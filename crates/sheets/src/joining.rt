@@ -11,7 +11,7 @@ ghost use Rattle.answer.specs.Values.{refused};
 ghost use Rattle.answer.specs.Writing.{answered, left};
 ghost use Rattle.sheets.specs.Entries.{sheetText, entryLimit, byteLimit};
 ghost use Rattle.sheets.specs.Calls.{joinRules, joinResult};
-ghost use Rattle.sheets.specs.Turns.{Halfway, Lies, secondStays, turnOf, turnText};
+ghost use Rattle.sheets.specs.Internal.{Halfway, Lies, secondStays, turnOf, turnText};
 use crate::BYTES;
 use crate::ENTRIES;
 use crate::entries;

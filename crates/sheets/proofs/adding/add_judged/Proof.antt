@@ -10,7 +10,7 @@ use Rattle.answer.specs.Writing.{answered, left}
 use Rattle.printing.proofs.Printed.{put-within}
 use Rattle.sheets.specs.Entries.{stampMost, entryText, sheetText, byteLimit}
 use Rattle.sheets.specs.Calls.{stamped, joinRules, joinResult}
-use Rattle.sheets.specs.Turns.{entryMost}
+use Rattle.sheets.specs.Internal.{entryMost}
 use Rattle.sheets.proofs.Added.{add-answers, add-leaves}
 use Rattle.sheets.proofs.Matching.{spelled-in}
 use Rattle.sheets.proofs.adding.add_judged.Statement.{statement}

@@ -5,7 +5,7 @@ use mathlib.Core.Path.{_≡_, _∙_, ap}
 use native.Mathlib.Omega.{arith}
 use lib.ListN.{drop}
 use denote.Ref.{now}
-use Rattle.sheets.specs.Turns.{turn}
+use Rattle.sheets.specs.Internal.{turn}
 use Rattle.sheets.proofs.Turning.{by-first, by-second, by-less, by-more, by-same, turn-found, lies-found}
 use Rattle.sheets.proofs.joining.next_turn.Statement.{statement}
 use Rattle.sheets.proofs.joining.next_turn.Tie as tie

@@ -8,7 +8,7 @@ use native.Mathlib.Omega.{arith}
 use lib.ListN.{length, drop}
 use lib.Seq.{length-sets}
 use denote.Ref.{now}
-use Rattle.sheets.specs.Turns.{turnText}
+use Rattle.sheets.specs.Internal.{turnText}
 use Rattle.sheets.proofs.Turning.{Along, along-start, along-turn, along-on, along-end, along-fits}
 use Rattle.sheets.proofs.joining.put_joined.Statement.{statement}
 use Rattle.sheets.proofs.joining.put_joined.Tie as tie
