@@ -20,13 +20,19 @@
 uint8_t bench_decode(const uint8_t *s, size_t n);
 uint8_t bench_turn(const uint8_t *s, size_t n);
 size_t bench_pes(const uint8_t *packet, size_t n, uint8_t *out, size_t room);
+size_t bench_read(const uint8_t *record, size_t n, uint8_t *out, size_t room);
 uint64_t bench_feed(const uint8_t *packets, size_t n, uint8_t *out, size_t room);
 uint64_t bench_feed_all(const uint8_t *packets, size_t n, uint8_t *out, size_t room);
 
 enum { ROUNDS = 25, BYTES = 1 << 16 };
 
-static uint8_t *input, out[1 << 22];
-static size_t length;
+/* The bytes of a record before its raw bytes. Builds from before the part came have two (bench/run --before says so). */
+#ifndef HEAD
+#define HEAD 4
+#endif
+
+static uint8_t *input, out[1 << 22], records[1 << 22];
+static size_t length, blocks;
 
 static void load(const char *name)
 {
@@ -85,6 +91,48 @@ static unsigned long plain(void)
 
 static unsigned long our_feed(void) { return bench_feed(input, length, out, sizeof out); }
 static unsigned long our_feed_all(void) { return bench_feed_all(input, length, out, sizeof out); }
+
+/* How long the record there is, by its size. */
+static size_t record_length(const uint8_t *record) { return HEAD + (record[0] + 256u * record[1]) / 32; }
+
+/* The records that come of the input's packets. */
+static void keep_records(void)
+{
+    size_t end = 0;
+    blocks = bench_feed_all(input, length, records, sizeof records);
+    for (size_t i = 0; i < blocks; i++)
+        end += record_length(records + end);
+    if (end > sizeof records) {
+        fprintf(stderr, "measure: too many records\n");
+        exit(1);
+    }
+}
+
+#if HEAD == 4
+static unsigned long plain_read(void)
+{
+    unsigned long bytes = 0;
+    for (size_t i = 0, at = 0; i < blocks; i++) {
+        size_t n = record_length(records + at), written = 0, where;
+        unsigned mended;
+        if (plain_read_block(1, records + at, n, out, sizeof out, &written, &where, &mended) == 0)
+            bytes += written;
+        at += n;
+    }
+    return bytes;
+}
+#endif
+
+static unsigned long our_read(void)
+{
+    unsigned long bytes = 0;
+    for (size_t i = 0, at = 0; i < blocks; i++) {
+        size_t n = record_length(records + at);
+        bytes += bench_read(records + at, n, out, sizeof out);
+        at += n;
+    }
+    return bytes;
+}
 
 static unsigned long zvbi_decode(void)
 {
@@ -170,7 +218,7 @@ static double now(void)
 static void measure(const char *what, const char *unit, size_t units, struct timed *timed, size_t n)
 {
     unsigned long answer = timed[0].run();
-    unsigned repeat = 1 + (unsigned)(4000000 / (units + 1) / (strcmp(unit, "byte") == 0 ? 1 : 40));
+    unsigned repeat = 1 + (unsigned)(4000000 / (units + 1) / (strcmp(unit, "byte") == 0 ? 1 : strcmp(unit, "packet") == 0 ? 40 : 400));
     for (size_t i = 0; i < n; i++)
         if (timed[i].run() != answer) {
             fprintf(stderr, "measure: %s: %s answers otherwise\n", what, timed[i].name);
@@ -205,6 +253,12 @@ static void packets(const char *what, const char *name)
 
 int main(int argc, char **argv)
 {
+    struct timed read[] = {
+#if HEAD == 4
+        { "plain C", plain_read, 0 },
+#endif
+        { "ours, `table::read_block`", our_read, 0 },
+    };
     struct timed decode[] = {
         { "libzvbi, vbi_unham8 in a loop", zvbi_decode, 0 },
         { "ours, in a loop of ours", our_decode, 0 },
@@ -226,8 +280,12 @@ int main(int argc, char **argv)
     plain_begin();
     packets("packets, all of our page", argv[1]);
     packets("packets, one in four of our page", argv[2]);
+    load(argv[1]);
+    keep_records();
+    measure("block reading", "block", blocks, ALL(read));
     if (argc == 3)
         return 0;
+    load(argv[2]);
     measure("decoding", "byte", length, ALL(decode));
     measure("turning", "byte", length, ALL(turn));
     load(argv[3]);

@@ -14,25 +14,32 @@ import sys
 
 START = os.environ.get("BENCH_START", "tests/start")
 ROUNDS = 5
-ROW = re.compile(r"\| packets, (.*?) \| (.*?) \| (\S+) ns a packet \|")
+ROW = re.compile(r"\| (.*?) \| (.*?) \| (\S+) ns a \w+ \|")
+
+
+def rows(program, folder):
+    """What is measured, who does it, and nanoseconds a packet or block."""
+    words = [START, program, folder / "dense.t42", folder / "mixed.t42"]
+    for what, who, cost in ROW.findall(subprocess.run(words, check=True, capture_output=True, text=True).stdout):
+        yield what, who, float(cost)
+
+
+def cost_of(desk, name):
+    """A desk on a file: nanoseconds a packet, in CPU time."""
+    with open(name, "rb") as source:
+        child = subprocess.Popen([START, desk], stdin=source, stdout=subprocess.DEVNULL)
+        _, status, used = os.wait4(child.pid, 0)
+    if status:
+        sys.exit(f"{desk}: status {status}")
+    return (used.ru_utime + used.ru_stime) * 1e9 / (os.path.getsize(name) // 42)
 
 
 def measured(folder, place):
     """(what, who) and nanoseconds a packet."""
-    words = [START, folder / f"measure-{place}", folder / "dense.t42", folder / "mixed.t42"]
-    for what, who, cost in ROW.findall(subprocess.run(words, check=True, capture_output=True, text=True).stdout):
-        yield (what, who), float(cost)
-
-
-def desks(folder, place):
-    packets = os.path.getsize(folder / "many.t42") // 42
+    for what, who, cost in rows(folder / f"measure-{place}", folder):
+        yield (what, who), cost
     for who in "c-desk", "our-desk":
-        with open(folder / "many.t42", "rb") as source:
-            child = subprocess.Popen([START, folder / f"{who}-{place}"], stdin=source, stdout=subprocess.DEVNULL)
-            _, status, used = os.wait4(child.pid, 0)
-        if status:
-            sys.exit(f"{who}-{place}: status {status}")
-        yield ("desk", who), (used.ru_utime + used.ru_stime) * 1e9 / packets
+        yield ("desk", who), cost_of(folder / f"{who}-{place}", folder / "many.t42")
 
 
 def table(title, places, best, one, other):
@@ -49,11 +56,11 @@ def main():
     folder, places, best = pathlib.Path(sys.argv[1]), sys.argv[2:], {}
     for _ in range(ROUNDS):
         for place in places:
-            for key, cost in (*measured(folder, place), *desks(folder, place)):
+            for key, cost in measured(folder, place):
                 costs = best.setdefault(key, {})
                 costs[place] = min(costs.get(place, cost), cost)
-    for what in "all of our page", "one in four of our page":
-        table(f"packets, {what}", places, best, (what, "ours, `feed_all`"), (what, "libzvbi, vbi_pfc_demux_feed"))
+    for what in "packets, all of our page", "packets, one in four of our page":
+        table(what, places, best, (what, "ours, `feed_all`"), (what, "libzvbi, vbi_pfc_demux_feed"))
     table("desk", places, best, ("desk", "our-desk"), ("desk", "c-desk"))
 
 

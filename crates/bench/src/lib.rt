@@ -1,6 +1,7 @@
 // What bench/measure.c times: our calls in the shape in which C can call them on many bytes at once.
 // No product links this crate.
 use answer::Answer;
+use frames::Read;
 use packet::Setting;
 use reader::Heard;
 use reader::HeardAll;
@@ -9,9 +10,13 @@ ghost use Prim.Native.Nat.{_/_, _<_};
 ghost use lib.ListN.{length};
 ghost use Rattle.answer.specs.Values.{writtenOf};
 ghost use Rattle.answer.specs.Writing.{answered, left};
+ghost use Rattle.forms.specs.Form.{form};
+ghost use Rattle.frames.specs.Values.{counted, writtenOf as Frames·writtenOf};
 ghost use Rattle.octet.specs.Decoding.{nib};
 ghost use Rattle.octet.specs.Turning.{turned};
 ghost use Rattle.pes.specs.Reading.{readRules, recordsOf};
+ghost use Rattle.sums.specs.Block.{mendedIn};
+ghost use Rattle.table.specs.Reading.{readRules as Table·readRules, tableRead};
 ghost use Rattle.bench.specs.Mixing.{mixed};
 ghost use Rattle.bench.specs.Feeding.{desk, start, wrap, added, eachCount, eachOut, blocksOf};
 ghost use Rattle.reader.specs.Many.{feedAllHeard, feedAllOut};
@@ -53,6 +58,23 @@ pub extern "C" fn bench_pes(packet: &[u8], out: &mut [u8]) -> usize
     match pes::read(packet, out) {
         Answer::Done(n) => n,
         Answer::Refused(r) => 0,
+    }
+}
+
+// Reads one record of application 1: how many bytes of a table's form were written, 0 where it is refused.
+#[no_mangle]
+pub extern "C" fn bench_read(rec: &[u8], out: &mut [u8]) -> usize
+    ensures count { λ r.
+        ⌜ r
+        ≡ Frames·writtenOf
+        (counted (mendedIn (now (rec .entry)))
+        (answered (Table·readRules 1 (now (rec .entry))) (form (tableRead (now (rec .entry)))) (now (out .entry)))) ⌝ }
+    ensures bytes { λ r.
+        ⌜ now (out .exit) ≡ left (Table·readRules 1 (now (rec .entry))) (form (tableRead (now (rec .entry)))) (now (out .entry)) ⌝ }
+{
+    match table::read_block(1, rec, out) {
+        Read::Taken { written, mended } => written,
+        Read::Refused(r) => 0,
     }
 }
 
