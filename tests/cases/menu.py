@@ -453,6 +453,8 @@ def script_of(dice, size):
         both(EMPTY._replace(events=[Event(0, 0, [(kind, info) for info in (0, (1 << 8 * menu.info_bytes(kind)) - 1, 0)], plain(b""))]))
     for kind in KINDS:
         both(EMPTY._replace(events=[Event(1, 2, [some_attribute(dice, kind), (0, 1), some_attribute(dice, kind)], plain(b"k"))]))
+    for kind in sorted(set(range(256)) - set(KINDS)):
+        both(EMPTY._replace(events=[Event(1, 2, [(kind, kind)], plain(b"k"))]))
     for count in (14, 15):
         both(EMPTY._replace(events=[Event(1, 2, [some_attribute(dice) for _ in range(count)], plain(b""))]))
         both(EMPTY._replace(events=[some_event(dice) for _ in range(count)]))

@@ -1,4 +1,4 @@
--- The words that `menus` is called with, one after the other (SCOPE 23.9): the desk's (SCOPE 13.7), and `-b N`.
+-- The words that `menus` is called with, one after the other (SCOPE 23.10): the desk's (SCOPE 13.7), and `-b N`.
 use mathlib.Core.Bool.{Bool, true, false}
 use mathlib.Core.List.{List, [], _∷_}
 use Prim.Native.Nat.{ℕ}

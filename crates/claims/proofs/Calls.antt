@@ -10,7 +10,7 @@ use mathlib.Core.List.{List, [], _∷_, _++_, map, map-append}
 use Prim.Native.Nat.{ℕ, _≤_, _<_}
 use native.Mathlib.Omega.{arith}
 use lib.Dec.{leb}
-use lib.ListN.{length, drop}
+use lib.ListN.{length, drop, length-map}
 use lib.Seq.{take-append-seam}
 use borrow.Author.Tests.{le-leb}
 use Rattle.laws.specs.Each.{Each, nil, and}
@@ -47,10 +47,10 @@ use Rattle.claims.specs.Feeding.{packetsOf}
 use Rattle.claims.specs.Tables.{recordsOf, sent, taken, tablesOf}
 use Rattle.claims.specs.Calls.{Writes, write-block, Cuts, cut-pages, cut, Starts, fresh, Reads, read-block, reported, accepted}
 use Rattle.claims.specs.Calls.{Written, no-table, table, ReadOut, no-block, block, Through, Delivers}
-use Rattle.claims.proofs.Losing.{came-each, came-map, came-exactly, came-among}
+use Rattle.claims.proofs.Losing.{came-each, came-map, came-exactly, came-among, among-map}
 use Rattle.claims.proofs.Blocks.{range, aired-long}
-use Rattle.claims.proofs.Tables.{all-fit, all-sized, records-same}
-use Rattle.claims.proofs.Demands.{carried}
+use Rattle.claims.proofs.Tables.{tableBlock, all-fit, all-sized, records-same, blocks-written}
+use Rattle.claims.proofs.Demands.{damaged-what, carried}
 use Rattle.claims.proofs.Handing.{as-ones}
 
 -- ---- what each call says
@@ -232,3 +232,17 @@ module _ (d : ℕ) (small : d ≤ 2) (s : Setting) (within : inRange s ≡ true)
   -- up to two: only forms that were handed in, in order, each at most once, and each with its own count
   pub calls-never-wrong : Among forms handedIn
   calls-never-wrong = came-among (λ a b e. e) (calls-carried .came)
+
+  -- those are the forms that were handed in, all of them and no other
+  pub all-handed : map (λ x. x .what) handedIn ≡ map form ts
+  all-handed =
+      let app = s .application in
+      let made = ap Block·blocks (tables-written app (range s within .application) (c .written) fit .1) ∙ blocks-written app fit in
+      damaged-what (map form ts) (Block·blocks (c .records)) (streamIn k (c .ours))
+      (length-map ts form ∙ sym (length-map ts (tableBlock app)) ∙ sym (ap length made))
+
+  pub calls-exactly-forms : d ≤ 1 → map (λ x. x .what) forms ≡ map form ts
+  calls-exactly-forms one = ap (map (λ x. x .what)) (calls-exactly one) ∙ all-handed
+
+  pub calls-never-wrong-forms : Among (map (λ x. x .what) forms) (map form ts)
+  calls-never-wrong-forms = subst (Among (map (λ x. x .what) forms)) all-handed (among-map (λ x. x .what) calls-never-wrong)

@@ -6,6 +6,7 @@ use mathlib.Core.Bool.{true}
 use mathlib.Core.List.{List, [], _∷_, map}
 use Prim.Native.Nat.{ℕ, _≤_, _<_}
 use native.Mathlib.Omega.{arith}
+use lib.ListN.{length, length-map}
 use Rattle.laws.specs.Each.{Each}
 use Rattle.octet.proofs.Noise.{near}
 use Rattle.blocks.specs.Block.{Block, blocks}
@@ -23,11 +24,13 @@ use Rattle.claims.proofs.Landing.{Heard}
 use Rattle.claims.proofs.Blocks.{range, carried-calls, carried-near}
 use Rattle.claims.proofs.Tables.{tableBlock, all-fit, blocks-written, tables-came}
 
--- the tables among those with their damage are the tables, all of them
-damaged-what : (ts : List Table) (f : Table → Block) (cs : List ℕ) → map (λ c. c .what) (damaged ts (sendings (map f ts) cs)) ≡ ts
+-- where there is a block for each thing, the things with the damage of their blocks are those things, all of them
+pub damaged-what :
+    {A : Type 0} (l : List A) (bs : List Block) (cs : List ℕ) → length l ≡ length bs → map (λ c. c .what) (damaged l (sendings bs cs)) ≡ l
 unfolding damaged sendings
-damaged-what [] f cs = refl
-damaged-what (t ∷ ts) f cs = ap (λ (l : List Table). t ∷ l) (damaged-what ts f _)
+damaged-what [] bs cs e = refl
+damaged-what (a ∷ l) [] cs e = absurd (omega arith)
+damaged-what {A} (a ∷ l) (b ∷ bs) cs e = ap (λ (m : List A). a ∷ m) (damaged-what l bs _ (omega arith))
 
 module _ (d : ℕ) (small : d ≤ 2) (s : Setting) (within : inRange s ≡ true) (index k : ℕ) (low : index < 16) (least : 1 ≤ k) (most : k ≤ 25)
     (ts : List Table) (fit : Each (λ t. fits t ≡ true) ts) (calls : List Call) (ours : List (List ℕ))
@@ -56,7 +59,7 @@ module _ (d : ℕ) (small : d ≤ 2) (s : Setting) (within : inRange s ≡ true)
   pub all-sent : map (λ c. c .what) (sentDamaged s k ts ours) ≡ ts
   all-sent =
       ap (λ (bs : List Block). map (λ c. c .what) (damaged ts (sendings bs (streamIn k ours)))) made
-      ∙ damaged-what ts (tableBlock (s .application)) (streamIn k ours)
+      ∙ damaged-what ts (map (tableBlock (s .application)) ts) (streamIn k ours) (sym (length-map ts (tableBlock (s .application))))
 
   -- with one flip a byte at the most, the list itself comes out, with exactly those counts
   pub exactly : d ≤ 1 → received s calls ≡ sentDamaged s k ts ours

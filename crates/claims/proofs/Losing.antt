@@ -5,7 +5,7 @@ use Prim.Native.Nat.{ℕ, zero, suc}
 use lib.ListN.{length, take, drop}
 use Rattle.laws.specs.Each.{Each, nil, and}
 use Rattle.claims.specs.Noise.{Near, none, more, Came, over, kept, lost}
-use Rattle.claims.specs.Lists.{Among, Paired}
+use Rattle.claims.specs.Lists.{Among}
 use Rattle.claims.specs.Lists
 
 pub near-length : {R : ℕ → ℕ → Type 0} {l m : List ℕ} → Near R l m → length l ≡ length m
@@ -15,9 +15,6 @@ near-length (more h n) = ap suc (near-length n)
 pub near-append : {R : ℕ → ℕ → Type 0} {l m l′ m′ : List ℕ} → Near R l m → Near R l′ m′ → Near R (l ++ l′) (m ++ m′)
 near-append none n = n
 near-append (more h k) n = more h (near-append k n)
-
-pub near-snoc : {R : ℕ → ℕ → Type 0} (a b : ℕ) {l m : List ℕ} → Near R l m → R a b → Near R (l ++ a ∷ []) (m ++ b ∷ [])
-near-snoc a b n h = near-append n (more h none)
 
 pub near-drop : {R : ℕ → ℕ → Type 0} {l m : List ℕ} (n : ℕ) → Near R l m → Near R (drop n l) (drop n m)
 near-drop zero k = k
@@ -55,12 +52,6 @@ pub came-map : {A B : Type 0} {L : Type 0} (f : A → B) {l m : List A} → Came
 came-map f over = over
 came-map f (kept e c) = kept (ap f e) (came-map f c)
 came-map f (lost x c) = lost x (came-map f c)
-
--- where nothing may be lost, what comes is one to one with what was sent
-pub came-paired {ℓ} : {A B : Type ℓ} {L : Type 0} {R : A → B → Type 0} → (L → ⊥) → {l : List A} {m : List B} → Came L R l m → Paired R l m
-came-paired never over = Lists.both-end
-came-paired never (kept r k) = Lists.with r (came-paired never k)
-came-paired never (lost x k) = absurd (never x)
 
 -- ---- in the customer's words, where what is kept is the very thing that was sent
 

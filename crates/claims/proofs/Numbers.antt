@@ -19,6 +19,7 @@ use Rattle.table.specs.Reading.{frontRules, wholeRules, readRules as Table·rea
 use Rattle.table.specs.Lengths.{lengthRules}
 use Rattle.menu_forms.specs.Writing.{formRules as Menu·formRules, writeRules as Menu·writeRules}
 use Rattle.menu.specs.Reading.{frontRules as Menu·frontRules, wholeRules as Menu·wholeRules, lengthRules as Menu·lengthRules, readRules as Menu·readRules}
+use Rattle.menu_listing.specs.Listing.{listRules}
 use Rattle.sheets.specs.Calls.{rewriteRules, joinRules, addRules}
 
 pub writes-pes : (d : ℕ) (rs : List ℕ) → allRefusing (writeRules d rs) ≡ true
@@ -78,3 +79,7 @@ module _ (pes : List ℕ) where
   pub reads-pes : allRefusing (readRules pes) ≡ true
   unfolding allRefusing readRules unitsRules headerRules
   reads-pes = each (places pes)
+
+pub lists-menus : (application : ℕ) (records : List ℕ) → allRefusing (listRules application records) ≡ true
+unfolding allRefusing
+lists-menus application records = refl

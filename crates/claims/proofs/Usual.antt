@@ -16,7 +16,7 @@ use Rattle.claims.specs.Noise.{Flipped}
 use Rattle.claims.specs.Damage.{streamIn, sendings, Counted, damaged}
 use Rattle.claims.specs.Lists.{Among}
 use Rattle.claims.specs.Calls.{Through, Delivers}
-use Rattle.claims.proofs.Calls.{calls-carried, calls-exactly, calls-never-wrong}
+use Rattle.claims.proofs.Calls.{calls-carried, calls-exactly, calls-never-wrong, calls-exactly-forms, calls-never-wrong-forms}
 
 module _ (d : ℕ) (small : d ≤ 2) (s : Setting) (within : inRange s ≡ true) (index : ℕ) (low : index < 16) (ts : List Table)
     (fit : Each (λ t. fits t ≡ true) ts) {forms : List (Counted (List ℕ))} (c : Through (Flipped d) s index usualPage ts forms) where
@@ -34,3 +34,10 @@ module _ (d : ℕ) (small : d ≤ 2) (s : Setting) (within : inRange s ≡ true)
   -- up to two: only forms that were handed in, in order, each at most once, and each with its own count
   pub usual-never-wrong : Among forms usualIn
   usual-never-wrong = calls-never-wrong d small s within index usualPage low (omega arith) (omega arith) ts fit c
+
+  -- of the forms alone: all of them, or a list among them
+  pub usual-exactly-forms : d ≤ 1 → map (λ x. x .what) forms ≡ map form ts
+  usual-exactly-forms one = calls-exactly-forms d small s within index usualPage low (omega arith) (omega arith) ts fit c one
+
+  pub usual-never-wrong-forms : Among (map (λ x. x .what) forms) (map form ts)
+  usual-never-wrong-forms = calls-never-wrong-forms d small s within index usualPage low (omega arith) (omega arith) ts fit c

@@ -8,7 +8,8 @@ use Rattle.laws.specs.Pick.{pick}
 use Rattle.blocks.specs.Block.{Block}
 use Rattle.symbols.specs.Stream.{byteOf, symbols, cellsOf}
 
--- how many bytes of the second list are other than those of the first in their places
+-- how many bytes of the second list are other than those of the first in their places; the two are of one length wherever they are what was
+-- sent and what came of it (`carried-near`)
 unfoldable pub unlike : List ℕ → List ℕ → ℕ
 unlike [] m = 0
 unlike (a ∷ l) [] = 0

@@ -114,12 +114,6 @@ data Held {A : Type 0} (P : A → Type 0) : Option A → Type 0 where
   entry : {x : A} → P x → Held P (some x)
 
 module _ {A : Type 0} {leq : A → A → Bool} (o : Ordered leq) where
-  chosen-held : (P : A → Type 0) {a b : Option A} → Held P a → Held P b → Held P (chosen (greater leq) a b)
-  unfolding chosen
-  chosen-held P nothing q = q
-  chosen-held P (entry p) nothing = entry p
-  chosen-held P (entry p) (entry q) = entry (greater-one o P p q)
-
   chosen-itself : (a : Option A) → chosen (greater leq) a a ≡ a
   unfolding chosen
   chosen-itself none = refl

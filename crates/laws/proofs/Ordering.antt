@@ -26,11 +26,6 @@ module _ {A B : Type 0} {leq : B → B → Bool} (o : Ordered leq) where
   pub ordered-on : (f : A → B) → Ordered (λ (x y : A). leq (f x) (f y))
   ordered-on f = record { total = λ x y. o .total (f x) (f y); carries = λ x y z. o .carries (f x) (f y) (f z) }
 
-module _ {A : Type 0} {leq : A → A → Bool} (o : Ordered leq) where
-  -- the other way round
-  pub ordered-back : Ordered (λ (x y : A). leq y x)
-  ordered-back = record { total = λ x y. o .total y x; carries = λ x y z p q. o .carries z y x q p }
-
 -- ---- byte by byte
 
 step : ℕ → ℕ → Bool → Bool

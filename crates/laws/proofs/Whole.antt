@@ -17,10 +17,6 @@ pub both-right : (a b : Bool) → T (both a b) → T b
 both-right true b t = t
 both-right false b t = absurd t
 
-pub both-intro : (a b : Bool) → T a → T b → T (both a b)
-both-intro true b s t = t
-both-intro false b s t = s
-
 all-from : (f : ℕ → Bool) (n i : ℕ) → T (all f i n) → (k : ℕ) → k < n → T (f (i + k))
 all-from f zero i t k h = absurd (not-suc-le-zero h)
 all-from f (suc n) i t zero h = subst (λ (m : ℕ). T (f m)) (sym (add-zero i)) (both-left (f i) (all f (suc i) n) t)

@@ -2,11 +2,14 @@
 -- refused; with two it may be another letter of right parity, and then a menu is read that was not sent: demand 3 can't be had for menus.
 -- Assumes nothing.
 use mathlib.Core.Path.{_≡_, _∙_, refl, sym, ap}
-use mathlib.Core.Bool.{false, true≢false}
+use mathlib.Core.Bool.{Bool, true, false, true≢false}
 use mathlib.Core.List.{List, [], _∷_, map}
-use Prim.Native.Nat.{ℕ, _*_, _<_}
+use Prim.Native.Nat.{ℕ, zero, suc, _+_, _*_, _/_, _%_, _<_}
 use native.Mathlib.Omega.{arith}
+use lib.Dec.{eqb}
 use lib.ListN.{length, getD, take, drop, set}
+use borrow.Author.Tests.{eqb-true, eqb-false, ne-eqb}
+use Rattle.laws.specs.Pick.{pick}
 use Rattle.blocks.specs.Block.{headOf}
 use Rattle.octet.specs.Decoding.{nib}
 use Rattle.octet.specs.Bits.{flips, differing, number}
@@ -54,6 +57,23 @@ pub parity-refused :
     → ⊥
 parity-refused application k r m c h b e =
     true≢false (sym (odds-at (stringPart (drop 4 r)) k (odd-all application r m c e) h) ∙ b)
+
+-- the ones of two numbers, and the bits in which they differ, are an even number
+even-in-all : (k a b : ℕ) → (ones k a + ones k b + differing k a b) % 2 ≡ 0
+unfolding ones differing
+even-in-all zero a b = refl
+even-in-all (suc k) a b = go (eqb (a % 2) (b % 2)) refl (even-in-all k (a / 2) (b / 2))
+  where
+    go :
+        (t : Bool) → eqb (a % 2) (b % 2) ≡ t → (ones k (a / 2) + ones k (b / 2) + differing k (a / 2) (b / 2)) % 2 ≡ 0
+        → (a % 2 + ones k (a / 2) + (b % 2 + ones k (b / 2)) + (pick t 0 1 + differing k (a / 2) (b / 2))) % 2 ≡ 0
+    go true e rest = omega (arith, eqb-true (a % 2) (b % 2) e)
+    go false e rest = omega (arith, eqb-false (a % 2) (b % 2) e)
+
+-- a string byte with one flip has wrong parity, and is refused by it
+pub one-flip : (a b : ℕ) → isOdd a ≡ true → flips a b ≡ 1 → isOdd b ≡ false
+unfolding isOdd
+one-flip a b h f = ne-eqb (ones 8 b % 2) 1 (λ e. omega (arith, even-in-all 8 a b, eqb-true (ones 8 a % 2) 1 h))
 
 -- a menu of one string
 abbrev titled : List ℕ → Menu

@@ -2,7 +2,7 @@
 use mathlib.Core.Path.{_≡_, _∙_, refl, ap}
 use mathlib.Core.Bool.{Bool, true, false}
 use mathlib.Core.List.{List, [], _∷_, _++_}
-use Prim.Native.Nat.{ℕ, zero, suc, _+_, _*_, _/_, _%_, _<_}
+use Prim.Native.Nat.{ℕ, zero, suc, _+_, _*_, _/_, _%_, _<_, _≤_}
 use native.Mathlib.Omega.{arith}
 use borrow.Author.Tests.{eqb-true, eqb-false}
 use lib.Dec.{eqb}
@@ -11,7 +11,7 @@ use Rattle.laws.specs.Pick.{pick}
 use Rattle.fields.specs.Fields.{Field, width, fitting}
 use Rattle.fields.proofs.Laid.{width-append}
 use Rattle.menu_forms.specs.Rows.{each}
-use Rattle.menu_forms.specs.Menus.{Descriptor, Escape, Text, Attribute, Event, Menu, Spare, zeros, control as controlSize}
+use Rattle.menu_forms.specs.Menus.{Descriptor, Escape, Text, Attribute, Event, Menu, Spare, zeros, size, control as controlSize}
 use Rattle.menu_forms.specs.Menus.{descriptorFields, escapeFields, attributeFields, textFields, eventFields, fillFields, fields}
 use Rattle.menu_forms.specs.Form.{attributeForm}
 use Rattle.menu_forms.proofs.Forms.{high-length}
@@ -162,3 +162,7 @@ events-bytes (e ∷ es) =
 pub menu-whole : (sum control : ℕ) (spare : Spare) (m : Menu) → width (fields sum control spare m) ≡ 8 * controlSize m
 menu-whole sum control spare m =
     omega (arith, menu-bytes sum control spare m, menu-bytes 0 0 zeros m, text-bytes (m .header), events-bytes (m .events))
+
+-- and a block within its 2,047 bytes has at most 8,184 control bits
+pub bits-most : (m : Menu) → size m ≤ 2047 → width (fields 0 0 zeros m) ≤ 8184
+bits-most m h = omega (arith, menu-whole 0 0 zeros m)

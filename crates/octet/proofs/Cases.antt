@@ -5,16 +5,18 @@ use Rattle.laws.specs.Range.{tabulate}
 use Rattle.octet.specs.Bits.{bits, number, differing}
 use Rattle.octet.specs.Image.{image, withParity}
 use Rattle.octet.specs.Decoding.{nib, nibbleFrom, undecodable}
+use Rattle.octet.specs.Hearing.{hearing, harm}
+use Rattle.octet.specs.declared.Heard.the-variants.{Mended}
 use Rattle.octet.specs.Turning.{turned}
 
--- A to D: bytes that are decoded, mended or refused; E: a byte turned
+-- A to D: bytes that are decoded, mended (A: and heard so) or refused; E: a byte turned
 abbrev pub CasesAtoE : Type 0
 CasesAtoE =
-    (nib 0x14 ≡ 0) × (nib 0x16 ≡ undecodable) × (nib 0x00 ≡ 1) × (nib 0xFF ≡ 14) × (turned 0x15 ≡ 0xA8)
+    (nib 0x14 ≡ 0) × (hearing 0x14 ≡ Mended 0) × (nib 0x16 ≡ undecodable) × (nib 0x00 ≡ 1) × (nib 0xFF ≡ 14) × (turned 0x15 ≡ 0xA8)
 
 pub cases-a-to-e : CasesAtoE
-unfolding nib nibbleFrom image withParity differing number turned bits
-cases-a-to-e = (refl, refl, refl, refl, refl)
+unfolding nib nibbleFrom image withParity differing number turned bits hearing harm
+cases-a-to-e = (refl, refl, refl, refl, refl, refl)
 
 -- the images of the sixteen nibbles (SCOPE 5.2)
 abbrev pub TheImages : Type 0

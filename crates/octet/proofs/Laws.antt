@@ -5,7 +5,7 @@ use mathlib.Core.Bool.{Bool, true, false}
 use mathlib.Core.List.{List}
 use Prim.Native.Nat.{ℕ, zero, suc, _+_, _%_, _<_, _≤_}
 use native.Mathlib.Omega.{arith}
-use lib.Dec.{eqb, ltb, leb, eqb→eq, ltb→lt}
+use lib.Dec.{eqb, leb, eqb→eq}
 use lib.ListN.{getD}
 use Rattle.laws.specs.Range.{tabulate}
 use Rattle.laws.proofs.Whole.{all-at, tabulate-at}
@@ -13,7 +13,7 @@ use Rattle.octet.specs.Bits.{bits, number, differing, flips}
 use Rattle.octet.specs.Image.{image, withParity}
 use Rattle.octet.specs.Decoding.{nib, nibbleFrom}
 use Rattle.octet.specs.Turning.{turned}
-use Rattle.octet.proofs.Lowest.{image-mod, turned-mod}
+use Rattle.octet.proofs.Lowest.{image-mod}
 
 nibble-from-le : (k n b : ℕ) → n + k ≤ 16 → nibbleFrom k n b ≤ 16
 unfolding nibbleFrom
@@ -41,14 +41,6 @@ byte b = omega arith
 pub turned-turned : (b : ℕ) → b < 256 → turned (turned b) ≡ b
 unfolding turned bits number
 turned-turned b h = eqb→eq _ b (all-at (λ (x : ℕ). eqb (turned (turned x)) x) 256 tt b h)
-
-pub turned-byte : (b : ℕ) → turned b < 256
-unfolding turned bits number
-turned-byte b = rw turned-mod (ltb→lt _ 256 (all-at (λ (x : ℕ). ltb (turned x) 256) 256 tt (b % 256) (byte b)))
-
-pub image-byte : (n : ℕ) → image n < 256
-unfolding image withParity number
-image-byte n = rw image-mod (ltb→lt _ 256 (all-at (λ (x : ℕ). ltb (image x) 256) 16 tt (n % 16) (omega arith)))
 
 -- an entry of the table is what its byte decodes to
 pub entry-at : (table : List ℕ) → table ≡ tabulate nib 0 256 → (b : ℕ) → b < 256 → getD table b 0 ≡ nib b

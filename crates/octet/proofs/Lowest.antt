@@ -1,16 +1,15 @@
 -- Only the lowest bits of a number count, so no law of a byte asks that it is one. Assumes nothing.
 use mathlib.Core.Path.{_≡_, refl, ap, ap₂}
 use mathlib.Core.Bool.{true, false}
-use mathlib.Core.List.{List, reverse}
+use mathlib.Core.List.{List}
 use Prim.Native.Nat.{ℕ, zero, suc, _/_, _%_, _^_}
 use native.Mathlib.Numerals.{add-one}
 use lib.Dec.{leb}
 use lib.ListN.{getD}
 use lib.Pow.{field, mod-mod-pow}
-use Rattle.octet.specs.Bits.{bits, number, differing}
+use Rattle.octet.specs.Bits.{bits, differing}
 use Rattle.octet.specs.Image.{image, withParity}
 use Rattle.octet.specs.Decoding.{nib, nibbleFrom}
-use Rattle.octet.specs.Turning.{turned}
 
 mod-low : (b k : ℕ) → b % 2 ^ suc k % 2 ≡ b % 2
 mod-low b k = rw (← add-one k) (mod-mod-pow b k 1)
@@ -41,7 +40,3 @@ nibbleFrom-mod (suc k) n b =
 pub nib-mod : (b : ℕ) → nib b ≡ nib (b % 256)
 unfolding nib
 nib-mod b = nibbleFrom-mod 16 0 b
-
-pub turned-mod : (b : ℕ) → turned b ≡ turned (b % 256)
-unfolding turned
-turned-mod b = ap (λ (l : List ℕ). number (reverse l)) (bits-mod 8 b)

@@ -151,9 +151,6 @@ module _ {h part n : ℕ} {store : List ℕ} (k : Kept (Body h part n) store) wh
   pub body-fits : n ≤ sizeOf h
   body-fits = rw body-length at (k .good .2)
 
-  pub body-part : part ≤ 5
-  body-part = k .good .1
-
   pub body-size : sizeOf h ≤ storeLength
   body-size = omega (arith, k .good .0)
 
