@@ -2,7 +2,7 @@
 """What a change costs: bench/before.py DIR
 
 DIR has two programs, measure and measure-before, each of one build, and two desks, our-desk and before-desk; and bench/make.py's files.
-They run in turn, five rounds, and of each the best counts, in CPU time."""
+They run in turn, five rounds (or BENCH_ROUNDS), and of each the best counts, in CPU time."""
 
 import pathlib
 import sys

@@ -27,8 +27,8 @@ uint64_t bench_feed_all(const uint8_t *packets, size_t n, uint8_t *out, size_t r
 enum { ROUNDS = 25, BYTES = 1 << 16 };
 
 /* The bytes of a record before its raw bytes. Builds from before the part came have two (bench/run --before says so). */
-#ifndef HEAD
-#define HEAD 4
+#ifndef RECORD_HEAD
+#define RECORD_HEAD 4
 #endif
 
 static uint8_t *input, out[1 << 22], records[1 << 22];
@@ -93,7 +93,7 @@ static unsigned long our_feed(void) { return bench_feed(input, length, out, size
 static unsigned long our_feed_all(void) { return bench_feed_all(input, length, out, sizeof out); }
 
 /* How long the record there is, by its size. */
-static size_t record_length(const uint8_t *record) { return HEAD + (record[0] + 256u * record[1]) / 32; }
+static size_t record_length(const uint8_t *record) { return RECORD_HEAD + (record[0] + 256u * record[1]) / 32; }
 
 /* The records that come of the input's packets. */
 static void keep_records(void)
@@ -108,7 +108,7 @@ static void keep_records(void)
     }
 }
 
-#if HEAD == 4
+#if RECORD_HEAD == 4
 static unsigned long plain_read(void)
 {
     unsigned long bytes = 0;
@@ -254,7 +254,7 @@ static void packets(const char *what, const char *name)
 int main(int argc, char **argv)
 {
     struct timed read[] = {
-#if HEAD == 4
+#if RECORD_HEAD == 4
         { "plain C", plain_read, 0 },
 #endif
         { "ours, `table::read_block`", our_read, 0 },

@@ -3,7 +3,7 @@
 
 DIR has, for each PLACE, a program measure-PLACE in which the code of each side begins PLACE bytes
 into a page, and desks c-desk-PLACE and our-desk-PLACE of that kind; and bench/make.py's files.
-They run in turn, five rounds of each, and of each contender at each place the best counts, in CPU
+They run in turn, five rounds of each (or BENCH_ROUNDS), and of each contender at each place the best counts, in CPU
 time. The last lines have the least and the most over all places, and our most over the other's least."""
 
 import os
@@ -13,7 +13,7 @@ import subprocess
 import sys
 
 START = os.environ.get("BENCH_START", "tests/start")
-ROUNDS = 5
+ROUNDS = int(os.environ.get("BENCH_ROUNDS", 5))
 ROW = re.compile(r"\| (.*?) \| (.*?) \| (\S+) ns a \w+ \|")
 
 
