@@ -37,7 +37,7 @@ frontRules ns =
     ∷ rule (both (eqb (bitsAt 18 6 ns) NI) (eqb (bitsAt 24 2 ns) 0)) 12 0
     ∷ []
 
--- 10 in any other control byte, 23 for a string byte of wrong parity, 11 for the sum
+-- 10 in any other control byte, 23 where a string byte has an even number of ones, 11 for the sum
 unfoldable pub wholeRules : ℕ → List ℕ → List ℕ → List Rule
 wholeRules head ns strings =
     rule (eqb (sound ns) (length ns)) 10 (headLength + sound ns)

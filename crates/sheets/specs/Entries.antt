@@ -34,7 +34,7 @@ headLines e =
     numberLine stampName (e .stamp)
     ++ (kindLine (e .table .kind) ++ (numberLine networkName (e .table .network) ++ numberLine blockName (e .table .block)))
 
--- the table's lines, from `descriptor=` on as the desk prints them
+-- the lines of the table's descriptors (SCOPE 13.2)
 abbrev pub tableLines : Entry → List ℕ
 tableLines e = descriptorLinesOf (e .table)
 

@@ -40,7 +40,7 @@ valuesOf (Packets n) = values 0 0 n
 valuesOf (Lost r) = values (r .no) (r .at) (length unreadable)
 valuesOf (Refused r) = values (r .no) (r .at) 0
 
--- reading's rules are judged first; "1, the lent output is shorter than needed", comes last, by the exact need
+-- reading's rules are judged first, and 1 last, by the exact need
 unfoldable pub answerOf : List ℕ → List ℕ → Stripped·Stripped
 answerOf pes packets =
     pick (leb (length (goesOut pes)) (length packets))
