@@ -13,7 +13,7 @@ use lib.Seq.{drop-cons}
 use Rattle.laws.specs.Pick.{pick}
 use Rattle.octet.specs.Decoding.{nib, undecodable}
 use Rattle.packet.specs.Packet.{packetLength}
-use Rattle.aerials.specs.Better.{judgedBytes, addressLength, brokenIn, betterOf}
+use Rattle.aerials.specs.Better.{judgedBytes, addressLength, brokenIn, betterOf, betterAt, behind}
 
 pub lost-yes : (b : ℕ) → nib b ≡ undecodable → 1 ≡ brokenIn 1 (b ∷ [])
 unfolding brokenIn
@@ -41,23 +41,29 @@ pub broken-end : (s : List ℕ) (i n k : ℕ) → k ≡ 0 → n ≡ n + brokenIn
 unfolding brokenIn
 broken-end s i n k e = rw e (sym (add-zero n))
 
--- ---- what is handed back
+-- ---- what is handed back, and where it begins
 
-module _ (first second : List ℕ) where
-  pub no-first : (length first ≡ packetLength → ⊥) → [] ≡ betterOf first second
-  unfolding betterOf
-  no-first h = rw (ne-eqb _ _ h)
+module _ (first second : List ℕ) (one two : ℕ × ℕ) where
+  pub no-first : (length first ≡ packetLength → ⊥) → ([] ≡ betterOf first second) × (one ≡ betterAt first second one two)
+  unfolding betterOf betterAt
+  no-first h = (rw (ne-eqb _ _ h), rw (ne-eqb _ _ h))
 
-  module _ (one : length first ≡ packetLength) where
-    pub no-second : (length second ≡ packetLength → ⊥) → [] ≡ betterOf first second
-    unfolding betterOf
-    no-second h = rw (eq-eqb _ _ one, ne-eqb _ _ h)
+  module _ (first-long : length first ≡ packetLength) where
+    pub no-second : (length second ≡ packetLength → ⊥) → ([] ≡ betterOf first second) × (one ≡ betterAt first second one two)
+    unfolding betterOf betterAt
+    no-second h = (rw (eq-eqb _ _ first-long, ne-eqb _ _ h), rw (eq-eqb _ _ first-long, ne-eqb _ _ h))
 
-    module _ (two : length second ≡ packetLength) where
-      pub the-second : brokenIn judgedBytes second < brokenIn judgedBytes first → drop addressLength second ≡ betterOf first second
-      unfolding betterOf
-      the-second h = rw (eq-eqb _ _ one, eq-eqb _ _ two, lt-ltb _ _ h)
+    module _ (second-long : length second ≡ packetLength) where
+      pub the-second :
+          brokenIn judgedBytes second < brokenIn judgedBytes first
+          → (drop addressLength second ≡ betterOf first second) × (behind two addressLength ≡ betterAt first second one two)
+      unfolding betterOf betterAt
+      the-second h =
+          (rw (eq-eqb _ _ first-long, eq-eqb _ _ second-long, lt-ltb _ _ h), rw (eq-eqb _ _ first-long, eq-eqb _ _ second-long, lt-ltb _ _ h))
 
-      pub the-first : brokenIn judgedBytes first ≤ brokenIn judgedBytes second → drop addressLength first ≡ betterOf first second
-      unfolding betterOf
-      the-first h = rw (eq-eqb _ _ one, eq-eqb _ _ two, le-ltb _ _ h)
+      pub the-first :
+          brokenIn judgedBytes first ≤ brokenIn judgedBytes second
+          → (drop addressLength first ≡ betterOf first second) × (behind one addressLength ≡ betterAt first second one two)
+      unfolding betterOf betterAt
+      the-first h =
+          (rw (eq-eqb _ _ first-long, eq-eqb _ _ second-long, le-ltb _ _ h), rw (eq-eqb _ _ first-long, eq-eqb _ _ second-long, le-ltb _ _ h))

@@ -5,9 +5,10 @@
 // nothing shows it.
 ghost use mathlib.Core.Path.{_≡_};
 ghost use mathlib.Core.List.{_∷_, []};
+ghost use denote.Ref.{ptr};
 ghost use lib.ListN.{length};
 ghost use Rattle.packet.specs.Packet.{packetLength};
-ghost use Rattle.aerials.specs.Better.{judgedBytes, brokenIn, betterOf};
+ghost use Rattle.aerials.specs.Better.{judgedBytes, brokenIn, betterOf, betterAt};
 
 // How long a packet is.
 const PACKET: usize = 42;
@@ -19,6 +20,7 @@ const JUDGED: usize = 10;
 // the lent bytes, and no copy. Where one of the two isn't 42 bytes long, which is number 16, an empty part of the first.
 pub fn better<'a>(first: &'a [u8], second: &'a [u8]) -> &'a [u8]
     ensures { λ r. ⌜ now r ≡ betterOf (now (first .entry)) (now (second .entry)) ⌝ }
+    ensures { λ r. ⌜ ptr r ≡ betterAt (now (first .entry)) (now (second .entry)) (ptr (first .entry)) (ptr (second .entry)) ⌝ }
 {
     let long = second.len();
     if first.len() != PACKET {

@@ -6,7 +6,7 @@ use mathlib.Core.List.{List}
 use Prim.Native.Nat.{ℕ, _-_, _≤_, min}
 use native.Mathlib.Omega.{arith}
 use lib.ListN.{length, drop, length-drop}
-use denote.Ref.{now}
+use denote.Ref.{now, ptr}
 use Rattle.answer.proofs.refuse.Reads as answer·refuse
 use Rattle.octet.proofs.image.Reads as octet·image
 use Rattle.aerials.proofs.better.Reads as aerials·better
@@ -180,8 +180,9 @@ stripped·strip-settled κs a x y s t p q = (same (p .0) (q .0), same (p .1 .0) 
 pub stripped·blank-settled : (κs : _) (a : _) (x y : _) (s t : _) → stripped·blank.Post κs a x s → stripped·blank.Post κs a y t → now (s .0) ≡ now (t .0)
 stripped·blank-settled κs a x y s t p q = same p q
 
-pub aerials·better-settled : (κs : _) (a : _) (x y : _) (s t : _) → aerials·better.Post κs a x s → aerials·better.Post κs a y t → now x ≡ now y
-aerials·better-settled κs a x y s t p q = same p q
+pub aerials·better-settled :
+    (κs : _) (a : _) (x y : _) (s t : _) → aerials·better.Post κs a x s → aerials·better.Post κs a y t → (now x ≡ now y) × (ptr x ≡ ptr y)
+aerials·better-settled κs a x y s t p q = (same (p .0) (q .0), same (p .1) (q .1))
 
 pub blocks·record-at-settled : (κs : _) (a : _) (x y : _) (s t : _) → blocks·record-at.Post κs a x s → blocks·record-at.Post κs a y t → x ≡ y
 blocks·record-at-settled κs a x y s t p q = same p q
