@@ -19,9 +19,9 @@ use Rattle.blocks.specs.Block.{Block, blocks}
 use Rattle.packet.specs.declared.Setting.{Setting}
 use Rattle.packet.specs.Setting.{inRange}
 use Rattle.symbols.specs.Stream.{streamOf}
-use Rattle.writer.specs.Cutting.{packets}
+use Rattle.writer.specs.Cutting.{packets, FortyTwo, more}
 use Rattle.writer.proofs.Counting.{covered}
-use Rattle.writer.proofs.Numbering.{FortyTwo, more, packets-forty}
+use Rattle.writer.proofs.Numbering.{packets-forty}
 use Rattle.state.specs.State.{readerOf, freshState}
 use Rattle.state.proofs.Ranging.{sound-fresh}
 use Rattle.claims.specs.Noise.{Flipped, Hears, Aired, ended, sent, between, Came, Fits}

@@ -14,14 +14,14 @@ use Rattle.blocks.specs.Block.{Block, blocks}
 use Rattle.blocks.proofs.Round.{blocks-records}
 use Rattle.packet.specs.declared.Setting.{Setting}
 use Rattle.packet.specs.Setting.{inRange}
-use Rattle.writer.proofs.Numbering.{FortyTwo, more}
+use Rattle.writer.specs.Cutting.{FortyTwo, more}
 use Rattle.state.specs.declared.Reader.{Reader}
 use Rattle.pages.specs.Headers.{Seen}
 use Rattle.pages.specs.Seen.{see}
 use Rattle.state.specs.Acting.{State, act, handed, dropped}
-use Rattle.state.specs.State.{stateOf, readerOf, readerInRange}
+use Rattle.state.specs.State.{stateOf, readerOf, readerInRange, Sound}
 use Rattle.reader.specs.Feeding.{feedHeard, feedReader, feedOut, handedBytes}
-use Rattle.state.proofs.Ranging.{Sound, sound-after, state-held, reader-in-range}
+use Rattle.state.proofs.Ranging.{sound-after, state-held, reader-in-range}
 use Rattle.state.proofs.Handing.{handed-sized}
 use Rattle.claims.specs.Carrying.{heardBlocks}
 use Rattle.claims.specs.Feeding.{Call, packetsOf, writtenOf, numberOf, countOf, comesOut, droppedOf}

@@ -14,14 +14,14 @@ use Rattle.blocks.specs.Sizes.{Sized}
 use Rattle.blocks.proofs.Round.{blocks-records}
 use Rattle.packet.specs.declared.Setting.{Setting}
 use Rattle.packet.specs.Setting.{inRange}
-use Rattle.writer.specs.Cutting.{joined}
-use Rattle.writer.proofs.Numbering.{FortyTwo, more, forty-front, forty-take, forty-drop}
+use Rattle.writer.specs.Cutting.{joined, FortyTwo, more}
+use Rattle.writer.proofs.Numbering.{forty-front, forty-take, forty-drop}
 use Rattle.walk.specs.Reading.{room}
 use Rattle.pages.specs.Seen.{see}
 use Rattle.state.specs.declared.Reader.{Reader}
 use Rattle.state.specs.Acting.{State, act}
-use Rattle.state.specs.State.{readerOf}
-use Rattle.state.proofs.Ranging.{Sound, sound-after}
+use Rattle.state.specs.State.{readerOf, Sound}
+use Rattle.state.proofs.Ranging.{sound-after}
 use Rattle.state.proofs.Handing.{handed-sized}
 use Rattle.reader.specs.declared.Heard.{Heard}
 use Rattle.reader.specs.Feeding.{feedHeard, feedReader, feedOut}

@@ -15,15 +15,15 @@ use Rattle.blocks.specs.Block.{Block, recordsOf}
 use Rattle.packet.specs.declared.Setting.{Setting}
 use Rattle.packet.specs.Setting.{inRange}
 use Rattle.packet.specs.Packet.{packetLength}
-use Rattle.writer.proofs.Numbering.{FortyTwo, none, more}
+use Rattle.writer.specs.Cutting.{FortyTwo, none, more}
 use Rattle.state.specs.declared.Reader.{Reader}
 use Rattle.walk.specs.Reading.{room}
 use Rattle.laws.proofs.Tests.{either-false, either-assoc}
 use Rattle.pages.specs.Seen.{see}
 use Rattle.state.specs.Acting.{State, handed, dropped}
-use Rattle.state.specs.State.{stateOf, readerOf}
+use Rattle.state.specs.State.{stateOf, readerOf, Sound}
 use Rattle.reader.specs.Many.{Ran, begun, ranOn, run}
-use Rattle.state.proofs.Ranging.{Sound, sound-after, state-held, reader-in-range}
+use Rattle.state.proofs.Ranging.{sound-after, state-held, reader-in-range}
 use Rattle.claims.specs.Feeding.{Call, packetsOf, comesOut, leaves, drops, inOne, AsCalls}
 use Rattle.claims.proofs.Fed.{call-reader, call-blocks, call-drops}
 

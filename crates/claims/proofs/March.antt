@@ -13,7 +13,7 @@ use Rattle.blocks.specs.Block.{Block}
 use Rattle.packet.specs.declared.Setting.{Setting}
 use Rattle.packet.specs.Setting.{inRange}
 use Rattle.packet.specs.Packet.{packetLength}
-use Rattle.writer.proofs.Numbering.{FortyTwo, more}
+use Rattle.writer.specs.Cutting.{FortyTwo, more}
 use Rattle.pages.specs.declared.headers.Page.the-variants.{Shut}
 use Rattle.walk.specs.Mode.{off}
 use Rattle.pages.specs.Headers.{Seen, junk, other, foreign, ours, packetY, seeZero}
@@ -21,8 +21,8 @@ use Rattle.pages.specs.Seen.{see, seeY}
 use Rattle.pages.proofs.Judged.{sees, see-junk}
 use Rattle.state.specs.Acting.{State, act, handed}
 use Rattle.pages.specs.Judging.{breaks}
-use Rattle.state.specs.State.{readerOf, freshState}
-use Rattle.state.proofs.Ranging.{Sound, sound-fresh}
+use Rattle.state.specs.State.{readerOf, freshState, Sound}
+use Rattle.state.proofs.Ranging.{sound-fresh}
 use Rattle.claims.specs.Carrying.{heardBlocks}
 use Rattle.claims.specs.Feeding.{Call, packetsOf, comesOut}
 use Rattle.claims.specs.March.{Unreadable, address, zero}

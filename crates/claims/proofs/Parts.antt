@@ -14,10 +14,9 @@ use Rattle.blocks.specs.Block.{Block, recordOf}
 use Rattle.blocks.specs.Parts.{Parted}
 use Rattle.packet.specs.declared.Setting.{Setting}
 use Rattle.packet.specs.Setting.{inRange}
-use Rattle.writer.proofs.Numbering.{FortyTwo}
+use Rattle.writer.specs.Cutting.{FortyTwo}
 use Rattle.state.specs.Acting.{State}
-use Rattle.state.specs.State.{readerOf}
-use Rattle.state.proofs.Ranging.{Sound}
+use Rattle.state.specs.State.{readerOf, Sound}
 use Rattle.state.proofs.Handing.{handed-parted}
 use Rattle.frames.specs.Framing.{frameRules}
 use Rattle.forms.specs.Tables.{Table}

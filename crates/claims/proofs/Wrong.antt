@@ -22,18 +22,18 @@ use Rattle.packet.specs.Setting.{inRange}
 use Rattle.packet.specs.Packet.{address, packetZero, packetOf}
 use Rattle.packet.specs.Address.{decodes, addressOf}
 use Rattle.symbols.specs.Stream.{symbols, cellsOf, streamOf, grab, beforeStart}
-use Rattle.writer.specs.Cutting.{dataPackets, pages, packets}
+use Rattle.writer.specs.Cutting.{dataPackets, pages, packets, FortyTwo}
 use Rattle.writer.proofs.Cases.{desk}
-use Rattle.writer.proofs.Numbering.{FortyTwo, packets-forty}
-use Rattle.writer.proofs.Numbering
+use Rattle.writer.proofs.Numbering.{packets-forty}
+use Rattle.writer.specs.Cutting
 use Rattle.pages.specs.declared.headers.Page.the-variants.{Shut}
 use Rattle.pages.specs.Headers.{junk, other}
 use Rattle.pages.specs.Seen.{seenAs, see}
 use Rattle.walk.specs.Mode.{running, heading}
 use Rattle.state.specs.declared.Reader.{Reader}
 use Rattle.state.specs.Acting.{State, act, handed, dropped}
-use Rattle.state.specs.State.{readerOf, freshState}
-use Rattle.state.proofs.Ranging.{Sound, sound-fresh, sound-after}
+use Rattle.state.specs.State.{readerOf, freshState, Sound}
+use Rattle.state.proofs.Ranging.{sound-fresh, sound-after}
 use Rattle.reader.specs.declared.Heard.{Heard}
 use Rattle.reader.specs.Feeding.{feedHeard, feedOut}
 use Rattle.forms.specs.Tables.{Table, per, loops, fields, fits, entire}
@@ -344,8 +344,8 @@ module _ (heard : Setting → Reader → List ℕ → List ℕ → Heard) (tells
 
   none-heard : (st : State) → Sound st → {ps : List (List ℕ)} → FortyTwo ps → length (heardBlocks desk st ps) ≡ 0
   unfolding heardBlocks
-  none-heard st r Numbering.none = refl
-  none-heard st r (Numbering.more {p = p} l e) =
+  none-heard st r Cutting.none = refl
+  none-heard st r (Cutting.more {p = p} l e) =
       length-append (handed st (see desk p)) _
       ∙ omega (arith, none-told st r p l, none-heard (act st (see desk p)) (sound-after desk st p r) e)
 

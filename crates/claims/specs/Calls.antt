@@ -11,8 +11,7 @@ use Rattle.answer.specs.declared.Answer.{Answer}
 use Rattle.answer.specs.declared.Answer.the-variants.{Done, Refused}
 use Rattle.blocks.specs.Block.{Block, blocks as Block·blocks, recordOf as Block·recordOf}
 use Rattle.packet.specs.declared.Setting.{Setting}
-use Rattle.writer.specs.Cutting.{joined, cutBytes, usualPage}
-use Rattle.writer.proofs.Numbering.{FortyTwo}
+use Rattle.writer.specs.Cutting.{joined, cutBytes, usualPage, FortyTwo}
 use Rattle.walk.specs.Reading.{room}
 use Rattle.state.specs.declared.Reader.{Reader}
 use Rattle.reader.specs.declared.Heard.{Heard}

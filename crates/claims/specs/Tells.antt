@@ -12,8 +12,7 @@ use Rattle.packet.specs.Packet.{packetLength}
 use Rattle.walk.specs.Mode.{running}
 use Rattle.state.specs.declared.Reader.{Reader}
 use Rattle.state.specs.Acting.{State}
-use Rattle.state.specs.State.{readerOf}
-use Rattle.state.proofs.Ranging.{Sound}
+use Rattle.state.specs.State.{readerOf, Sound}
 use Rattle.reader.specs.declared.Heard.{Heard}
 use Rattle.claims.specs.Feeding.{Call, writtenOf, countOf, droppedOf}
 use Rattle.claims.specs.March.{Unreadable}

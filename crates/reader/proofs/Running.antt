@@ -19,7 +19,8 @@ use Rattle.pages.specs.Seen.{see}
 use Rattle.state.specs.Acting.{State, handed, dropped}
 use Rattle.walk.specs.Reading.{room}
 use Rattle.reader.specs.Many.{Ran, begun, ranOn, run}
-use Rattle.walk.specs.Internal.{Good, Kept}
+use Rattle.walk.specs.Internal.{Kept}
+use Rattle.walk.specs.Mode.{Good}
 use Rattle.reader.specs.Internal.{Acted, stateIn, RanTo, taking, packetAt, Reached, Passed}
 use Rattle.walk.proofs.Keeping.{holds-mode, holds-kept}
 use Rattle.walk.proofs.Adding.{recordsOf-append}

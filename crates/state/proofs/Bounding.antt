@@ -9,7 +9,7 @@ use Rattle.laws.specs.Pick.{pick}
 use Rattle.packet.specs.declared.Setting.{Setting}
 use Rattle.packet.specs.Packet.{packetLength}
 use Rattle.walk.specs.Reading.{dropIf, readBlocks}
-use Rattle.walk.specs.Internal.{Good}
+use Rattle.walk.specs.Mode.{Good}
 use Rattle.walk.proofs.Along.{drop-good}
 use Rattle.walk.proofs.Room.{Within, within-none, read-room}
 use Rattle.state.specs.Acting.{State, pointerOf, bytesOf, handed}

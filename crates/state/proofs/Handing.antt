@@ -17,15 +17,14 @@ use Rattle.octet.proofs.Hearing.{harm-le}
 use Rattle.blocks.specs.Block.{Block, sizeOf}
 use Rattle.blocks.specs.Sizes.{Sized}
 use Rattle.blocks.specs.Parts.{Parted}
-use Rattle.walk.specs.Mode.{Mode, off, scan, heading, body, shifted, full, blockWith, step, emitted, gives, continues, finished}
+use Rattle.walk.specs.Mode.{Mode, off, scan, heading, body, shifted, full, blockWith, step, emitted, gives, continues, finished, Good}
 use Rattle.walk.specs.Reading.{dropIf, readBlocks}
-use Rattle.walk.specs.Internal.{Good}
 use Rattle.walk.proofs.Along.{Along, good-along, drop-good, continues-along, step-along}
 use Rattle.pages.specs.declared.headers.Verdict.{Verdict}
 use Rattle.pages.specs.Judging.{verdictOf}
 use Rattle.pages.specs.Headers.{Seen}
 use Rattle.state.specs.Acting.{State, pointerOf, bytesOf, handed}
-use Rattle.state.proofs.Ranging.{Sound}
+use Rattle.state.specs.State.{Sound}
 
 -- from the pointed byte on a block never waits whole
 abbrev Short : Mode → Type 0

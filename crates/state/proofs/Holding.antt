@@ -18,7 +18,8 @@ use Rattle.walk.specs.declared.Run.the-variants.{Idle, Head, Body}
 use Rattle.state.specs.declared.Reader.{Reader}
 use Rattle.walk.specs.Store.{storeLength, zeroed}
 use Rattle.state.specs.State.{zeros, pageInRange, runInRange, heldBy, readerInRange, Sixteen}
-use Rattle.walk.specs.Internal.{Bits, Kept}
+use Rattle.walk.specs.Internal.{Kept}
+use Rattle.walk.specs.Mode.{Bits}
 
 zeros-all : (l : List ℕ) → zeros l ≡ true → l ≡ replicate (length l) 0
 unfolding zeros

@@ -11,16 +11,15 @@ use lib.Seq.{take-append-seam, drop-append-seam}
 use borrow.Author.Tests.{le-leb}
 use Rattle.laws.specs.Pick.{pick}
 use Rattle.laws.proofs.Tests.{both-true}
-use Rattle.walk.specs.Internal.{Good}
 use Rattle.walk.proofs.Along.{drop-good, read-good}
 use Rattle.pages.proofs.Judged.{Shaped, shaped}
 use Rattle.blocks.specs.Block.{sizeOf}
 use Rattle.packet.specs.declared.Setting.{Setting}
 use Rattle.pages.specs.declared.headers.Page.{Page}
 use Rattle.pages.specs.declared.headers.Page.the-variants.{Shut, Open}
-use Rattle.walk.specs.Mode.{Mode, off, scan, heading, body}
+use Rattle.walk.specs.Mode.{Mode, off, scan, heading, body, Good}
 use Rattle.walk.specs.Store.{storeLength, zeroed, modeOf, runOf, heldOf}
-use Rattle.state.specs.State.{stateOf, readerOf, zeros, pageInRange, runInRange, heldBy, readerInRange, freshState}
+use Rattle.state.specs.State.{stateOf, readerOf, zeros, pageInRange, runInRange, heldBy, readerInRange, freshState, Sound}
 use Rattle.state.specs.Acting.{State, pointerOf, bytesOf, act}
 use Rattle.pages.specs.declared.headers.Verdict.{Verdict}
 use Rattle.pages.specs.Judging.{verdictOf}
@@ -29,12 +28,6 @@ use Rattle.pages.specs.Headers.{Seen, junk, other, foreign, ours, packetY}
 use Rattle.pages.specs.Seen.{see}
 
 -- ---- the state
-
--- a state that calls leave
-pub record Sound (st : State) : Type 0 where
-  pub page : pageInRange (st .page) ≡ true
-  pub index : st .index ≤ 15
-  pub mode : Good (st .mode)
 
 -- a verdict leaves page and index in range
 verdict-sound :

@@ -1,7 +1,8 @@
 -- The state as the reader holds it: the running block's bytes in a store of 2,047, all others zero (SCOPE 10.1).
+use mathlib.Core.Path.{_≡_}
 use mathlib.Core.Bool.{Bool, true}
 use mathlib.Core.List.{List, [], _∷_}
-use Prim.Native.Nat.{ℕ, suc, _-_, _%_, _^_, _<_}
+use Prim.Native.Nat.{ℕ, suc, _-_, _%_, _^_, _≤_, _<_}
 use lib.Dec.{eqb, leb}
 use lib.ListN.{drop}
 use Rattle.laws.specs.Pick.{both}
@@ -12,7 +13,7 @@ use Rattle.walk.specs.declared.Run.{Run}
 use Rattle.walk.specs.declared.Run.the-variants.{Idle, Head, Body}
 use Rattle.state.specs.declared.Reader.{Reader}
 use Rattle.walk.specs.Store.{zeroed, modeOf, runOf, heldOf}
-use Rattle.walk.specs.Mode.{off}
+use Rattle.walk.specs.Mode.{off, Good}
 use Rattle.state.specs.Acting.{State}
 
 -- the state that a reader holds
@@ -59,3 +60,9 @@ abbrev pub Sixteen : Run → Type 0
 Sixteen Idle = Unit
 Sixteen (Head got bits part) = bits < 2 ^ 16
 Sixteen (Body head part held) = head < 2 ^ 16
+
+-- a state that calls leave
+pub record Sound (st : State) : Type 0 where
+  pub page : pageInRange (st .page) ≡ true
+  pub index : st .index ≤ 15
+  pub mode : Good (st .mode)

@@ -17,10 +17,10 @@ use Rattle.walk.specs.declared.Run.{Run}
 use Rattle.walk.specs.declared.Run.the-variants.{Idle, Head, Body}
 use Rattle.walk.specs.declared.Got.{Got}
 use Rattle.walk.specs.declared.Taken.{Taken}
-use Rattle.walk.specs.Mode.{Mode, off, scan, heading, body, full, blockWith, isFull, finished, unfinished, running, continues}
+use Rattle.walk.specs.Mode.{Mode, off, scan, heading, body, full, blockWith, isFull, finished, unfinished, running, continues, Bits, Good}
 use Rattle.walk.specs.Store.{zeroed, storeLength, modeOf}
 use Rattle.walk.specs.Places.{StartAhead, nothing, broken, cut, whole, fillers, found, stands}
-use Rattle.walk.specs.Internal.{Bits, Good, Holds, Kept, Went, Finished, runs, awaits, TookIn, ContinuedTo, ContinuedOn, Flowed, ReadPacket, Lost}
+use Rattle.walk.specs.Internal.{Holds, Kept, Went, Finished, runs, awaits, TookIn, ContinuedTo, ContinuedOn, Flowed, ReadPacket, Lost}
 use Rattle.walk.specs.Reading.{dropIf, pointedBy}
 use Rattle.walk.proofs.Staying.{waits, breaks-off}
 use Rattle.walk.proofs.Walking.{left-by, given-by, spoilt-by, found-left, found-given, found-spoilt, headed-long, headed-short}

@@ -15,9 +15,8 @@ use Rattle.octet.specs.Hearing.{harm}
 use Rattle.octet.proofs.Laws.{nib-le}
 use Rattle.octet.proofs.Hearing.{harm-le}
 use Rattle.blocks.specs.Block.{sizeOf}
-use Rattle.walk.specs.Mode.{Mode, off, scan, heading, body, shifted, full, headed, step, ends, behind, nextHead, goesOn, continues, unfinished}
+use Rattle.walk.specs.Mode.{Mode, off, scan, heading, body, shifted, full, headed, step, ends, behind, nextHead, goesOn, continues, unfinished, Bits, Good}
 use Rattle.walk.specs.Reading.{dropIf, pointed, readMode}
-use Rattle.walk.specs.Internal.{Bits, Good}
 
 -- a mode along a packet
 abbrev pub Along : Mode → Type 0

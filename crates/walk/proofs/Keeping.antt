@@ -21,10 +21,10 @@ use Rattle.walk.specs.declared.Run.the-variants.{Idle, Head, Body}
 use Rattle.walk.specs.declared.Taken.{Taken}
 use Rattle.walk.specs.declared.Ahead.{Ahead}
 use Rattle.walk.specs.declared.Ahead.the-variants.{Cut, Whole}
-use Rattle.walk.specs.Mode.{Mode, off, scan, heading, body, filler, shifted, full, continues}
+use Rattle.walk.specs.Mode.{Mode, off, scan, heading, body, filler, shifted, full, continues, Bits, Good}
 use Rattle.walk.specs.Store.{storeLength, zeroed, modeOf, runOf, heldOf}
 use Rattle.walk.specs.Places.{StartAhead, nothing, broken, cut, whole, heads, found, aheadIn}
-use Rattle.walk.specs.Internal.{Bits, Good, Holds, Kept, TookIn, awaits}
+use Rattle.walk.specs.Internal.{Holds, Kept, TookIn, awaits}
 use Rattle.walk.proofs.Staying.{stays}
 use Rattle.walk.proofs.Along.{more-bits, decoded, begun-bits}
 use Rattle.walk.proofs.Walking.{chunk-continued, continued-by, heads-continued}

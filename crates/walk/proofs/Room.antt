@@ -12,10 +12,9 @@ use Rattle.laws.specs.Pick.{pick}
 use Rattle.octet.specs.Decoding.{nib, undecodable}
 use Rattle.octet.specs.Hearing.{harm}
 use Rattle.blocks.specs.Block.{Block, headLength, recordsOf}
-use Rattle.walk.specs.Mode.{Mode, off, scan, heading, body, filler, shifted, full, blockWith, step, emitted, gives, continues, finished}
+use Rattle.walk.specs.Mode.{Mode, off, scan, heading, body, filler, shifted, full, blockWith, step, emitted, gives, continues, finished, Good}
 use Rattle.walk.specs.Store.{storeLength}
 use Rattle.walk.specs.Reading.{room, pointed, readBlocks}
-use Rattle.walk.specs.Internal.{Good}
 use Rattle.walk.proofs.Adding.{recordsOf-append}
 use Rattle.walk.proofs.Along.{Along, good-along, continues-along}
 

@@ -3,32 +3,18 @@
 use mathlib.Core.Path.{_≡_}
 use mathlib.Core.Bool.{Bool, true, false, not}
 use mathlib.Core.List.{List, []}
-use Prim.Native.Nat.{ℕ, suc, _+_, _-_, _*_, _%_, _^_, _≤_, _<_}
+use Prim.Native.Nat.{ℕ, _+_, _*_, _≤_}
 use lib.ListN.{length, drop}
 use lib.Seq.{sets}
 use Rattle.laws.specs.Pick.{pick, both, either}
-use Rattle.blocks.specs.Block.{Block, headLength, sizeOf, recordsOf}
+use Rattle.blocks.specs.Block.{Block, headLength, recordsOf}
 use Rattle.walk.specs.declared.Run.{Run}
 use Rattle.walk.specs.declared.Run.the-variants.{Idle, Head, Body}
 use Rattle.walk.specs.declared.Got.{Got}
 use Rattle.walk.specs.declared.Taken.{Taken}
-use Rattle.walk.specs.Mode.{Mode, off, scan, heading, body, full, running, isFull, ends, gives, spoils, continues, finished, unfinished}
+use Rattle.walk.specs.Mode.{Mode, off, scan, heading, body, full, running, isFull, ends, gives, spoils, continues, finished, unfinished, Good}
 use Rattle.walk.specs.Store.{storeLength, zeroed, modeOf, runOf, heldOf}
 use Rattle.walk.specs.Reading.{dropIf, readMode, readBlocks, readDrops, room}
-
--- g nibbles have come, v has their bits and no others, and no more of their bytes and the start than there are count in the part
-pub record Bits (g v part : ℕ) : Type 0 where
-  pub got : g ≤ 3
-  pub small : v < 2 ^ 16
-  pub only : v % 16 ^ (4 - g) ≡ 0
-  pub counted : part ≤ suc g
-
--- a mode that a reader may be in between two steps
-abbrev pub Good : Mode → Type 0
-Good off = Unit
-Good scan = ⊥
-Good (heading g v part) = Bits g v part
-Good (body h part held) = (h < 2 ^ 16) × (part ≤ 5) × (length held ≤ sizeOf h)
 
 -- run and store hold the mode m
 pub record Holds (m : Mode) (r : Run) (store : List ℕ) : Type 0 where

@@ -1,7 +1,8 @@
 -- Reading along the bytes of a packet, one byte a step.
+use mathlib.Core.Path.{_≡_}
 use mathlib.Core.Bool.{Bool, true, false}
 use mathlib.Core.List.{List, [], _∷_, _++_}
-use Prim.Native.Nat.{ℕ, suc, _+_, _*_, _/_}
+use Prim.Native.Nat.{ℕ, suc, _+_, _-_, _*_, _/_, _%_, _^_, _≤_, _<_}
 use lib.Dec.{eqb, leb, ltb}
 use lib.ListN.{length}
 use Rattle.laws.specs.Pick.{pick, either}
@@ -127,3 +128,19 @@ unfinished off = off
 unfinished scan = off
 unfinished (heading g v part) = heading g v part
 unfinished (body h part held) = pick (full h held) off (body h part held)
+
+-- ---- in range (SCOPE 10.2)
+
+-- g nibbles have come, v has their bits and no others, and no more of their bytes and the start than there are count in the part
+pub record Bits (g v part : ℕ) : Type 0 where
+  pub got : g ≤ 3
+  pub small : v < 2 ^ 16
+  pub only : v % 16 ^ (4 - g) ≡ 0
+  pub counted : part ≤ suc g
+
+-- a mode that a reader may be in between two steps
+abbrev pub Good : Mode → Type 0
+Good off = Unit
+Good scan = ⊥
+Good (heading g v part) = Bits g v part
+Good (body h part held) = (h < 2 ^ 16) × (part ≤ 5) × (length held ≤ sizeOf h)

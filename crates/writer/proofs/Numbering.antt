@@ -12,7 +12,7 @@ use Rattle.blocks.specs.Block.{blocks}
 use Rattle.packet.specs.declared.Setting.{Setting}
 use Rattle.packet.specs.Packet.{packetLength, address, packetZero, packetOf}
 use Rattle.symbols.specs.Stream.{Symbol, perPacket, streamOf}
-use Rattle.writer.specs.Cutting.{dataPacket, dataPackets, pages, pagesFor, packets, joined, cutBytes}
+use Rattle.writer.specs.Cutting.{dataPacket, dataPackets, pages, pagesFor, packets, joined, FortyTwo, none, more, cutBytes}
 use Rattle.writer.specs.Internal.{pageOf}
 use Rattle.writer.specs.Order.{numbered}
 use Rattle.writer.proofs.Paging.{zero-length, packet-length}
@@ -110,10 +110,6 @@ unfolding numbered packetZero
 numbered-index s index k ss j = refl
 
 -- ---- where its bytes stand
-
-pub data FortyTwo : List (List ℕ) → Type 0 where
-  none : FortyTwo []
-  more : {p : List ℕ} {ps : List (List ℕ)} → length p ≡ packetLength → FortyTwo ps → FortyTwo (p ∷ ps)
 
 forty-append : {ps qs : List (List ℕ)} → FortyTwo ps → FortyTwo qs → FortyTwo (ps ++ qs)
 forty-append none b = b

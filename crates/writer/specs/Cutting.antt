@@ -1,4 +1,5 @@
 -- The writer: records to packets, in pages of k packets.
+use mathlib.Core.Path.{_≡_}
 use mathlib.Core.Bool.{Bool}
 use mathlib.Core.List.{List, [], _∷_, _++_, map}
 use Prim.Native.Nat.{ℕ, zero, suc, _+_, _-_, _*_, _/_, _%_}
@@ -9,7 +10,7 @@ use Rattle.answer.specs.Rules.{Rule, rule}
 use Rattle.blocks.specs.Block.{whole, blocks}
 use Rattle.packet.specs.declared.Setting.{Setting}
 use Rattle.packet.specs.Setting.{inRange}
-use Rattle.packet.specs.Packet.{packetZero, packetOf}
+use Rattle.packet.specs.Packet.{packetLength, packetZero, packetOf}
 use Rattle.symbols.specs.Stream.{Symbol, byteOf, perPacket, streamOf, grab, pointerOf}
 
 -- packet y with the next symbols
@@ -48,6 +49,11 @@ packets s index k records =
 unfoldable pub joined : List (List ℕ) → List ℕ
 joined [] = []
 joined (p ∷ ps) = p ++ joined ps
+
+-- a list of packets, each of 42 bytes (SCOPE 1.4)
+pub data FortyTwo : List (List ℕ) → Type 0 where
+  none : FortyTwo []
+  more : {p : List ℕ} {ps : List (List ℕ)} → length p ≡ packetLength → FortyTwo ps → FortyTwo (p ∷ ps)
 
 abbrev pub cutBytes : Setting → ℕ → ℕ → List ℕ → List ℕ
 cutBytes s index k records = joined (packets s index k records)
