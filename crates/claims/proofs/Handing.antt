@@ -27,7 +27,8 @@ use Rattle.reader.specs.declared.Heard.{Heard}
 use Rattle.reader.specs.Feeding.{feedHeard, feedReader, feedOut}
 use Rattle.reader.specs.declared.many.HeardAll.{HeardAll}
 use Rattle.reader.specs.Many.{feedAllHeard, feedAllReader, feedAllOut}
-use Rattle.claims.specs.Feeding.{Call, packetsOf, writtenOf, numberOf, comesOut, numberOfAll, packetsOfAll, writtenOfAll, leaves, inOne, AsCalls}
+use Rattle.claims.specs.Feeding.{Call, packetsOf, writtenOf, numberOf, comesOut, numberOfAll, packetsOfAll, countOfAll, writtenOfAll, droppedOfAll, leaves, drops, inOne, AsCalls}
+use Rattle.claims.specs.Tells.{TellsAll}
 use Rattle.claims.specs.Calls.{Feeds, feed, FeedsAll, feed-all, Fed, end, one, many}
 use Rattle.claims.proofs.Fed.{heard-each, callsFor, packets-of-calls, call-reader, call-taken, fed-blocks}
 use Rattle.claims.proofs.Many.{one-by-one}
@@ -98,6 +99,8 @@ module _ (s : Setting) (i : inRange s ≡ true) where
     gives :
         blocks (take (writtenOfAll (feedAllHeard s (readerOf st) (joined ps) old)) (feedAllOut s (readerOf st) (joined ps) old))
         ≡ comesOut s (readerOf st) calls
+    counts : countOfAll (feedAllHeard s (readerOf st) (joined ps) old) ≡ length (comesOut s (readerOf st) calls)
+    dropped : droppedOfAll (feedAllHeard s (readerOf st) (joined ps) old) ≡ drops s (readerOf st) calls
     reader : feedAllReader s (readerOf st) (joined ps) old ≡ leaves s (readerOf st) calls
     left : Left (leaves s (readerOf st) calls)
     stops : (behind ≡ []) ⊎ (length old < length (recordsOf (comesOut s (readerOf st) calls)) + room)
@@ -122,6 +125,8 @@ module _ (s : Setting) (i : inRange s ≡ true) where
             gives =
                 rw (bytes, a .heard, a .out)
                 (ap blocks (take-append-seam (recordsOf bs) (drop (length (recordsOf bs)) old)) ∙ comes-back st r front fed);
+            counts = rw (bytes, a .heard);
+            dropped = rw (bytes, a .heard);
             reader = rw bytes (a .reader);
             left = leaves-sound st r front fed;
             stops = ⊎-map (ap packetsOf) (λ l. l) (a .stops);
@@ -200,3 +205,17 @@ as-ones s i (many {old = old} {qs = qs} {h = h} n enough call fed) st r e f =
     (ap numberOfAll (said .0) ∙ here .number)
     (ap₂ (λ (x : HeardAll) (o : List ℕ). blocks (take (writtenOfAll x) o)) (said .0) (said .2) ∙ here .gives)
     (as-ones s i fed (left .state) (left .sound) (said .1 ∙ here .reader ∙ left .held) (forty-drop (packetsOfAll h) f))
+
+-- what it answers of the records that it writes, and of a block that was dropped
+pub feed-all-tells : TellsAll feedAllHeard feedAllOut
+feed-all-tells =
+    record {
+      counts = λ s i st r ps f old enough. let here = ones s i st r old enough f in here .counts ∙ ap length (sym (here .gives));
+      dropped =
+          λ s i st r ps f old enough.
+          let here = ones s i st r old enough f in
+          let front = packetsOf (here .calls) in
+          let taken : front ≡ take (packetsOfAll (feedAllHeard s (readerOf st) (joined ps) old)) ps =
+          sym (ap₂ take (here .packets ∙ sym (packets-length (here .calls))) (here .whole) ∙ take-append-seam front (here .behind)) in
+          (here .calls, taken, here .dropped);
+    }

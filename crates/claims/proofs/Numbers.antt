@@ -1,12 +1,14 @@
 -- Each call's rules refuse with a number of SCOPE 2, 1 to 23, so that 0 is an acceptance: `accepted-exactly` and `accepted-writes` of room
--- `answer` hold of each call. Assumes nothing.
-use mathlib.Core.Path.{_≡_, refl}
+-- `answer` hold of each call. The reader's calls and the frame's answer by enums of their own, and owe the same. Assumes nothing.
+use mathlib.Core.Path.{_≡_, _∙_, refl, sym, ap, subst}
 use mathlib.Core.Bool.{Bool, true, false}
 use mathlib.Core.List.{List, [], _∷_, flatMap}
 use Prim.Native.Nat.{ℕ}
 use Rattle.laws.specs.Pick.{pick}
-use Rattle.answer.specs.Rules.{allRefusing}
-use Rattle.answer.proofs.Judging.{refusing-append}
+use denote.Ref.{now}
+use Rattle.answer.specs.Rules.{Rule, judged, allRefusing, Every}
+use Rattle.answer.proofs.Judging.{passes, refuses, refusing-append}
+use Rattle.blocks.specs.Block.{headOf}
 use Rattle.packet.specs.declared.Setting.{Setting}
 use Rattle.units.specs.Units.{byteAt, stuffingId, unitRules, textRules, rulesAt}
 use Rattle.pes.specs.Header.{headerRules}
@@ -14,13 +16,24 @@ use Rattle.pes.specs.Reading.{places, unitsRules, readRules}
 use Rattle.pes_writer.specs.Records.{writeRules}
 use Rattle.writer.specs.Cutting.{cutRules}
 use Rattle.forms.specs.Writing.{formRules, writeRules as Form·writeRules}
-use Rattle.frames.specs.Framing.{frameRules}
+use Rattle.state.specs.declared.Reader.{Reader}
+use Rattle.reader.specs.declared.Heard.{Heard}
+use Rattle.reader.specs.declared.many.HeardAll.{HeardAll}
+use Rattle.reader.specs.Values.{numberOf, offsetOf, numberOfAll, offsetOfAll}
+use Rattle.reader.specs.Feeding.{feedRules, refusedHeard}
+use Rattle.reader.specs.Many.{feedAllRules, refusedAll}
+use Rattle.frames.specs.declared.Frame.the-variants.{Head}
+use Rattle.frames.specs.Framing.{frameRules, framing}
+use Rattle.frames.specs.Values.{numberOfFrame, offsetOfFrame, headOfFrame, refusedFrame}
+use Rattle.frames.proofs.judge.Reads as frames·judge
 use Rattle.table.specs.Reading.{frontRules, wholeRules, readRules as Table·readRules}
 use Rattle.table.specs.Lengths.{lengthRules}
 use Rattle.menu_forms.specs.Writing.{formRules as Menu·formRules, writeRules as Menu·writeRules}
 use Rattle.menu.specs.Reading.{frontRules as Menu·frontRules, wholeRules as Menu·wholeRules, lengthRules as Menu·lengthRules, readRules as Menu·readRules}
 use Rattle.menu_listing.specs.Listing.{listRules}
 use Rattle.sheets.specs.Calls.{rewriteRules, joinRules, addRules}
+use Rattle.claims.specs.Calls.{Feeds, feed, FeedsAll, feed-all}
+use Rattle.claims.specs.Judges.{Judges}
 
 pub writes-pes : (d : ℕ) (rs : List ℕ) → allRefusing (writeRules d rs) ≡ true
 unfolding allRefusing writeRules
@@ -83,3 +96,44 @@ module _ (pes : List ℕ) where
 pub lists-menus : (application : ℕ) (records : List ℕ) → allRefusing (listRules application records) ≡ true
 unfolding allRefusing
 lists-menus application records = refl
+
+-- ---- answers that are other enums
+
+module _ {A : Type 0} (number offset : A → ℕ) (refused : ℕ → ℕ → A) (taken : A) where
+  judges :
+      ((n o : ℕ) → (number (refused n o) ≡ n) × (offset (refused n o) ≡ o)) → number taken ≡ 0 → (rules : List Rule) → allRefusing rules ≡ true
+      → {x : A} → x ≡ judged refused rules taken → Judges rules (number x) (offset x)
+  judges as-said zero rules n {x} e =
+      subst (λ (y : A). Judges rules (number y) (offset y)) (sym e)
+      (record {
+        numbered = n;
+        accepts = λ every. ap number (passes refused taken every) ∙ zero;
+        refuses =
+            λ q first.
+            (ap number (refuses refused taken first) ∙ as-said _ _ .0, ap offset (refuses refused taken first) ∙ as-said _ _ .1);
+      })
+
+-- feeding a packet
+pub feed-judges :
+    {s : Setting} {r after : Reader} {p old out : List ℕ} {h : Heard} → Feeds s r p old h after out
+    → Judges (feedRules s r p old) (numberOf h) (offsetOf h)
+unfolding allRefusing
+feed-judges (feed κs a x t post) = judges numberOf offsetOf refusedHeard _ (λ n o. (refl, refl)) refl _ refl (post .0)
+
+-- feeding a list of packets
+pub feed-all-judges :
+    {s : Setting} {r after : Reader} {l old out : List ℕ} {h : HeardAll} → FeedsAll s r l old h after out
+    → Judges (feedAllRules s r l old) (numberOfAll h) (offsetOfAll h)
+unfolding allRefusing
+feed-all-judges (feed-all κs a x t post) = judges numberOfAll offsetOfAll refusedAll _ (λ n o. (refl, refl)) refl _ refl (post .0)
+
+-- the frame of a record; where it is taken, the 16 bits of its head
+pub frame-judges :
+    (κs : _) (a : _) (x : _) (t : _) → frames·judge.Post κs a x t
+    → Judges (framing (a .0) (now (a .1 .0))) (numberOfFrame x) (offsetOfFrame x)
+    × (Every (framing (a .0) (now (a .1 .0))) → headOfFrame x ≡ headOf (now (a .1 .0)))
+unfolding allRefusing frameRules
+frame-judges κs a x t post = (
+  judges numberOfFrame offsetOfFrame refusedFrame _ (λ n o. (refl, refl)) refl _ refl post,
+  λ every. ap headOfFrame (post ∙ passes refusedFrame (Head (headOf (now (a .1 .0)))) every),
+)

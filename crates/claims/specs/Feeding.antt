@@ -12,7 +12,7 @@ use Rattle.packet.specs.declared.Setting.{Setting}
 use Rattle.state.specs.declared.Reader.{Reader}
 use Rattle.walk.specs.Reading.{room}
 use Rattle.reader.specs.declared.many.HeardAll.the-variants.{TookAll}
-pub use Rattle.reader.specs.Values.{numberOf, countOf, writtenOf, droppedOf, numberOfAll, packetsOfAll, writtenOfAll}
+pub use Rattle.reader.specs.Values.{numberOf, offsetOf, countOf, writtenOf, droppedOf, numberOfAll, offsetOfAll, packetsOfAll, countOfAll, writtenOfAll, droppedOfAll}
 use Rattle.reader.specs.Feeding.{feedHeard, feedReader, feedOut}
 use Rattle.reader.specs.Many.{feedAllHeard, feedAllReader, feedAllOut}
 

@@ -8,4 +8,5 @@ pub mod Carries
 pub mod March
 pub mod Tells
 pub mod Calls
+pub mod Judges
 pub mod Twice

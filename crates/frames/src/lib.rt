@@ -2,11 +2,10 @@
 ghost use mathlib.Core.Path.{_≡_};
 ghost use Prim.Native.Nat.{_<_};
 ghost use Rattle.answer.specs.Rules.{judged};
-ghost use Rattle.answer.specs.Values.{refused};
-ghost use Rattle.answer.specs.declared.Answer.the-variants.{Done};
 ghost use Rattle.blocks.specs.Block.{headOf};
 ghost use Rattle.frames.specs.Framing.{framing};
-use answer::Answer;
+ghost use Rattle.frames.specs.Values.{refusedFrame};
+ghost use Rattle.frames.specs.declared.Frame.the-variants.{Head};
 use answer::Refusal;
 use blocks::HEAD;
 
@@ -17,30 +16,43 @@ pub enum Read {
     Refused(Refusal),
 }
 
-// 16, 13, 16, 12, 13: the record as it is lent. Where it is taken, the head's 16 bits.
-pub fn judge(application: u8, rec: &[u8]) -> Answer
-    ensures { λ r. ⌜ r ≡ judged refused (framing application (now (rec .entry))) (Done (headOf (now (rec .entry)))) ⌝ }
+pub enum Frame {
+    // The record is taken as it is lent: its head's 16 bits.
+    Head(usize),
+    Refused(Refusal),
+}
+
+// 16, 13, 16, 12, 13: the record as it is lent.
+pub fn judge(application: u8, rec: &[u8]) -> Frame
+    ensures { λ r. ⌜ r ≡ judged refusedFrame (framing application (now (rec .entry))) (Head (headOf (now (rec .entry)))) ⌝ }
 {
     if 32 <= application {
-        return answer::refuse(16, 0);
+        return refuse(16);
     }
     let head = head_of(rec);
     if rec.len() != HEAD + head / 32 {
-        return answer::refuse(13, 0);
+        return refuse(13);
     }
     if 5 < rec[2] {
-        return answer::refuse(16, 0);
+        return refuse(16);
     }
     if rec[3] != 0 {
-        return answer::refuse(16, 0);
+        return refuse(16);
     }
     if head % 32 != application as usize {
-        return answer::refuse(12, 0);
+        return refuse(12);
     }
     if head / 32 < 8 {
-        return answer::refuse(13, 0);
+        return refuse(13);
     }
-    Answer::Done(head)
+    Frame::Head(head)
+}
+
+// The frame is refused by this number; the list gives no offset with it.
+fn refuse(no: u8) -> Frame
+    ensures { λ r. ⌜ r ≡ refusedFrame no 0 ⌝ }
+{
+    Frame::Refused(Refusal { no, at: 0 })
 }
 
 // The 16 bits of a record's head.

@@ -18,6 +18,7 @@ ghost use Rattle.menu.specs.Control.{bitsAt};
 ghost use Rattle.menu.specs.Reading.{controlLength, frontRules, wholeRules, partRules, bodyRules, lengthRules, readRules, menuHeld, menuRead, mendedIn};
 use answer::Answer;
 use blocks::HEAD;
+use frames::Frame;
 use frames::Read;
 use menu_forms::NI;
 
@@ -66,8 +67,8 @@ fn read_form(application: u8, rec: &[u8], out: &mut [u8]) -> Answer
         ≡ left (readRules application (now (rec .entry))) (form (menuRead (drop headLength (now (rec .entry))))) (now (out .entry)) ⌝ }
 {
     match frames::judge(application, rec) {
-        Answer::Refused(why) => Answer::Refused(why),
-        Answer::Done(head) => read_body(head, &rec[HEAD..], out),
+        Frame::Refused(why) => Answer::Refused(why),
+        Frame::Head(head) => read_body(head, &rec[HEAD..], out),
     }
 }
 

@@ -13,6 +13,11 @@ abbrev pub numberOf : Heard → ℕ
 numberOf (Took blocks written dropped) = 0
 numberOf (Refused r) = r .no
 
+-- its offset; 0 where it is accepted
+abbrev pub offsetOf : Heard → ℕ
+offsetOf (Took blocks written dropped) = 0
+offsetOf (Refused r) = r .at
+
 -- how many blocks it reports
 abbrev pub countOf : Heard → ℕ
 countOf (Took blocks written dropped) = blocks
@@ -34,11 +39,23 @@ abbrev pub numberOfAll : HeardAll → ℕ
 numberOfAll (TookAll packets blocks written dropped) = 0
 numberOfAll (RefusedAll r) = r .no
 
+abbrev pub offsetOfAll : HeardAll → ℕ
+offsetOfAll (TookAll packets blocks written dropped) = 0
+offsetOfAll (RefusedAll r) = r .at
+
 -- how many packets it says were taken
 abbrev pub packetsOfAll : HeardAll → ℕ
 packetsOfAll (TookAll packets blocks written dropped) = packets
 packetsOfAll (RefusedAll r) = 0
 
+abbrev pub countOfAll : HeardAll → ℕ
+countOfAll (TookAll packets blocks written dropped) = blocks
+countOfAll (RefusedAll r) = 0
+
 abbrev pub writtenOfAll : HeardAll → ℕ
 writtenOfAll (TookAll packets blocks written dropped) = written
 writtenOfAll (RefusedAll r) = 0
+
+abbrev pub droppedOfAll : HeardAll → Bool
+droppedOfAll (TookAll packets blocks written dropped) = dropped
+droppedOfAll (RefusedAll r) = false

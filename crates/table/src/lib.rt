@@ -22,6 +22,7 @@ ghost use Rattle.table.specs.Control.{tableOf};
 use answer::Answer;
 use blocks::HEAD;
 use fields::Opening;
+use frames::Frame;
 use frames::Read;
 
 // The table of a block of this application: its form is written to the front of `out`. Each protected
@@ -54,8 +55,8 @@ fn read_form(application: u8, rec: &[u8], out: &mut [u8]) -> Answer
         ≡ left (readRules application (now (rec .entry))) (form (tableRead (now (rec .entry)))) (now (out .entry)) ⌝ }
 {
     match frames::judge(application, rec) {
-        Answer::Refused(why) => Answer::Refused(why),
-        Answer::Done(head) => read_body(head, &rec[HEAD..], out),
+        Frame::Refused(why) => Answer::Refused(why),
+        Frame::Head(head) => read_body(head, &rec[HEAD..], out),
     }
 }
 

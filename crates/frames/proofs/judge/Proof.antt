@@ -3,6 +3,7 @@
 use borrow.Author.Needs.{needs}
 use mathlib.Core.Path.{_∙_, sym}
 use Rattle.frames.proofs.Judging.{frame-16, frame-13, frame-part, frame-second, frame-12, frame-13′, frame-done}
+use Rattle.frames.specs.Values.{refusedFrame}
 use Rattle.frames.proofs.judge.Statement.{statement}
 use Rattle.frames.proofs.judge.Tie as tie
 
@@ -10,7 +11,7 @@ refuse-requires : tie.Need-refuse-requires
 refuse-requires c κs = search needs
 
 returns : tie.Need-returns
-returns c = c .refuse .ensures ∙ sym (frame-16 _ _ _ _ _ _ (search needs))
+returns c = c .refuse .ensures ∙ sym (frame-16 refusedFrame _ _ _ _ _ _ (search needs))
 
 head-of-requires : tie.Need-head-of-requires
 head-of-requires c κs = search needs
@@ -24,7 +25,7 @@ refuse-requires-2 c κs = search needs
 returns-2 : tie.Need-returns-2
 returns-2 c =
     rw (← (c .before .before .head-of .ensures .0))
-    (c .refuse2 .ensures ∙ sym (frame-13 _ _ _ _ _ _ (search needs) (c .before .if2 .taken)))
+    (c .refuse2 .ensures ∙ sym (frame-13 refusedFrame _ _ _ _ _ _ (search needs) (c .before .if2 .taken)))
 
 shared-slice-read-if3 : tie.Need-shared-slice-read-if3
 shared-slice-read-if3 c = search needs
@@ -35,7 +36,7 @@ refuse-requires-3 c κs = search needs
 returns-3 : tie.Need-returns-3
 returns-3 c =
     rw (← (c .before .before .before .before .head-of .ensures .0))
-    (c .refuse3 .ensures ∙ sym (frame-part _ _ _ _ _ _ (search needs) (c .before .before .before .if2 .left) (search needs)))
+    (c .refuse3 .ensures ∙ sym (frame-part refusedFrame _ _ _ _ _ _ (search needs) (c .before .before .before .if2 .left) (search needs)))
 
 shared-slice-read-if4 : tie.Need-shared-slice-read-if4
 shared-slice-read-if4 c = search needs
@@ -48,7 +49,7 @@ returns-4 c =
     rw (← (c .before .before .before .before .before .before .head-of .ensures .0))
     (c .refuse4 .ensures
     ∙ sym
-    (frame-second _ _ _ _ _ _ (search needs) (c .before .before .before .before .before .if2 .left) (search needs) (c .before .if4 .taken)))
+    (frame-second refusedFrame _ _ _ _ _ _ (search needs) (c .before .before .before .before .before .if2 .left) (search needs) (c .before .if4 .taken)))
 
 refuse-requires-5 : tie.Need-refuse-requires-5
 refuse-requires-5 c κs = search needs
@@ -59,7 +60,7 @@ returns-5 c =
     rw (← (b .before .head-of .ensures .0))
     (c .refuse5 .ensures
     ∙ sym
-    (frame-12 _ _ _ _ _ _ (search needs) (b .if2 .left) (search needs) (c .before .before .if4 .left) (c .before .if5 .taken)))
+    (frame-12 refusedFrame _ _ _ _ _ _ (search needs) (b .if2 .left) (search needs) (c .before .before .if4 .left) (c .before .if5 .taken)))
 
 refuse-requires-6 : tie.Need-refuse-requires-6
 refuse-requires-6 c κs = search needs
@@ -70,7 +71,7 @@ returns-6 c =
     rw (← (b .before .head-of .ensures .0))
     (c .refuse6 .ensures
     ∙ sym
-    (frame-13′ _ _ _ _ _ _ (search needs) (b .if2 .left) (search needs) (c .before .before .before .if4 .left) (c .before .before .if5 .left)
+    (frame-13′ refusedFrame _ _ _ _ _ _ (search needs) (b .if2 .left) (search needs) (c .before .before .before .if4 .left) (c .before .before .if5 .left)
     (c .before .if6 .taken)))
 
 returns-7 : tie.Need-returns-7
@@ -78,7 +79,7 @@ returns-7 c =
     let b = c .before .before .before .before .before .before in
     rw (← (b .before .head-of .ensures .0))
     (sym
-    (frame-done _ _ _ _ _ _ (search needs) (b .if2 .left) (search needs) (c .before .before .if4 .left) (c .before .if5 .left) (c .if6 .left)))
+    (frame-done refusedFrame _ _ _ _ _ _ (search needs) (b .if2 .left) (search needs) (c .before .before .if4 .left) (c .before .if5 .left) (c .if6 .left)))
 
 pub judge-spec : {M : Type 1} → statement M
 judge-spec =

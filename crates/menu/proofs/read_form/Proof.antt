@@ -1,7 +1,7 @@
 -- `menu::read_form` meets its contract: the frame is judged first, and where it is taken the block behind the head is there.
 -- Assumes nothing.
 use borrow.Author.Needs.{needs}
-use mathlib.Core.Path.{_≡_, _∙_, sym, ap, ap₂}
+use mathlib.Core.Path.{_≡_, _∙_, ap, ap₂}
 use mathlib.Core.List.{List}
 use Prim.Native.Nat.{ℕ, _+_, _/_, _≤_}
 use native.Mathlib.Omega.{arith}
@@ -10,11 +10,10 @@ use denote.Ref.{now}
 use Rattle.laws.proofs.Lists.{part-rest}
 use Rattle.answer.specs.declared.Answer.{Answer}
 use Rattle.answer.specs.Writing.{answered, after, left}
-use Rattle.answer.proofs.Steps.{done-value, done-every}
 use Rattle.blocks.specs.Block.{headOf}
 use Rattle.frames.specs.Framing.{framing}
 use Rattle.frames.proofs.Framed.{framed}
-use Rattle.frames.proofs.Judging.{frame-refused, frame-taken}
+use Rattle.frames.proofs.Judging.{head-every, head-value, frame-refused, frame-taken}
 use Rattle.menu_forms.specs.Form.{form}
 use Rattle.menu.specs.Reading.{bodyRules, menuRead}
 use Rattle.menu.proofs.read_form.Statement.{statement}
@@ -37,7 +36,7 @@ taken :
 taken c =
     let a = c .before .before .before .before .before .before .args in
     let rules = framing (a .application) (now (a .rec)) in
-    let k = framed (a .application) (now (a .rec)) (done-every rules _ _ (sym (c .before .before .before .judge .ensures) ∙ c .before .head .given .1)) in
+    let k = framed (a .application) (now (a .rec)) (head-every rules _ (c .before .before .before .judge .ensures) (c .before .head .given .1)) in
     (k .long, k .eight)
 
 sub-read-body : tie.Need-sub-read-body
@@ -57,8 +56,8 @@ returns : tie.Need-returns
 returns c =
     let a = c .before .before .before .before .before .before .args in
     let r = now (a .rec) in
-    frame-refused (framing (a .application) r) (bodyRules (headOf r) (drop 4 r)) (form (menuRead (drop 4 r))) (now (a .out)) (headOf r)
-    (c .before .before .before .judge .ensures) (c .before .why .given .1)
+    frame-refused (framing (a .application) r) (headOf r) (c .before .before .before .judge .ensures) (bodyRules (headOf r) (drop 4 r))
+    (form (menuRead (drop 4 r))) (now (a .out)) (c .before .why .given .1)
 
 same-length : tie.Need-same-length
 same-length c = search needs
@@ -70,11 +69,11 @@ returns-2 c =
     let out : List ℕ = now (a .out) in
     let j = c .before .before .before .before .before .before .before .before .judge .ensures in
     let d = c .before .before .before .before .before .before .head .given .1 in
-    let h = done-value (framing (a .application) r) _ _ (sym j ∙ d) in
+    let h = head-value (framing (a .application) r) _ j d in
     let bytes : List ℕ → List ℕ = λ l. form (menuRead l) in
     let one = ap₂ (λ (k : ℕ) (l : List ℕ). answered (bodyRules k l) (bytes l) out) h (part-rest 4 r) in
     let all = ap₂ (λ (k : ℕ) (l : List ℕ). left (bodyRules k l) (bytes l) out) h (part-rest 4 r) in
-    let two = frame-taken (framing (a .application) r) (bodyRules (headOf r) (drop 4 r)) (bytes (drop 4 r)) out (headOf r) j d in (
+    let two = frame-taken (framing (a .application) r) (headOf r) j (bodyRules (headOf r) (drop 4 r)) (bytes (drop 4 r)) out d in (
       c .before .before .read-body .ensures .0 ∙ one ∙ two,
       c .before .before .read-body .ensures .1 ∙ all ∙ ap (λ (x : Answer). after x (bytes (drop 4 r)) out) two,
     )

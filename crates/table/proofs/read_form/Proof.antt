@@ -1,7 +1,7 @@
 -- `table::read_form` meets its contract: the frame is judged first, and where it is taken the block behind the head is there.
 -- Assumes nothing.
 use borrow.Author.Needs.{needs}
-use mathlib.Core.Path.{_≡_, _∙_, sym, ap, ap₂}
+use mathlib.Core.Path.{_≡_, _∙_, ap, ap₂}
 use mathlib.Core.List.{List, map}
 use Prim.Native.Nat.{ℕ, _+_, _/_, _≤_}
 use native.Mathlib.Omega.{arith}
@@ -10,7 +10,6 @@ use denote.Ref.{now}
 use Rattle.laws.proofs.Lists.{part-rest}
 use Rattle.answer.specs.declared.Answer.{Answer}
 use Rattle.answer.specs.Writing.{answered, after, left}
-use Rattle.answer.proofs.Steps.{done-value, done-every}
 use Rattle.octet.specs.Decoding.{nib}
 use Rattle.fields.specs.Fields.{whole}
 use Rattle.forms.specs.Form.{form}
@@ -19,7 +18,7 @@ use Rattle.table.specs.Control.{tableOf}
 use Rattle.frames.specs.Framing.{framing}
 use Rattle.table.specs.Reading.{bodyRules, tableRead}
 use Rattle.frames.proofs.Framed.{framed}
-use Rattle.frames.proofs.Judging.{frame-refused, frame-taken}
+use Rattle.frames.proofs.Judging.{head-every, head-value, frame-refused, frame-taken}
 use Rattle.table.proofs.read_form.Statement.{statement}
 use Rattle.table.proofs.read_form.Tie as tie
 
@@ -40,7 +39,7 @@ taken :
 taken c =
     let a = c .before .before .before .before .before .before .args in
     let rules = framing (a .application) (now (a .rec)) in
-    let k = framed (a .application) (now (a .rec)) (done-every rules _ _ (sym (c .before .before .before .judge .ensures) ∙ c .before .head .given .1)) in
+    let k = framed (a .application) (now (a .rec)) (head-every rules _ (c .before .before .before .judge .ensures) (c .before .head .given .1)) in
     (k .long, k .eight)
 
 sub-read-body : tie.Need-sub-read-body
@@ -60,8 +59,8 @@ returns : tie.Need-returns
 returns c =
     let a = c .before .before .before .before .before .before .args in
     let r = now (a .rec) in
-    frame-refused (framing (a .application) r) (bodyRules (headOf r) (nibblesOf r)) (form (tableRead r)) (now (a .out)) (headOf r)
-    (c .before .before .before .judge .ensures) (c .before .why .given .1)
+    frame-refused (framing (a .application) r) (headOf r) (c .before .before .before .judge .ensures) (bodyRules (headOf r) (nibblesOf r))
+    (form (tableRead r)) (now (a .out)) (c .before .why .given .1)
 
 same-length : tie.Need-same-length
 same-length c = search needs
@@ -73,14 +72,14 @@ returns-2 c =
     let r = now (a .rec) in
     let j = c .before .before .before .before .before .before .before .before .judge .ensures in
     let d = c .before .before .before .before .before .before .head .given .1 in
-    let h = done-value (framing (a .application) r) _ _ (sym j ∙ d) in
+    let h = head-value (framing (a .application) r) _ j d in
     let out : List ℕ = now (a .out) in
     let bytes : List ℕ → List ℕ = λ l. form (tableOf (whole 4 (map nib l))) in
     let one =
     ap₂ (λ (k : ℕ) (l : List ℕ). answered (bodyRules k (map nib l)) (bytes l) out) h (part-rest 4 r) in
     let all =
     ap₂ (λ (k : ℕ) (l : List ℕ). left (bodyRules k (map nib l)) (bytes l) out) h (part-rest 4 r) in
-    let two = frame-taken (framing (a .application) r) (bodyRules (headOf r) (nibblesOf r)) (form (tableRead r)) out (headOf r) j d in (
+    let two = frame-taken (framing (a .application) r) (headOf r) j (bodyRules (headOf r) (nibblesOf r)) (form (tableRead r)) out d in (
       c .before .before .read-body .ensures .0 ∙ one ∙ two,
       c .before .before .read-body .ensures .1 ∙ all ∙ ap (λ (x : Answer). after x (form (tableRead r)) out) two,
     )
