@@ -55,7 +55,7 @@ use Rattle.claims.proofs.Handing.{as-ones}
 
 -- ---- what each call says
 
-writes :
+pub writes :
     {application : ℕ} {f old out : List ℕ} {x : Answer} → Writes application f old x out
     → (x ≡ answered (writeRules application f) (recordOf application (tableIn f)) old)
     × (out ≡ left (writeRules application f) (recordOf application (tableIn f)) old)
@@ -71,7 +71,7 @@ cuts (cut κs a x t post) = post
 starts : {r : Reader} → Starts r → r ≡ readerOf freshState
 starts (fresh κs a x t post) = post
 
-reads :
+pub reads :
     {application : ℕ} {r old out : List ℕ} {x : Read} → Reads application r old x out
     → (x ≡ counted (mendedIn r) (answered (readRules application r) (form (tableRead r)) old))
     × (out ≡ left (readRules application r) (form (tableRead r)) old)
@@ -94,7 +94,7 @@ its-bytes rules bytes old {x} {out} e f every enough =
 -- ---- every table is written
 
 -- its form is one that writing takes, and stands for it
-writable : (application : ℕ) (t : Table) → application < 32 → fits t ≡ true → Every (writeRules application (form t)) × (tableIn (form t) ≡ t)
+pub writable : (application : ℕ) (t : Table) → application < 32 → fits t ≡ true → Every (writeRules application (form t)) × (tableIn (form t) ≡ t)
 writable application t a f = accepted-writable application (recordOf application t) t 0 (writes-back application t a f)
 
 pub tables-written :

@@ -20,6 +20,7 @@ pub mod Wrong
 pub mod Many
 pub mod Handing
 pub mod Calls
+pub mod Again
 pub mod Usual
 pub mod Happening
 pub mod Aerials

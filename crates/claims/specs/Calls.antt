@@ -28,6 +28,8 @@ use Rattle.reader.proofs.many.feed_all.Reads as reader·feed-all
 use Rattle.frames.specs.declared.Read.{Read}
 use Rattle.frames.specs.declared.Read.the-variants.{Taken, Refused as Read·Refused}
 use Rattle.table.proofs.read_block.Reads as table·read-block
+use Rattle.menu.proofs.read_menu.Reads as menu·read-menu
+use Rattle.menu_writer.proofs.write_menu.Reads as menu-writer·write-menu
 use Rattle.claims.specs.Noise.{Aired, Came}
 use Rattle.claims.specs.Damage.{streamIn, sendings, Counted, damaged}
 use Rattle.claims.specs.Feeding.{writtenOf, numberOf, numberOfAll, packetsOfAll, writtenOfAll}
@@ -71,6 +73,17 @@ pub data Reads : ℕ → List ℕ → List ℕ → Read → List ℕ → Type 0 
   read-block :
       (κs : _) (a : _) (x : _) (t : _) → table·read-block.Post κs a x t
       → Reads (a .0) (now (a .1 .0)) (now (a .1 .1 .0)) x (now (t .1 .1 .0))
+
+-- the same of menu writing and of menu reading
+pub data WritesMenu : ℕ → List ℕ → List ℕ → Answer → List ℕ → Type 0 where
+  write-menu :
+      (κs : _) (a : _) (x : _) (t : _) → menu-writer·write-menu.Post κs a x t
+      → WritesMenu (a .0) (now (a .1 .0)) (now (a .1 .1 .0)) x (now (t .1 .1 .0))
+
+pub data ReadsMenu : ℕ → List ℕ → List ℕ → Read → List ℕ → Type 0 where
+  read-menu :
+      (κs : _) (a : _) (x : _) (t : _) → menu·read-menu.Post κs a x t
+      → ReadsMenu (a .0) (now (a .1 .0)) (now (a .1 .1 .0)) x (now (t .1 .1 .0))
 
 -- ---- what their answers say
 

@@ -1,0 +1,130 @@
+-- The two calls for a block, one after the other, for tables and for menus: what is written is read again, byte for byte the form that was
+-- handed in, and what was read is written again, as a record that says the same. From the contracts alone. Assumes nothing.
+use mathlib.Core.Path.{_≡_, _∙_, sym, ap, ap₂, subst}
+use mathlib.Core.List.{List, _++_}
+use Prim.Native.Nat.{ℕ, _≤_}
+use native.Mathlib.Omega.{arith}
+use lib.ListN.{length, take, drop}
+use lib.Pow.{pow-pos}
+use lib.Seq.{take-append-seam}
+use Rattle.answer.specs.declared.Answer.{Answer}
+use Rattle.answer.specs.declared.Answer.the-variants.{Done}
+use Rattle.answer.specs.Rules.{Rule, Every}
+use Rattle.answer.specs.Writing.{answered, left}
+use Rattle.answer.proofs.Lent.{lent-accepted, lent-all}
+use Rattle.blocks.specs.Block.{headLength}
+use Rattle.forms.specs.Tables.{fill}
+use Rattle.forms.specs.Form.{form, tableIn}
+use Rattle.forms.specs.Writing.{writeRules}
+use Rattle.forms.proofs.Forms.{Bytes}
+use Rattle.sums.specs.Block.{mendedIn, recordOf, Says}
+use Rattle.frames.specs.declared.Read.{Read}
+use Rattle.frames.specs.declared.Read.the-variants.{Taken}
+use Rattle.frames.specs.Values.{counted}
+use Rattle.frames.proofs.Counting.{counted-takes}
+use Rattle.frames.proofs.Framed.{accepts}
+use Rattle.table.specs.Reading.{readRules, tableRead, readBlock}
+use Rattle.table.proofs.Back.{says-with, writes-back-form}
+use Rattle.table.proofs.Calls.{call-says}
+use Rattle.menu_forms.specs.Form.{form as Menu·form, menuIn}
+use Rattle.menu_forms.specs.Writing.{writeRules as Menu·writeRules}
+use Rattle.menu_forms.specs.Block.{recordOf as Menu·recordOf, Says as Menu·Says}
+use Rattle.menu.specs.Reading.{mendedIn as Menu·mendedIn, menuRead, readRules as Menu·readRules}
+use Rattle.menu.proofs.Written.{written-says}
+use Rattle.menu.proofs.Calls.{call-back, call-writable, call-says as Menu·call-says}
+use Rattle.claims.specs.Calls.{Writes, Reads, WritesMenu, write-menu, ReadsMenu, read-menu, reported}
+use Rattle.claims.proofs.Calls.{writes, reads, its-bytes, writable}
+
+-- a call that answers so many bytes wrote all of its own
+written :
+    (rules : List Rule) (bytes old : List ℕ) {n : ℕ} {out : List ℕ} → Done n ≡ answered rules bytes old → out ≡ left rules bytes old
+    → Every rules × (take n out ≡ bytes)
+written rules bytes old {n} e f =
+    let a = lent-all rules bytes old n (sym e) in
+    (a .0, ap₂ take (a .2) (f ∙ lent-accepted rules bytes old (a .0) (a .1) .1) ∙ take-append-seam bytes (drop (length bytes) old))
+
+-- a form that stands at the front of an output, and is then written with room
+module _ {T : Type 0} (form : T → List ℕ) (within : List ℕ → T) (recordFor : T → List ℕ) (rules : List ℕ → List Rule) where
+  again :
+      (t : T) (old lent : List ℕ) {n : ℕ} {out after : List ℕ} {x : Answer} → n ≡ length (form t) → out ≡ form t ++ drop (length (form t)) old
+      → Every (rules (form t)) × (within (form t) ≡ t) → x ≡ answered (rules (take n out)) (recordFor (within (take n out))) lent
+      → after ≡ left (rules (take n out)) (recordFor (within (take n out))) lent → length (recordFor t) ≤ length lent
+      → (x ≡ Done (length (recordFor t))) × (reported x after ≡ recordFor t)
+  again t old lent {n} {out} long stands can e f enough =
+      let same : take n out ≡ form t = ap₂ take long stands ∙ take-append-seam (form t) (drop (length (form t)) old) in
+      its-bytes (rules (form t)) (recordFor t) lent (rw (same, can .1) at e) (rw (same, can .1) at f) (can .0) enough
+
+-- ---- tables
+
+-- what `write_block` wrote, `read_block` reads with room: the form that was handed in, with nothing mended
+pub table-back :
+    {application n : ℕ} {f old out lent after : List ℕ} {y : Read} → Bytes f → Writes application f old (Done n) out
+    → Reads application (take n out) lent y after → length f ≤ length lent
+    → (y ≡ Taken (length f) 0) × (after ≡ f ++ drop (length f) lent)
+unfolding readBlock
+table-back {application} {n} {f} {old} {out} {lent} {after} {y} b w call enough =
+    let t = tableIn f in
+    let r = recordOf application t in
+    let p = written (writeRules application f) r old (writes w .0) (writes w .1) in
+    let back = writes-back-form application f b (p .0) in
+    let a = accepts (readRules application r) (tableRead r) t (mendedIn r) 0 (back .0) in
+    let said = reads (subst (λ (l : List ℕ). Reads application l lent y after) (p .1) call) in
+    let q = counted-takes form (readRules application r) (tableRead r) (mendedIn r) lent t (a .0) (a .1) (rw (back .1) enough) in (
+      said .0 ∙ q .0 ∙ ap₂ (λ (l : List ℕ) (c : ℕ). Taken (length l) c) (back .1) (a .2),
+      said .1 ∙ q .1 ∙ ap (λ (l : List ℕ). l ++ drop (length l) lent) (back .1),
+    )
+
+-- what `read_block` accepted and left, `write_block` takes with room: its record says the table that the record which was read says
+pub table-again :
+    {application n c : ℕ} {r old out lent after : List ℕ} {x : Answer} → Reads application r old (Taken n c) out
+    → Writes application (take n out) lent x after → length (recordOf application (tableRead r)) ≤ length lent
+    → Says application r (tableRead r)
+    × (x ≡ Done (length (recordOf application (tableRead r))))
+    × Says application (reported x after) (tableRead r)
+table-again {application} {n} {c} {r} {old} {out} {lent} call w enough =
+    let t = tableRead r in
+    let said = call-says application r old n c (sym (reads call .0)) in
+    let s = said .0 in
+    let p = again form tableIn (recordOf application) (writeRules application) t old lent (said .1) (reads call .1 ∙ said .3)
+    (writable application t (s .within) (s .sendable)) (writes w .0) (writes w .1) enough in
+    (s, p .0, rw (p .1) (says-with application 0 0 t (s .within) (s .sendable) (omega arith) (pow-pos (fill t))))
+
+-- ---- menus
+
+writes-menu :
+    {application : ℕ} {f old out : List ℕ} {x : Answer} → WritesMenu application f old x out
+    → (x ≡ answered (Menu·writeRules application f) (Menu·recordOf application (menuIn f)) old)
+    × (out ≡ left (Menu·writeRules application f) (Menu·recordOf application (menuIn f)) old)
+writes-menu (write-menu κs a x t post) = post
+
+reads-menu :
+    {application : ℕ} {r old out : List ℕ} {x : Read} → ReadsMenu application r old x out
+    → (x ≡ counted (Menu·mendedIn r) (answered (Menu·readRules application r) (Menu·form (menuRead (drop headLength r))) old))
+    × (out ≡ left (Menu·readRules application r) (Menu·form (menuRead (drop headLength r))) old)
+reads-menu (read-menu κs a x t post) = post
+
+-- what `write_menu` wrote, `read_menu` reads with room: the form that was handed in, with nothing mended
+pub menu-back :
+    {application n : ℕ} {f old out lent after : List ℕ} {y : Read} → Bytes f → WritesMenu application f old (Done n) out
+    → ReadsMenu application (take n out) lent y after → length f ≤ length lent
+    → (y ≡ Taken (length f) 0) × (after ≡ f ++ drop (length f) lent)
+menu-back {application} {n} {f} {old} {out} {lent} {after} {y} b w call enough =
+    let p = written (Menu·writeRules application f) (Menu·recordOf application (menuIn f)) old (writes-menu w .0) (writes-menu w .1) in
+    let said = reads-menu (subst (λ (l : List ℕ). ReadsMenu application l lent y after) (p .1) call) in
+    let q = call-back application f lent b (p .0) enough in
+    (said .0 ∙ q .0, said .1 ∙ q .1)
+
+-- what `read_menu` accepted and left, `write_menu` takes with room: its record says the menu that the record which was read says
+pub menu-again :
+    {application n c : ℕ} {r old out lent after : List ℕ} {x : Answer} → Bytes r → ReadsMenu application r old (Taken n c) out
+    → WritesMenu application (take n out) lent x after → length (Menu·recordOf application (menuRead (drop headLength r))) ≤ length lent
+    → Menu·Says application r (menuRead (drop headLength r))
+    × (x ≡ Done (length (Menu·recordOf application (menuRead (drop headLength r)))))
+    × Menu·Says application (reported x after) (menuRead (drop headLength r))
+menu-again {application} {n} {c} {r} {old} {out} {lent} b call w enough =
+    let m = menuRead (drop headLength r) in
+    let said = Menu·call-says application r old n c b (sym (reads-menu call .0)) in
+    let can = call-writable application r old n c b (sym (reads-menu call .0)) in
+    let p = again Menu·form menuIn (Menu·recordOf application) (Menu·writeRules application) m old lent (said .1)
+    (reads-menu call .1 ∙ said .3) can (writes-menu w .0) (writes-menu w .1) enough in
+    (said .0, p .0, rw (p .1) (rw (can .1) at (written-says application (Menu·form m) (can .0))))
