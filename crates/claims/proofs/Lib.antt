@@ -16,6 +16,7 @@ pub mod Tables
 pub mod Blocks
 pub mod Demands
 pub mod Marked
+pub mod Worked
 pub mod Wrong
 pub mod Many
 pub mod Handing
