@@ -186,8 +186,8 @@ def guide_menus():
         offered(2, b"Themes", (b"Film", 2, 12), (b"Sports", 1, 4)),
         offered(4, b"Sports", (b"Golf", 2, 40), (b"Ice hockey", 2, 41))]
     capture = b"".join(aired(dice, night_list(dice, 2) + menus + night_list(dice, 2) + menus, 20))
-    text, left = menu.menus(capture)
-    assert left == 0 and text.endswith(b"missing=9\n")
+    text, said = menu.menus(capture)
+    assert said == b"" and text.endswith(b"missing=9\n")
     return capture, text
 
 

@@ -1,8 +1,12 @@
 #!/usr/bin/env python3
 """Captures with menus: tests/menus/captures.py DIR writes for each NAME.t42, NAME.words (the options of `menus`, one word to a line) and what
-the model has for it: NAME.txt, what is printed, where the listing isn't too long; NAME.left, how many numbers were left out."""
+the model has for it: NAME.txt and NAME.err, what it prints and says where it reads the capture from standard input; NAME.named.txt and
+NAME.named.err, where by its name. Where the listing is too long, NAME.fits.txt is the one with the number of levels that is named.
+In DIR/halves, NAME-1.t42 and NAME-2.t42 are the two parts of a capture, with what the model has for each by its name."""
 
+import functools
 import pathlib
+import re
 import sys
 
 sys.dont_write_bytecode = True
@@ -11,11 +15,13 @@ sys.path.insert(0, str(pathlib.Path(__file__).resolve().parent.parent))
 from cases.form import LOST, Dice, with_bytes
 from cases.menu import EMPTY, linked, plain, some_event, some_menu, worded
 from model import guide, menu
-from model.guide import HEAD, Setting
+from model.guide import HEAD, PACKET, Setting
 from model.listing import DESK
 from model.menu import LEVELS, STORE, TEXT, TO_MENU, Event
 from model.survey import PIECE
 from samples import aired, night_list, roughened
+
+kept = functools.cache(menu.kept)       # a capture is read once
 
 
 def record(made, application=DESK.application):
@@ -68,10 +74,36 @@ def first():
         yield name, "-b 4", DESK, 4, sent(DESK, records)
 
 
-def deep():
-    """A row of menus that goes one level past the last, and one that goes round."""
-    yield "deep", "", DESK, 0, sent(DESK, [record(linked(n, n + 1)) for n in range(LEVELS + 1)])
-    yield "ring", "-b 1", DESK, 1, sent(DESK, [record(linked(1, 2)), record(linked(2, 1))])
+def deep(dice):
+    """A row of menus that goes one level past the last, one that goes round, one whose links lead nowhere, and some at random, to each number of levels."""
+    row = sent(DESK, [record(linked(n, n + 1)) for n in range(LEVELS + 1)])
+    ring = sent(DESK, [record(linked(1, 2)), record(linked(2, 1))])
+    nowhere = sent(DESK, [record(linked(0, 1, 9)), record(linked(1, 9, 0))])
+    some = sent(DESK, some_list(dice, 12))
+    every = range(1, LEVELS + 1)
+    for name, number, data, asked in (("deep", 0, row, every), ("ring", 1, ring, (1, 7)), ("nowhere", 0, nowhere, (1, 2, 3)), ("some", 0, some, every)):
+        yield name, f"-b {number}", DESK, number, data
+        for levels in asked:
+            yield f"{name}-{levels}", f"-l {levels} -b {number}", DESK, number, data, levels
+    for name, words, levels in (("zero", "-l 08", 8), ("zeros", "-l 0000000000000000000000003", 3), ("twice", "-l 8 -l 2", 2),
+                                ("among", "-l 1 -m 1 -l 005 -p df -a 1", 5)):
+        yield f"deep-{name}", words, DESK, 0, row, levels
+
+
+def missing(dice):
+    """The asked number didn't come: none did, some, exactly as many as are named, and more; sent again and again, in no order of theirs."""
+    numbers = [(1 + 40503 * n) % 65536 for n in range(300)]
+    assert 0 not in numbers and len(set(numbers)) == 300 and numbers[:20] != sorted(numbers[:20])
+    for count in (0, 1, 2, 3, 19, 20, 21, 300):
+        records = [record(linked(number, 0)) for number in numbers[:count]]
+        yield f"note-{count}", "", DESK, 0, sent(DESK, records + records[::-1] + records)
+    five, seven = record(linked(5, 7)), record(linked(7, 5))
+    lost, other = with_bytes(five, (HEAD + 20, LOST)), record(linked(5), DESK.application + 1)
+    for name, words, number, records in (
+            ("later", "", 0, [lost, other, seven, five]), ("refused", "-b 5", 5, [lost, other, lost]), ("one", "-b 5 -l 1", 5, [lost, other, seven]),
+            ("zeros", "-b 00009", 9, [five, seven, five]), ("last", "-b 65535", 65535, [record(linked(65534)), record(linked(0))]),
+            ("tables", "", 0, night_list(dice, 9)), ("came", "-b 7", 7, [five, seven])):
+        yield f"note-{name}", words, DESK, number, sent(DESK, records), *([1] if "-l" in words else [])
 
 
 def full():
@@ -88,7 +120,8 @@ def full():
 
     small = [record(linked(number)) for number in range(1000, 1003)]
     for name, records, number in (("exact", [last(rest, 999)], 999), ("over", [last(rest + 1, 999)], 999), ("after", [last(rest + 1, 999), *small], 1000),
-                                  ("again", [last(rest + 1, 999), *small, *longest[:2], *small, last(rest + 1, 999)], 0), ("next", [last(rest, 999), *small], 1001)):
+                                  ("again", [last(rest + 1, 999), *small, *longest[:2], *small, last(rest + 1, 999)], 0), ("next", [last(rest, 999), *small], 1001),
+                                  ("missing", [last(rest + 1, 999), *small], 5000)):
         yield f"full-{name}", f"-b {number}", DESK, number, guide.cut(DESK, 0, 20, b"".join(longest + records))
 
 
@@ -99,32 +132,100 @@ def spread(number, links, type_, text):
 
 
 def long():
-    """A listing of exactly as many bytes as are printed, one with a byte more, and one that would be far longer than any disk."""
-    def tree(below, text):
-        """Three levels below menu 0, of 3, 45 and 675 menus; so many characters in each of the last and in menu 0."""
-        menus = spread(0, [1] * 3, TO_MENU, text), linked(1, *[2] * 15), linked(2, *[3] * 15), spread(3, [0] * 15, 2, below)
+    """A listing of exactly as many bytes as are printed, and one with a byte more; the same to four levels, behind which each link that leads
+    nowhere takes a byte more; and menus that link to themselves, most of them far longer than any disk."""
+    def tree(type_, below, text):
+        """Three levels below menu 0, of 3, 45 and 675 menus; so many characters in each of the last and in menu 0; the last ones' links have this type."""
+        menus = spread(0, [1] * 3, TO_MENU, text), linked(1, *[2] * 15), linked(2, *[3] * 15), spread(3, [9] * 15, type_, below)
         return [record(made) for made in menus]
 
-    def length(below, text):
-        return len(menu.list_menu(DESK.application, 0, b"".join(tree(below, text)), 2 * TEXT))
+    def length(type_, below, text):
+        return len(menu.list_levels(DESK.application, 0, 4, b"".join(tree(type_, below, text)), 2 * TEXT))
 
-    below = (TEXT - length(0, 0)) // 675
-    text = TEXT - length(below, 0)
-    assert length(below, text) == TEXT
-    for name, more in (("long", 0), ("longer", 1)):
-        yield name, "", DESK, 0, sent(DESK, tree(below, text + more))
-    yield "itself", "-b 7", DESK, 7, sent(DESK, [record(linked(7, *[7] * 15))])
+    for name, type_ in (("long", 2), ("edge", TO_MENU)):
+        below = (TEXT - length(type_, 0, 0)) // 675
+        text = TEXT - length(type_, below, 0)
+        assert length(type_, below, text) == TEXT
+        for more, words, levels in ((0, "", 8), (0, "-l 4", 4), (1, "", 8), (1, "-l 5", 5), (1, "-l 4", 4), (1, "-l 3", 3)):
+            yield name + "-over" * more + words.replace(" ", ""), words, DESK, 0, sent(DESK, tree(type_, below, text + more)), levels
+    for links in (3, 4, 5, 7, 9, 15):
+        yield f"itself-{links}", "-b 7", DESK, 7, sent(DESK, [record(linked(7, *[7] * links))])
+
+
+def back():
+    """Eight themes, each with programmes and a link back to menu 0."""
+    themes = [b"Films and series", b"Sports", b"News", b"Children", b"Music", b"Nature", b"Quizzes", b"Late at night"]
+    first = EMPTY._replace(header=plain(b"TV Guide"), events=[Event(n, TO_MENU, [], plain(theme)) for n, theme in enumerate(themes, 1)])
+    shows = [Event(300 + n, 2, [], plain(b"%d:00 Programme %d" % (12 + n, n))) for n in range(7)]
+    others = [EMPTY._replace(block_no=n, header=plain(theme), events=shows + [Event(0, TO_MENU, [], plain(b"Back"))]) for n, theme in enumerate(themes, 1)]
+    data = sent(DESK, map(record, [first, *others]))
+    assert b"-l 7 fits" in menu.menus(data)[1]
+    for words, number, levels in (("", 0, 8), ("-l 8", 0, 8), ("-l 7", 0, 7), ("-b 3", 3, 8), ("-b 3 -l 6", 3, 6)):
+        yield f"back{words.replace(' ', '')}", words, DESK, number, data, levels
+
+
+def crowd():
+    """As many of the smallest menus as are kept beside four, through which a listing of almost all that is printed finds some of them thousands of times:
+    the last that came, and the first of those whose numbers have one low byte."""
+    def small(number, *links):
+        return record(EMPTY._replace(block_no=number, events=[Event(to, TO_MENU, [], plain(b"")) for to in links]))
+
+    def ways(*ends):
+        return small(65532, *ends), small(65533, *[65532] * 15), small(65534, *[65533] * 15), small(65535, *[65534] * 5, *[65533] * 9)
+
+    count = (STORE - sum(map(len, ways(*[0] * 15)))) // len(small(0))
+    numbers = [256 * (at % 256) + at // 256 for at in range(count)]
+    records = [*map(small, numbers), *ways(*numbers[-8:], *numbers[:7 * 256:256])]
+    data = guide.cut(DESK, 0, 20, b"".join(records))
+    assert count > 20_000 and 0.99 * TEXT < len(menu.told_of(kept(data, DESK), 65535)[0]) <= TEXT
+    yield "crowd", "-b 65535", DESK, 65535, data
+
+
+def bent():
+    """As many menus of fifteen links as are kept, each to the fifteen behind it, the last to the first: from four levels on too long, and to eight some 90 GB."""
+    count = STORE // len(record(spread(0, [0] * 15, TO_MENU, 0)))
+    menus = [record(spread(n, [(n + 1 + at) % count for at in range(15)], TO_MENU, 0)) for n in range(count)]
+    data = guide.cut(DESK, 0, 20, b"".join(menus))
+    for words, levels in (("", 8), ("-l 4", 4), ("-l 2", 2)):
+        yield f"bent{words.replace(' ', '')}", words, DESK, 0, data, levels
+
+
+def halves():
+    """A menu in two parts, such that a reader that went on would hand it out: cut within a page, between pages, within a packet, and so early that it
+    needs nothing but the bytes of a part of a packet to be kept."""
+    long = record(worded(300, 1))
+    for name, rows, at in (("page", 20, 4 * PACKET), ("pages", 2, 6 * PACKET), ("packet", 20, 4 * PACKET + 17), ("bytes", 20, 17)):
+        data = guide.cut(DESK, 0, rows, long)
+        parts = data[:at], data[at:]
+        assert menu.menus(data)[0].startswith(b"level=1\nmenu=0\n") and all(menu.menus(part)[0] == b"missing=0\n" for part in parts)
+        yield name, parts
 
 
 def main(folder):
     dice = Dice(12)
-    for name, words, setting, number, data in (*elsewhere(dice), *night(dice), *first(), *deep(), *full(), *long()):
-        text, left = menu.menus(data, setting, number)
-        (folder / f"{name}.t42").write_bytes(data)
-        (folder / f"{name}.words").write_text("".join(word + "\n" for word in words.split()))
-        (folder / f"{name}.left").write_text(f"{left}\n")
-        if text is not None:
-            (folder / f"{name}.txt").write_bytes(text)
+    for name, words, setting, number, data, *levels in (
+            *elsewhere(dice), *night(dice), *first(), *deep(dice), *missing(dice), *full(), *long(), *back(), *crowd(), *bent(),
+            *((f"whole-{name}", "", DESK, 0, b"".join(parts)) for name, parts in halves())):
+        write(folder / name, words, data, setting, number, *levels)
+    (folder / "halves").mkdir()
+    for name, parts in halves():
+        for at, part in enumerate(parts, 1):
+            write(folder / "halves" / f"{name}-{at}", "", part, DESK, 0)
+
+
+def write(path, words, data, setting, *asked):
+    """A capture, its words, and what the model has for them."""
+    def put(suffix, content):
+        path.with_name(path.name + suffix).write_bytes(content)
+
+    came = kept(data, setting)
+    text, said = menu.told_of(came, *asked)
+    put(".t42", data), put(".words", "".join(word + "\n" for word in words.split()).encode()), put(".txt", text), put(".err", said)
+    text, said = menu.told_of(came, *asked, name=f"{path}.t42".encode())
+    put(".named.txt", text), put(".named.err", said)
+    fits = re.search(rb"; -l ([1-8]) fits\n$", said)
+    if fits:
+        put(".fits.txt", menu.told_of(came, asked[0], int(fits[1]))[0])
 
 
 main(pathlib.Path(sys.argv[1]))

@@ -165,6 +165,27 @@ def menus():
     assert menu.read_menu(1, with_bytes(letter, (len(letter) - 1, letter[-1] ^ 6))).form == menu.form_of(linked(1, header=b"G"))
 
 
+def menu_levels():
+    """16 outside 1 to 8, `deeper=` at the last without a look into the list, fewer never longer; the lines of `menus` that SCOPE 23.10 prints."""
+    row = listed(1, *(linked(n, n + 1) for n in range(9)))
+    texts = [menu.list_levels(1, 0, levels, row) for levels in range(1, 9)]
+    for levels, text in enumerate(texts, 1):
+        assert text.count(b"menu=") == levels and text.endswith(b"link=1,%d\ndeeper=%d\n" % (levels, levels))
+    assert texts == sorted(texts, key=len) and texts[7] == menu.list_menu(1, 0, row)
+    assert menu.list_levels(1, 0, 1, listed(1, linked(0, 5))).endswith(b"deeper=5\n") and menu.list_levels(1, 0, 2, listed(1, linked(0, 5))).endswith(b"missing=5\n")
+    assert [number(menu.list_levels, 1, 0, levels, b"\x01")[0] for levels in (0, 1, 8, 9, 255)] == [16, 13, 13, 16, 16]
+    assert number(menu.list_levels, 32, 0, 0, b"") == (16, 0) and number(menu.list_levels, 1, 0, 9, row, 0) == (16, 0)
+
+    def said(*menus):
+        return menu.menus(guide.cut(DESK, 0, 20, listed(1, *menus)), name=b"night.t42")[1].decode()
+
+    assert said(linked(5), linked(7), linked(5), linked(9), linked(7)) == "note: night.t42: menu 0 is missing; came: 5 7 9\n"
+    assert said() == "note: night.t42: menu 0 is missing; none came\n" and said(linked(0, 9)) == ""
+    assert said(linked(0, *[0] * 7)) == "menus: night.t42: the listing of menu 0 is longer than 1 MB and isn't printed; -l 5 fits\n"
+    for count, end in ((19, " 18 19\n"), (20, " 19 20\n"), (21, " 19 20 ..\n"), (99, " 19 20 ..\n")):
+        assert said(*(linked(n) for n in range(1, count + 1))).endswith(end)
+
+
 def subsequence(some, whole):
     rest = iter(whole)
     return all(thing in rest for thing in some)
@@ -208,7 +229,7 @@ def noise(rounds, most):
 
 
 def main():
-    for check in (images, cases_a_to_f, case_g, cases_h_to_k, annex_l1, editions, lost_pes, pages, day_sheet, menus):
+    for check in (images, cases_a_to_f, case_g, cases_h_to_k, annex_l1, editions, lost_pes, pages, day_sheet, menus, menu_levels):
         check()
         print(f"{check.__name__}: ok")
     for most in (1, 2):

@@ -10,7 +10,7 @@ from .table import COMMON, FIRST, Bits, Read, checksum, decoded, laid, opened
 
 NI = 3                              # datatype_id, clause 11.12.3
 MOST_SIZE = 2047                    # of a block, in bytes
-LEVELS = 8                          # of a listing
+LEVELS = 8                          # of a listing, at most and where no number is named
 TO_MENU = 1                         # the type of a link to another menu, clause 11.12.5
 
 
@@ -245,17 +245,19 @@ def shown(codes):
     return bytes(0x20 if code < 0x20 else 0x23 if code == 0x7F else code for code in codes)
 
 
-class Listing:
-    """The menus of a list by their number, the first of each, and a walk over them that ends as soon as the room is full."""
+def accepted(application, record):
+    """A record's menu; none where reading refuses it."""
+    try:
+        return menu_of(read_menu(application, record).form)
+    except Refused:
+        return None
 
-    def __init__(self, application, records, room):
-        self.menus, self.text, self.room = {}, bytearray(), room
-        for record in records:
-            try:
-                menu = menu_of(read_menu(application, record).form)
-            except Refused:
-                continue
-            self.menus.setdefault(menu.block_no, menu)
+
+class Listing:
+    """A walk over menus by their number, to so many levels, that ends as soon as the room is full."""
+
+    def __init__(self, menus, levels, room):
+        self.menus, self.levels, self.room, self.text = menus, levels, room, bytearray()
 
     def line(self, name, value):
         self.text += name + b"=" + (value if isinstance(value, bytes) else b"%d" % value) + b"\n"
@@ -272,46 +274,89 @@ class Listing:
             self.line(b"level", level), self.line(b"event", shown(event.string.codes))
             self.line(b"link", b"%d,%d" % (event.link_type, event.link))
             if event.link_type == TO_MENU:
-                if level == LEVELS:
+                if level == self.levels:
                     self.line(b"deeper", event.link)
                 else:
                     self.walk(event.link, level + 1)
 
 
-def list_menu(application, number, records, room=65536):
-    need(application <= 31, 16)
-    listing = Listing(application, records_in(records), room)
+def lines_of(menus, number, levels, room):
+    """The listing of a number, over menus by their number."""
+    listing = Listing(menus, levels, room)
     listing.walk(number, 1)
     return bytes(listing.text)
+
+
+def list_levels(application, number, levels, records, room=65536):
+    """The listing over a list of records, of which the first menu of each number counts (SCOPE 23.8)."""
+    need(application <= 31, 16)
+    need(1 <= levels <= LEVELS, 16)
+    menus = {}
+    for menu in (accepted(application, record) for record in records_in(records)):
+        if menu:
+            menus.setdefault(menu.block_no, menu)
+    return lines_of(menus, number, levels, room)
+
+
+def list_menu(application, number, records, room=65536):
+    return list_levels(application, number, LEVELS, records, room)
 
 
 # --- the program ----------------------------------------------------------------------
 
 STORE, TEXT = 1 << 19, 1 << 20      # the bytes of the records that are kept, and of the longest listing that is printed
+NOTED = 20                          # the numbers that a note names
 
 
 def kept(data, setting):
-    """The first accepted menu of each number in a capture, and how many numbers are left out: from the first that doesn't fit on, all."""
-    records, numbers, left = bytearray(), set(), 0
+    """Of each number that came in a capture the first accepted menu, in their order; none where it is left out: from the first that doesn't fit on, all."""
+    came, used = {}, 0
     for record in read_all(setting, data):
+        menu = accepted(setting.application, record)
+        if menu and menu.block_no not in came:
+            used += len(record)
+            came[menu.block_no] = menu if used <= STORE else None
+    return came
+
+
+def told(name):
+    """A file's name as it is told (SCOPE 13.8)."""
+    return bytes(0x3F if byte < 0x20 or byte == 0x7F else byte for byte in name)
+
+
+def note(number, came):
+    """What the note says behind the name, where a number isn't among those that came."""
+    some = b"".join(b" %d" % one for one in list(came)[:NOTED]) + b" .." * (len(came) > NOTED)
+    return b"menu %d is missing; " % number + (b"came:" + some if came else b"none came")
+
+
+def greatest(menus, number, below):
+    """The greatest number of levels below a given one with which the listing isn't too long; one level always fits."""
+    for levels in range(below - 1, 0, -1):
         try:
-            number = menu_of(read_menu(setting.application, record).form).block_no
+            lines_of(menus, number, levels, TEXT)
+            return levels
         except Refused:
-            continue
-        if number in numbers:
-            continue
-        numbers.add(number)
-        if left or len(records) + len(record) > STORE:
-            left += 1
-        else:
-            records += record
-    return bytes(records), left
+            pass
+    raise AssertionError("one level is too long")
 
 
-def menus(data, setting=DESK, number=0):
-    """What is printed of a capture, nothing where it would be too long, and how many numbers are left out."""
-    records, left = kept(data, setting)
+def told_of(came, number=0, levels=LEVELS, name=None):
+    """What goes to standard output and to standard error for the menus of a capture; where a name is given, it was read by that."""
+    menus = {no: menu for no, menu in came.items() if menu}
+    title = b"" if name is None else b"file=" + told(name) + b"\n"
+    input = b"standard input" if name is None else told(name)
+    left = len(came) - len(menus)
+    said = title + b"left=%d\n" % left if left else b""
+    if number not in came:
+        said += b"note: " + input + b": " + note(number, came) + b"\n"
     try:
-        return list_menu(setting.application, number, records, TEXT), left
+        return title + lines_of(menus, number, levels, TEXT), said
     except Refused:
-        return None, left
+        fits = greatest(menus, number, levels)
+        return b"", said + b"menus: " + input + b": the listing of menu %d is longer than 1 MB and isn't printed; -l %d fits\n" % (number, fits)
+
+
+def menus(data, setting=DESK, number=0, levels=LEVELS, name=None):
+    """The same of a capture (SCOPE 23.10)."""
+    return told_of(kept(data, setting), number, levels, name)
