@@ -49,7 +49,7 @@ returns-4 c =
     rw (← (c .before .before .before .before .before .before .head-of .ensures .0))
     (c .refuse4 .ensures
     ∙ sym
-    (frame-second refusedFrame _ _ _ _ _ _ (search needs) (c .before .before .before .before .before .if2 .left) (search needs) (c .before .if4 .taken)))
+    (frame-second refusedFrame _ _ _ _ _ _ (search needs) (c .before .before .before .before .before .if2 .left) (search needs) (search needs)))
 
 refuse-requires-5 : tie.Need-refuse-requires-5
 refuse-requires-5 c κs = search needs
@@ -60,7 +60,7 @@ returns-5 c =
     rw (← (b .before .head-of .ensures .0))
     (c .refuse5 .ensures
     ∙ sym
-    (frame-12 refusedFrame _ _ _ _ _ _ (search needs) (b .if2 .left) (search needs) (c .before .before .if4 .left) (c .before .if5 .taken)))
+    (frame-12 refusedFrame _ _ _ _ _ _ (search needs) (b .if2 .left) (search needs) (search needs) (c .before .if5 .taken)))
 
 refuse-requires-6 : tie.Need-refuse-requires-6
 refuse-requires-6 c κs = search needs
@@ -71,7 +71,7 @@ returns-6 c =
     rw (← (b .before .head-of .ensures .0))
     (c .refuse6 .ensures
     ∙ sym
-    (frame-13′ refusedFrame _ _ _ _ _ _ (search needs) (b .if2 .left) (search needs) (c .before .before .before .if4 .left) (c .before .before .if5 .left)
+    (frame-13′ refusedFrame _ _ _ _ _ _ (search needs) (b .if2 .left) (search needs) (search needs) (c .before .before .if5 .left)
     (c .before .if6 .taken)))
 
 returns-7 : tie.Need-returns-7
@@ -79,7 +79,7 @@ returns-7 c =
     let b = c .before .before .before .before .before .before in
     rw (← (b .before .head-of .ensures .0))
     (sym
-    (frame-done refusedFrame _ _ _ _ _ _ (search needs) (b .if2 .left) (search needs) (c .before .before .if4 .left) (c .before .if5 .left) (c .if6 .left)))
+    (frame-done refusedFrame _ _ _ _ _ _ (search needs) (b .if2 .left) (search needs) (search needs) (c .before .if5 .left) (c .if6 .left)))
 
 pub judge-spec : {M : Type 1} → statement M
 judge-spec =
