@@ -68,7 +68,7 @@ returns-3 c =
     let k = c .before .before .before .before .known .ensures ∙ ap (λ (o : Opening). known (o .kind)) p in
     let eight = sym e ∙ c .before .before .before .before .before .before .if1 .left in
     let kind = sym k ∙ not-false _ (c .before .before .before .if2 .left) in
-    c .refuse3 .ensures ∙ sym (front-12′ _ (map nib s) _ eight kind (rw (ap (λ (o : Opening). o .access) p) at (c .before .if3 .taken)))
+    c .refuse3 .ensures ∙ sym (front-12′ _ (map nib s) _ eight kind (λ q. omega (arith, ap (λ (o : Opening). o .access) p, q)))
 
 refuse-requires-4 : tie.Need-refuse-requires-4
 refuse-requires-4 c κs = search needs
@@ -82,8 +82,8 @@ returns-4 c =
     let k = c .before .before .before .before .before .known .ensures ∙ ap (λ (o : Opening). known (o .kind)) p in
     let eight = sym e ∙ c .before .before .before .before .before .before .before .if1 .left in
     let kind = sym k ∙ not-false _ (c .before .before .before .before .if2 .left) in
-    let access = sym (ap (λ (o : Opening). o .access) p) ∙ c .before .before .if3 .left in
-    c .refuse4 .ensures ∙ sym (front-13 _ (map nib s) _ eight kind access (c .before .if4 .taken))
+    let access = ap (λ (o : Opening). o .access) p in
+    c .refuse4 .ensures ∙ sym (front-13 _ (map nib s) _ eight kind (omega (arith, access)) (c .before .if4 .taken))
 
 returns-5 : tie.Need-returns-5
 returns-5 c =
@@ -94,8 +94,8 @@ returns-5 c =
     let k = c .before .before .before .before .known .ensures ∙ ap (λ (o : Opening). known (o .kind)) p in
     let eight = sym e ∙ c .before .before .before .before .before .before .if1 .left in
     let kind = sym k ∙ not-false _ (c .before .before .before .if2 .left) in
-    let access = sym (ap (λ (o : Opening). o .access) p) ∙ c .before .if3 .left in
-    sym (front-done _ (map nib s) _ eight kind access (c .if4 .left))
+    let access = ap (λ (o : Opening). o .access) p in
+    sym (front-done _ (map nib s) _ eight kind (omega (arith, access)) (c .if4 .left))
 
 pub judge-front-spec : {M : Type 1} → statement M
 judge-front-spec =
