@@ -14,7 +14,6 @@ use Rattle.laws.specs.Each.{Each, nil, and}
 use Rattle.laws.proofs.Tests.{both-true}
 use Rattle.octet.specs.Decoding.{nib}
 use Rattle.octet.proofs.Laws.{nib-image}
-use Rattle.octet.proofs.Noise.{near}
 use Rattle.blocks.specs.Block.{Block, blocks}
 use Rattle.packet.specs.declared.Setting.{Setting}
 use Rattle.packet.specs.Setting.{inRange}
@@ -27,6 +26,7 @@ use Rattle.state.proofs.Ranging.{sound-fresh}
 use Rattle.claims.specs.Noise.{Flipped, Hears, Aired, ended, sent, between, Came, Fits}
 use Rattle.claims.specs.Damage.{streamIn, Sending, sendings, landed, unmarked}
 use Rattle.claims.specs.Feeding.{Call, packetsOf, comesOut}
+use Rattle.claims.proofs.Noise.{near}
 use Rattle.claims.proofs.Losing.{near-length, came-exactly}
 use Rattle.claims.proofs.Landing.{Heard, stream-near, sendings-near, landed-clean}
 use Rattle.claims.proofs.Carried.{carried-blocks}

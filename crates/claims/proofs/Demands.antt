@@ -8,7 +8,6 @@ use Prim.Native.Nat.{ℕ, _≤_, _<_}
 use native.Mathlib.Omega.{arith}
 use lib.ListN.{length, length-map}
 use Rattle.laws.specs.Each.{Each}
-use Rattle.octet.proofs.Noise.{near}
 use Rattle.blocks.specs.Block.{Block, blocks}
 use Rattle.packet.specs.declared.Setting.{Setting}
 use Rattle.packet.specs.Setting.{inRange}
@@ -19,6 +18,7 @@ use Rattle.claims.specs.Damage.{streamIn, sendings, landed, Counted, dam
 use Rattle.claims.specs.Lists.{Among}
 use Rattle.claims.specs.Feeding.{Call, packetsOf, comesOut}
 use Rattle.claims.specs.Tables.{recordsOf, sent, sentDamaged, received}
+use Rattle.claims.proofs.Noise.{near}
 use Rattle.claims.proofs.Losing.{came-exactly, came-among, among-map}
 use Rattle.claims.proofs.Landing.{Heard}
 use Rattle.claims.proofs.Blocks.{range, carried-calls, carried-near}

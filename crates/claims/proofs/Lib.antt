@@ -1,3 +1,4 @@
+pub mod Noise
 pub mod Losing
 pub mod Telling
 pub mod Landing

@@ -14,7 +14,6 @@ use Rattle.laws.specs.Pick.{either}
 use Rattle.octet.specs.Bits.{bits, number, differing, flips}
 use Rattle.octet.specs.Image.{image, withParity}
 use Rattle.octet.specs.Decoding.{nib, nibbleFrom}
-use Rattle.octet.proofs.Noise.{flips-self}
 use Rattle.blocks.specs.Block.{Block, blocks, blocksWithin}
 use Rattle.fields.specs.Fields.{alike, width, laid, parts, fitting}
 use Rattle.packet.specs.declared.Setting.{Setting}
@@ -48,6 +47,7 @@ use Rattle.claims.specs.Tables.{recordsOf, sent, sentDamaged, tablesOf, 
 use Rattle.claims.specs.Carries.{Carries}
 use Rattle.claims.specs.March
 use Rattle.claims.specs.Tells.{Tells}
+use Rattle.claims.proofs.Noise.{flips-self}
 use Rattle.claims.proofs.Demands.{exactly, all-sent}
 use Rattle.claims.proofs.Fed.{callFor, callsFor, packets-of-calls, call-counts, call-blocks, call-drops, fed-blocks}
 use Rattle.claims.proofs.March.{unreadable-junk}

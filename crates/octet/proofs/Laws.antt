@@ -1,5 +1,5 @@
 -- Laws of the image, the decoding and the turning that many crates cite; most are one test that antt computes at every byte and
--- hands out at each. The laws of flipped bits and of the fault place stand in Noise. Assumes nothing.
+-- hands out at each. The laws of flipped bits and of the fault place stand in claims/proofs/Noise. Assumes nothing.
 use mathlib.Core.Path.{_≡_}
 use mathlib.Core.Bool.{Bool, true, false}
 use mathlib.Core.List.{List}

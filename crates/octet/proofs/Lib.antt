@@ -2,7 +2,6 @@ pub mod Cases
 pub mod Hearing
 pub mod Laws
 pub mod Lowest
-pub mod Noise
 pub mod Rows
 mod Eights
 mod Halves

@@ -1,7 +1,7 @@
 // The fault place of a protected byte, by the parity checks of EN 300 706. It takes any byte and answers; nothing is kept between
 // calls.
 //
-// SCOPE 5.5: the checks as four rows of eight bits. The place that they find agrees with the decoding (`agrees` in proofs/Noise.antt). The
+// SCOPE 5.5: the checks as four rows of eight bits. The place that they find agrees with the decoding (`agrees` in claims/proofs/Noise). The
 // definitions are in specs/: the bits of a byte and the checks.
 ghost use mathlib.Core.Path.{_≡_};
 ghost use mathlib.Core.List.{[]};

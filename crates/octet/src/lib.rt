@@ -2,9 +2,9 @@
 // any byte and answers; nothing is kept between calls.
 //
 // SCOPE 5: from the lowest up, the bits are P1 D1 P2 D2 P3 D3 P4 D4. The definitions are in specs/, the
-// laws that other rooms cite in proofs/Laws.antt, and those of flipped bits in proofs/Noise.antt. The
-// place of a fault, by the parity checks, is module `faults`; the same decoding without a table in
-// memory is module `quick`.
+// laws that other rooms cite in proofs/Laws.antt; those of flipped bits stand where noise is spoken of, in
+// claims. The place of a fault, by the parity checks, is module `faults`; the same decoding without a
+// table in memory is module `quick`.
 pub mod faults;
 pub mod quick;
 
