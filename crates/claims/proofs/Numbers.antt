@@ -30,7 +30,7 @@ use Rattle.table.specs.Reading.{frontRules, wholeRules, readRules as Table·rea
 use Rattle.table.specs.Lengths.{lengthRules}
 use Rattle.menu_forms.specs.Writing.{formRules as Menu·formRules, writeRules as Menu·writeRules}
 use Rattle.menu.specs.Reading.{frontRules as Menu·frontRules, wholeRules as Menu·wholeRules, lengthRules as Menu·lengthRules, readRules as Menu·readRules}
-use Rattle.menu_listing.specs.Listing.{listRules}
+use Rattle.menu_listing.specs.Listing.{listRules, levelsRules}
 use Rattle.sheets.specs.Calls.{rewriteRules, joinRules, addRules}
 use Rattle.claims.specs.Calls.{Feeds, feed, FeedsAll, feed-all}
 use Rattle.claims.specs.Judges.{Judges}
@@ -96,6 +96,10 @@ module _ (pes : List ℕ) where
 pub lists-menus : (application : ℕ) (records : List ℕ) → allRefusing (listRules application records) ≡ true
 unfolding allRefusing
 lists-menus application records = refl
+
+pub lists-levels : (application levels : ℕ) (records : List ℕ) → allRefusing (levelsRules application levels records) ≡ true
+unfolding allRefusing
+lists-levels application levels records = refl
 
 -- ---- answers that are other enums
 

@@ -99,6 +99,7 @@ use Rattle.strings.proofs.odds.Reads as strings·odds
 use Rattle.menu_forms.proofs.info_bytes.Reads as menu-forms·info-bytes
 use Rattle.menu.proofs.read_menu.Reads as menu·read-menu
 use Rattle.menu_writer.proofs.write_menu.Reads as menu-writer·write-menu
+use Rattle.menu_listing.proofs.list_levels.Reads as menu-listing·list-levels
 use Rattle.menu_listing.proofs.list_menu.Reads as menu-listing·list-menu
 use Rattle.sheets.proofs.rewrite.Reads as sheets·rewrite
 use Rattle.sheets.proofs.joining.join.Reads as sheets·join
@@ -491,6 +492,11 @@ menu·read-menu-settled κs a x y s t p q = (same (p .0) (q .0), same (p .1) (q 
 pub menu-writer·write-menu-settled :
     (κs : _) (a : _) (x y : _) (s t : _) → menu-writer·write-menu.Post κs a x s → menu-writer·write-menu.Post κs a y t → (x ≡ y) × (now (s .1 .1 .0) ≡ now (t .1 .1 .0))
 menu-writer·write-menu-settled κs a x y s t p q = (same (p .0) (q .0), same (p .1) (q .1))
+
+pub menu-listing·list-levels-settled :
+    (κs : _) (a : _) (x y : _) (s t : _) → menu-listing·list-levels.Post κs a x s → menu-listing·list-levels.Post κs a y t
+    → (x ≡ y) × (now (s .1 .1 .1 .1 .0) ≡ now (t .1 .1 .1 .1 .0))
+menu-listing·list-levels-settled κs a x y s t p q = (same (p .0) (q .0), same (p .1) (q .1))
 
 pub menu-listing·list-menu-settled :
     (κs : _) (a : _) (x y : _) (s t : _) → menu-listing·list-menu.Post κs a x s → menu-listing·list-menu.Post κs a y t

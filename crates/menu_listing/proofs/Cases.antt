@@ -78,14 +78,27 @@ bottom =
     ∷ 108 ∷ 105 ∷ 110 ∷ 107 ∷ 61 ∷ 49 ∷ 44 ∷ 51 ∷ 10
     ∷ 100 ∷ 101 ∷ 101 ∷ 112 ∷ 101 ∷ 114 ∷ 61 ∷ 51 ∷ 10 ∷ []
 
+-- those of level 1 where no more is asked for
+abbrev top : List ℕ
+top =
+    108 ∷ 101 ∷ 118 ∷ 101 ∷ 108 ∷ 61 ∷ 49 ∷ 10
+    ∷ 109 ∷ 101 ∷ 110 ∷ 117 ∷ 61 ∷ 51 ∷ 10
+    ∷ 104 ∷ 101 ∷ 97 ∷ 100 ∷ 101 ∷ 114 ∷ 61 ∷ 65 ∷ 10
+    ∷ 108 ∷ 101 ∷ 118 ∷ 101 ∷ 108 ∷ 61 ∷ 49 ∷ 10
+    ∷ 101 ∷ 118 ∷ 101 ∷ 110 ∷ 116 ∷ 61 ∷ 66 ∷ 10
+    ∷ 108 ∷ 105 ∷ 110 ∷ 107 ∷ 61 ∷ 49 ∷ 44 ∷ 51 ∷ 10
+    ∷ 100 ∷ 101 ∷ 101 ∷ 112 ∷ 101 ∷ 114 ∷ 61 ∷ 51 ∷ 10 ∷ []
+
 pub record Listed : Type 0 where
-  pub whole : listing 1 0 (guide ++ themes) ≡ text
-  pub deepest : drop 343 (listing 1 3 round) ≡ bottom
+  pub whole : listing 1 0 8 (guide ++ themes) ≡ text
+  pub deepest : drop 343 (listing 1 3 8 round) ≡ bottom
+  -- one level asked for
+  pub highest : listing 1 3 1 round ≡ top
   -- a first menu that isn't there is one line
-  pub absent : listing 1 9 [] ≡ missing
+  pub absent : listing 1 9 8 [] ≡ missing
 
 pub case-listed : Listed
 unfolding bits number differing image withParity nib nibbleFrom blocksWithin width field whole laid parts ones isOdd letter odds total checksum sound frameRules
     each inRow infoBytes textFields eventFields fillFields fields strings codesIn spelled textAt eventAt eventsAt menuOf frontRules wholeRules lengthRules
     digitsIn numberLine shown textLine linkLine eventLines eventsLines menuLines isMenu menusOf linesOf listing
-case-listed = record { whole = refl; deepest = refl; absent = refl }
+case-listed = record { whole = refl; deepest = refl; highest = refl; absent = refl }

@@ -11,7 +11,7 @@ use Rattle.laws.proofs.Countdown.{at-none, at-more}
 use Rattle.menu_forms.specs.Menus.{Menu}
 use Rattle.printing.specs.Lines.{numberLine}
 use Rattle.menu_listing.specs.Lines.{missingName, deeperName, toMenu, menuLines}
-use Rattle.menu_listing.specs.Listing.{levels, linesOf}
+use Rattle.menu_listing.specs.Listing.{linesOf}
 use Rattle.menu_listing.specs.Internal.{eventLength, linkAt, ownLinesAt, eventLinesAt, eventsLinesAt, eventsPlace, headLinesAt, Held, none, first}
 use Rattle.menu_listing.proofs.Formed.{menu-lines}
 
@@ -30,40 +30,40 @@ module _ (follow : ℕ → List ℕ) (level i kind : ℕ) (f : List ℕ) (h : ki
   followed link e l = rw (getD-drop i f 2 0, ← h, eq-eqb kind toMenu e, l)
 
 -- with no level left the menu lies deeper
-pub at-bottom : (menus : ℕ → List Menu) (below number : ℕ) → below ≡ 0 → numberLine deeperName number ≡ linesOf menus below number
+pub at-bottom : (menus : ℕ → List Menu) (levels below number : ℕ) → below ≡ 0 → numberLine deeperName number ≡ linesOf menus levels below number
 unfolding linesOf
-at-bottom menus below number e = ap (λ (n : ℕ). linesOf menus n number) (sym e)
+at-bottom menus levels below number e = ap (λ (n : ℕ). linesOf menus levels n number) (sym e)
 
 pub level-down :
-    (menus : ℕ → List Menu) (below number : ℕ) → (below ≡ 0 → ⊥) → linesOf menus (suc (below - 1)) number ≡ linesOf menus below number
-level-down menus below number n = let e : suc (below - 1) ≡ below = omega arith in ap (λ (k : ℕ). linesOf menus k number) e
+    (menus : ℕ → List Menu) (levels below number : ℕ) → (below ≡ 0 → ⊥) → linesOf menus levels (suc (below - 1)) number ≡ linesOf menus levels below number
+level-down menus levels below number n = let e : suc (below - 1) ≡ below = omega arith in ap (λ (k : ℕ). linesOf menus levels k number) e
 
 -- ---- the menu walk
 
-module _ (menus : ℕ → List Menu) (below number : ℕ) (f : List ℕ) {r : Bool} (held : Held (menus number) f r) where
+module _ (menus : ℕ → List Menu) (levels below number : ℕ) (f : List ℕ) {r : Bool} (held : Held (menus number) f r) where
   by-held :
       {ms : List Menu} {b : Bool} → Held ms f b → b ≡ false
-      → numberLine missingName number ≡ menuLines (linesOf menus below) (levels - below) number ms
+      → numberLine missingName number ≡ menuLines (linesOf menus levels below) (levels - below) number ms
   unfolding menuLines
   by-held none e = refl
   by-held (first rest h) e = let z : _≡_ {A = ℕ} 0 1 = cc in absurd (omega arith)
 
-  pub not-held : r ≡ false → numberLine missingName number ≡ linesOf menus (suc below) number
+  pub not-held : r ≡ false → numberLine missingName number ≡ linesOf menus levels (suc below) number
   unfolding linesOf
   not-held e = by-held held e
 
   found-by :
       {ms : List Menu} {b : Bool} → Held ms f b → b ≡ true
       → headLinesAt (levels - below) number f
-      ++ eventsLinesAt (linesOf menus below) (levels - below) (getD f 8 0) (drop (eventsPlace f) f)
-      ≡ menuLines (linesOf menus below) (levels - below) number ms
+      ++ eventsLinesAt (linesOf menus levels below) (levels - below) (getD f 8 0) (drop (eventsPlace f) f)
+      ≡ menuLines (linesOf menus levels below) (levels - below) number ms
   found-by none e = let z : _≡_ {A = ℕ} 0 1 = cc in absurd (omega arith)
-  found-by (first {m} {ms} rest h) e = rw h (menu-lines m rest (linesOf menus below) (levels - below) number ms)
+  found-by (first {m} {ms} rest h) e = rw h (menu-lines m rest (linesOf menus levels below) (levels - below) number ms)
 
   pub held-lines :
       (n i : ℕ) → n ≡ getD f 8 0 → i ≡ eventsPlace f → r ≡ true
-      → headLinesAt (levels - below) number f ++ eventsLinesAt (linesOf menus below) (levels - below) n (drop i f)
-      ≡ linesOf menus (suc below) number
+      → headLinesAt (levels - below) number f ++ eventsLinesAt (linesOf menus levels below) (levels - below) n (drop i f)
+      ≡ linesOf menus levels (suc below) number
   unfolding linesOf
   held-lines n i hn hi e = rw (hn, hi) (found-by held e)
 

@@ -2,7 +2,7 @@
 use mathlib.Core.Bool.{Bool, true, false}
 use mathlib.Core.List.{List, [], _∷_, _++_}
 use Prim.Native.Nat.{ℕ, zero, suc, _-_}
-use lib.Dec.{eqb, ltb}
+use lib.Dec.{eqb, leb, ltb}
 use Rattle.laws.specs.Pick.{pick, both}
 use Rattle.answer.specs.Rules.{Rule, rule, judged}
 use Rattle.blocks.specs.Block.{Block, recordOf, whole, blocks}
@@ -26,20 +26,33 @@ menusOf application number [] = []
 menusOf application number (b ∷ bs) =
     pick (isMenu application number b) (menuRead (b .raw) ∷ []) [] ++ menusOf application number bs
 
--- how many levels are printed
-abbrev pub levels : ℕ
-levels = 8
+-- the greatest number of levels that can be asked for, and that of `list_menu`
+abbrev pub levelsMost : ℕ
+levelsMost = 8
 
--- the lines of the menu with this number and of those that it leads to, where so many levels are left, the first of all being 1; where none
--- is left, that it lies deeper
-unfoldable pub linesOf : (ℕ → List Menu) → ℕ → ℕ → List ℕ
-linesOf menus zero number = numberLine deeperName number
-linesOf menus (suc left) number = menuLines (linesOf menus left) (levels - left) number (menus number)
+-- the lines of the menu with this number and of those that it leads to, where so many of the levels that are asked for are left, the first of
+-- all being 1; where none is left, that it lies deeper
+unfoldable pub linesOf : (ℕ → List Menu) → ℕ → ℕ → ℕ → List ℕ
+linesOf menus levels zero number = numberLine deeperName number
+linesOf menus levels (suc left) number = menuLines (linesOf menus levels left) (levels - left) number (menus number)
 
--- the listing: from level 1 on
-unfoldable pub listing : ℕ → ℕ → List ℕ → List ℕ
-listing application number records = linesOf (λ n. menusOf application n (blocks records)) levels number
+-- the listing: from level 1 on, down to so many levels
+unfoldable pub listing : ℕ → ℕ → ℕ → List ℕ → List ℕ
+listing application number levels records = linesOf (λ n. menusOf application n (blocks records)) levels levels number
+
+-- that of `list_menu`
+abbrev pub fullListing : ℕ → ℕ → List ℕ → List ℕ
+fullListing application number records = listing application number levelsMost records
+
+-- 1 to 8 levels can be asked for
+abbrev pub areLevels : ℕ → Bool
+areLevels levels = both (leb 1 levels) (leb levels levelsMost)
 
 -- 16 for the application, 13 for a list that isn't whole records
 abbrev pub listRules : ℕ → List ℕ → List Rule
 listRules application records = rule (ltb application 32) 16 0 ∷ rule (whole records) 13 0 ∷ []
+
+-- 16 for the levels too, between the two
+abbrev pub levelsRules : ℕ → ℕ → List ℕ → List Rule
+levelsRules application levels records =
+    rule (ltb application 32) 16 0 ∷ rule (areLevels levels) 16 0 ∷ rule (whole records) 13 0 ∷ []

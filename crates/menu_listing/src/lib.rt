@@ -3,18 +3,16 @@ mod finding;
 mod lines;
 
 ghost use mathlib.Core.Path.{_≡_};
+ghost use mathlib.Core.List.{[]};
 ghost use Prim.Native.Nat.{suc, _+_, _-_, _<_, _≤_};
 ghost use lib.ListN.{drop};
 ghost use Rattle.answer.specs.Writing.{answered, left};
-ghost use Rattle.menu_listing.specs.Listing.{levels, listing, listRules, linesOf};
+ghost use Rattle.menu_listing.specs.Listing.{areLevels, listing, fullListing, levelsRules, listRules, linesOf};
 ghost use Rattle.menu_listing.specs.Internal.{Penned, menusIn, eventLinesAt, roomMost, beyond, placeMost};
 use answer::Answer;
 
-// How many levels are printed.
-const LEVELS: usize = 8;
-
-// How many levels are left below the first.
-const BELOW: usize = LEVELS - 1;
+// The greatest number of levels.
+const LEVELS: u8 = 8;
 
 // The longest form of a menu: no longer than its block.
 const FORM: usize = 2047;
@@ -22,31 +20,84 @@ const FORM: usize = 2047;
 // The type of a link to another menu.
 const TO_MENU: usize = 1;
 
-// The menu with this number and those that its links lead to, as text, to the front of `out`. The text is measured before any of it is
-// written, by a walk that ends as soon as it is past the room: a list of 176 bytes can stand for 93 GB. So the time is at most that of the
-// room times the list: each menu that the walk comes to prints a line, and is looked up in the list once; a record with another number
-// isn't read.
-pub fn list_menu(application: u8, number: u16, records: &[u8], out: &mut [u8]) -> Answer
+// The menu with this number and those that its links lead to, down to so many levels, as text, to the front of `out`. The text is measured
+// before any of it is written, by a walk that ends as soon as it is past the room: a list of 176 bytes can stand for 93 GB. So the time is at
+// most that of the room times the list: each menu that the walk comes to prints a line, and is looked up in the list once; a record with
+// another number isn't read.
+pub fn list_levels(
+    application: u8,
+    number: u16,
+    levels: u8,
+    records: &[u8],
+    out: &mut [u8],
+) -> Answer
     ensures answer { λ r.
-        ⌜ r ≡ answered (listRules application (now (records .entry))) (listing application number (now (records .entry))) (now (out .entry)) ⌝ }
+        ⌜ r
+        ≡ answered (levelsRules application levels (now (records .entry))) (listing application number levels (now (records .entry)))
+        (now (out .entry)) ⌝ }
     ensures output { λ _.
         ⌜ now (out .exit)
-        ≡ left (listRules application (now (records .entry))) (listing application number (now (records .entry))) (now (out .entry)) ⌝ }
+        ≡ left (levelsRules application levels (now (records .entry))) (listing application number levels (now (records .entry)))
+        (now (out .entry)) ⌝ }
 {
     if 32 <= application {
+        return answer::refuse(16, 0);
+    }
+    if !are_levels(levels) {
         return answer::refuse(16, 0);
     }
     if !finding::is_whole(records) {
         return answer::refuse(13, 0);
     }
-    let first = number as usize;
+    print(application, number as usize, levels as usize, records, out)
+}
+
+// The same down to eight levels.
+pub fn list_menu(application: u8, number: u16, records: &[u8], out: &mut [u8]) -> Answer
+    ensures answer { λ r.
+        ⌜ r ≡ answered (listRules application (now (records .entry))) (fullListing application number (now (records .entry))) (now (out .entry)) ⌝ }
+    ensures output { λ _.
+        ⌜ now (out .exit)
+        ≡ left (listRules application (now (records .entry))) (fullListing application number (now (records .entry))) (now (out .entry)) ⌝ }
+{
+    list_levels(application, number, LEVELS, records, out)
+}
+
+// Whether so many levels can be asked for.
+fn are_levels(levels: u8) -> bool
+    ensures { λ r. ⌜ r ≡ areLevels levels ⌝ }
+{
+    if levels == 0 {
+        return false;
+    }
+    levels <= LEVELS
+}
+
+// The listing, where only the room is left to judge: the walk that measures, and the walk that writes.
+fn print(application: u8, number: usize, levels: usize, records: &[u8], out: &mut [u8]) -> Answer
+    requires { ⌜ 1 ≤ levels ⌝ }
+    ensures answer { λ r.
+        ⌜ r ≡ answered [] (linesOf (menusIn application (now (records .entry))) levels levels number) (now (out .entry)) ⌝ }
+    ensures output { λ _.
+        ⌜ now (out .exit) ≡ left [] (linesOf (menusIn application (now (records .entry))) levels levels number) (now (out .entry)) ⌝ }
+{
+    let below = levels - 1;
     let room = out.len();
     let mut scrap = [0u8; 1];
-    let need = walk_menu(application, first, BELOW, records, room, &mut scrap, 0);
+    let need = walk_menu(
+        application,
+        number,
+        levels,
+        below,
+        records,
+        room,
+        &mut scrap,
+        0,
+    );
     if room < need {
         return answer::refuse(1, 0);
     }
-    let written = walk_menu(application, first, BELOW, records, room, out, 0);
+    let written = walk_menu(application, number, levels, below, records, room, out, 0);
     Answer::Done(written)
 }
 
@@ -54,6 +105,7 @@ pub fn list_menu(application: u8, number: u16, records: &[u8], out: &mut [u8]) -
 fn walk_menu(
     application: u8,
     number: usize,
+    levels: usize,
     below: usize,
     records: &[u8],
     room: usize,
@@ -62,7 +114,7 @@ fn walk_menu(
 ) -> usize
     requires { ⌜ (below ≤ levels) × (room < roomMost) × (q ≤ room + beyond) ⌝ }
     ensures { λ r.
-        ⌜ Penned room (now (out .entry)) q (linesOf (menusIn application (now (records .entry))) (suc below) number) (now (out .exit)) r
+        ⌜ Penned room (now (out .entry)) q (linesOf (menusIn application (now (records .entry))) levels (suc below) number) (now (out .exit)) r
         × (r ≤ room + beyond) ⌝ }
 {
     if room < q {
@@ -72,7 +124,7 @@ fn walk_menu(
     if !finding::find_menu(application, number, records, &mut form) {
         return lines::put_line(b"missing=", number, out, q);
     }
-    let level = LEVELS - below;
+    let level = levels - below;
     let mut left = forms::byte_at(&form, 8);
     let mut i = lines::events_place(&form);
     let mut p = lines::put_head(&form, level, number, out, q);
@@ -80,7 +132,7 @@ fn walk_menu(
         if room < p {
             return p;
         }
-        p = walk_event(application, &form, i, below, records, room, out, p);
+        p = walk_event(application, &form, i, levels, below, records, room, out, p);
         i = lines::next_event(&form, i);
         left -= 1;
     }
@@ -92,6 +144,7 @@ fn walk_event(
     application: u8,
     form: &[u8],
     i: usize,
+    levels: usize,
     below: usize,
     records: &[u8],
     room: usize,
@@ -101,11 +154,11 @@ fn walk_event(
     requires { ⌜ (below ≤ levels) × (i ≤ placeMost) × (room < roomMost) × (q ≤ room) ⌝ }
     ensures { λ r.
         ⌜ Penned room (now (out .entry)) q
-        (eventLinesAt (linesOf (menusIn application (now (records .entry))) below) (levels - below) (drop i (now (form .entry))))
+        (eventLinesAt (linesOf (menusIn application (now (records .entry))) levels below) (levels - below) (drop i (now (form .entry))))
         (now (out .exit)) r
         × (r ≤ room + beyond) ⌝ }
 {
-    let p = lines::put_event(form, i, LEVELS - below, out, q);
+    let p = lines::put_event(form, i, levels - below, out, q);
     if forms::byte_at(form, i + 2) != TO_MENU {
         return p;
     }
@@ -113,5 +166,5 @@ fn walk_event(
     if below == 0 {
         return lines::put_line(b"deeper=", link, out, p);
     }
-    walk_menu(application, link, below - 1, records, room, out, p)
+    walk_menu(application, link, levels, below - 1, records, room, out, p)
 }

@@ -9,7 +9,7 @@ use native.Mathlib.Omega.{arith}
 use denote.Ref.{now}
 use lib.ListN.{length, drop}
 use Rattle.printing.proofs.Printed.{put-as, put-none}
-use Rattle.menu_listing.specs.Listing.{levels, linesOf}
+use Rattle.menu_listing.specs.Listing.{linesOf}
 use Rattle.menu_listing.specs.Internal.{menusIn, eventsLinesAt, beyond, eventMost, placeMost}
 use Rattle.menu_listing.proofs.Pens.{Rest, penned, stopped, penned-as, pen-on}
 use Rattle.menu_listing.proofs.Walks.{not-followed, followed, at-bottom, level-down, not-held, held-lines, events-on, events-end}
@@ -33,10 +33,10 @@ use Rattle.menu_listing.proofs.+walk_event+walk_menu.{statement}
 use Rattle.menu_listing.proofs.+walk_event+walk_menu.Tie.{close}
 
 abbrev μ-walk-event : Measures 3 walk-event-kinds.ps ℕ
-μ-walk-event κs a = 2 * a .1 .1 .1 .0
+μ-walk-event κs a = 2 * a .1 .1 .1 .1 .0
 
 abbrev μ-walk-menu : Measures 2 walk-menu-kinds.ps ℕ
-μ-walk-menu κs a = 2 * a .1 .1 .0 + 1
+μ-walk-menu κs a = 2 * a .1 .1 .1 .0 + 1
 
 abbrev walk-event-at : ℕ → In 3 walk-event-kinds.ps
 walk-event-at t =
@@ -105,8 +105,8 @@ walk-event-returns : (t : ℕ) → walk-event-lts.Need-returns (event-claims t) 
 walk-event-returns t c =
     let p = c .before .before .before .before .put-event .ensures in
     let s = c .before .before .before .before .before .before .before .before .before .args in
-    let follow = linesOf (menusIn (s .application) (now (s .records))) (s .below) in
-    let e = not-followed follow (levels - s .below) (s .i) _ (now (s .form)) (c .before .byte-at .ensures .0) (c .if1 .taken) in
+    let follow = linesOf (menusIn (s .application) (now (s .records))) (s .levels) (s .below) in
+    let e = not-followed follow (s .levels - s .below) (s .i) _ (now (s .form)) (c .before .byte-at .ensures .0) (c .if1 .taken) in
     (penned (put-as e (p .0)), omega (arith, p .1, c .before .before .before .before .before .before .before .before .before .pre .1 .3))
 
 walk-event-link-at-requires : (t : ℕ) → walk-event-lts.Need-link-at-requires (event-claims t) (walk-event-at t) walk-event.Post
@@ -130,9 +130,9 @@ walk-event-returns-2 t c =
     let s = b .before .before .before .before .before .before .before .before .before .args in
     let menus = menusIn (s .application) (now (s .records)) in
     let e =
-    followed (linesOf menus (s .below)) (levels - s .below) (s .i) _ (now (s .form)) (b .before .byte-at .ensures .0) (l .result) (b .if1 .left)
+    followed (linesOf menus (s .levels) (s .below)) (s .levels - s .below) (s .i) _ (now (s .form)) (b .before .byte-at .ensures .0) (l .result) (b .if1 .left)
     (l .ensures) in
-    let d = at-bottom menus (s .below) (l .result) (c .before .before .before .before .before .if2 .taken) in
+    let d = at-bottom menus (s .levels) (s .below) (l .result) (c .before .before .before .before .before .if2 .taken) in
     (penned-as e (pen-on (penned (p .0)) (penned (put-as d (q .0)))), omega (arith, p .1, q .1, b .before .before .before .before .before .before .before .before .before .pre .1 .3))
 
 walk-event-sub-walk-menu : (t : ℕ) → walk-event-lts.Need-sub-walk-menu (event-claims t) (walk-event-at t) walk-event.Post
@@ -156,19 +156,19 @@ walk-event-returns-3 t c =
     let s = b .before .before .before .before .before .before .before .before .before .args in
     let menus = menusIn (s .application) (now (s .records)) in
     let e =
-    followed (linesOf menus (s .below)) (levels - s .below) (s .i) _ (now (s .form)) (b .before .byte-at .ensures .0) (l .result) (b .if1 .left)
+    followed (linesOf menus (s .levels) (s .below)) (s .levels - s .below) (s .i) _ (now (s .form)) (b .before .byte-at .ensures .0) (l .result) (b .if1 .left)
     (l .ensures) in
-    let d = level-down menus (s .below) (l .result) (c .before .before .before .before .if2 .left) in
+    let d = level-down menus (s .levels) (s .below) (l .result) (c .before .before .before .before .if2 .left) in
     (penned-as e (pen-on (penned (p .0)) (penned-as d (q .0))), q .1)
 
 abbrev walk-menu-Inv-loop : walk-menu-lts.InvT-loop
-walk-menu-Inv-loop application number below records room out₀ q form level left₀ i₀ p₀ out left i p =
+walk-menu-Inv-loop application number levels below records room out₀ q form level left₀ i₀ p₀ out left i p =
     (length out ≡ length out₀) × (i + eventMost * left ≤ placeMost) × (p ≤ room + beyond)
-    × Rest room out p (eventsLinesAt (linesOf (menusIn application records) below) (levels - below) left (drop i form)) out₀ p₀
-    (eventsLinesAt (linesOf (menusIn application records) below) (levels - below) left₀ (drop i₀ form))
+    × Rest room out p (eventsLinesAt (linesOf (menusIn application records) levels below) (levels - below) left (drop i form)) out₀ p₀
+    (eventsLinesAt (linesOf (menusIn application records) levels below) (levels - below) left₀ (drop i₀ form))
 
 abbrev walk-menu-μ-loop : walk-menu-lts.MeasureT-loop
-walk-menu-μ-loop application number below records room out₀ q form level left₀ i₀ p₀ out left i p = left
+walk-menu-μ-loop application number levels below records room out₀ q form level left₀ i₀ p₀ out left i p = left
 
 walk-menu-returns : (t : ℕ) → walk-menu-lts.Need-returns (menu-claims t) (walk-menu-at t) walk-menu.Post walk-menu-Inv-loop walk-menu-μ-loop
 walk-menu-returns t c = (stopped _ _ (c .if1 .taken), c .before .before .before .pre .1 .2)
@@ -194,7 +194,7 @@ walk-menu-returns-2 t c =
     let b = c .before .before .before .before .before in
     let s = b .before .before .before .before .before .before .before .args in
     let menus = menusIn (s .application) (now (s .records)) in
-    let e = not-held menus (s .below) (s .number) _ (b .before .before .find-menu .ensures) (not-true _ (b .if2 .taken)) in
+    let e = not-held menus (s .levels) (s .below) (s .number) _ (b .before .before .find-menu .ensures) (not-true _ (b .if2 .taken)) in
     (penned (put-as e (p .0)), omega (arith, p .1, b .before .before .before .before .if1 .left))
 
 walk-menu-sub-level : (t : ℕ) → walk-menu-lts.Need-sub-level (menu-claims t) (walk-menu-at t) walk-menu.Post walk-menu-Inv-loop walk-menu-μ-loop
@@ -238,7 +238,7 @@ walk-menu-returns-3 t c =
     let s = h .before .before .before .before .before .before .before .args in
     let menus = menusIn (s .application) (now (s .records)) in
     let e =
-    held-lines menus (s .below) (s .number) _ (h .before .before .find-menu .ensures) (n .result) (i .result) (n .ensures .0) (i .ensures .0)
+    held-lines menus (s .levels) (s .below) (s .number) _ (h .before .before .find-menu .ensures) (n .result) (i .result) (n .ensures .0) (i .ensures .0)
     (not-false _ (h .if2 .left)) in
     (penned-as e (pen-on (penned (c .before .before .before .before .before .put-head .ensures .0)) (l .inv .3 _ _ (stopped _ _ (c .if3 .taken)))), l .inv .2)
 
@@ -270,9 +270,9 @@ walk-menu-loop-again t c =
     let b = c .before .before .before .before .before .before .before .before .before in
     let l = b .loop in
     let s = b .before .before .before .before .before .before .before .before .before .before .before .before .before .before .before .before .before .args in
-    let follow = linesOf (menusIn (s .application) (now (s .records))) (s .below) in
-    let e = events-on follow (levels - s .below) (l .left) (l .i) _ _ (search needs) (n .0) in (
-      q .kept .1 .1 .1 .1 .1 .1 .0 ∙ l .inv .0,
+    let follow = linesOf (menusIn (s .application) (now (s .records))) (s .levels) (s .below) in
+    let e = events-on follow (s .levels - s .below) (l .left) (l .i) _ _ (search needs) (n .0) in (
+      q .kept .1 .1 .1 .1 .1 .1 .1 .0 ∙ l .inv .0,
       omega (arith, l .inv .1, n .1, c .before .before .before .before .before .before .before .before .loop-test .taken),
       q .ensures .1,
       λ (out′ : List ℕ) (q′ : ℕ) w. l .inv .3 out′ q′ (penned-as e (pen-on (q .ensures .0) w)),
@@ -290,9 +290,9 @@ walk-menu-returns-4 t c =
     let s = h .before .before .before .before .before .before .before .args in
     let menus = menusIn (s .application) (now (s .records)) in
     let e =
-    held-lines menus (s .below) (s .number) _ (h .before .before .find-menu .ensures) (n .result) (i .result) (n .ensures .0) (i .ensures .0)
+    held-lines menus (s .levels) (s .below) (s .number) _ (h .before .before .find-menu .ensures) (n .result) (i .result) (n .ensures .0) (i .ensures .0)
     (not-false _ (h .if2 .left)) in
-    let over = events-end (linesOf menus (s .below)) (levels - s .below) (l .left) (l .i) _ (search needs) in
+    let over = events-end (linesOf menus (s .levels) (s .below)) (s .levels - s .below) (l .left) (l .i) _ (search needs) in
     let rest = l .inv .3 _ _ (penned (put-as over (put-none _ _))) in
     (penned-as e (pen-on (penned (c .before .before .before .before .put-head .ensures .0)) rest), l .inv .2)
 
