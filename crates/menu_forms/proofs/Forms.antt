@@ -168,23 +168,27 @@ fits-parts m h =
       fits-events = e₄ .1;
     }
 
--- the form of a menu that can be sent stands for it
-pub form-back : (m : Menu) → fits m ≡ true → menuIn (form m) ≡ m
+-- the form of a menu that can be sent stands for it, whatever follows
+pub form-back-on : (m : Menu) → fits m ≡ true → (rest : List ℕ) → menuIn (form m ++ rest) ≡ m
 unfolding menuIn form
-form-back m h =
+form-back-on m h rest =
     let p = fits-parts m h in
     let xs = each descriptorForm (m .descriptors) in
     let ys = textForm (m .header) in
     let zs = each eventForm (m .events) in
+    let tail = ys ++ (zs ++ rest) in
     let b = two-bytes (m .block) (p .fits-block) in
-    let d = row-back descriptorForm descriptorIn descriptorFields descriptor-back (m .descriptors) (p .fits-descriptors) (ys ++ zs) in
-    let f : List ℕ = openingOf m ++ (xs ++ (ys ++ zs)) in
-    let behind : drop (9 + length xs) f ≡ ys ++ zs = sym (drop-drop (length xs) 9 f) ∙ drop-append-seam xs (ys ++ zs) in
-    let t : textIn (ys ++ zs) ≡ m .header = text-back (m .header) (p .fits-header) zs in
-    let e : inRow eventForm eventIn (length (m .events)) (drop (length ys) (ys ++ zs)) ≡ m .events =
-    rw (drop-append-seam ys zs)
-    (ap (inRow eventForm eventIn (length (m .events))) (sym (append-nil zs)) ∙ row-back eventForm eventIn eventFields event-back (m .events) (p .fits-events) []) in
-    rw (d, behind, t, e, b)
+    let on : (xs ++ (ys ++ zs)) ++ rest ≡ xs ++ tail = append-assoc xs (ys ++ zs) rest ∙ ap (λ (x : List ℕ). xs ++ x) (append-assoc ys zs rest) in
+    let d = row-back descriptorForm descriptorIn descriptorFields descriptor-back (m .descriptors) (p .fits-descriptors) tail in
+    let f : List ℕ = openingOf m ++ (xs ++ tail) in
+    let behind : drop (9 + length xs) f ≡ tail = sym (drop-drop (length xs) 9 f) ∙ drop-append-seam xs tail in
+    let t : textIn tail ≡ m .header = text-back (m .header) (p .fits-header) (zs ++ rest) in
+    let e : inRow eventForm eventIn (length (m .events)) (drop (length ys) tail) ≡ m .events =
+    rw (drop-append-seam ys (zs ++ rest)) (row-back eventForm eventIn eventFields event-back (m .events) (p .fits-events) rest) in
+    rw (on, d, behind, t, e, b)
+
+pub form-back : (m : Menu) → fits m ≡ true → menuIn (form m) ≡ m
+form-back m h = ap menuIn (sym (append-nil (form m))) ∙ form-back-on m h []
 
 -- and each rule of writing but the application's holds of it
 pub form-taken : (m : Menu) → fits m ≡ true → Every (formRules (form m))
