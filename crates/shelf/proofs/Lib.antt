@@ -1,2 +1,4 @@
 pub mod Ways
 pub mod Puts
+pub mod Stored
+pub mod Kept

@@ -1,15 +1,17 @@
 -- The way back along a row: what each entry makes of it, and what it depends on. Assumes nothing.
-use mathlib.Core.Path.{_≡_, _∙_, refl, sym}
+use mathlib.Core.Path.{_≡_, _∙_, refl, sym, ap}
 use mathlib.Core.Bool.{Bool, true, false}
 use mathlib.Core.List.{List}
 use Prim.Native.Nat.{ℕ, zero, suc, _+_, _-_, _≤_, _<_}
 use native.Mathlib.Omega.{arith}
 use borrow.Author.Tests.{ltb-true, ltb-false, leb-true, eqb-true, eqb-false, lt-ltb, le-ltb, le-leb, eq-eqb, ne-eqb}
 use lib.Dec.{eqb, leb, ltb}
-use lib.ListN.{length}
+use lib.ListN.{length, getD}
+use lib.Seq.{getD-drop}
+use Rattle.laws.specs.Pick.{both}
 use Rattle.laws.proofs.Countdown.{at-more}
 use Rattle.laws.proofs.Tests.{both-true, both-holds}
-use Rattle.shelf.specs.Shelf.{standing, before, formPlace, numberAt, wayBack}
+use Rattle.shelf.specs.Shelf.{three, numberIn, standing, before, formPlace, numberAt, wayBack}
 
 -- ---- an entry within the shelf
 
@@ -93,3 +95,49 @@ module _ (number p : ℕ) (s : List ℕ) (e : standing p s ≡ true) where
       let k = stood p s e .0 in
       way-enough (before p s) (p - 1) number (before p s) s (omega arith) (omega arith)
       ∙ sym (one-more ∙ way-on (p - 1) number p s e f h)
+
+-- ---- two shelves of one length with the same first bytes: a way that begins among them is the same in both
+
+module _ (s t : List ℕ) (used : ℕ) (long : length t ≡ length s) (same : (i : ℕ) → i < used → getD t i 0 ≡ getD s i 0) where
+  same-before : (p : ℕ) → 1 ≤ p → p + 6 ≤ used → before p t ≡ before p s
+  unfolding three
+  same-before p h k = rw (same (p - 1) (omega arith), same (p - 1 + 1) (omega arith), same (p - 1 + 2) (omega arith))
+
+  same-number : (p : ℕ) → p + 6 ≤ used → numberAt p t ≡ numberAt p s
+  unfolding numberIn
+  same-number p k = simp getD-drop (rw (same (p + 2 + 2) (omega arith), same (p + 2 + 3) (omega arith)))
+
+  pub way-same : (n number p : ℕ) → p ≤ used - 6 → wayBack n number p t ≡ wayBack n number p s
+  unfolding wayBack
+  way-same zero number p h = refl
+  way-same (suc n) number p h = go (standing p s) refl (eqb (numberAt p s) number) refl (ltb (before p s) p) refl (way-same n number)
+    where
+      stand : {b : Bool} → standing p s ≡ b → standing p t ≡ b
+      stand e = ap (λ (l : ℕ). both (leb 1 p) (leb (p + 6) l)) long ∙ e
+
+      go :
+          (a : Bool) → standing p s ≡ a → (b : Bool) → eqb (numberAt p s) number ≡ b → (c : Bool) → ltb (before p s) p ≡ c
+          → ((q : ℕ) → q ≤ used - 6 → wayBack n number q t ≡ wayBack n number q s)
+          → wayBack (suc n) number p t ≡ wayBack (suc n) number p s
+      go false e b f c g ih = way-none (suc n) number p t (stand e) ∙ sym (way-none (suc n) number p s e)
+      go true e true f c g ih =
+          let w = stood p s e in
+          let i = eqb-true (numberAt p s) number f in
+          way-here n number p t (stand e) (same-number p (omega arith) ∙ i) ∙ sym (way-here n number p s e i)
+      go true e false f false g ih =
+          let w = stood p s e in
+          let d = eqb-false (numberAt p s) number f in
+          let l = ltb-false (before p s) p g in
+          let m = same-number p (omega arith) in
+          way-stops n number p t (stand e) (λ i. d (sym m ∙ i)) (omega (arith, same-before p (w .0) (omega arith)))
+          ∙ sym (way-stops n number p s e d l)
+      go true e false f true g ih =
+          let w = stood p s e in
+          let d = eqb-false (numberAt p s) number f in
+          let l = ltb-true (before p s) p g in
+          let m = same-number p (omega arith) in
+          let b = same-before p (w .0) (omega arith) in
+          way-on n number p t (stand e) (λ i. d (sym m ∙ i)) (omega (arith, b))
+          ∙ ap (λ (q : ℕ). wayBack n number q t) b
+          ∙ ih (before p s) (omega arith)
+          ∙ sym (way-on n number p s e d l)

@@ -2,7 +2,7 @@
 -- its place, counted from 1, and 0 names none.
 use mathlib.Core.Bool.{Bool, true, false}
 use mathlib.Core.List.{List, [], _∷_}
-use Prim.Native.Nat.{ℕ, zero, suc, _+_, _-_, _*_, _/_, _%_}
+use Prim.Native.Nat.{ℕ, zero, suc, _+_, _-_, _*_, _/_, _%_, _≤_, _<_}
 use lib.Dec.{eqb, leb, ltb}
 use lib.ListN.{length, getD, drop}
 use Rattle.laws.specs.Pick.{both}
@@ -58,3 +58,7 @@ wayBack (suc n) number p shelf =
 -- the place in the shelf of the form with a number, at least 3; 0 where there is none. From the entry named p the way has at most p
 unfoldable pub placeOf : ℕ → List ℕ → List ℕ → ℕ
 placeOf number heads shelf = wayBack (headOf (rowOf number) heads) number (headOf (rowOf number) heads) shelf
+
+-- every entry that the heads name stands whole among the first bytes, those in use; in fewer than seven there is none, and 0 is named
+abbrev pub Named : List ℕ → ℕ → Type 0
+Named heads used = (row : ℕ) → row < 256 → headOf row heads ≤ used - 6
