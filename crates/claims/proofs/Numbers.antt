@@ -31,6 +31,7 @@ use Rattle.table.specs.Lengths.{lengthRules}
 use Rattle.menu_forms.specs.Writing.{formRules as Menu·formRules, writeRules as Menu·writeRules}
 use Rattle.menu.specs.Reading.{frontRules as Menu·frontRules, wholeRules as Menu·wholeRules, lengthRules as Menu·lengthRules, readRules as Menu·readRules}
 use Rattle.menu_listing.specs.Listing.{listRules, levelsRules}
+use Rattle.menu_listing.specs.Kept.{keptRules}
 use Rattle.shelf.specs.Putting.{putRules}
 use Rattle.sheets.specs.Calls.{rewriteRules, joinRules, addRules}
 use Rattle.claims.specs.Calls.{Feeds, feed, FeedsAll, feed-all}
@@ -101,6 +102,10 @@ lists-menus application records = refl
 pub lists-levels : (application levels : ℕ) (records : List ℕ) → allRefusing (levelsRules application levels records) ≡ true
 unfolding allRefusing
 lists-levels application levels records = refl
+
+pub lists-kept : (levels : ℕ) → allRefusing (keptRules levels) ≡ true
+unfolding allRefusing
+lists-kept levels = refl
 
 pub puts-menu : (form : List ℕ) (used : ℕ) (heads shelf : List ℕ) → allRefusing (putRules form used heads shelf) ≡ true
 unfolding allRefusing putRules

@@ -101,6 +101,7 @@ use Rattle.menu.proofs.read_menu.Reads as menu·read-menu
 use Rattle.menu_writer.proofs.write_menu.Reads as menu-writer·write-menu
 use Rattle.menu_listing.proofs.list_levels.Reads as menu-listing·list-levels
 use Rattle.menu_listing.proofs.list_menu.Reads as menu-listing·list-menu
+use Rattle.menu_listing.proofs.list_kept.Reads as menu-listing·list-kept
 use Rattle.shelf.proofs.find.Reads as shelf·find
 use Rattle.shelf.proofs.put.Reads as shelf·put
 use Rattle.sheets.proofs.rewrite.Reads as sheets·rewrite
@@ -504,6 +505,11 @@ pub menu-listing·list-menu-settled :
     (κs : _) (a : _) (x y : _) (s t : _) → menu-listing·list-menu.Post κs a x s → menu-listing·list-menu.Post κs a y t
     → (x ≡ y) × (now (s .1 .1 .1 .0) ≡ now (t .1 .1 .1 .0))
 menu-listing·list-menu-settled κs a x y s t p q = (same (p .0) (q .0), same (p .1) (q .1))
+
+pub menu-listing·list-kept-settled :
+    (κs : _) (a : _) (x y : _) (s t : _) → menu-listing·list-kept.Post κs a x s → menu-listing·list-kept.Post κs a y t
+    → (x ≡ y) × (now (s .1 .1 .1 .1 .0) ≡ now (t .1 .1 .1 .1 .0))
+menu-listing·list-kept-settled κs a x y s t p q = (same (p .0) (q .0), same (p .1) (q .1))
 
 pub shelf·find-settled : (κs : _) (a : _) (x y : _) (s t : _) → shelf·find.Post κs a x s → shelf·find.Post κs a y t → x ≡ y
 shelf·find-settled κs a x y s t p q = same (p .0) (q .0)

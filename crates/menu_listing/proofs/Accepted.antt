@@ -1,5 +1,6 @@
 -- What is accepted as a menu: its form is no longer than its block, and its number stands where the search looks for it. Assumes nothing.
 use mathlib.Core.Path.{_≡_, refl}
+use mathlib.Core.Bool.{true}
 use mathlib.Core.List.{List, [], _∷_, _++_, map}
 use Prim.Native.Nat.{ℕ, _+_, _*_, _≤_}
 use native.Mathlib.Omega.{arith}
@@ -117,6 +118,13 @@ module _ (m : Menu) where
       let events = row-most eventForm eventFields codesOf event-most (m .events) in
       omega (arith, control-wide, behind-wide, form-wide, strings-long, descriptors, text-most (m .header), events)
 
+  pub form-fits : fits m ≡ true → length (form m) ≤ 2047
+  unfolding fits
+  form-fits h =
+      let p = both-second (fitting (fields 0 0 zeros m)) _ h in
+      let q = both-second (ltb (m .headerSize) 3) _ p in
+      omega (arith, form-most, ltb-true (size m) 2048 (both-second (sevens (strings m)) _ q))
+
   pub control-least : 7 ≤ control m
   control-least = omega (arith, control-wide)
 
@@ -138,12 +146,11 @@ module _ (application : ℕ) (rec : List ℕ) (b : Bytes rec) (e : Every (readRu
   unfolding readMenu
   said = accepted-says application rec m (mendedIn rec) b (passes refused (accepted m (mendedIn rec)) e) .0
 
+  pub accepted-fits : fits m ≡ true
+  accepted-fits = said .sendable
+
   pub accepted-form : length (form m) ≤ 2047
-  unfolding fits
-  accepted-form =
-      let p = both-second (fitting (fields 0 0 zeros m)) _ (said .sendable) in
-      let q = both-second (ltb (m .headerSize) 3) _ p in
-      omega (arith, form-most m, ltb-true (size m) 2048 (both-second (sevens (strings m)) _ q))
+  accepted-form = form-fits m accepted-fits
 
   pub accepted-number : m .block ≡ field 28 16 (compound raw)
   unfolding menuOf

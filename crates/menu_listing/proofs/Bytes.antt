@@ -3,8 +3,10 @@ use mathlib.Core.Path.{_≡_, _∙_, sym, ap}
 use mathlib.Core.List.{List, [], _∷_, _++_, map}
 use Prim.Native.Nat.{ℕ, _+_, _-_, _*_, _≤_, _<_}
 use native.Mathlib.Nat.{add-zero, add-assoc}
+use native.Mathlib.Omega.{arith}
 use lib.ListN.{getD, drop}
 use lib.Seq.{drop-drop, getD-drop}
+use Rattle.fields.specs.Fields.{whole}
 use Rattle.laws.proofs.Countdown.{at-none, at-more}
 use Rattle.menu_forms.specs.Menus.{infoBytes}
 use Rattle.menu_forms.specs.Form.{codesIn}
@@ -57,8 +59,10 @@ pub event-next :
     (i t s : ℕ) (f : List ℕ) → t ≡ i + textPlace (drop i f) → s ≡ stringLength (drop t f) → t + s ≡ i + eventLength (drop i f)
 event-next i t s f ht hs = rw (hs, ht, drop-drop (textPlace (drop i f)) i f) (add-assoc i _ _)
 
-pub link-at : (i a b : ℕ) (f : List ℕ) → a ≡ getD f i 0 → b ≡ getD f (i + 1) 0 → a + 256 * b ≡ linkAt (drop i f)
-link-at i a b f ha hb = rw (getD-drop i f 0 0, add-zero i, getD-drop i f 1 0, ha, hb)
+pub link-at :
+    (i a b : ℕ) (f : List ℕ) → a ≡ getD f i 0 → b ≡ getD f (i + 1) 0 → a < 256 → b < 256 → a + 256 * b ≡ linkAt (drop i f)
+unfolding whole
+link-at i a b f ha hb la lb = rw (getD-drop i f 0 0, add-zero i, getD-drop i f 1 0, ← ha, ← hb) (omega arith)
 
 pub events-at : (h s : ℕ) (f : List ℕ) → h ≡ headerPlace f → s ≡ stringLength (drop h f) → h + s ≡ eventsPlace f
 events-at h s f hh hs = rw (hs, hh)

@@ -5,5 +5,6 @@ pub mod Pens
 pub mod Walks
 pub mod Accepted
 pub mod Records
+pub mod Shelves
 pub mod Rules
 pub mod Cases

@@ -26,11 +26,13 @@ use Rattle.frames.specs.Framing.{frameRules}
 use Rattle.frames.specs.Values.{counted}
 use Rattle.frames.specs.declared.Read.the-variants.{Taken, Refused}
 use Rattle.menu_forms.specs.Menus.{Menu}
-use Rattle.menu_forms.specs.Form.{form}
+use Rattle.menu_forms.specs.Form.{form, menuIn}
+use Rattle.menu_forms.proofs.Forms.{form-back-on}
 use Rattle.menu.specs.Reading.{readRules, bodyRules, menuRead}
 use Rattle.menu_listing.specs.Listing.{holding, isMenu, menusOf}
-use Rattle.menu_listing.specs.Internal.{Held, none, first, Judged, formMost}
-use Rattle.menu_listing.proofs.Accepted.{accepted-form, accepted-number}
+use Rattle.menu_listing.specs.Internal.{Held, none, first, Judged}
+use Rattle.menu_listing.specs.Kept.{formMost}
+use Rattle.menu_listing.proofs.Accepted.{accepted-fits, accepted-form, accepted-number}
 
 -- ---- whether these are whole records
 
@@ -97,10 +99,9 @@ module _ (application number : ℕ) {l : List ℕ} {p head raw next : ℕ} (s : 
   pub found-first : {ms : List Menu} → r ≡ true → menusOf application number (blocks from) ≡ ms → Held ms f true
   found-first {ms} e h =
       let m = menuRead (blockOf from .raw) in
-      let w = j .front e in
-      let q : f ≡ form m ++ w .0 = w .1 ∙ ap (λ (bytes : List ℕ). form (menuRead bytes) ++ w .0) its-raw in
+      let q : menuIn f ≡ m = j .stands e ∙ ap menuRead its-raw in
       let same : m ∷ menusOf application number (blocks (drop next l)) ≡ ms = sym (here ∙ (rw e)) ∙ h in
-      subst (λ (x : List Menu). Held x f true) same (first (w .0) q)
+      subst (λ (x : List Menu). Held x f true) same (first q)
 
 -- none is left
 pub none-ended : (application number : ℕ) (l : List ℕ) (p : ℕ) → p ≡ length l → menusOf application number (blocks (drop p l)) ≡ []
@@ -127,7 +128,7 @@ module _ (application number : ℕ) (rec f : List ℕ) (b : Bytes rec) where
   refuses-it q =
       record {
         says = rw (refuses {A = Bool} (λ number offset. false) true q);
-        front = λ e. let z : _≡_ {A = ℕ} 0 1 = cc in absurd (omega arith);
+        stands = λ e. let z : _≡_ {A = ℕ} 0 1 = cc in absurd (omega arith);
       }
 
   -- another number
@@ -140,7 +141,7 @@ module _ (application number : ℕ) (rec f : List ℕ) (b : Bytes rec) where
           let ne = ne-eqb (menuRead (drop headLength rec) .block) number (λ (x : menuRead (drop headLength rec) .block ≡ number). n (sym (accepted-number application rec b e) ∙ x)) in
           record {
             says = rw ne (sym (both-false (holding rules)));
-            front = λ x. let z : _≡_ {A = ℕ} 0 1 = cc in absurd (omega arith);
+            stands = λ x. let z : _≡_ {A = ℕ} 0 1 = cc in absurd (omega arith);
           }
 
   module _ (old : List ℕ) (mended : ℕ) where
@@ -158,7 +159,9 @@ module _ (application number : ℕ) (rec f : List ℕ) (b : Bytes rec) where
             let there : menuRead (drop headLength rec) .block ≡ number = accepted-number application rec b (all .0) ∙ k in
             record {
               says = rw (passes {A = Bool} (λ number offset. false) true (all .0)) (sym (eq-eqb _ number there));
-              front = λ x. (drop (length bytes) old, e ∙ lent-accepted rules bytes old (all .0) (all .1) .1);
+              stands = λ x.
+                  ap menuIn (e ∙ lent-accepted rules bytes old (all .0) (all .1) .1)
+                  ∙ form-back-on (menuRead (drop headLength rec)) (accepted-fits application rec b (all .0)) (drop (length bytes) old);
             }
 
     -- refused, though there is room for any form

@@ -12,6 +12,7 @@ use Rattle.answer.specs.Writing.{answered, left}
 use Rattle.answer.specs.declared.Answer.the-variants.{Done}
 use Rattle.blocks.specs.Block.{whole}
 use Rattle.menu_listing.specs.Listing.{areLevels, levelsRules}
+use Rattle.menu_listing.specs.Kept.{keptRules}
 
 module _ (application levels : ℕ) (records : List ℕ) where
   pub listed-16 : 32 ≤ application → judged refused (levelsRules application levels records) (Done 0) ≡ refused 16 0
@@ -32,6 +33,14 @@ module _ (application levels : ℕ) (records : List ℕ) where
       → (answered [] text old ≡ answered (levelsRules application levels records) text old)
       × (left [] text old ≡ left (levelsRules application levels records) text old)
   listed h n w text old = (rw (lt-ltb application 32 h, n, w), rw (lt-ltb application 32 h, n, w))
+
+module _ (levels : ℕ) (text old : List ℕ) where
+  pub kept-16 : areLevels levels ≡ false → (refused 16 0 ≡ answered (keptRules levels) text old) × (old ≡ left (keptRules levels) text old)
+  kept-16 n = (rw n, rw n)
+
+  pub kept :
+      areLevels levels ≡ true → (answered [] text old ≡ answered (keptRules levels) text old) × (left [] text old ≡ left (keptRules levels) text old)
+  kept n = (rw n, rw n)
 
 -- one level at least
 pub some-level : (levels : ℕ) → areLevels levels ≡ true → 1 ≤ levels

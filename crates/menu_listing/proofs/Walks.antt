@@ -1,7 +1,7 @@
 -- The two walks, step by step. Assumes nothing.
 use mathlib.Core.Path.{_≡_, _∙_, refl, sym, ap}
 use mathlib.Core.Bool.{Bool, true, false}
-use mathlib.Core.List.{List, [], _++_, append-nil}
+use mathlib.Core.List.{List, [], _∷_, _++_, append-nil}
 use Prim.Native.Nat.{ℕ, suc, _+_, _-_, _≤_, _<_}
 use native.Mathlib.Omega.{arith}
 use borrow.Author.Tests.{eq-eqb, ne-eqb}
@@ -46,7 +46,7 @@ module _ (menus : ℕ → List Menu) (levels below number : ℕ) (f : List ℕ) 
       → numberLine missingName number ≡ menuLines (linesOf menus levels below) (levels - below) number ms
   unfolding menuLines
   by-held none e = refl
-  by-held (first rest h) e = let z : _≡_ {A = ℕ} 0 1 = cc in absurd (omega arith)
+  by-held (first h) e = let z : _≡_ {A = ℕ} 0 1 = cc in absurd (omega arith)
 
   pub not-held : r ≡ false → numberLine missingName number ≡ linesOf menus levels (suc below) number
   unfolding linesOf
@@ -58,7 +58,9 @@ module _ (menus : ℕ → List Menu) (levels below number : ℕ) (f : List ℕ) 
       ++ eventsLinesAt (linesOf menus levels below) (levels - below) (getD f 8 0) (drop (eventsPlace f) f)
       ≡ menuLines (linesOf menus levels below) (levels - below) number ms
   found-by none e = let z : _≡_ {A = ℕ} 0 1 = cc in absurd (omega arith)
-  found-by (first {m} {ms} rest h) e = rw h (menu-lines m rest (linesOf menus levels below) (levels - below) number ms)
+  found-by (first {m} {ms} h) e =
+      menu-lines f (linesOf menus levels below) (levels - below) number ms
+      ∙ ap (λ (x : Menu). menuLines (linesOf menus levels below) (levels - below) number (x ∷ ms)) h
 
   pub held-lines :
       (n i : ℕ) → n ≡ getD f 8 0 → i ≡ eventsPlace f → r ≡ true

@@ -7,14 +7,18 @@ use Prim.Native.Nat.{ℕ, zero, suc, _+_, _*_, _≤_, _<_}
 use lib.Dec.{eqb}
 use lib.ListN.{length, getD, drop}
 use Rattle.laws.specs.Pick.{both}
+use Rattle.fields.specs.Fields.{whole}
 use Rattle.blocks.specs.Block.{headLength, blocks}
 use Rattle.menu.specs.Reading.{readRules, menuRead}
 use Rattle.menu_forms.specs.Menus.{Menu, infoBytes}
-use Rattle.menu_forms.specs.Form.{form, codesIn, opening}
+use Rattle.menu_forms.specs.Form.{codesIn, opening, menuIn}
 use Rattle.printing.specs.Lines.{numberLine}
 use Rattle.printing.specs.Put.{Put}
 use Rattle.menu_listing.specs.Lines.{levelName, menuName, headerName, eventName, toMenu, textLine, linkLine, behind}
 use Rattle.menu_listing.specs.Listing.{holding, menusOf}
+use Rattle.menu_listing.specs.Kept.{keptMenus}
+use Rattle.menu_listing.specs.declared.Source.{Source}
+use Rattle.menu_listing.specs.declared.Source.the-variants.{Records, Shelf}
 
 -- ---- a form
 
@@ -41,7 +45,7 @@ abbrev pub eventLength : List ℕ → ℕ
 eventLength g = textPlace g + stringLength (drop (textPlace g) g)
 
 abbrev pub linkAt : List ℕ → ℕ
-linkAt g = getD g 0 0 + 256 * getD g 1 0
+linkAt g = whole 8 (getD g 0 0 ∷ getD g 1 0 ∷ [])
 
 -- its own lines, and those with what is behind them
 unfoldable pub ownLinesAt : ℕ → List ℕ → List ℕ
@@ -67,18 +71,15 @@ unfoldable pub headLinesAt : ℕ → ℕ → List ℕ → List ℕ
 headLinesAt level number f =
     numberLine levelName level ++ numberLine menuName number ++ textLine headerName (codesAt (drop (headerPlace f) f))
 
--- a form is never longer than its block
-abbrev pub formMost : ℕ
-formMost = 2047
-
--- where there is a menu, the form of the first is at the front of f
+-- where there is a menu, f stands for the first
 pub data Held : List Menu → List ℕ → Bool → Type 0 where
   none : {f : List ℕ} → Held [] f false
-  first : {m : Menu} {ms : List Menu} {f : List ℕ} (rest : List ℕ) → f ≡ form m ++ rest → Held (m ∷ ms) f true
+  first : {m : Menu} {ms : List Menu} {f : List ℕ} → menuIn f ≡ m → Held (m ∷ ms) f true
 
--- the menus of a list of records with a number
-abbrev pub menusIn : ℕ → List ℕ → ℕ → List Menu
-menusIn application records number = menusOf application number (blocks records)
+-- the menus with a number: in a list of records, or on a shelf
+abbrev pub menusFrom : Source → List ℕ → List ℕ → ℕ → List Menu
+menusFrom (Records application) list heads number = menusOf application number (blocks list)
+menusFrom Shelf list heads number = keptMenus heads list number
 
 -- ---- bounds
 
@@ -112,7 +113,7 @@ pub record Penned (room : ℕ) (out : List ℕ) (q : ℕ) (xs out′ : List ℕ)
 
 -- ---- one record
 
--- whether a record is accepted as a menu with this number; where it is, its form is at the front of f
+-- whether a record is accepted as a menu with this number; where it is, f stands for it
 pub record Judged (application number : ℕ) (rec f : List ℕ) (r : Bool) : Type 0 where
   pub says : r ≡ both (holding (readRules application rec)) (eqb (menuRead (drop headLength rec) .block) number)
-  pub front : r ≡ true → (rest : List ℕ) × (f ≡ form (menuRead (drop headLength rec)) ++ rest)
+  pub stands : r ≡ true → menuIn f ≡ menuRead (drop headLength rec)

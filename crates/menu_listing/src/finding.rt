@@ -1,11 +1,14 @@
-// A menu by its number in a list of records.
+// A menu by its number, in a list of records or on a shelf.
 ghost use mathlib.Core.Path.{_≡_};
 ghost use mathlib.Core.Bool.{true};
-ghost use Prim.Native.Nat.{_≤_};
-ghost use lib.ListN.{length};
-ghost use Rattle.blocks.specs.Block.{whole, headLength};
-ghost use Rattle.menu_forms.specs.Form.{form};
-ghost use Rattle.menu_listing.specs.Internal.{Held, Judged, menusIn, formMost};
+ghost use Prim.Native.Nat.{_<_, _≤_};
+ghost use lib.ListN.{length, replicate};
+ghost use Rattle.blocks.specs.Block.{whole, headLength, blocks};
+ghost use Rattle.menu_listing.specs.Listing.{menusOf};
+ghost use Rattle.menu_listing.specs.Kept.{keptMenus, formMost};
+ghost use Rattle.menu_listing.specs.Internal.{Held, Judged, menusFrom};
+use crate::FORM;
+use crate::Source;
 use blocks::Found;
 use blocks::HEAD;
 use frames::Read;
@@ -35,10 +38,40 @@ pub(crate) fn is_whole(records: &[u8]) -> bool
     }
 }
 
-// Looks for the first record that is accepted as a menu with this number. Where there is one, its form is then in `form`.
-pub(crate) fn find_menu(application: u8, number: usize, records: &[u8], form: &mut [u8]) -> bool
+// Looks for the menu with this number. Where there is one, `form`, which is zeros, then begins with its form. The heads are a shelf's.
+pub(crate) fn find_form(
+    source: Source,
+    number: usize,
+    list: &[u8],
+    heads: &[u8],
+    form: &mut [u8],
+) -> bool
+    requires { ⌜ (number < 65536) × (now form ≡ replicate formMost 0) ⌝ }
+    ensures { λ r. ⌜ Held (menusFrom source (now (list .entry)) (now (heads .entry)) number) (now (form .exit)) r ⌝ }
+{
+    match source {
+        Source::Records(application) => find_menu(application, number, list, form),
+        Source::Shelf => find_kept(number, heads, list, form),
+    }
+}
+
+// Looks for the form with this number on a shelf, and copies of it what is read.
+fn find_kept(number: usize, heads: &[u8], shelf: &[u8], form: &mut [u8]) -> bool
+    requires { ⌜ (number < 65536) × (now form ≡ replicate formMost 0) ⌝ }
+    ensures { λ r. ⌜ Held (keptMenus (now (heads .entry)) (now (shelf .entry)) number) (now (form .exit)) r ⌝ }
+{
+    let at = shelf::find(number as u16, heads, shelf);
+    if at == 0 {
+        return false;
+    }
+    moves::copy(shelf, at, FORM, form, 0);
+    true
+}
+
+// Looks for the first record that is accepted as a menu with this number. Where there is one, `form` then begins with its form.
+fn find_menu(application: u8, number: usize, records: &[u8], form: &mut [u8]) -> bool
     requires { ⌜ length (now form) ≡ formMost ⌝ }
-    ensures { λ r. ⌜ Held (menusIn application (now (records .entry)) number) (now (form .exit)) r ⌝ }
+    ensures { λ r. ⌜ Held (menusOf application number (blocks (now (records .entry)))) (now (form .exit)) r ⌝ }
 {
     let mut at = 0;
     loop {

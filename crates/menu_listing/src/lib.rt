@@ -1,4 +1,4 @@
-// Menus as text: one menu of a list of records, and those that its links lead to (SCOPE 23.8).
+// Menus as text: one menu of a list of records or of a shelf, and those that its links lead to (SCOPE 23.8, 23.9).
 mod finding;
 mod lines;
 
@@ -8,17 +8,24 @@ ghost use Prim.Native.Nat.{suc, _+_, _-_, _<_, _≤_};
 ghost use lib.ListN.{drop};
 ghost use Rattle.answer.specs.Writing.{answered, left};
 ghost use Rattle.menu_listing.specs.Listing.{areLevels, listing, fullListing, levelsRules, listRules, linesOf};
-ghost use Rattle.menu_listing.specs.Internal.{Penned, menusIn, eventLinesAt, roomMost, beyond, placeMost};
+ghost use Rattle.menu_listing.specs.Kept.{keptListing, keptRules};
+ghost use Rattle.menu_listing.specs.Internal.{Penned, menusFrom, eventLinesAt, roomMost, beyond, placeMost};
 use answer::Answer;
 
 // The greatest number of levels.
 const LEVELS: u8 = 8;
 
 // The longest form of a menu: no longer than its block.
-const FORM: usize = 2047;
+pub(crate) const FORM: usize = 2047;
 
 // The type of a link to another menu.
 const TO_MENU: usize = 1;
+
+// Where the menus are: in a list of records, of which an application's are read, or on a shelf.
+pub(crate) enum Source {
+    Records(u8),
+    Shelf,
+}
 
 // The menu with this number and those that its links lead to, down to so many levels, as text, to the front of `out`. The text is measured
 // before any of it is written, by a walk that ends as soon as it is past the room: a list of 176 bytes can stand for 93 GB. So the time is at
@@ -49,7 +56,14 @@ pub fn list_levels(
     if !finding::is_whole(records) {
         return answer::refuse(13, 0);
     }
-    print(application, number as usize, levels as usize, records, out)
+    print(
+        Source::Records(application),
+        number as usize,
+        levels as usize,
+        records,
+        records,
+        out,
+    )
 }
 
 // The same down to eight levels.
@@ -63,6 +77,29 @@ pub fn list_menu(application: u8, number: u16, records: &[u8], out: &mut [u8]) -
     list_levels(application, number, LEVELS, records, out)
 }
 
+// The same of the menus of a shelf: no record is read, and the list isn't walked. The time is that of the room: each look goes along one row
+// of the shelf, of at most 256 menus where each number is kept once.
+pub fn list_kept(number: u16, levels: u8, heads: &[u8], shelf: &[u8], out: &mut [u8]) -> Answer
+    ensures answer { λ r.
+        ⌜ r
+        ≡ answered (keptRules levels) (keptListing number levels (now (heads .entry)) (now (shelf .entry))) (now (out .entry)) ⌝ }
+    ensures output { λ _.
+        ⌜ now (out .exit)
+        ≡ left (keptRules levels) (keptListing number levels (now (heads .entry)) (now (shelf .entry))) (now (out .entry)) ⌝ }
+{
+    if !are_levels(levels) {
+        return answer::refuse(16, 0);
+    }
+    print(
+        Source::Shelf,
+        number as usize,
+        levels as usize,
+        shelf,
+        heads,
+        out,
+    )
+}
+
 // Whether so many levels can be asked for.
 fn are_levels(levels: u8) -> bool
     ensures { λ r. ⌜ r ≡ areLevels levels ⌝ }
@@ -74,22 +111,30 @@ fn are_levels(levels: u8) -> bool
 }
 
 // The listing, where only the room is left to judge: the walk that measures, and the walk that writes.
-fn print(application: u8, number: usize, levels: usize, records: &[u8], out: &mut [u8]) -> Answer
-    requires { ⌜ 1 ≤ levels ⌝ }
+fn print(
+    source: Source,
+    number: usize,
+    levels: usize,
+    list: &[u8],
+    heads: &[u8],
+    out: &mut [u8],
+) -> Answer
+    requires { ⌜ (number < 65536) × (1 ≤ levels) ⌝ }
     ensures answer { λ r.
-        ⌜ r ≡ answered [] (linesOf (menusIn application (now (records .entry))) levels levels number) (now (out .entry)) ⌝ }
+        ⌜ r ≡ answered [] (linesOf (menusFrom source (now (list .entry)) (now (heads .entry))) levels levels number) (now (out .entry)) ⌝ }
     ensures output { λ _.
-        ⌜ now (out .exit) ≡ left [] (linesOf (menusIn application (now (records .entry))) levels levels number) (now (out .entry)) ⌝ }
+        ⌜ now (out .exit) ≡ left [] (linesOf (menusFrom source (now (list .entry)) (now (heads .entry))) levels levels number) (now (out .entry)) ⌝ }
 {
     let below = levels - 1;
     let room = out.len();
     let mut scrap = [0u8; 1];
     let need = walk_menu(
-        application,
+        source,
         number,
         levels,
         below,
-        records,
+        list,
+        heads,
         room,
         &mut scrap,
         0,
@@ -97,31 +142,32 @@ fn print(application: u8, number: usize, levels: usize, records: &[u8], out: &mu
     if room < need {
         return answer::refuse(1, 0);
     }
-    let written = walk_menu(application, number, levels, below, records, room, out, 0);
+    let written = walk_menu(source, number, levels, below, list, heads, room, out, 0);
     Answer::Done(written)
 }
 
 // The menu walk: the lines of a menu, with so many levels left below it, and of what its events lead to. Past the room it puts nothing more.
 fn walk_menu(
-    application: u8,
+    source: Source,
     number: usize,
     levels: usize,
     below: usize,
-    records: &[u8],
+    list: &[u8],
+    heads: &[u8],
     room: usize,
     out: &mut [u8],
     q: usize,
 ) -> usize
-    requires { ⌜ (below ≤ levels) × (room < roomMost) × (q ≤ room + beyond) ⌝ }
+    requires { ⌜ (number < 65536) × (below ≤ levels) × (room < roomMost) × (q ≤ room + beyond) ⌝ }
     ensures { λ r.
-        ⌜ Penned room (now (out .entry)) q (linesOf (menusIn application (now (records .entry))) levels (suc below) number) (now (out .exit)) r
+        ⌜ Penned room (now (out .entry)) q (linesOf (menusFrom source (now (list .entry)) (now (heads .entry))) levels (suc below) number) (now (out .exit)) r
         × (r ≤ room + beyond) ⌝ }
 {
     if room < q {
         return q;
     }
     let mut form = [0u8; FORM];
-    if !finding::find_menu(application, number, records, &mut form) {
+    if !finding::find_form(source, number, list, heads, &mut form) {
         return lines::put_line(b"missing=", number, out, q);
     }
     let level = levels - below;
@@ -132,7 +178,7 @@ fn walk_menu(
         if room < p {
             return p;
         }
-        p = walk_event(application, &form, i, levels, below, records, room, out, p);
+        p = walk_event(source, &form, i, levels, below, list, heads, room, out, p);
         i = lines::next_event(&form, i);
         left -= 1;
     }
@@ -141,12 +187,13 @@ fn walk_menu(
 
 // The event walk: the lines of the event at the place i of a form, and those of the menu that it leads to.
 fn walk_event(
-    application: u8,
+    source: Source,
     form: &[u8],
     i: usize,
     levels: usize,
     below: usize,
-    records: &[u8],
+    list: &[u8],
+    heads: &[u8],
     room: usize,
     out: &mut [u8],
     q: usize,
@@ -154,7 +201,7 @@ fn walk_event(
     requires { ⌜ (below ≤ levels) × (i ≤ placeMost) × (room < roomMost) × (q ≤ room) ⌝ }
     ensures { λ r.
         ⌜ Penned room (now (out .entry)) q
-        (eventLinesAt (linesOf (menusIn application (now (records .entry))) levels below) (levels - below) (drop i (now (form .entry))))
+        (eventLinesAt (linesOf (menusFrom source (now (list .entry)) (now (heads .entry))) levels below) (levels - below) (drop i (now (form .entry))))
         (now (out .exit)) r
         × (r ≤ room + beyond) ⌝ }
 {
@@ -166,5 +213,5 @@ fn walk_event(
     if below == 0 {
         return lines::put_line(b"deeper=", link, out, p);
     }
-    walk_menu(application, link, levels, below - 1, records, room, out, p)
+    walk_menu(source, link, levels, below - 1, list, heads, room, out, p)
 }

@@ -112,7 +112,7 @@ fn shown(code: usize) -> u8
 // The number of the block that the event at the place i of a form leads to.
 pub(crate) fn link_at(form: &[u8], i: usize) -> usize
     requires { ⌜ i ≤ placeMost ⌝ }
-    ensures { λ r. ⌜ r ≡ linkAt (drop i (now (form .entry))) ⌝ }
+    ensures { λ r. ⌜ (r ≡ linkAt (drop i (now (form .entry)))) × (r < 65536) ⌝ }
 {
     forms::byte_at(form, i) + 256 * forms::byte_at(form, i + 1)
 }

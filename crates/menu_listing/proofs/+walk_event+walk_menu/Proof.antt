@@ -10,7 +10,7 @@ use denote.Ref.{now}
 use lib.ListN.{length, drop}
 use Rattle.printing.proofs.Printed.{put-as, put-none}
 use Rattle.menu_listing.specs.Listing.{linesOf}
-use Rattle.menu_listing.specs.Internal.{menusIn, eventsLinesAt, beyond, eventMost, placeMost}
+use Rattle.menu_listing.specs.Internal.{menusFrom, eventsLinesAt, beyond, eventMost, placeMost}
 use Rattle.menu_listing.proofs.Pens.{Rest, penned, stopped, penned-as, pen-on}
 use Rattle.menu_listing.proofs.Walks.{not-followed, followed, at-bottom, level-down, not-held, held-lines, events-on, events-end}
 use borrow.Fn.Kinds.{In}
@@ -22,7 +22,7 @@ use Rattle.menu_listing.proofs.walk_menu.Reads as walk-menu
 use Rattle.menu_listing.proofs.walk_menu.Kinds as walk-menu-kinds
 use Rattle.menu_listing.proofs.+walk_event+walk_menu.Lts-walk_menu as walk-menu-lts
 use Rattle.forms.proofs.byte_at.Reads as byte-at-reads
-use Rattle.menu_listing.proofs.finding.find_menu.Reads as find-menu-reads
+use Rattle.menu_listing.proofs.finding.find_form.Reads as find-form-reads
 use Rattle.menu_listing.proofs.lines.events_place.Reads as events-place-reads
 use Rattle.menu_listing.proofs.lines.link_at.Reads as link-at-reads
 use Rattle.menu_listing.proofs.lines.next_event.Reads as next-event-reads
@@ -32,26 +32,26 @@ use Rattle.menu_listing.proofs.lines.put_line.Reads as put-line-reads
 use Rattle.menu_listing.proofs.+walk_event+walk_menu.{statement}
 use Rattle.menu_listing.proofs.+walk_event+walk_menu.Tie.{close}
 
-abbrev μ-walk-event : Measures 3 walk-event-kinds.ps ℕ
+abbrev μ-walk-event : Measures 4 walk-event-kinds.ps ℕ
 μ-walk-event κs a = 2 * a .1 .1 .1 .1 .0
 
-abbrev μ-walk-menu : Measures 2 walk-menu-kinds.ps ℕ
+abbrev μ-walk-menu : Measures 3 walk-menu-kinds.ps ℕ
 μ-walk-menu κs a = 2 * a .1 .1 .1 .0 + 1
 
-abbrev walk-event-at : ℕ → In 3 walk-event-kinds.ps
+abbrev walk-event-at : ℕ → In 4 walk-event-kinds.ps
 walk-event-at t =
-    and 3 walk-event-kinds.ps (is 3 walk-event-kinds.ps μ-walk-event t) walk-event.Pre
+    and 4 walk-event-kinds.ps (is 4 walk-event-kinds.ps μ-walk-event t) walk-event.Pre
 
-abbrev walk-event-below : ℕ → In 3 walk-event-kinds.ps
+abbrev walk-event-below : ℕ → In 4 walk-event-kinds.ps
 walk-event-below t =
-    and 3 walk-event-kinds.ps (falls 3 walk-event-kinds.ps _<_ μ-walk-event t) walk-event.Pre
+    and 4 walk-event-kinds.ps (falls 4 walk-event-kinds.ps _<_ μ-walk-event t) walk-event.Pre
 
-abbrev walk-menu-at : ℕ → In 2 walk-menu-kinds.ps
-walk-menu-at t = and 2 walk-menu-kinds.ps (is 2 walk-menu-kinds.ps μ-walk-menu t) walk-menu.Pre
+abbrev walk-menu-at : ℕ → In 3 walk-menu-kinds.ps
+walk-menu-at t = and 3 walk-menu-kinds.ps (is 3 walk-menu-kinds.ps μ-walk-menu t) walk-menu.Pre
 
-abbrev walk-menu-below : ℕ → In 2 walk-menu-kinds.ps
+abbrev walk-menu-below : ℕ → In 3 walk-menu-kinds.ps
 walk-menu-below t =
-    and 2 walk-menu-kinds.ps (falls 2 walk-menu-kinds.ps _<_ μ-walk-menu t) walk-menu.Pre
+    and 3 walk-menu-kinds.ps (falls 3 walk-menu-kinds.ps _<_ μ-walk-menu t) walk-menu.Pre
 
 -- what the callees ask and ensure, those of the cycle below t
 abbrev event-claims : ℕ → walk-event-lts.Claims
@@ -70,8 +70,8 @@ event-claims t = (
 
 abbrev menu-claims : ℕ → walk-menu-lts.Claims
 menu-claims t = (
-  find-menu-reads.Asked,
-  find-menu-reads.Learnt,
+  find-form-reads.Asked,
+  find-form-reads.Learnt,
   put-line-reads.Asked,
   put-line-reads.Learnt,
   byte-at-reads.Asked,
@@ -104,10 +104,10 @@ walk-event-same-length t c = search needs
 walk-event-returns : (t : ℕ) → walk-event-lts.Need-returns (event-claims t) (walk-event-at t) walk-event.Post
 walk-event-returns t c =
     let p = c .before .before .before .before .put-event .ensures in
-    let s = c .before .before .before .before .before .before .before .before .before .args in
-    let follow = linesOf (menusIn (s .application) (now (s .records))) (s .levels) (s .below) in
+    let s = c .before .before .before .before .before .before .before .before .before .before .args in
+    let follow = linesOf (menusFrom (s .source) (now (s .list)) (now (s .heads))) (s .levels) (s .below) in
     let e = not-followed follow (s .levels - s .below) (s .i) _ (now (s .form)) (c .before .byte-at .ensures .0) (c .if1 .taken) in
-    (penned (put-as e (p .0)), omega (arith, p .1, c .before .before .before .before .before .before .before .before .before .pre .1 .3))
+    (penned (put-as e (p .0)), omega (arith, p .1, c .before .before .before .before .before .before .before .before .before .before .pre .1 .3))
 
 walk-event-link-at-requires : (t : ℕ) → walk-event-lts.Need-link-at-requires (event-claims t) (walk-event-at t) walk-event.Post
 walk-event-link-at-requires t c κs = search needs
@@ -127,22 +127,22 @@ walk-event-returns-2 t c =
     let l = c .before .before .before .before .before .before .link-at in
     let b = c .before .before .before .before .before .before .before in
     let p = b .before .before .before .before .put-event .ensures in
-    let s = b .before .before .before .before .before .before .before .before .before .args in
-    let menus = menusIn (s .application) (now (s .records)) in
+    let s = b .before .before .before .before .before .before .before .before .before .before .args in
+    let menus = menusFrom (s .source) (now (s .list)) (now (s .heads)) in
     let e =
     followed (linesOf menus (s .levels) (s .below)) (s .levels - s .below) (s .i) _ (now (s .form)) (b .before .byte-at .ensures .0) (l .result) (b .if1 .left)
-    (l .ensures) in
-    let d = at-bottom menus (s .levels) (s .below) (l .result) (c .before .before .before .before .before .if2 .taken) in
-    (penned-as e (pen-on (penned (p .0)) (penned (put-as d (q .0)))), omega (arith, p .1, q .1, b .before .before .before .before .before .before .before .before .before .pre .1 .3))
+    (l .ensures .0) in
+    let d = at-bottom menus (s .levels) (s .below) (l .result) (omega (arith, c .before .before .before .before .before .if2 .taken)) in
+    (penned-as e (pen-on (penned (p .0)) (penned (put-as d (q .0)))), omega (arith, p .1, q .1, b .before .before .before .before .before .before .before .before .before .before .pre .1 .3))
 
 walk-event-sub-walk-menu : (t : ℕ) → walk-event-lts.Need-sub-walk-menu (event-claims t) (walk-event-at t) walk-event.Post
 walk-event-sub-walk-menu t c = search needs
 
 walk-event-walk-menu-requires : (t : ℕ) → walk-event-lts.Need-walk-menu-requires (event-claims t) (walk-event-at t) walk-event.Post
 walk-event-walk-menu-requires t c κs =
-    let s = c .before .before .before .before .before .before .before .before .before .before .before .before in
+    let s = c .before .before .before .before .before .before .before .before .before .before .before .before .before in
     let p = c .before .before .before .before .before .before .before .put-event .ensures .1 in
-    (omega (arith, s .pre .0, c .before .if2 .left), (omega (arith, s .pre .1 .0), s .pre .1 .2, omega (arith, p, s .pre .1 .3)))
+    (omega (arith, s .pre .0, c .before .if2 .left), (c .before .before .link-at .ensures .1, omega (arith, s .pre .1 .0), s .pre .1 .2, omega (arith, p, s .pre .1 .3)))
 
 walk-event-same-length-3 : (t : ℕ) → walk-event-lts.Need-same-length-3 (event-claims t) (walk-event-at t) walk-event.Post
 walk-event-same-length-3 t c = search needs
@@ -153,31 +153,31 @@ walk-event-returns-3 t c =
     let l = c .before .before .before .before .before .link-at in
     let b = c .before .before .before .before .before .before in
     let p = b .before .before .before .before .put-event .ensures in
-    let s = b .before .before .before .before .before .before .before .before .before .args in
-    let menus = menusIn (s .application) (now (s .records)) in
+    let s = b .before .before .before .before .before .before .before .before .before .before .args in
+    let menus = menusFrom (s .source) (now (s .list)) (now (s .heads)) in
     let e =
     followed (linesOf menus (s .levels) (s .below)) (s .levels - s .below) (s .i) _ (now (s .form)) (b .before .byte-at .ensures .0) (l .result) (b .if1 .left)
-    (l .ensures) in
+    (l .ensures .0) in
     let d = level-down menus (s .levels) (s .below) (l .result) (c .before .before .before .before .if2 .left) in
     (penned-as e (pen-on (penned (p .0)) (penned-as d (q .0))), q .1)
 
 abbrev walk-menu-Inv-loop : walk-menu-lts.InvT-loop
-walk-menu-Inv-loop application number levels below records room out₀ q form level left₀ i₀ p₀ out left i p =
+walk-menu-Inv-loop source number levels below list heads room out₀ q form level left₀ i₀ p₀ out left i p =
     (length out ≡ length out₀) × (i + eventMost * left ≤ placeMost) × (p ≤ room + beyond)
-    × Rest room out p (eventsLinesAt (linesOf (menusIn application records) levels below) (levels - below) left (drop i form)) out₀ p₀
-    (eventsLinesAt (linesOf (menusIn application records) levels below) (levels - below) left₀ (drop i₀ form))
+    × Rest room out p (eventsLinesAt (linesOf (menusFrom source list heads) levels below) (levels - below) left (drop i form)) out₀ p₀
+    (eventsLinesAt (linesOf (menusFrom source list heads) levels below) (levels - below) left₀ (drop i₀ form))
 
 abbrev walk-menu-μ-loop : walk-menu-lts.MeasureT-loop
-walk-menu-μ-loop application number levels below records room out₀ q form level left₀ i₀ p₀ out left i p = left
+walk-menu-μ-loop source number levels below list heads room out₀ q form level left₀ i₀ p₀ out left i p = left
 
 walk-menu-returns : (t : ℕ) → walk-menu-lts.Need-returns (menu-claims t) (walk-menu-at t) walk-menu.Post walk-menu-Inv-loop walk-menu-μ-loop
-walk-menu-returns t c = (stopped _ _ (c .if1 .taken), c .before .before .before .pre .1 .2)
+walk-menu-returns t c = (stopped _ _ (c .if1 .taken), c .before .before .before .before .pre .1 .3)
 
-walk-menu-slice-aggregate-find-menu : (t : ℕ) → walk-menu-lts.Need-slice-aggregate-find-menu (menu-claims t) (walk-menu-at t) walk-menu.Post walk-menu-Inv-loop walk-menu-μ-loop
-walk-menu-slice-aggregate-find-menu t c = search needs
+walk-menu-slice-aggregate-find-form : (t : ℕ) → walk-menu-lts.Need-slice-aggregate-find-form (menu-claims t) (walk-menu-at t) walk-menu.Post walk-menu-Inv-loop walk-menu-μ-loop
+walk-menu-slice-aggregate-find-form t c = search needs
 
-walk-menu-find-menu-requires : (t : ℕ) → walk-menu-lts.Need-find-menu-requires (menu-claims t) (walk-menu-at t) walk-menu.Post walk-menu-Inv-loop walk-menu-μ-loop
-walk-menu-find-menu-requires t c κs = search needs
+walk-menu-find-form-requires : (t : ℕ) → walk-menu-lts.Need-find-form-requires (menu-claims t) (walk-menu-at t) walk-menu.Post walk-menu-Inv-loop walk-menu-μ-loop
+walk-menu-find-form-requires t c κs = search needs
 
 walk-menu-slice-aggregate-put-line : (t : ℕ) → walk-menu-lts.Need-slice-aggregate-put-line (menu-claims t) (walk-menu-at t) walk-menu.Post walk-menu-Inv-loop walk-menu-μ-loop
 walk-menu-slice-aggregate-put-line t c = search needs
@@ -192,9 +192,9 @@ walk-menu-returns-2 : (t : ℕ) → walk-menu-lts.Need-returns-2 (menu-claims t)
 walk-menu-returns-2 t c =
     let p = c .before .before .put-line .ensures in
     let b = c .before .before .before .before .before in
-    let s = b .before .before .before .before .before .before .before .args in
-    let menus = menusIn (s .application) (now (s .records)) in
-    let e = not-held menus (s .levels) (s .below) (s .number) _ (b .before .before .find-menu .ensures) (not-true _ (b .if2 .taken)) in
+    let s = b .before .before .before .before .before .before .before .before .args in
+    let menus = menusFrom (s .source) (now (s .list)) (now (s .heads)) in
+    let e = not-held menus (s .levels) (s .below) (s .number) _ (b .before .before .find-form .ensures) (not-true _ (b .if2 .taken)) in
     (penned (put-as e (p .0)), omega (arith, p .1, b .before .before .before .before .if1 .left))
 
 walk-menu-sub-level : (t : ℕ) → walk-menu-lts.Need-sub-level (menu-claims t) (walk-menu-at t) walk-menu.Post walk-menu-Inv-loop walk-menu-μ-loop
@@ -235,10 +235,10 @@ walk-menu-returns-3 t c =
     let i = c .before .before .before .before .before .before .before .before .events-place in
     let n = c .before .before .before .before .before .before .before .before .before .before .byte-at in
     let h = c .before .before .before .before .before .before .before .before .before .before .before .before in
-    let s = h .before .before .before .before .before .before .before .args in
-    let menus = menusIn (s .application) (now (s .records)) in
+    let s = h .before .before .before .before .before .before .before .before .args in
+    let menus = menusFrom (s .source) (now (s .list)) (now (s .heads)) in
     let e =
-    held-lines menus (s .levels) (s .below) (s .number) _ (h .before .before .find-menu .ensures) (n .result) (i .result) (n .ensures .0) (i .ensures .0)
+    held-lines menus (s .levels) (s .below) (s .number) _ (h .before .before .find-form .ensures) (n .result) (i .result) (n .ensures .0) (i .ensures .0)
     (not-false _ (h .if2 .left)) in
     (penned-as e (pen-on (penned (c .before .before .before .before .before .put-head .ensures .0)) (l .inv .3 _ _ (stopped _ _ (c .if3 .taken)))), l .inv .2)
 
@@ -248,8 +248,8 @@ walk-menu-slice-aggregate-walk-event t c = search needs
 walk-menu-walk-event-requires : (t : ℕ) → walk-menu-lts.Need-walk-event-requires (menu-claims t) (walk-menu-at t) walk-menu.Post walk-menu-Inv-loop walk-menu-μ-loop
 walk-menu-walk-event-requires t c κs =
     let l = c .before .before .before .before .loop in
-    let s = c .before .before .before .before .before .before .before .before .before .before .before .before .before .before .before .before .before .before .before .before .before in
-    (omega (arith, s .pre .0), (s .pre .1 .0, omega (arith, l .inv .1), s .pre .1 .1, omega (arith, c .before .before .if3 .left)))
+    let s = c .before .before .before .before .before .before .before .before .before .before .before .before .before .before .before .before .before .before .before .before .before .before in
+    (omega (arith, s .pre .0), (s .pre .1 .1, omega (arith, l .inv .1), s .pre .1 .2, omega (arith, c .before .before .if3 .left)))
 
 walk-menu-slice-aggregate-next-event : (t : ℕ) → walk-menu-lts.Need-slice-aggregate-next-event (menu-claims t) (walk-menu-at t) walk-menu.Post walk-menu-Inv-loop walk-menu-μ-loop
 walk-menu-slice-aggregate-next-event t c = search needs
@@ -269,10 +269,10 @@ walk-menu-loop-again t c =
     let n = c .next-event .ensures in
     let b = c .before .before .before .before .before .before .before .before .before in
     let l = b .loop in
-    let s = b .before .before .before .before .before .before .before .before .before .before .before .before .before .before .before .before .before .args in
-    let follow = linesOf (menusIn (s .application) (now (s .records))) (s .levels) (s .below) in
+    let s = b .before .before .before .before .before .before .before .before .before .before .before .before .before .before .before .before .before .before .args in
+    let follow = linesOf (menusFrom (s .source) (now (s .list)) (now (s .heads))) (s .levels) (s .below) in
     let e = events-on follow (s .levels - s .below) (l .left) (l .i) _ _ (search needs) (n .0) in (
-      q .kept .1 .1 .1 .1 .1 .1 .1 .0 ∙ l .inv .0,
+      q .kept .1 .1 .1 .1 .1 .1 .1 .1 .0 ∙ l .inv .0,
       omega (arith, l .inv .1, n .1, c .before .before .before .before .before .before .before .before .loop-test .taken),
       q .ensures .1,
       λ (out′ : List ℕ) (q′ : ℕ) w. l .inv .3 out′ q′ (penned-as e (pen-on (q .ensures .0) w)),
@@ -287,10 +287,10 @@ walk-menu-returns-4 t c =
     let i = c .before .before .before .before .before .before .before .events-place in
     let n = c .before .before .before .before .before .before .before .before .before .byte-at in
     let h = c .before .before .before .before .before .before .before .before .before .before .before in
-    let s = h .before .before .before .before .before .before .before .args in
-    let menus = menusIn (s .application) (now (s .records)) in
+    let s = h .before .before .before .before .before .before .before .before .args in
+    let menus = menusFrom (s .source) (now (s .list)) (now (s .heads)) in
     let e =
-    held-lines menus (s .levels) (s .below) (s .number) _ (h .before .before .find-menu .ensures) (n .result) (i .result) (n .ensures .0) (i .ensures .0)
+    held-lines menus (s .levels) (s .below) (s .number) _ (h .before .before .find-form .ensures) (n .result) (i .result) (n .ensures .0) (i .ensures .0)
     (not-false _ (h .if2 .left)) in
     let over = events-end (linesOf menus (s .levels) (s .below)) (s .levels - s .below) (l .left) (l .i) _ (search needs) in
     let rest = l .inv .3 _ _ (penned (put-as over (put-none _ _))) in
@@ -321,8 +321,8 @@ pub +walk-event+walk-menu-spec : {M : Type 1} → statement M
     walk-menu-Inv-loop
     walk-menu-μ-loop
     (walk-menu-returns t)
-    (walk-menu-slice-aggregate-find-menu t)
-    (walk-menu-find-menu-requires t)
+    (walk-menu-slice-aggregate-find-form t)
+    (walk-menu-find-form-requires t)
     (walk-menu-slice-aggregate-put-line t)
     (walk-menu-put-line-requires t)
     (walk-menu-same-length t)

@@ -60,7 +60,7 @@ returns-3 c =
 print-requires : tie.Need-print-requires
 print-requires c κs =
     let b = c .before .before .before in
-    some-level _ (sym (b .before .are-levels .ensures) ∙ not-false _ (b .if2 .left))
+    (search needs, some-level _ (sym (b .before .are-levels .ensures) ∙ not-false _ (b .if2 .left)))
 
 same-length : tie.Need-same-length
 same-length c = search needs

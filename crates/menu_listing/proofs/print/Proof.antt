@@ -9,7 +9,7 @@ use denote.Ref.{now}
 use Rattle.answer.proofs.Lent.{lent-short, lent-done}
 use Rattle.answer.specs.declared.Answer.the-variants.{Done}
 use Rattle.menu_listing.specs.Listing.{linesOf}
-use Rattle.menu_listing.specs.Internal.{menusIn}
+use Rattle.menu_listing.specs.Internal.{menusFrom}
 use Rattle.menu_listing.proofs.Pens.{penned-as, too-long, fits-in, put-whole}
 use Rattle.menu_listing.proofs.Walks.{level-down}
 use Rattle.menu_listing.proofs.print.Statement.{statement}
@@ -29,8 +29,8 @@ refuse-requires c κs = search needs
 
 returns : tie.Need-returns
 returns c =
-    let s = c .before .before .before .before .before .before .before .args in
-    let menus = menusIn (s .application) (now (s .records)) in
+    let s = c .before .before .before .before .before .before .before .before .args in
+    let menus = menusFrom (s .source) (now (s .list)) (now (s .heads)) in
     let text : List ℕ = linesOf menus (s .levels) (s .levels) (s .number) in
     let e = level-down menus (s .levels) (s .levels) (s .number) (λ z. omega arith) in
     let long = too-long (penned-as e (c .before .before .before .walk-menu .ensures .0)) (omega (arith, c .before .if1 .taken)) in
@@ -45,8 +45,8 @@ same-length c = search needs
 
 returns-2 : tie.Need-returns-2
 returns-2 c =
-    let s = c .before .before .before .before .before .before .before .before .before .before .args in
-    let menus = menusIn (s .application) (now (s .records)) in
+    let s = c .before .before .before .before .before .before .before .before .before .before .before .args in
+    let menus = menusFrom (s .source) (now (s .list)) (now (s .heads)) in
     let text : List ℕ = linesOf menus (s .levels) (s .levels) (s .number) in
     let e = level-down menus (s .levels) (s .levels) (s .number) (λ z. omega arith) in
     let measured = penned-as e (c .before .before .before .before .before .before .walk-menu .ensures .0) in

@@ -10,14 +10,14 @@ use lib.Seq.{length-take-le}
 use Rattle.blocks.specs.Block.{blocks}
 use Rattle.blocks.proofs.Walking.{Standing, standing, ended, broken}
 use Rattle.menu_listing.specs.Listing.{menusOf}
-use Rattle.menu_listing.specs.Internal.{formMost, menusIn}
+use Rattle.menu_listing.specs.Kept.{formMost}
 use Rattle.menu_listing.proofs.Records.{passed-over, found-first, none-ended, none-broken, none-held}
 use Rattle.menu_listing.proofs.finding.find_menu.Statement.{statement}
 use Rattle.menu_listing.proofs.finding.find_menu.Tie as tie
 
 abbrev Inv-loop : tie.InvT-loop
 Inv-loop application number records form₀ at₀ form at =
-    (at ≤ length records) × (length form ≡ formMost) × (menusOf application number (blocks (drop at records)) ≡ menusIn application records number)
+    (at ≤ length records) × (length form ≡ formMost) × (menusOf application number (blocks (drop at records)) ≡ menusOf application number (blocks records))
 
 abbrev μ-loop : tie.MeasureT-loop
 μ-loop application number records form₀ at₀ form at = length records - at
