@@ -12,12 +12,16 @@ returns-2 : tie.Need-returns-2
 unfolding isGood
 returns-2 c = simp (c .before .if1 .left, c .if2 .taken)
 
+returns-3 : tie.Need-returns-3
+unfolding isGood
+returns-3 c = simp (c .before .before .if1 .left, c .before .if2 .left, c .if3 .taken)
+
 is-good-requires : tie.Need-is-good-requires
 is-good-requires c κs = search needs
 
-returns-3 : tie.Need-returns-3
+returns-4 : tie.Need-returns-4
 unfolding isGood
-returns-3 c = simp (c .before .before .if1 .left, c .before .if2 .left) (c .is-good .ensures)
+returns-4 c = simp (c .before .before .before .if1 .left, c .before .before .if2 .left, c .before .if3 .left) (c .is-good .ensures)
 
 pub is-good-spec : {M : Type 1} → statement M
-is-good-spec = tie.close (tie.spec returns returns-2 is-good-requires returns-3)
+is-good-spec = tie.close (tie.spec returns returns-2 returns-3 is-good-requires returns-4)

@@ -8,14 +8,17 @@ use Rattle.asked.proofs.said.Tie as tie
 decimal-requires : tie.Need-decimal-requires
 decimal-requires c κs = search needs
 
-returns : tie.Need-returns
-returns c = no-block _ _ _ (c .before .decimal .ensures) (omega (arith, c .if1 .taken))
+bad-requires : tie.Need-bad-requires
+bad-requires c κs = search needs
 
-cast-t10 : tie.Need-cast-t10
-cast-t10 c = search needs
+returns : tie.Need-returns
+returns c = no-block _ _ _ _ (c .before .before .decimal .ensures) (omega (arith, c .before .if1 .taken)) (c .bad .ensures)
+
+cast-t7 : tie.Need-cast-t7
+cast-t7 c = search needs
 
 returns-2 : tie.Need-returns-2
-returns-2 c = a-block _ _ _ (c .before .decimal .ensures) (omega (arith, c .if1 .left))
+returns-2 c = a-block _ _ _ _ (c .before .decimal .ensures) (omega (arith, c .if1 .left))
 
 pub said-spec : {M : Type 1} → statement M
-said-spec = tie.close (tie.spec decimal-requires returns cast-t10 returns-2)
+said-spec = tie.close (tie.spec decimal-requires bad-requires returns cast-t7 returns-2)

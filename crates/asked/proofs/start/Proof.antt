@@ -1,4 +1,4 @@
--- `asked::start` meets its contract: the desk's own start, and block 0. Assumes nothing.
+-- `asked::start` meets its contract: the desk's own start, block 0 and all levels. Assumes nothing.
 use mathlib.Core.Bool.{false}
 use mathlib.Core.Path.{ap}
 use Rattle.wanted.specs.declared.stages.Words.{Words}
@@ -11,7 +11,7 @@ start-requires : tie.Need-start-requires
 start-requires c κs = search needs
 
 returns : tie.Need-returns
-returns c = ap (λ (ws : Words). asked 0 false ws) (c .start .ensures)
+returns c = ap (λ (ws : Words). asked 0 8 false false ws) (c .start .ensures)
 
 pub start-spec : {M : Type 1} → statement M
 start-spec = tie.close (tie.spec start-requires returns)

@@ -1,13 +1,10 @@
--- `asked::asks_block` meets its contract, stage by stage. Assumes nothing.
+-- `asked::asks` meets its contract, stage by stage. Assumes nothing.
 use borrow.Author.Needs.{needs}
-use Rattle.asked.proofs.asks_block.Statement.{statement}
-use Rattle.asked.proofs.asks_block.Tie as tie
+use Rattle.asked.proofs.asks.Statement.{statement}
+use Rattle.asked.proofs.asks.Tie as tie
 
 enum-told : tie.Need-enum-told
 enum-told c = search needs
-
-slice-aggregate-same : tie.Need-slice-aggregate-same
-slice-aggregate-same c = search needs
 
 same-requires : tie.Need-same-requires
 same-requires c κs = search needs
@@ -25,7 +22,7 @@ enum-told-5 : tie.Need-enum-told-5
 enum-told-5 c = search needs
 
 returns : tie.Need-returns
-returns c = simp (c .before .before .enum-told .given .1) (c .same .ensures)
+returns c = simp (c .before .enum-told .given .1) (c .same .ensures)
 
 returns-2 : tie.Need-returns-2
 returns-2 c = search needs
@@ -39,12 +36,11 @@ returns-4 c = search needs
 returns-5 : tie.Need-returns-5
 returns-5 c = search needs
 
-pub asks-block-spec : {M : Type 1} → statement M
-asks-block-spec =
+pub asks-spec : {M : Type 1} → statement M
+asks-spec =
     tie.close
     (tie.spec
     enum-told
-    slice-aggregate-same
     same-requires
     enum-told-2
     enum-told-3
