@@ -13,6 +13,7 @@ use frames::Read;
 use packet::Setting;
 use reader::HeardAll;
 use reader::Reader;
+use shelf::HEADS;
 ghost use Prim.Native.Nat.{_≤_, _<_};
 ghost use lib.ListN.{length};
 
@@ -45,30 +46,36 @@ struct Turn {
     taken: usize,
 }
 
-// Lists the menu of a block that comes from a descriptor, under a line with its name where that is asked for. A read that fails is told
-// with the name, and nothing is listed. Answers whether standard output took all.
-pub fn list(fd: i32, name: &[u8], is_titled: bool, setting: Setting, block: u16) -> bool {
+// Lists the menu of a block that comes from a descriptor, to so many levels, under a line with its name where that is asked for. A read
+// that fails is told with the name, and nothing is listed. Answers whether standard output took all.
+pub fn list(
+    fd: i32,
+    name: &[u8],
+    is_titled: bool,
+    setting: Setting,
+    block: u16,
+    levels: u8,
+) -> bool {
+    let mut heads = [0u8; HEADS];
     let mut store = [0u8; STORE];
-    let kept = gather(fd, name, setting, &mut store);
+    let kept = gather(fd, name, setting, block, &mut heads, &mut store);
     if !kept.whole {
         return true;
     }
     says::say_left(name, is_titled, kept.left);
-    list_kept(
-        name,
-        is_titled,
-        setting.application,
-        block,
-        &store,
-        kept.used,
-    )
+    if !kept.came {
+        let first = kept.first;
+        says::note(name, block, kept.count, &first);
+    }
+    list_kept(name, is_titled, block, levels, &heads, &store, kept.used)
 }
 
 fn list_kept(
     name: &[u8],
     is_titled: bool,
-    application: u8,
     block: u16,
+    levels: u8,
+    heads: &[u8; HEADS],
     store: &[u8; STORE],
     used: usize,
 ) -> bool {
@@ -76,8 +83,9 @@ fn list_kept(
     show(
         name,
         is_titled,
-        application,
         block,
+        levels,
+        heads,
         front(store, used),
         &mut text,
     )
@@ -87,35 +95,63 @@ fn list_kept(
 fn show(
     name: &[u8],
     is_titled: bool,
-    application: u8,
     block: u16,
-    records: &[u8],
+    levels: u8,
+    heads: &[u8; HEADS],
+    shelf: &[u8],
     text: &mut [u8; TEXT],
 ) -> bool {
-    let answer = menu_listing::list_menu(application, block, records, text);
+    let answer = menu_listing::list_kept(block, levels, heads, shelf, text);
     match answer {
         Answer::Done(n) => says::put_listing(name, is_titled, front(text, n)),
-        Answer::Refused(why) => {
-            says::refuse(name, block, why.no);
+        Answer::Refused(_) => {
+            says::refuse(name, block, fitting(block, levels, heads, shelf, text));
             true
         }
     }
 }
 
+// The greatest number of levels below the one that was asked for with which the listing fits; 0 where none does.
+fn fitting(block: u16, levels: u8, heads: &[u8], shelf: &[u8], text: &mut [u8]) -> u8 {
+    let mut fewer = levels;
+    while fewer > 1 {
+        fewer -= 1;
+        if fits(block, fewer, heads, shelf, text) {
+            return fewer;
+        }
+    }
+    0
+}
+
+fn fits(block: u16, levels: u8, heads: &[u8], shelf: &[u8], text: &mut [u8]) -> bool {
+    let answer = menu_listing::list_kept(block, levels, heads, shelf, text);
+    match answer {
+        Answer::Done(_) => true,
+        Answer::Refused(_) => false,
+    }
+}
+
 // The menus that come from a descriptor.
-fn gather(fd: i32, name: &[u8], setting: Setting, store: &mut [u8; STORE]) -> Kept {
+fn gather(
+    fd: i32,
+    name: &[u8],
+    setting: Setting,
+    block: u16,
+    heads: &mut [u8; HEADS],
+    store: &mut [u8; STORE],
+) -> Kept {
     let mut piece = [0u8; PIECE];
     let mut records = [0u8; RECORDS];
     let mut form = [0u8; FORM];
     let mut numbers = [0u8; NUMBERS];
-    let mut desk = fresh();
+    let mut desk = fresh(block);
     let mut turns = u64::MAX;
     while turns > 0 {
         turns -= 1;
         let got = fill(fd, &mut piece);
         let Got::Bytes(n) = got else {
             says::tell(name);
-            return kept::none();
+            return kept::none(block);
         };
         desk = feed(
             setting,
@@ -124,6 +160,7 @@ fn gather(fd: i32, name: &[u8], setting: Setting, store: &mut [u8; STORE]) -> Ke
             n,
             &mut records,
             &mut form,
+            heads,
             store,
             &mut numbers,
         );
@@ -131,13 +168,13 @@ fn gather(fd: i32, name: &[u8], setting: Setting, store: &mut [u8; STORE]) -> Ke
             return kept::ended(desk.kept);
         }
     }
-    kept::none()
+    kept::none(block)
 }
 
-fn fresh() -> Desk {
+fn fresh(block: u16) -> Desk {
     Desk {
         reader: reader::fresh(),
-        kept: kept::none(),
+        kept: kept::none(block),
     }
 }
 
@@ -194,6 +231,7 @@ fn feed(
     n: usize,
     records: &mut [u8; RECORDS],
     form: &mut [u8; FORM],
+    heads: &mut [u8; HEADS],
     store: &mut [u8; STORE],
     numbers: &mut [u8; NUMBERS],
 ) -> Desk {
@@ -203,6 +241,7 @@ fn feed(
         front(piece, n - n % PACKET),
         records,
         form,
+        heads,
         store,
         numbers,
     )
@@ -215,13 +254,23 @@ fn feed_packets(
     packets: &[u8],
     records: &mut [u8],
     form: &mut [u8],
+    heads: &mut [u8],
     store: &mut [u8],
     numbers: &mut [u8],
 ) -> Desk {
     let mut desk = desk;
     let mut at = 0;
     while at < packets.len() {
-        let turn = feed_once(setting, desk, &packets[at..], records, form, store, numbers);
+        let turn = feed_once(
+            setting,
+            desk,
+            &packets[at..],
+            records,
+            form,
+            heads,
+            store,
+            numbers,
+        );
         desk = turn.desk;
         at = ahead(at, turn.taken, packets.len());
     }
@@ -235,6 +284,7 @@ fn feed_once(
     packets: &[u8],
     records: &mut [u8],
     form: &mut [u8],
+    heads: &mut [u8],
     store: &mut [u8],
     numbers: &mut [u8],
 ) -> Turn {
@@ -244,7 +294,15 @@ fn feed_once(
     let reader = fed.reader;
     let heard = fed.heard;
     let finished = front(records, written(heard));
-    let kept = keep_records(kept, setting.application, finished, form, store, numbers);
+    let kept = keep_records(
+        kept,
+        setting.application,
+        finished,
+        form,
+        heads,
+        store,
+        numbers,
+    );
     Turn {
         desk: Desk { reader, kept },
         taken: taken(heard),
@@ -287,6 +345,7 @@ fn keep_records(
     application: u8,
     records: &[u8],
     form: &mut [u8],
+    heads: &mut [u8],
     store: &mut [u8],
     numbers: &mut [u8],
 ) -> Kept {
@@ -294,7 +353,15 @@ fn keep_records(
     let mut at = 0;
     while at < records.len() {
         let next = blocks::after(records, at);
-        kept = keep_record(kept, application, &records[at..next], form, store, numbers);
+        kept = keep_record(
+            kept,
+            application,
+            &records[at..next],
+            form,
+            heads,
+            store,
+            numbers,
+        );
         at = next;
     }
     kept
@@ -306,13 +373,21 @@ fn keep_record(
     application: u8,
     record: &[u8],
     form: &mut [u8],
+    heads: &mut [u8],
     store: &mut [u8],
     numbers: &mut [u8],
 ) -> Kept {
     let answer = menu::read_menu(application, record, form);
     match answer {
         Read::Taken { written, mended: _ } => {
-            kept::keep(kept, record, front(form, written), store, numbers)
+            kept::keep(
+                kept,
+                record.len(),
+                front(form, written),
+                heads,
+                store,
+                numbers,
+            )
         }
         Read::Refused(_) => kept,
     }

@@ -1,8 +1,8 @@
-// The menus that are kept of a capture: the first accepted of each number, as records one after the other. After the first that doesn't
-// fit none is kept, and the numbers left out are counted.
-ghost use Prim.Native.Nat.{_≤_};
+// The menus that are kept of a capture: the first accepted of each number, as forms on a shelf. How many are kept goes by the bytes of their
+// records: from the first whose record doesn't fit on none is kept, and the numbers left out are counted.
+use answer::Answer;
 
-// So many bytes of records are kept.
+// So many bytes of records are kept. A form with its link is shorter than its record, so this is enough for the shelf.
 pub const STORE: usize = 524288;
 
 // The numbers that a block can have. The byte of one that has come is 1.
@@ -11,15 +11,29 @@ pub const NUMBERS: usize = 65536;
 // More than the longest form of a menu.
 pub const FORM: usize = 2048;
 
-// How many bytes are kept, how many numbers were left out, and whether the capture was read to its end.
+// So many of the numbers that came are told.
+pub const TOLD: usize = 20;
+
+// The number that is asked for and whether it came, the first numbers that came, how many bytes of records are kept and how many of the
+// shelf are in use, how many numbers were left out, and whether the capture was read to its end.
 pub struct Kept {
+    pub block: u16,
+    pub came: bool,
+    pub first: [u16; TOLD],
+    pub count: usize,
+    pub size: usize,
     pub used: usize,
     pub left: u64,
     pub whole: bool,
 }
 
-pub fn none() -> Kept {
+pub fn none(block: u16) -> Kept {
     Kept {
+        block,
+        came: false,
+        first: [0u16; TOLD],
+        count: 0,
+        size: 0,
         used: 0,
         left: 0,
         whole: false,
@@ -33,34 +47,80 @@ pub fn ended(kept: Kept) -> Kept {
     kept
 }
 
-// Keeps a record that was accepted as the menu of a form, unless one with its number came before.
-pub fn keep(kept: Kept, record: &[u8], form: &[u8], store: &mut [u8], numbers: &mut [u8]) -> Kept {
-    let number = number_in(form);
-    if numbers.len() <= number {
+// Keeps the form of a menu that was accepted, by the length of its record, unless one with its number came before.
+pub fn keep(
+    kept: Kept,
+    long: usize,
+    form: &[u8],
+    heads: &mut [u8],
+    store: &mut [u8],
+    numbers: &mut [u8],
+) -> Kept {
+    if form.len() < 4 {
         return kept;
     }
-    if numbers[number] == 1 {
+    let number = word(form[2], form[3]);
+    let place = number as usize;
+    if numbers.len() <= place {
         return kept;
     }
-    numbers[number] = 1;
-    add(kept, record, store)
+    if numbers[place] == 1 {
+        return kept;
+    }
+    numbers[place] = 1;
+    add(met(kept, number), long, form, heads, store)
 }
 
-// One number more: its record is kept where it fits and none was left out before.
-fn add(kept: Kept, record: &[u8], store: &mut [u8]) -> Kept {
+// One number more has come. One more than those that are told is counted, which says that there are more.
+fn met(kept: Kept, number: u16) -> Kept {
+    let mut kept = kept;
+    if number == kept.block {
+        kept.came = true;
+    }
+    let count = kept.count;
+    if count < TOLD {
+        kept.first[count] = number;
+    }
+    if count <= TOLD {
+        kept.count = count + 1;
+    }
+    kept
+}
+
+// Its form is kept where its record fits and none was left out before.
+fn add(kept: Kept, long: usize, form: &[u8], heads: &mut [u8], store: &mut [u8]) -> Kept {
     if kept.left > 0 {
         return leave(kept);
     }
-    if store.len() < kept.used {
+    if STORE < kept.size {
         return leave(kept);
     }
-    if store.len() - kept.used < record.len() {
+    if STORE - kept.size < long {
         return leave(kept);
     }
+    let answer = shelf::put(form, kept.used, heads, store);
+    match answer {
+        Answer::Done(n) => grown(kept, long, n),
+        Answer::Refused(_) => leave(kept),
+    }
+}
+
+// So many bytes of records more, and so many of the shelf. Neither goes past the store.
+fn grown(kept: Kept, long: usize, n: usize) -> Kept {
     let mut kept = kept;
-    moves::copy(record, 0, record.len(), store, kept.used);
-    kept.used = kept.used + record.len();
+    kept.size = on(kept.size, long);
+    kept.used = on(kept.used, n);
     kept
+}
+
+fn on(at: usize, more: usize) -> usize {
+    if STORE < at {
+        return STORE;
+    }
+    if STORE - at < more {
+        return STORE;
+    }
+    at + more
 }
 
 // One number more is left out.
@@ -72,16 +132,7 @@ fn leave(kept: Kept) -> Kept {
     kept
 }
 
-// The number of the block that a form is of.
-fn number_in(form: &[u8]) -> usize {
-    if form.len() < 4 {
-        return 0;
-    }
-    wide(form[2]) + 256 * wide(form[3])
-}
-
-fn wide(b: u8) -> usize
-    ensures { λ r. ⌜ r ≤ 255 ⌝ }
-{
-    b as usize
+// A number of two bytes.
+fn word(low: u8, high: u8) -> u16 {
+    low as u16 + 256 * high as u16
 }

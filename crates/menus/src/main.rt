@@ -1,9 +1,9 @@
-// The menus of teletext captures, as a listing: menu `-b N` and what its events link to (SCOPE 23.9). A capture is a list of 42-byte packets:
+// The menus of teletext captures, as a listing: menu `-b N` and what its events link to, `-l N` levels of it (SCOPE 23.10). A capture is a list of 42-byte packets:
 // standard input, or each file that is named. Every capture gets a fresh reader and its own listing.
 //
 // Words that the program is called with are heard twice: first all are judged, then the files are listed.
 //
-// A line on standard error that tells of a failure begins `menus: `. Once standard output has failed, nothing more goes out.
+// A line on standard error that tells of a failure begins `menus: `, and one that tells of no failure `note: `. Once standard output has failed, nothing more goes out.
 mod capture;
 mod kept;
 mod says;
@@ -25,11 +25,11 @@ fn main() {
     let asked = hear_all();
     let words = asked.words;
     if asked::is_good(asked) {
-        list_all(words.setting, asked.block);
+        list_all(words.setting, asked.block, asked.levels);
     } else {
         io::write_all(
             STDERR_FILENO,
-            b"menus: usage: menus [-b 0..65535] [-m 1..8] [-p 00..FF] [-s 0..15] [-a 0..31] [--] [FILE ...]\n",
+            b"menus: usage: menus [-b 0..65535] [-l 1..8] [-m 1..8] [-p 00..FF] [-s 0..15] [-a 0..31] [--] [FILE ...]\n",
         );
     }
 }
@@ -62,7 +62,7 @@ fn argument(i: usize, word: &mut [u8]) -> usize {
 }
 
 // Lists each file that is named, or standard input where none is.
-fn list_all(setting: Setting, block: u16) {
+fn list_all(setting: Setting, block: u16, levels: u8) {
     let count = os::arg_count();
     let mut heard = Heard {
         asked: asked::start(),
@@ -71,16 +71,23 @@ fn list_all(setting: Setting, block: u16) {
     };
     let mut i = 1;
     while i < count {
-        heard = visit(heard, i, setting, block);
+        heard = visit(heard, i, setting, block, levels);
         i += 1;
     }
     if !heard.named {
-        capture::list(STDIN_FILENO, b"standard input", false, setting, block);
+        capture::list(
+            STDIN_FILENO,
+            b"standard input",
+            false,
+            setting,
+            block,
+            levels,
+        );
     }
 }
 
 // Hears a word again, and lists the file where it is a name.
-fn visit(heard: Heard, i: usize, setting: Setting, block: u16) -> Heard {
+fn visit(heard: Heard, i: usize, setting: Setting, block: u16, levels: u8) -> Heard {
     let mut word = io::buffer();
     let n = argument(i, &mut word);
     let asked = asked::next(heard.asked, front(&word, n));
@@ -101,19 +108,19 @@ fn visit(heard: Heard, i: usize, setting: Setting, block: u16) -> Heard {
     Heard {
         asked,
         named: true,
-        sound: list_file(&mut word, n, setting, block),
+        sound: list_file(&mut word, n, setting, block, levels),
     }
 }
 
 // Lists the file of a name, which is told with a `?` for each byte that isn't printed. Answers whether standard output took all.
-fn list_file(word: &mut [u8; 4096], n: usize, setting: Setting, block: u16) -> bool {
+fn list_file(word: &mut [u8; 4096], n: usize, setting: Setting, block: u16, levels: u8) -> bool {
     let fd = os::open_read(front(word, n));
     wanted::plain(word);
     if fd < 0 {
         says::tell(front(word, n));
         return true;
     }
-    let sound = capture::list(fd, front(word, n), true, setting, block);
+    let sound = capture::list(fd, front(word, n), true, setting, block, levels);
     libc::close(fd);
     sound
 }

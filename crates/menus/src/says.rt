@@ -1,10 +1,7 @@
 // What `menus` writes and says. Every write to standard output is looked at: the first that doesn't take all is told, and the caller
-// stops. A line on standard error that tells of a failure begins `menus: `.
+// stops. A line on standard error that tells of a failure begins `menus: `, and one that tells of none `note: `.
 use libc::STDERR_FILENO;
 use libc::STDOUT_FILENO;
-
-// A listing that is refused because it doesn't fit.
-const NO_ROOM: u8 = 1;
 
 // Writes to standard output, and answers whether it took all. A failure is told.
 fn put(bytes: &[u8]) -> bool {
@@ -41,21 +38,50 @@ pub fn tell(name: &[u8]) {
     os::fail(name);
 }
 
-// Tells of a listing that isn't printed.
-pub fn refuse(name: &[u8], block: u16, no: u8) {
+// Tells of a listing that isn't printed, and of how many levels would be; none are named where none would.
+pub fn refuse(name: &[u8], block: u16, levels: u8) {
     say(b"menus: ");
     say(name);
     say(b": the listing of menu ");
-    say_number(block as u64);
-    if no == NO_ROOM {
-        say(
-            b" is longer than 1 MB and isn't printed; a menu that links back to itself can make it so\n",
-        );
+    say_word(block);
+    say(b" is longer than 1 MB and isn't printed");
+    if levels > 0 {
+        say(b"; -l ");
+        say_number(levels as u64);
+        say(b" fits");
+    }
+    say(b"\n");
+}
+
+// Notes that the asked number didn't come, and the first that did; a count past those says that there are more.
+pub fn note(name: &[u8], block: u16, count: usize, first: &[u16]) {
+    say(b"note: ");
+    say(name);
+    say(b": menu ");
+    say_word(block);
+    say(b" is missing; ");
+    if count == 0 {
+        say(b"none came\n");
         return;
     }
-    say(b" is refused with number ");
-    say_number(no as u64);
+    say(b"came:");
+    say_first(count, first);
+    if first.len() < count {
+        say(b" ..");
+    }
     say(b"\n");
+}
+
+fn say_first(count: usize, first: &[u16]) {
+    let mut i = 0;
+    while i < count {
+        if first.len() <= i {
+            return;
+        }
+        say(b" ");
+        say_word(first[i]);
+        i += 1;
+    }
 }
 
 // How many numbers were left out of the menus kept, where some were.
@@ -80,4 +106,8 @@ fn say(text: &[u8]) {
 
 fn say_number(number: u64) {
     io::print_decimal(STDERR_FILENO, number);
+}
+
+fn say_word(number: u16) {
+    say_number(number as u64);
 }

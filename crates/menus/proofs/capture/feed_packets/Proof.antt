@@ -7,12 +7,12 @@ use Rattle.menus.proofs.capture.feed_packets.Statement.{statement}
 use Rattle.menus.proofs.capture.feed_packets.Tie as tie
 
 abbrev Inv-loop : tie.InvT-loop
-Inv-loop setting packets records₀ form₀ store₀ numbers₀ desk₀ at₀ records form store numbers desk at =
+Inv-loop setting packets records₀ form₀ heads₀ store₀ numbers₀ desk₀ at₀ records form heads store numbers desk at =
     (at ≤ length packets) × (length records ≡ length records₀) × (length form ≡ length form₀)
-    × (length store ≡ length store₀) × (length numbers ≡ length numbers₀)
+    × (length heads ≡ length heads₀) × (length store ≡ length store₀) × (length numbers ≡ length numbers₀)
 
 abbrev μ-loop : tie.MeasureT-loop
-μ-loop setting packets records₀ form₀ store₀ numbers₀ desk₀ at₀ records form store numbers desk at = length packets - at
+μ-loop setting packets records₀ form₀ heads₀ store₀ numbers₀ desk₀ at₀ records form heads store numbers desk at = length packets - at
 
 loop-holds : tie.Need-loop-holds Inv-loop μ-loop
 loop-holds c = search needs
@@ -50,6 +50,9 @@ same-length-3 c = search needs
 same-length-4 : tie.Need-same-length-4 Inv-loop μ-loop
 same-length-4 c = search needs
 
+same-length-5 : tie.Need-same-length-5 Inv-loop μ-loop
+same-length-5 c = search needs
+
 returns : tie.Need-returns Inv-loop μ-loop
 returns c = search needs
 
@@ -71,4 +74,5 @@ feed-packets-spec =
     same-length-2
     same-length-3
     same-length-4
+    same-length-5
     returns)

@@ -5,10 +5,10 @@ use Rattle.menus.proofs.capture.gather.Statement.{statement}
 use Rattle.menus.proofs.capture.gather.Tie as tie
 
 abbrev Inv-loop : tie.InvT-loop
-Inv-loop fd name setting store₀ piece₀ records₀ form₀ numbers₀ desk₀ turns₀ store piece records form numbers desk turns = Unit {0}
+Inv-loop fd name setting block heads₀ store₀ piece₀ records₀ form₀ numbers₀ desk₀ turns₀ heads store piece records form numbers desk turns = Unit {0}
 
 abbrev μ-loop : tie.MeasureT-loop
-μ-loop fd name setting store₀ piece₀ records₀ form₀ numbers₀ desk₀ turns₀ store piece records form numbers desk turns = turns
+μ-loop fd name setting block heads₀ store₀ piece₀ records₀ form₀ numbers₀ desk₀ turns₀ heads store piece records form numbers desk turns = turns
 
 fresh-requires : tie.Need-fresh-requires Inv-loop μ-loop
 fresh-requires c κs = search needs

@@ -10,11 +10,12 @@ use Rattle.menus.proofs.capture.keep_records.Statement.{statement}
 use Rattle.menus.proofs.capture.keep_records.Tie as tie
 
 abbrev Inv-loop : tie.InvT-loop
-Inv-loop application records form₀ store₀ numbers₀ kept₀ at₀ form store numbers kept at =
-    (at ≤ length records) × (length form ≡ length form₀) × (length store ≡ length store₀) × (length numbers ≡ length numbers₀)
+Inv-loop application records form₀ heads₀ store₀ numbers₀ kept₀ at₀ form heads store numbers kept at =
+    (at ≤ length records) × (length form ≡ length form₀) × (length heads ≡ length heads₀)
+    × (length store ≡ length store₀) × (length numbers ≡ length numbers₀)
 
 abbrev μ-loop : tie.MeasureT-loop
-μ-loop application records form₀ store₀ numbers₀ kept₀ at₀ form store numbers kept at = length records - at
+μ-loop application records form₀ heads₀ store₀ numbers₀ kept₀ at₀ form heads store numbers kept at = length records - at
 
 loop-holds : tie.Need-loop-holds Inv-loop μ-loop
 loop-holds c = search needs
@@ -25,11 +26,11 @@ after-requires c κs = search needs
 -- the next record begins further on, and not past the end
 goes-on :
     (c : tie.After-after Inv-loop μ-loop)
-    → (c .before .before .loop .at < c .after .result) × (c .after .result ≤ length (now (c .before .before .before .before .before .before .before .args .records)))
+    → (c .before .before .loop .at < c .after .result) × (c .after .result ≤ length (now (c .before .before .before .before .before .before .before .before .args .records)))
 goes-on c =
-    subst (λ (n : ℕ). (c .before .before .loop .at < n) × (n ≤ length (now (c .before .before .before .before .before .before .before .args .records))))
+    subst (λ (n : ℕ). (c .before .before .loop .at < n) × (n ≤ length (now (c .before .before .before .before .before .before .before .before .args .records))))
     (sym (c .after .ensures))
-    (after-within (now (c .before .before .before .before .before .before .before .args .records)) (c .before .before .loop .at) (search needs))
+    (after-within (now (c .before .before .before .before .before .before .before .before .args .records)) (c .before .before .loop .at) (search needs))
 
 sub-keep-record : tie.Need-sub-keep-record Inv-loop μ-loop
 sub-keep-record c = omega (arith, goes-on c)
@@ -44,10 +45,10 @@ keep-record-requires : tie.Need-keep-record-requires Inv-loop μ-loop
 keep-record-requires c κs = search needs
 
 loop-less : tie.Need-loop-less Inv-loop μ-loop
-loop-less c = omega (arith, goes-on (c .before .before .before .before .before .before .before .before .before .before .before))
+loop-less c = omega (arith, goes-on (c .before .before .before .before .before .before .before .before .before .before .before .before .before .before))
 
 loop-again : tie.Need-loop-again Inv-loop μ-loop
-loop-again c = let g = goes-on (c .before .before .before .before .before .before .before .before .before .before .before) in search needs
+loop-again c = let g = goes-on (c .before .before .before .before .before .before .before .before .before .before .before .before .before .before) in search needs
 
 same-length : tie.Need-same-length Inv-loop μ-loop
 same-length c = search needs
@@ -57,6 +58,9 @@ same-length-2 c = search needs
 
 same-length-3 : tie.Need-same-length-3 Inv-loop μ-loop
 same-length-3 c = search needs
+
+same-length-4 : tie.Need-same-length-4 Inv-loop μ-loop
+same-length-4 c = search needs
 
 returns : tie.Need-returns Inv-loop μ-loop
 returns c = search needs
@@ -78,4 +82,5 @@ keep-records-spec =
     same-length
     same-length-2
     same-length-3
+    same-length-4
     returns)

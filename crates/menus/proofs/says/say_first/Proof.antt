@@ -1,0 +1,62 @@
+-- `menus::says::say_first` is safe and ends: it counts the numbers. Assumes nothing.
+use borrow.Author.Needs.{needs}
+use Prim.Native.Nat.{_-_}
+use Rattle.menus.proofs.says.say_first.Statement.{statement}
+use Rattle.menus.proofs.says.say_first.Tie as tie
+
+abbrev Inv-loop : tie.InvT-loop
+Inv-loop count first i₀ t4 i = Unit {0}
+
+abbrev μ-loop : tie.MeasureT-loop
+μ-loop count first i₀ t4 i = count - i
+
+loop-holds : tie.Need-loop-holds Inv-loop μ-loop
+loop-holds c = search needs
+
+returns : tie.Need-returns Inv-loop μ-loop
+returns c = search needs
+
+slice-aggregate-say : tie.Need-slice-aggregate-say Inv-loop μ-loop
+slice-aggregate-say c = search needs
+
+say-requires : tie.Need-say-requires Inv-loop μ-loop
+say-requires c κs = search needs
+
+mul-say-word : tie.Need-mul-say-word Inv-loop μ-loop
+mul-say-word c = search needs
+
+shared-slice-read-say-word : tie.Need-shared-slice-read-say-word Inv-loop μ-loop
+shared-slice-read-say-word c = search needs
+
+say-word-requires : tie.Need-say-word-requires Inv-loop μ-loop
+say-word-requires c κs = search needs
+
+add-i : tie.Need-add-i Inv-loop μ-loop
+add-i c = search needs
+
+loop-less : tie.Need-loop-less Inv-loop μ-loop
+loop-less c = search needs
+
+loop-again : tie.Need-loop-again Inv-loop μ-loop
+loop-again c = search needs
+
+returns-2 : tie.Need-returns-2 Inv-loop μ-loop
+returns-2 c = search needs
+
+pub say-first-spec : {M : Type 1} → statement M
+say-first-spec =
+    tie.close
+    (tie.spec
+    Inv-loop
+    μ-loop
+    loop-holds
+    returns
+    slice-aggregate-say
+    say-requires
+    mul-say-word
+    shared-slice-read-say-word
+    say-word-requires
+    add-i
+    loop-less
+    loop-again
+    returns-2)
