@@ -1,4 +1,4 @@
--- The example of SCOPE 23.8, a menu that leads to itself, and one that isn't there, computed from the definitions. The records are what the
+-- The example of SCOPE 23.8, a menu that leads to itself, from a list and from a shelf, and one that isn't there, computed from the definitions. The records are what the
 -- independent model of the tests writes. Assumes nothing.
 use mathlib.Core.Path.{_≡_, refl}
 use mathlib.Core.List.{List, [], _∷_, _++_}
@@ -14,13 +14,15 @@ use Rattle.sums.specs.Sums.{total, checksum, sound}
 use Rattle.frames.specs.Framing.{frameRules}
 use Rattle.menu_forms.specs.Rows.{each, inRow}
 use Rattle.menu_forms.specs.Menus.{infoBytes, textFields, eventFields, fillFields, fields, strings}
-use Rattle.menu_forms.specs.Form.{codesIn}
+use Rattle.menu_forms.specs.Form.{codesIn, textIn, eventIn, menuIn, textForm, eventForm}
+use Rattle.shelf.specs.Shelf.{three, numberIn, wayBack, placeOf}
 use Rattle.menu_forms.specs.Block.{spelled}
 use Rattle.menu.specs.Control.{textAt, eventAt, eventsAt, menuOf}
 use Rattle.menu.specs.Reading.{frontRules, wholeRules, lengthRules}
 use Rattle.printing.specs.Lines.{digitsIn, numberLine}
 use Rattle.menu_listing.specs.Lines.{shown, textLine, linkLine, eventLines, eventsLines, menuLines}
 use Rattle.menu_listing.specs.Listing.{isMenu, menusOf, linesOf, listing}
+use Rattle.menu_listing.specs.Kept.{formAt, keptMenus, keptListing}
 
 -- `missing=9`
 abbrev missing : List ℕ
@@ -89,16 +91,26 @@ top =
     ∷ 108 ∷ 105 ∷ 110 ∷ 107 ∷ 61 ∷ 49 ∷ 44 ∷ 51 ∷ 10
     ∷ 100 ∷ 101 ∷ 101 ∷ 112 ∷ 101 ∷ 114 ∷ 61 ∷ 51 ∷ 10 ∷ []
 
+-- the same menu on a shelf, with nothing in front of it in its row
+abbrev shelved : List ℕ
+shelved =
+    0 ∷ 0 ∷ 0 ∷ 3 ∷ 0 ∷ 3 ∷ 0 ∷ 0 ∷ 0 ∷ 0 ∷ 0 ∷ 1 ∷ 0 ∷ 1 ∷ 65 ∷ 3 ∷ 0 ∷ 1 ∷ 0 ∷ 0 ∷ 1 ∷ 66 ∷ []
+
+-- heads of which row 3 names it
+abbrev named : List ℕ
+named = 0 ∷ 0 ∷ 0 ∷ 0 ∷ 0 ∷ 0 ∷ 0 ∷ 0 ∷ 0 ∷ 1 ∷ 0 ∷ 0 ∷ []
+
 pub record Listed : Type 0 where
   pub whole : listing 1 0 8 (guide ++ themes) ≡ text
   pub deepest : drop 343 (listing 1 3 8 round) ≡ bottom
   -- one level asked for
   pub highest : listing 1 3 1 round ≡ top
+  pub on-shelf : keptListing 3 1 named shelved ≡ top
   -- a first menu that isn't there is one line
   pub absent : listing 1 9 8 [] ≡ missing
 
 pub case-listed : Listed
 unfolding bits number differing image withParity nib nibbleFrom blocksWithin width field whole laid parts ones isOdd letter odds total checksum sound frameRules
     each inRow infoBytes textFields eventFields fillFields fields strings codesIn spelled textAt eventAt eventsAt menuOf frontRules wholeRules lengthRules
-    digitsIn numberLine shown textLine linkLine eventLines eventsLines menuLines isMenu menusOf linesOf listing
-case-listed = record { whole = refl; deepest = refl; highest = refl; absent = refl }
+    digitsIn numberLine shown textLine linkLine eventLines eventsLines menuLines isMenu menusOf linesOf listing three numberIn wayBack placeOf textIn eventIn menuIn formAt keptMenus keptListing textForm eventForm
+case-listed = record { whole = refl; deepest = refl; highest = refl; on-shelf = refl; absent = refl }

@@ -7,4 +7,5 @@ pub mod Accepted
 pub mod Records
 pub mod Shelves
 pub mod Rules
+pub mod Keeping
 pub mod Cases

@@ -1,14 +1,16 @@
 -- The listing of a menu out of a shelf: SCOPE 23.9.
+use mathlib.Core.Path.{_≡_}
 use mathlib.Core.List.{List, [], _∷_, _++_}
 use Prim.Native.Nat.{ℕ}
 use lib.Dec.{eqb}
 use lib.ListN.{take, drop, replicate}
 use Rattle.laws.specs.Pick.{pick}
 use Rattle.answer.specs.Rules.{Rule, rule}
+use Rattle.blocks.specs.Block.{blocks}
 use Rattle.menu_forms.specs.Menus.{Menu}
-use Rattle.menu_forms.specs.Form.{menuIn}
+use Rattle.menu_forms.specs.Form.{form, menuIn}
 use Rattle.shelf.specs.Shelf.{placeOf}
-use Rattle.menu_listing.specs.Listing.{areLevels, linesOf}
+use Rattle.menu_listing.specs.Listing.{menusOf, areLevels, linesOf}
 
 -- so many bytes of a form are read: no block's form is longer
 abbrev pub formMost : ℕ
@@ -30,3 +32,15 @@ keptListing number levels heads shelf = linesOf (keptMenus heads shelf) levels l
 -- 16 for the levels
 abbrev pub keptRules : ℕ → List Rule
 keptRules levels = rule (areLevels levels) 16 0 ∷ []
+
+-- ---- a shelf that holds the menus of a list
+
+-- at a place of the shelf stands the form of the first of these menus; where there is none, the place is 0
+pub data HasAt (shelf : List ℕ) : List Menu → ℕ → Type 0 where
+  none : HasAt shelf [] 0
+  first : {m : Menu} {ms : List Menu} {place : ℕ} (rest : List ℕ) → (place ≡ 0 → ⊥) → drop place shelf ≡ form m ++ rest → HasAt shelf (m ∷ ms) place
+
+-- under each number the shelf has the first menu with it of the list, and none where the list has none
+abbrev pub Holds : ℕ → List ℕ → List ℕ → List ℕ → Type 0
+Holds application records heads shelf =
+    (number : ℕ) → HasAt shelf (menusOf application number (blocks records)) (placeOf number heads shelf)

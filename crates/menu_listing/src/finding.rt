@@ -1,6 +1,5 @@
 // A menu by its number, in a list of records or on a shelf.
 ghost use mathlib.Core.Path.{_≡_};
-ghost use mathlib.Core.Bool.{true};
 ghost use Prim.Native.Nat.{_<_, _≤_};
 ghost use lib.ListN.{length, replicate};
 ghost use Rattle.blocks.specs.Block.{whole, headLength, blocks};

@@ -77,8 +77,8 @@ pub fn list_menu(application: u8, number: u16, records: &[u8], out: &mut [u8]) -
     list_levels(application, number, LEVELS, records, out)
 }
 
-// The same of the menus of a shelf: no record is read, and the list isn't walked. The time is that of the room: each look goes along one row
-// of the shelf, of at most 256 menus where each number is kept once.
+// The same of the menus of a shelf; no record is read. The time is that of the room alone: each look goes along one row of the shelf, of at
+// most 256 menus where each number is kept once.
 pub fn list_kept(number: u16, levels: u8, heads: &[u8], shelf: &[u8], out: &mut [u8]) -> Answer
     ensures answer { λ r.
         ⌜ r
@@ -110,7 +110,8 @@ fn are_levels(levels: u8) -> bool
     levels <= LEVELS
 }
 
-// The listing, where only the room is left to judge: the walk that measures, and the walk that writes.
+// The listing, where only the room is left to judge: the walk that measures, and the walk that writes. A list of records has no heads: what
+// is handed in for them isn't looked at.
 fn print(
     source: Source,
     number: usize,
