@@ -3,15 +3,15 @@ use mathlib.Core.Path.{_≡_, _∙_, refl, sym, ap}
 use mathlib.Core.Bool.{Bool, true, false}
 use mathlib.Core.Logic.{_⊎_, inl, inr}
 use mathlib.Core.List.{List, [], _∷_, _++_, append-assoc}
-use Prim.Native.Nat.{ℕ, zero, suc, _+_, _-_, _≤_, _<_}
+use Prim.Native.Nat.{ℕ, zero, suc, _+_, _-_, _≤_}
 use native.Mathlib.Omega.{arith}
 use borrow.Author.Tests.{ne-eqb}
 use lib.Dec.{eqb}
-use lib.ListN.{length, getD, take, drop, replicate}
+use lib.ListN.{length, take, drop, replicate}
 use lib.Seq.{take-append-add}
 use Rattle.laws.specs.Pick.{pick}
 use Rattle.laws.specs.Each.{Each, nil, and}
-use Rattle.laws.proofs.Eaches.{each-first, each-append}
+use Rattle.laws.proofs.Eaches.{each-first}
 use Rattle.laws.proofs.Tests.{both-first}
 use Rattle.answer.specs.Rules.{Rule, Every, First}
 use Rattle.answer.proofs.Judging.{refuses, decided}
@@ -22,7 +22,6 @@ use Rattle.menu_forms.specs.Form.{form, menuIn}
 use Rattle.menu_forms.proofs.Forms.{form-back-on}
 use Rattle.menu_forms.proofs.Formed.{bytes-behind}
 use Rattle.menu.specs.Reading.{readRules, menuRead}
-use Rattle.shelf.specs.Shelf.{placeOf}
 use Rattle.menu_listing.specs.Lines.{menuLines}
 use Rattle.menu_listing.specs.Listing.{holding, isMenu, menusOf, linesOf, listing}
 use Rattle.menu_listing.specs.Kept.{formMost, formAt, keptMenus, keptListing, HasAt, none, first, Holds}

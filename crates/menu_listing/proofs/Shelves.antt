@@ -8,7 +8,6 @@ use borrow.Author.Tests.{eq-eqb, ne-eqb}
 use lib.ListN.{length, take, drop, replicate, length-take, length-replicate, replicate-append-replicate}
 use lib.Seq.{sets, take-at}
 use Rattle.laws.proofs.Lists.{sets-front}
-use Rattle.menu_forms.specs.Menus.{Menu}
 use Rattle.menu_forms.specs.Form.{menuIn}
 use Rattle.shelf.specs.Shelf.{placeOf}
 use Rattle.menu_listing.specs.Kept.{formMost, formAt, keptMenus}

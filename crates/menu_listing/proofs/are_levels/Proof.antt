@@ -1,5 +1,4 @@
 -- `menu_listing::are_levels` meets its contract. Assumes nothing.
-use mathlib.Core.Path.{_≡_}
 use native.Mathlib.Omega.{arith}
 use borrow.Author.Tests.{le-leb, lt-leb}
 use Rattle.menu_listing.proofs.are_levels.Statement.{statement}

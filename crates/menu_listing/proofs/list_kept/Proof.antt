@@ -1,9 +1,7 @@
 -- `menu_listing::list_kept` meets its contract: the levels, then the listing. Assumes nothing.
 use borrow.Author.Needs.{needs}
 use borrow.Author.Tests.{not-true, not-false}
-use mathlib.Core.List.{List}
-use mathlib.Core.Path.{_∙_, refl, sym}
-use Prim.Native.Nat.{ℕ}
+use mathlib.Core.Path.{_∙_, sym}
 use denote.Ref.{now}
 use Rattle.menu_listing.specs.Kept.{keptListing}
 use Rattle.menu_listing.proofs.Rules.{kept-16, kept, some-level}

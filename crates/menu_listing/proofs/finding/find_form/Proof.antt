@@ -1,7 +1,6 @@
 -- `menu_listing::finding::find_form` meets its contract: each source's own search. Assumes nothing.
 use borrow.Author.Needs.{needs}
-use mathlib.Core.Path.{_≡_, _∙_, sym, ap, subst}
-use mathlib.Core.List.{List}
+use mathlib.Core.Path.{_∙_, sym, ap, subst}
 use Prim.Native.Nat.{ℕ}
 use denote.Ref.{now}
 use lib.ListN.{length, length-replicate}
