@@ -1,9 +1,10 @@
-// The menus of teletext captures, as a listing: menu `-b N` and what its events link to, `-l N` levels of it (SCOPE 23.10). A capture is a list of 42-byte packets:
-// standard input, or each file that is named. Every capture gets a fresh reader and its own listing.
+// The menus of teletext captures, as a listing: menu `-b N` and what its events link to, `-l N` levels of it (SCOPE 23.10). A capture is a list
+// of 42-byte packets: standard input, or each file that is named. Every capture gets a fresh reader and its own listing.
 //
 // Words that the program is called with are heard twice: first all are judged, then the files are listed.
 //
-// A line on standard error that tells of a failure begins `menus: `, and one that tells of no failure `note: `. Once standard output has failed, nothing more goes out.
+// A line on standard error that tells of a failure begins `menus: `, and one that tells of none `note: `. Once standard output has failed,
+// nothing more goes out.
 mod capture;
 mod kept;
 mod says;
