@@ -6,7 +6,7 @@ use crate::kept;
 use crate::kept::FORM;
 use crate::kept::Kept;
 use crate::kept::NUMBERS;
-use crate::kept::STORE;
+use crate::kept::SHELF;
 use crate::says;
 use answer::Answer;
 use frames::Read;
@@ -57,7 +57,7 @@ pub fn list(
     levels: u8,
 ) -> bool {
     let mut heads = [0u8; HEADS];
-    let mut store = [0u8; STORE];
+    let mut store = [0u8; SHELF];
     let kept = gather(fd, name, setting, block, &mut heads, &mut store);
     if !kept.whole {
         return true;
@@ -76,7 +76,7 @@ fn list_kept(
     block: u16,
     levels: u8,
     heads: &[u8; HEADS],
-    store: &[u8; STORE],
+    store: &[u8; SHELF],
     used: usize,
 ) -> bool {
     let mut text = [0u8; TEXT];
@@ -138,7 +138,7 @@ fn gather(
     setting: Setting,
     block: u16,
     heads: &mut [u8; HEADS],
-    store: &mut [u8; STORE],
+    store: &mut [u8; SHELF],
 ) -> Kept {
     let mut piece = [0u8; PIECE];
     let mut records = [0u8; RECORDS];
@@ -232,7 +232,7 @@ fn feed(
     records: &mut [u8; RECORDS],
     form: &mut [u8; FORM],
     heads: &mut [u8; HEADS],
-    store: &mut [u8; STORE],
+    store: &mut [u8; SHELF],
     numbers: &mut [u8; NUMBERS],
 ) -> Desk {
     feed_packets(

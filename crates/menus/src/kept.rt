@@ -2,8 +2,12 @@
 // records: from the first whose record doesn't fit on none is kept, and the numbers left out are counted.
 use answer::Answer;
 
-// So many bytes of records are kept. A form with its link is shorter than its record, so this is enough for the shelf.
-pub const STORE: usize = 524288;
+// So many bytes of records are kept.
+const STORE: usize = 524288;
+
+// The shelf that holds their forms. A form with its link is at least 12 bytes shorter than its record; 254 records have at most 520,954 bytes,
+// and of 255 or more the forms have at most 524,288 - 255 * 12, which is 521,228.
+pub const SHELF: usize = 521280;
 
 // The numbers that a block can have. The byte of one that has come is 1.
 pub const NUMBERS: usize = 65536;
@@ -105,20 +109,21 @@ fn add(kept: Kept, long: usize, form: &[u8], heads: &mut [u8], store: &mut [u8])
     }
 }
 
-// So many bytes of records more, and so many of the shelf. Neither goes past the store.
+// So many bytes of records more, and so many of the shelf.
 fn grown(kept: Kept, long: usize, n: usize) -> Kept {
     let mut kept = kept;
-    kept.size = on(kept.size, long);
-    kept.used = on(kept.used, n);
+    kept.size = on(kept.size, long, STORE);
+    kept.used = on(kept.used, n, SHELF);
     kept
 }
 
-fn on(at: usize, more: usize) -> usize {
-    if STORE < at {
-        return STORE;
+// The place so many bytes further on, or the end where that is nearer.
+fn on(at: usize, more: usize, end: usize) -> usize {
+    if end < at {
+        return end;
     }
-    if STORE - at < more {
-        return STORE;
+    if end - at < more {
+        return end;
     }
     at + more
 }
