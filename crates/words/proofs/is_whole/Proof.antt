@@ -1,0 +1,20 @@
+-- `words::is_whole` meets its contract: the places of the row that was said. Assumes nothing.
+use mathlib.Core.Path.{_∙_, ap}
+use mathlib.Core.List.{List}
+use Prim.Native.Nat.{ℕ}
+use Rattle.words.specs.Places.{mayEnd}
+use borrow.Author.Needs.{needs}
+use Rattle.words.proofs.is_whole.Statement.{statement}
+use Rattle.words.proofs.is_whole.Tie as tie
+
+places-requires : tie.Need-places-requires
+places-requires c κs = search needs
+
+may-end-requires : tie.Need-may-end-requires
+may-end-requires c κs = search needs
+
+returns : tie.Need-returns
+returns c = c .may-end .ensures ∙ ap (λ (p : List ℕ). mayEnd p (c .before .before .before .args .said .spot)) (c .before .places .ensures)
+
+pub is-whole-spec : {M : Type 1} → statement M
+is-whole-spec = tie.close (tie.spec places-requires may-end-requires returns)
