@@ -38,6 +38,15 @@ use Rattle.asked.proofs.start.Reads as asked·start
 use Rattle.asked.proofs.next.Reads as asked·next
 use Rattle.asked.proofs.is_name.Reads as asked·is-name
 use Rattle.asked.proofs.is_good.Reads as asked·is-good
+use Rattle.words.proofs.start.Reads as words·start
+use Rattle.words.proofs.next.Reads as words·next
+use Rattle.words.proofs.place.Reads as words·place
+use Rattle.words.proofs.is_good.Reads as words·is-good
+use Rattle.words.proofs.is_task.Reads as words·is-task
+use Rattle.words.proofs.value.Reads as words·value
+use Rattle.words.proofs.second.Reads as words·second
+use Rattle.words.proofs.numbers.number_of.Reads as words·number-of
+use Rattle.words.proofs.numbers.kind_of.Reads as words·kind-of
 use Rattle.units.proofs.unit_at.Reads as units·unit-at
 use Rattle.units.proofs.marks.is_text.Reads as units·is-text
 use Rattle.units.proofs.marks.line_fits.Reads as units·line-fits
@@ -447,6 +456,33 @@ asked·is-name-settled κs a x y s t p q = same p q
 
 pub asked·is-good-settled : (κs : _) (a : _) (x y : _) (s t : _) → asked·is-good.Post κs a x s → asked·is-good.Post κs a y t → x ≡ y
 asked·is-good-settled κs a x y s t p q = same p q
+
+pub words·start-settled : (κs : _) (a : _) (x y : _) (s t : _) → words·start.Post κs a x s → words·start.Post κs a y t → x ≡ y
+words·start-settled κs a x y s t p q = same p q
+
+pub words·next-settled : (κs : _) (a : _) (x y : _) (s t : _) → words·next.Post κs a x s → words·next.Post κs a y t → x ≡ y
+words·next-settled κs a x y s t p q = same p q
+
+pub words·place-settled : (κs : _) (a : _) (x y : _) (s t : _) → words·place.Post κs a x s → words·place.Post κs a y t → x ≡ y
+words·place-settled κs a x y s t p q = same p q
+
+pub words·is-good-settled : (κs : _) (a : _) (x y : _) (s t : _) → words·is-good.Post κs a x s → words·is-good.Post κs a y t → x ≡ y
+words·is-good-settled κs a x y s t p q = same p q
+
+pub words·is-task-settled : (κs : _) (a : _) (x y : _) (s t : _) → words·is-task.Post κs a x s → words·is-task.Post κs a y t → x ≡ y
+words·is-task-settled κs a x y s t p q = same p q
+
+pub words·value-settled : (κs : _) (a : _) (x y : _) (s t : _) → words·value.Post κs a x s → words·value.Post κs a y t → x ≡ y
+words·value-settled κs a x y s t p q = same p q
+
+pub words·second-settled : (κs : _) (a : _) (x y : _) (s t : _) → words·second.Post κs a x s → words·second.Post κs a y t → x ≡ y
+words·second-settled κs a x y s t p q = same p q
+
+pub words·number-of-settled : (κs : _) (a : _) (x y : _) (s t : _) → words·number-of.Post κs a x s → words·number-of.Post κs a y t → x ≡ y
+words·number-of-settled κs a x y s t p q = same p q
+
+pub words·kind-of-settled : (κs : _) (a : _) (x y : _) (s t : _) → words·kind-of.Post κs a x s → words·kind-of.Post κs a y t → x ≡ y
+words·kind-of-settled κs a x y s t p q = same p q
 
 -- ---- the test programs
 
