@@ -79,6 +79,8 @@ use Rattle.survey.proofs.count.Reads as survey·count
 use Rattle.survey.proofs.find.Reads as survey·find
 use Rattle.survey.proofs.turn_all.Reads as survey·turn-all
 use Rattle.survey.proofs.seen.note.Reads as survey·note
+use Rattle.told.proofs.front.Reads as told·front
+use Rattle.told.proofs.names.plain.Reads as told·plain
 use Rattle.packet.proofs.address.Reads as packet·address
 use Rattle.packet.proofs.passes_by.Reads as packet·passes-by
 use Rattle.moves.proofs.copy.Reads as moves·copy
@@ -402,6 +404,12 @@ survey·turn-all-settled κs a x y s t p q = same p q
 
 pub survey·note-settled : (κs : _) (a : _) (x y : _) (s t : _) → survey·note.Post κs a x s → survey·note.Post κs a y t → now (s .0) ≡ now (t .0)
 survey·note-settled κs a x y s t p q = same p q
+
+pub told·front-settled : (κs : _) (a : _) (x y : _) (s t : _) → told·front.Post κs a x s → told·front.Post κs a y t → now x ≡ now y
+told·front-settled κs a x y s t p q = same p q
+
+pub told·plain-settled : (κs : _) (a : _) (x y : _) (s t : _) → told·plain.Post κs a x s → told·plain.Post κs a y t → now (s .0) ≡ now (t .0)
+told·plain-settled κs a x y s t p q = same p q
 
 pub wanted·start-settled : (κs : _) (a : _) (x y : _) (s t : _) → wanted·start.Post κs a x s → wanted·start.Post κs a y t → x ≡ y
 wanted·start-settled κs a x y s t p q = same p q
