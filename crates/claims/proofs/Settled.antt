@@ -81,6 +81,8 @@ use Rattle.survey.proofs.turn_all.Reads as survey·turn-all
 use Rattle.survey.proofs.seen.note.Reads as survey·note
 use Rattle.told.proofs.front.Reads as told·front
 use Rattle.told.proofs.names.plain.Reads as told·plain
+use Rattle.captures.proofs.start.Reads as captures·start
+use Rattle.captures.proofs.sight.pages.Reads as captures·pages
 use Rattle.packet.proofs.address.Reads as packet·address
 use Rattle.packet.proofs.passes_by.Reads as packet·passes-by
 use Rattle.moves.proofs.copy.Reads as moves·copy
@@ -410,6 +412,12 @@ told·front-settled κs a x y s t p q = same p q
 
 pub told·plain-settled : (κs : _) (a : _) (x y : _) (s t : _) → told·plain.Post κs a x s → told·plain.Post κs a y t → now (s .0) ≡ now (t .0)
 told·plain-settled κs a x y s t p q = same p q
+
+pub captures·start-settled : (κs : _) (a : _) (x y : _) (s t : _) → captures·start.Post κs a x s → captures·start.Post κs a y t → x ≡ y
+captures·start-settled κs a x y s t p q = same p q
+
+pub captures·pages-settled : (κs : _) (a : _) (x y : _) (s t : _) → captures·pages.Post κs a x s → captures·pages.Post κs a y t → x ≡ y
+captures·pages-settled κs a x y s t p q = same p q
 
 pub wanted·start-settled : (κs : _) (a : _) (x y : _) (s t : _) → wanted·start.Post κs a x s → wanted·start.Post κs a y t → x ≡ y
 wanted·start-settled κs a x y s t p q = same p q

@@ -1,0 +1,33 @@
+-- `captures::sight::look` meets its contract, by its test. Assumes nothing.
+use denote.Ref.{now}
+use Rattle.captures.proofs.Looking.{is-looked, not-looked}
+use borrow.Author.Needs.{needs}
+use Rattle.captures.proofs.sight.look.Statement.{statement}
+use Rattle.captures.proofs.sight.look.Tie as tie
+
+is-looked-requires : tie.Need-is-looked-requires
+is-looked-requires c κs = search needs
+
+look-on-requires : tie.Need-look-on-requires
+look-on-requires c κs = search needs
+
+same-length : tie.Need-same-length
+same-length c = search needs
+
+same-length-2 : tie.Need-same-length-2
+same-length-2 c = search needs
+
+returns : tie.Need-returns
+returns c =
+    let a = c .before .before .before .before .before .before .before .before .before .before .before .args in
+    is-looked (a .setting) (a .verbose) (a .sight) (a .n) (now (a .piece)) (now (a .pages)) (c .before .before .before .before .before .before .before .before .is-looked .ensures) (c .before .before .before .before .before .before .before .if1 .taken) (c .before .before .before .before .look-on .ensures)
+
+returns-2 : tie.Need-returns-2
+returns-2 c =
+    let a = c .before .before .before .before .args in
+    not-looked (a .setting) (a .verbose) (a .sight) (a .n) (now (a .piece)) (now (a .pages)) (c .before .is-looked .ensures) (c .if1 .left)
+
+pub look-spec : {M : Type 1} → statement M
+look-spec =
+    tie.close
+    (tie.spec is-looked-requires look-on-requires same-length same-length-2 returns returns-2)

@@ -1,0 +1,6 @@
+-- A capture, from what was read to the records that come of it: SCOPE 10.6, 10.7, 13.9, 13.10.
+pub mod Reading
+pub mod Sights
+pub mod Courses
+pub mod Feeding
+pub mod Pulling
