@@ -21,9 +21,9 @@ use Rattle.walk.specs.Reading.{room}
 use Rattle.walk.proofs.Adding.{recordsOf-append}
 use Rattle.state.specs.declared.Reader.{Reader}
 use Rattle.state.specs.Acting.{State}
-use Rattle.state.specs.State.{stateOf, readerOf, freshState}
+use Rattle.state.specs.State.{stateOf, readerOf, freshState, Sound}
 use Rattle.state.proofs.Bounding.{packet-room}
-use Rattle.state.proofs.Ranging.{Sound, sound-fresh, sound-after, state-held, reader-in-range}
+use Rattle.state.proofs.Ranging.{sound-fresh, sound-after, state-held, reader-in-range}
 use Rattle.reader.specs.declared.many.HeardAll.the-variants.{TookAll}
 use Rattle.reader.specs.Many.{Ran, begun, ranOn, run, ranAll, feedAllHeard, feedAllReader}
 use Rattle.captures.specs.declared.reading.Got.{Got}
