@@ -16,7 +16,7 @@ use Rattle.blocks.specs.Block.{headLength}
 use Rattle.forms.specs.Tables.{fill}
 use Rattle.forms.specs.Form.{form, tableIn}
 use Rattle.forms.specs.Writing.{writeRules}
-use Rattle.forms.proofs.Forms.{Bytes}
+use Rattle.laws.specs.Bytes.{Bytes}
 use Rattle.sums.specs.Block.{mendedIn, recordOf, Says}
 use Rattle.frames.specs.declared.Read.{Read}
 use Rattle.frames.specs.declared.Read.the-variants.{Taken}

@@ -10,6 +10,8 @@ use lib.Dec.{ltb, eqb}
 use lib.ListN.{length, getD, take, drop, length-drop, take-append-drop}
 use lib.Seq.{drop-drop, drop-at, drop-cons, getD-drop}
 use Rattle.laws.specs.Pick.{both, either}
+use Rattle.laws.specs.Bytes.{Bytes}
+use Rattle.laws.proofs.Byted.{bytes-drop}
 use Rattle.laws.proofs.Countdown.{at-more}
 use Rattle.laws.proofs.Tests.{both-true}
 use Rattle.fields.specs.Fields.{alike, fitting, parts, whole}
@@ -80,13 +82,6 @@ length-words (suc k) f = ap suc (length-words k (drop 3 f))
 -- as many entries as counted
 pub entries-in : (kind c words : ℕ) (f : List ℕ) → words ≡ per kind * c → entries kind (wordsIn words f) ≡ c
 entries-in kind c words f e = ap (λ (n : ℕ). n / per kind) (length-words words f ∙ e) ∙ mul-div-cancel-left c (per-pos kind)
-
--- bytes
-abbrev pub Bytes : List ℕ → Type 0
-Bytes f = (i : ℕ) → getD f i 0 < 256
-
-bytes-drop : (n : ℕ) (f : List ℕ) → Bytes f → Bytes (drop n f)
-bytes-drop n f h i = rw getD-drop (h (n + i))
 
 spelled-back : (k : ℕ) (f : List ℕ) → Bytes f → 3 * k ≤ length f → spelled (wordsIn k f) ≡ take (3 * k) f
 unfolding spelled wordsIn

@@ -1,3 +1,4 @@
+pub mod Byted
 pub mod Countdown
 pub mod Eaches
 pub mod Joined

@@ -1,5 +1,6 @@
 -- What definitions of several crates are made of.
 pub mod Pick
+pub mod Bytes
 pub mod Each
 pub mod Range
 pub mod Keyed

@@ -8,7 +8,7 @@ use Rattle.blocks.specs.Block.{headLength}
 use Rattle.answer.specs.Rules.{Every}
 use Rattle.answer.specs.Writing.{answered, left}
 use Rattle.answer.proofs.Judging.{passes}
-use Rattle.forms.proofs.Forms.{Bytes}
+use Rattle.laws.specs.Bytes.{Bytes}
 use Rattle.frames.specs.Outcome.{accepted, refused}
 use Rattle.frames.specs.declared.Read.{Read}
 use Rattle.frames.specs.declared.Read.the-variants.{Taken}

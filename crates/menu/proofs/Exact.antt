@@ -21,7 +21,8 @@ use Rattle.octet.proofs.Hearing.{harms-le}
 use Rattle.blocks.specs.Block.{headOf}
 use Rattle.fields.specs.Fields.{Field, width, fitting}
 use Rattle.fields.proofs.Laid.{field-lt, length-parts}
-use Rattle.forms.proofs.Forms.{Bytes}
+use Rattle.laws.specs.Bytes.{Bytes}
+use Rattle.laws.proofs.Byted.{bytes-drop}
 use Rattle.sums.specs.Sums.{checksum, sound}
 use Rattle.sums.proofs.Nibbles.{parts-sound, sound-take}
 use Rattle.sums.proofs.Summing.{checksum-lt}
@@ -31,7 +32,6 @@ use Rattle.frames.proofs.Framed.{Framed, framed, frame-holds, header-of, headed
 use Rattle.strings.specs.Parity.{letter, odds}
 use Rattle.menu_forms.specs.Menus.{Menu, NI, zeros, fields, strings, control, size, sevens, fits}
 use Rattle.menu_forms.specs.Block.{spelled, nibbles, headBits, checksumOf, Says}
-use Rattle.menu_forms.proofs.Formed.{bytes-behind}
 use Rattle.menu_forms.proofs.Nibbled.{menu-nibbled, menu-bytes, menu-whole}
 use Rattle.menu_forms.proofs.Saying.{nibbles-long, sum-apart}
 use Rattle.menu.specs.Control.{bitsAt, menuOf}
@@ -194,7 +194,7 @@ module _ (application : ℕ) (r : List ℕ) (b : Bytes r) (f : Framed applicatio
               ∙ ap (λ (s : ℕ). nibbles s (spareIn ns cs) m) said-sum;
           codes =
               ap (λ (l : ℕ). drop l raw) (sym ends)
-              ∙ sym (letters-again (stringPart raw) (bytes-behind (controlLength raw) raw (bytes-behind 4 r b)) (k .odd))
+              ∙ sym (letters-again (stringPart raw) (bytes-drop (controlLength raw) raw (bytes-drop 4 r b)) (k .odd))
               ∙ ap (map letter) said-strings;
         }
 

@@ -9,7 +9,7 @@ use lib.Dec.{ltb}
 use lib.ListN.{length}
 use Rattle.laws.specs.Pick.{pick}
 use Rattle.laws.proofs.Tests.{both-true, both-holds}
-use Rattle.forms.proofs.Forms.{Bytes}
+use Rattle.laws.specs.Bytes.{Bytes}
 use Rattle.strings.specs.Parity.{isOdd, letter, odds}
 use Rattle.strings.proofs.Letters.{letter-odd, letter-code, odd-letter}
 use Rattle.menu_forms.specs.Menus.{sevens}

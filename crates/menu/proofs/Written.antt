@@ -13,7 +13,7 @@ use Rattle.answer.proofs.Steps.{first-holds, others-hold}
 use Rattle.octet.specs.Image.{image}
 use Rattle.octet.specs.Hearing.{harms}
 use Rattle.octet.proofs.Hearing.{harms-images}
-use Rattle.forms.proofs.Forms.{Bytes}
+use Rattle.laws.specs.Bytes.{Bytes}
 use Rattle.frames.specs.Outcome.{accepted}
 use Rattle.strings.specs.Parity.{letter}
 use Rattle.menu_forms.specs.Menus.{Menu, Spare, NI, zeros, strings, fits}

@@ -8,7 +8,8 @@ use native.Mathlib.Omega.{arith}
 use lib.ListN.{length, getD, drop, length-append}
 use lib.Seq.{drop-nil, drop-drop, getD-drop}
 use Rattle.fields.specs.Fields.{whole}
-use Rattle.forms.proofs.Forms.{Bytes}
+use Rattle.laws.specs.Bytes.{Bytes}
+use Rattle.laws.proofs.Byted.{bytes-drop}
 use Rattle.menu_forms.specs.Rows.{each, inRow}
 use Rattle.menu_forms.specs.Menus.{Descriptor, Escape, Attribute, Event, NI, infoBytes}
 use Rattle.menu_forms.specs.Form.{highFirst, descriptorForm, escapeForm, attributeForm, textForm, eventForm, opening, form}
@@ -47,9 +48,6 @@ begins-at k l xs b =
 begins-none : (l : List ℕ) → Begins l []
 unfolding codesIn
 begins-none l = refl
-
-pub bytes-behind : (n : ℕ) (l : List ℕ) → Bytes l → Bytes (drop n l)
-bytes-behind n l h i = rw getD-drop (h (n + i))
 
 -- ---- numbers
 
@@ -93,7 +91,7 @@ attribute-begins : (f : List ℕ) → Bytes f → Begins f (attributeForm (attri
 attribute-begins f h =
     let k = infoBytes (getD f 0 0) in
     begins-at 0 f _
-    (subst (Begins (drop 1 f)) (sym (number-again k (drop 1 f) (bytes-behind 1 f h))) (begins-codes k (drop 1 f)))
+    (subst (Begins (drop 1 f)) (sym (number-again k (drop 1 f) (bytes-drop 1 f h))) (begins-codes k (drop 1 f)))
 
 module _ {E : Type 0} (spell : E → List ℕ) (read : List ℕ → E) (begins : (f : List ℕ) → Bytes f → Begins f (spell (read f))) where
   row-begins : (k : ℕ) (f : List ℕ) → Bytes f → Begins f (each spell (inRow spell read k f))
@@ -101,7 +99,7 @@ module _ {E : Type 0} (spell : E → List ℕ) (read : List ℕ → E) (begins :
   row-begins zero f h = begins-none f
   row-begins (suc k) f h =
       let n = length (spell (read f)) in
-      begins-append f (spell (read f)) _ (begins f h) (row-begins k (drop n f) (bytes-behind n f h))
+      begins-append f (spell (read f)) _ (begins f h) (row-begins k (drop n f) (bytes-drop n f h))
 
 -- ---- strings and events
 
@@ -113,7 +111,7 @@ text-begins f h =
     let es : List Escape = inRow escapeForm escapeIn n (drop 2 f) in
     let xs = each escapeForm es in
     let cs = codesIn k (drop (2 + length xs) f) in
-    let rows : Begins (drop 2 f) xs = row-begins escapeForm escapeIn escape-begins n (drop 2 f) (bytes-behind 2 f h) in
+    let rows : Begins (drop 2 f) xs = row-begins escapeForm escapeIn escape-begins n (drop 2 f) (bytes-drop 2 f h) in
     let last : Begins (drop (length xs) (drop 2 f)) cs =
     subst (λ (l : List ℕ). Begins l cs) (sym (drop-drop (length xs) 2 f)) (begins-codes k (drop (2 + length xs) f)) in
     subst (Begins f)
@@ -130,9 +128,9 @@ event-begins f h =
     let xs = each attributeForm wants in
     let behind = drop (4 + length xs) f in
     let ys = textForm (textIn behind) in
-    let rows : Begins (drop 4 f) xs = row-begins attributeForm attributeIn attribute-begins n (drop 4 f) (bytes-behind 4 f h) in
+    let rows : Begins (drop 4 f) xs = row-begins attributeForm attributeIn attribute-begins n (drop 4 f) (bytes-drop 4 f h) in
     let last : Begins (drop (length xs) (drop 4 f)) ys =
-    subst (λ (l : List ℕ). Begins l ys) (sym (drop-drop (length xs) 4 f)) (text-begins behind (bytes-behind (4 + length xs) f h)) in
+    subst (λ (l : List ℕ). Begins l ys) (sym (drop-drop (length xs) 4 f)) (text-begins behind (bytes-drop (4 + length xs) f h)) in
     let all : Begins f (a ∷ b ∷ getD f 2 0 ∷ n ∷ xs ++ ys) =
     begins-at 0 f _ (begins-at 1 f _ (begins-at 2 f _ (begins-at 3 f _ (begins-append (drop 4 f) xs ys rows last)))) in
     subst (λ (x : ℕ). Begins f (whole 8 (a ∷ b ∷ []) % 256 ∷ whole 8 (a ∷ b ∷ []) / 256 ∷ getD f 2 0 ∷ x ∷ xs ++ ys))
@@ -164,12 +162,12 @@ module _ (f : List ℕ) (h : Bytes f) where
   -- behind the opening
   rest-begins : Begins (drop opening f) (xs ++ (ys ++ zs))
   rest-begins =
-      let after = bytes-behind (opening + length xs) f h in
+      let after = bytes-drop (opening + length xs) f h in
       let last : Begins behind (ys ++ zs) =
       begins-append behind ys zs (text-begins behind after)
-      (row-begins eventForm eventIn event-begins (getD f 8 0) (drop (length ys) behind) (bytes-behind (length ys) behind after)) in
+      (row-begins eventForm eventIn event-begins (getD f 8 0) (drop (length ys) behind) (bytes-drop (length ys) behind after)) in
       begins-append (drop opening f) xs (ys ++ zs)
-      (row-begins descriptorForm descriptorIn descriptor-begins (getD f 7 0) (drop opening f) (bytes-behind opening f h))
+      (row-begins descriptorForm descriptorIn descriptor-begins (getD f 7 0) (drop opening f) (bytes-drop opening f h))
       (subst (λ (l : List ℕ). Begins l (ys ++ zs)) (sym (drop-drop (length xs) opening f)) last)
 
   -- a form with these nine bytes

@@ -13,7 +13,7 @@ use Rattle.octet.specs.Decoding.{nib}
 use Rattle.answer.specs.Rules.{Every}
 use Rattle.answer.proofs.Judging.{passes}
 use Rattle.blocks.specs.Block.{headLength}
-use Rattle.forms.proofs.Forms.{Bytes}
+use Rattle.laws.specs.Bytes.{Bytes}
 use Rattle.fields.specs.Fields.{Field, width, fitting, field}
 use Rattle.fields.specs.Compound.{compound}
 use Rattle.fields.proofs.Laid.{width-append}

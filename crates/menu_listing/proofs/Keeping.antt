@@ -16,11 +16,11 @@ use Rattle.laws.proofs.Tests.{both-first}
 use Rattle.answer.specs.Rules.{Rule, Every, First}
 use Rattle.answer.proofs.Judging.{refuses, decided}
 use Rattle.blocks.specs.Block.{headLength, sizeOf, headOf, recordOf, recordLength, begins, blockOf, blocks, blocksWithin}
-use Rattle.forms.proofs.Forms.{Bytes}
+use Rattle.laws.specs.Bytes.{Bytes}
+use Rattle.laws.proofs.Byted.{bytes-take, bytes-drop}
 use Rattle.menu_forms.specs.Menus.{Menu, fits}
 use Rattle.menu_forms.specs.Form.{form, menuIn}
 use Rattle.menu_forms.proofs.Forms.{form-back-on}
-use Rattle.menu_forms.proofs.Formed.{bytes-behind}
 use Rattle.menu.specs.Reading.{readRules, menuRead}
 use Rattle.menu_listing.specs.Lines.{menuLines}
 use Rattle.menu_listing.specs.Listing.{holding, isMenu, menusOf, linesOf, listing}
@@ -29,18 +29,12 @@ use Rattle.menu_listing.proofs.Accepted.{accepted-fits, form-fits}
 
 -- ---- the menus of a list can be sent
 
-bytes-front : (n : ℕ) (l : List ℕ) → Bytes l → Bytes (take n l)
-bytes-front zero l b i = omega arith
-bytes-front (suc n) [] b i = omega arith
-bytes-front (suc n) (x ∷ l) b zero = b 0
-bytes-front (suc n) (x ∷ l) b (suc i) = bytes-front n l (λ k. b (suc k)) i
-
 record-bytes : (l : List ℕ) → Bytes l → Bytes (recordOf (blockOf l))
 record-bytes l b zero = omega arith
 record-bytes l b (suc zero) = let low = b 0 in let high = b 1 in omega arith
 record-bytes l b (suc (suc zero)) = b 2
 record-bytes l b (suc (suc (suc zero))) = b 3
-record-bytes l b (suc (suc (suc (suc i)))) = bytes-front (sizeOf (headOf l)) (drop headLength l) (bytes-behind headLength l b) i
+record-bytes l b (suc (suc (suc (suc i)))) = bytes-take (sizeOf (headOf l)) (drop headLength l) (bytes-drop headLength l b) i
 
 every-holding : (rules : List Rule) → holding rules ≡ true → Every rules
 every-holding rules h = go (decided rules)
@@ -63,7 +57,7 @@ module _ (application number : ℕ) where
   unfolding menusOf blocksWithin
   menus-sent zero l b = nil
   menus-sent (suc k) l b =
-      let rest = menus-sent k (drop (recordLength l) l) (bytes-behind (recordLength l) l b) in
+      let rest = menus-sent k (drop (recordLength l) l) (bytes-drop (recordLength l) l b) in
       go (begins l) (isMenu application number (blockOf l)) refl rest
     where
       go :

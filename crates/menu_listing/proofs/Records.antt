@@ -21,7 +21,7 @@ use Rattle.blocks.specs.Block.{headLength, sizeOf, recordOf, recordLength, begi
 use Rattle.blocks.proofs.Walking.{Standing, begins-head, blocks-at, blocks-not, whole-not}
 use Rattle.fields.specs.Fields.{field}
 use Rattle.fields.specs.Compound.{compound}
-use Rattle.forms.proofs.Forms.{Bytes}
+use Rattle.laws.specs.Bytes.{Bytes}
 use Rattle.frames.specs.Framing.{frameRules}
 use Rattle.frames.specs.Values.{counted}
 use Rattle.frames.specs.declared.Read.the-variants.{Taken, Refused}

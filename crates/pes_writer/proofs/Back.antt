@@ -10,6 +10,8 @@ use native.Mathlib.Omega.{arith}
 use lib.Dec.{lit<}
 use lib.ListN.{length, getD, take, drop, length-append, length-map, length-take, length-drop}
 use lib.Seq.{drop-cons, take-add, take-at, drop-at, drop-drop, getD-drop}
+use Rattle.laws.specs.Bytes.{Bytes}
+use Rattle.laws.proofs.Byted.{bytes-take, bytes-drop}
 use Rattle.laws.proofs.Tests.{both-first, both-second}
 use Rattle.answer.specs.Rules.{Every, none}
 use Rattle.answer.proofs.Judging.{every-append}
@@ -94,19 +96,6 @@ back-stuffing (suc k) pes at goes =
     (back-stuffing k pes (nextUnit pes at) (rw n (goes-on pes at stuffingUnit (stuffingUnits k) goes 46 stuffing-unit-length)))
 
 -- ---- the records' units
-
--- every one is a byte
-abbrev pub Bytes : List ℕ → Type 0
-Bytes l = (i : ℕ) → getD l i 0 < 256
-
-bytes-take : (n : ℕ) (l : List ℕ) → Bytes l → Bytes (take n l)
-bytes-take zero l b i = lit< tt
-bytes-take (suc n) [] b i = lit< tt
-bytes-take (suc n) (x ∷ l) b zero = b 0
-bytes-take (suc n) (x ∷ l) b (suc i) = bytes-take n l (λ k. b (suc k)) i
-
-bytes-drop : (n : ℕ) (l : List ℕ) → Bytes l → Bytes (drop n l)
-bytes-drop n l b i = rw (getD-drop n l i 0) (b (n + i))
 
 -- turned twice, bytes are as they were
 turned-again : (l : List ℕ) → Bytes l → map turned (map turned l) ≡ l

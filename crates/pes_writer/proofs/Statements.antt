@@ -24,7 +24,8 @@ use Rattle.pes_writer.specs.Writing.{unitCount, packetSize, recordsFit, 
 use Rattle.pes.proofs.Heading.{sized, sized-holds}
 use Rattle.pes_writer.proofs.Making.{header-length, packet-length, fits-packet}
 use Rattle.pes_writer.proofs.Given.{given}
-use Rattle.pes_writer.proofs.Back.{Bytes, Walked, back-units}
+use Rattle.laws.specs.Bytes.{Bytes}
+use Rattle.pes_writer.proofs.Back.{Walked, back-units}
 
 -- ---- a written packet
 

@@ -21,7 +21,8 @@ use Rattle.forms.proofs.Sendable.{sendable}
 use Rattle.forms.proofs.Measures.{length-form}
 use Rattle.sums.proofs.Nibbles.{nibbles-again}
 use Rattle.table.proofs.Exact.{accepted-says, reads-exactly}
-use Rattle.forms.proofs.Forms.{Bytes, form-in, in-form}
+use Rattle.laws.specs.Bytes.{Bytes}
+use Rattle.forms.proofs.Forms.{form-in, in-form}
 
 form-kind : (t : Table) → getD (form t) 0 0 ≡ t .kind
 unfolding form openingOf

@@ -8,7 +8,7 @@ use denote.Ref.{now}
 use Rattle.laws.proofs.Lists.{part-rest}
 use Rattle.fields.specs.Fields.{field}
 use Rattle.fields.specs.Compound.{compound}
-use Rattle.forms.proofs.Forms.{Bytes}
+use Rattle.laws.specs.Bytes.{Bytes}
 use Rattle.menu.specs.Reading.{mendedIn}
 use Rattle.menu_listing.proofs.Records.{judged-other, judged-taken, judged-refused}
 use Rattle.menu_listing.proofs.finding.judge.Statement.{statement}
