@@ -4,7 +4,7 @@ use mathlib.Core.List.{List, [], _∷_}
 use Prim.Native.Nat.{ℕ}
 use lib.Dec.{leb}
 use Rattle.laws.specs.Pick.{pick, both}
-use Rattle.texts.specs.Texts.{alike}
+use Rattle.texts.specs.Texts.{sameText}
 use Rattle.wanted.specs.declared.stages.Words.{Words}
 use Rattle.wanted.specs.declared.stages.Stage.{Stage}
 use Rattle.wanted.specs.declared.stages.Stage.the-variants.{Options, Value, Names, AllNames, Bad}
@@ -35,7 +35,7 @@ levelsOption = 45 ∷ 108 ∷ []
 
 -- a word is an option where options may stand
 abbrev pub asksFor : List ℕ → Stage → List ℕ → Bool
-asksFor option Options w = alike w option
+asksFor option Options w = sameText w option
 asksFor option (Value f) w = false
 asksFor option Names w = false
 asksFor option AllNames w = false

@@ -29,9 +29,9 @@ use Rattle.table.proofs.Calls.{call-says}
 use Rattle.menu_forms.specs.Form.{form as Menu·form, menuIn}
 use Rattle.menu_forms.specs.Writing.{writeRules as Menu·writeRules}
 use Rattle.menu_forms.specs.Block.{recordOf as Menu·recordOf, Says as Menu·Says}
-use Rattle.menu.specs.Reading.{mendedIn as Menu·mendedIn, menuRead, readRules as Menu·readRules}
-use Rattle.menu.proofs.Written.{written-says}
-use Rattle.menu.proofs.Calls.{call-back, call-writable, call-says as Menu·call-says}
+use Rattle.menu_reader.specs.Reading.{mendedIn as Menu·mendedIn, menuRead, readRules as Menu·readRules}
+use Rattle.menu_reader.proofs.Written.{written-says}
+use Rattle.menu_reader.proofs.Calls.{call-back, call-writable, call-says as Menu·call-says}
 use Rattle.claims.specs.Calls.{Writes, Reads, WritesMenu, write-menu, ReadsMenu, read-menu, reported}
 use Rattle.claims.proofs.Calls.{writes, reads, its-bytes, writable}
 

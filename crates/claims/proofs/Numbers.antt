@@ -29,11 +29,11 @@ use Rattle.frames.proofs.judge.Reads as frames·judge
 use Rattle.table.specs.Reading.{frontRules, wholeRules, readRules as Table·readRules}
 use Rattle.table.specs.Lengths.{lengthRules}
 use Rattle.menu_forms.specs.Writing.{formRules as Menu·formRules, writeRules as Menu·writeRules}
-use Rattle.menu.specs.Reading.{frontRules as Menu·frontRules, wholeRules as Menu·wholeRules, lengthRules as Menu·lengthRules, readRules as Menu·readRules}
+use Rattle.menu_reader.specs.Reading.{frontRules as Menu·frontRules, wholeRules as Menu·wholeRules, lengthRules as Menu·lengthRules, readRules as Menu·readRules}
 use Rattle.menu_listing.specs.Listing.{listRules, levelsRules}
 use Rattle.menu_listing.specs.Kept.{keptRules}
 use Rattle.shelf.specs.Putting.{putRules}
-use Rattle.sheets.specs.Calls.{rewriteRules, joinRules, addRules}
+use Rattle.day_sheet.specs.Calls.{rewriteRules, joinRules, addRules}
 use Rattle.claims.specs.Calls.{Feeds, feed, FeedsAll, feed-all}
 use Rattle.claims.specs.Judges.{Judges}
 

@@ -85,8 +85,8 @@ use Rattle.captures.proofs.start.Reads as captures·start
 use Rattle.captures.proofs.sight.pages.Reads as captures·pages
 use Rattle.packet.proofs.address.Reads as packet·address
 use Rattle.packet.proofs.passes_by.Reads as packet·passes-by
-use Rattle.moves.proofs.copy.Reads as moves·copy
-use Rattle.moves.proofs.clear.Reads as moves·clear
+use Rattle.lent_bytes.proofs.copy.Reads as lent-bytes·copy
+use Rattle.lent_bytes.proofs.clear.Reads as lent-bytes·clear
 use Rattle.state.proofs.fresh.Reads as state·fresh
 use Rattle.state.proofs.in_range.Reads as state·in-range
 use Rattle.reader.proofs.feed.Reads as reader·feed
@@ -103,23 +103,23 @@ use Rattle.forms.proofs.items.known.Reads as forms·known
 use Rattle.forms.proofs.items.numbered.Reads as forms·numbered
 use Rattle.forms.proofs.items.byte_at.Reads as forms·byte-at
 use Rattle.forms.proofs.items.word_at.Reads as forms·word-at
-use Rattle.printing.proofs.puts.put.Reads as printing·put
-use Rattle.printing.proofs.put_number.Reads as printing·put-number
-use Rattle.printing.proofs.put_language.Reads as printing·put-language
-use Rattle.printing.proofs.put_page.Reads as printing·put-page
-use Rattle.strings.proofs.letter.Reads as strings·letter
-use Rattle.strings.proofs.odds.Reads as strings·odds
+use Rattle.text_lines.proofs.puts.put.Reads as text-lines·put
+use Rattle.text_lines.proofs.put_number.Reads as text-lines·put-number
+use Rattle.text_lines.proofs.put_language.Reads as text-lines·put-language
+use Rattle.text_lines.proofs.put_page.Reads as text-lines·put-page
+use Rattle.parity.proofs.letter.Reads as parity·letter
+use Rattle.parity.proofs.odds.Reads as parity·odds
 use Rattle.menu_forms.proofs.info_bytes.Reads as menu-forms·info-bytes
-use Rattle.menu.proofs.read_menu.Reads as menu·read-menu
+use Rattle.menu_reader.proofs.read_menu.Reads as menu-reader·read-menu
 use Rattle.menu_writer.proofs.write_menu.Reads as menu-writer·write-menu
 use Rattle.menu_listing.proofs.list_levels.Reads as menu-listing·list-levels
 use Rattle.menu_listing.proofs.list_menu.Reads as menu-listing·list-menu
 use Rattle.menu_listing.proofs.list_kept.Reads as menu-listing·list-kept
 use Rattle.shelf.proofs.find.Reads as shelf·find
 use Rattle.shelf.proofs.put.Reads as shelf·put
-use Rattle.sheets.proofs.rewrite.Reads as sheets·rewrite
-use Rattle.sheets.proofs.joining.join.Reads as sheets·join
-use Rattle.sheets.proofs.adding.add.Reads as sheets·add
+use Rattle.day_sheet.proofs.rewrite.Reads as day-sheet·rewrite
+use Rattle.day_sheet.proofs.joining.join.Reads as day-sheet·join
+use Rattle.day_sheet.proofs.adding.add.Reads as day-sheet·add
 use Rattle.listing.proofs.list_table.Reads as listing·list-table
 use Rattle.listing.proofs.list_descriptors.Reads as listing·list-descriptors
 use Rattle.table_writer.proofs.write_block.Reads as table-writer·write-block
@@ -127,7 +127,7 @@ use Rattle.firmware.proofs.guide_decode.Reads as firmware·guide-decode
 use Rattle.vectors.proofs.start.Reads as vectors·start
 use Rattle.vectors.proofs.lent.lend.Reads as vectors·lend
 use Rattle.vectors.proofs.cases.payload.Reads as vectors·payload
-use Rattle.moves.proofs.fill.Reads as moves·fill
+use Rattle.lent_bytes.proofs.fill.Reads as lent-bytes·fill
 use Rattle.firmware.proofs.guide_turn.Reads as firmware·guide-turn
 use Rattle.firmware.proofs.guide_unit_at.Reads as firmware·guide-unit-at
 
@@ -279,19 +279,19 @@ packet·address-settled κs a x y s t p q = same p q
 pub packet·passes-by-settled : (κs : _) (a : _) (x y : _) (s t : _) → packet·passes-by.Post κs a x s → packet·passes-by.Post κs a y t → x ≡ y
 packet·passes-by-settled κs a x y s t p q = same p q
 
-pub moves·copy-settled :
-    (κs : _) (a : _) (x y : _) (s t : _) → moves·copy.Post κs a x s → moves·copy.Post κs a y t → now (s .1 .1 .1 .0) ≡ now (t .1 .1 .1 .0)
-moves·copy-settled κs a x y s t p q = same p q
+pub lent-bytes·copy-settled :
+    (κs : _) (a : _) (x y : _) (s t : _) → lent-bytes·copy.Post κs a x s → lent-bytes·copy.Post κs a y t → now (s .1 .1 .1 .0) ≡ now (t .1 .1 .1 .0)
+lent-bytes·copy-settled κs a x y s t p q = same p q
 
-pub moves·clear-settled :
-    (κs : _) (a : _) (x y : _) (s t : _) → moves·clear.Post κs a x s → moves·clear.Post κs a y t → now (s .0) ≡ now (t .0)
-moves·clear-settled κs a x y s t p q = same p q
+pub lent-bytes·clear-settled :
+    (κs : _) (a : _) (x y : _) (s t : _) → lent-bytes·clear.Post κs a x s → lent-bytes·clear.Post κs a y t → now (s .0) ≡ now (t .0)
+lent-bytes·clear-settled κs a x y s t p q = same p q
 
 -- ---- the reader
 
-pub moves·fill-settled :
-    (κs : _) (a : _) (x y : _) (s t : _) → moves·fill.Post κs a x s → moves·fill.Post κs a y t → now (s .0) ≡ now (t .0)
-moves·fill-settled κs a x y s t p q = same p q
+pub lent-bytes·fill-settled :
+    (κs : _) (a : _) (x y : _) (s t : _) → lent-bytes·fill.Post κs a x s → lent-bytes·fill.Post κs a y t → now (s .0) ≡ now (t .0)
+lent-bytes·fill-settled κs a x y s t p q = same p q
 
 pub state·fresh-settled : (κs : _) (a : _) (x y : _) (s t : _) → state·fresh.Post κs a x s → state·fresh.Post κs a y t → x ≡ y
 state·fresh-settled κs a x y s t p q = same p q
@@ -356,21 +356,21 @@ firmware·guide-turn-settled κs a x y s t p q = same p q
 pub firmware·guide-unit-at-settled : (κs : _) (a : _) (x y : _) (s t : _) → firmware·guide-unit-at.Post κs a x s → firmware·guide-unit-at.Post κs a y t → x ≡ y
 firmware·guide-unit-at-settled κs a x y s t p q = same p q
 
-pub printing·put-settled :
-    (κs : _) (a : _) (x y : _) (s t : _) → printing·put.Post κs a x s → printing·put.Post κs a y t → (x ≡ y) × (now (s .1 .0) ≡ now (t .1 .0))
-printing·put-settled κs a x y s t p q = (same (p .0 .moved) (q .0 .moved), same (p .0 .stored) (q .0 .stored))
+pub text-lines·put-settled :
+    (κs : _) (a : _) (x y : _) (s t : _) → text-lines·put.Post κs a x s → text-lines·put.Post κs a y t → (x ≡ y) × (now (s .1 .0) ≡ now (t .1 .0))
+text-lines·put-settled κs a x y s t p q = (same (p .0 .moved) (q .0 .moved), same (p .0 .stored) (q .0 .stored))
 
-pub printing·put-number-settled :
-    (κs : _) (a : _) (x y : _) (s t : _) → printing·put-number.Post κs a x s → printing·put-number.Post κs a y t → (x ≡ y) × (now (s .1 .1 .0) ≡ now (t .1 .1 .0))
-printing·put-number-settled κs a x y s t p q = (same (p .0 .moved) (q .0 .moved), same (p .0 .stored) (q .0 .stored))
+pub text-lines·put-number-settled :
+    (κs : _) (a : _) (x y : _) (s t : _) → text-lines·put-number.Post κs a x s → text-lines·put-number.Post κs a y t → (x ≡ y) × (now (s .1 .1 .0) ≡ now (t .1 .1 .0))
+text-lines·put-number-settled κs a x y s t p q = (same (p .0 .moved) (q .0 .moved), same (p .0 .stored) (q .0 .stored))
 
-pub printing·put-language-settled :
-    (κs : _) (a : _) (x y : _) (s t : _) → printing·put-language.Post κs a x s → printing·put-language.Post κs a y t → (x ≡ y) × (now (s .1 .0) ≡ now (t .1 .0))
-printing·put-language-settled κs a x y s t p q = (same (p .0 .moved) (q .0 .moved), same (p .0 .stored) (q .0 .stored))
+pub text-lines·put-language-settled :
+    (κs : _) (a : _) (x y : _) (s t : _) → text-lines·put-language.Post κs a x s → text-lines·put-language.Post κs a y t → (x ≡ y) × (now (s .1 .0) ≡ now (t .1 .0))
+text-lines·put-language-settled κs a x y s t p q = (same (p .0 .moved) (q .0 .moved), same (p .0 .stored) (q .0 .stored))
 
-pub printing·put-page-settled :
-    (κs : _) (a : _) (x y : _) (s t : _) → printing·put-page.Post κs a x s → printing·put-page.Post κs a y t → (x ≡ y) × (now (s .1 .0) ≡ now (t .1 .0))
-printing·put-page-settled κs a x y s t p q = (same (p .0 .moved) (q .0 .moved), same (p .0 .stored) (q .0 .stored))
+pub text-lines·put-page-settled :
+    (κs : _) (a : _) (x y : _) (s t : _) → text-lines·put-page.Post κs a x s → text-lines·put-page.Post κs a y t → (x ≡ y) × (now (s .1 .0) ≡ now (t .1 .0))
+text-lines·put-page-settled κs a x y s t p q = (same (p .0 .moved) (q .0 .moved), same (p .0 .stored) (q .0 .stored))
 
 pub listing·list-table-settled :
     (κs : _) (a : _) (x y : _) (s t : _) → listing·list-table.Post κs a x s → listing·list-table.Post κs a y t → (x ≡ y) × (now (s .1 .1 .0) ≡ now (t .1 .1 .0))
@@ -515,34 +515,34 @@ pub vectors·payload-settled :
     (κs : _) (a : _) (x y : _) (s t : _) → vectors·payload.Post κs a x s → vectors·payload.Post κs a y t → now x ≡ now y
 vectors·payload-settled κs a x y s t p q = same p q
 
-pub sheets·rewrite-settled :
-    (κs : _) (a : _) (x y : _) (s t : _) → sheets·rewrite.Post κs a x s → sheets·rewrite.Post κs a y t
+pub day-sheet·rewrite-settled :
+    (κs : _) (a : _) (x y : _) (s t : _) → day-sheet·rewrite.Post κs a x s → day-sheet·rewrite.Post κs a y t
     → (x ≡ y) × (now (s .1 .0) ≡ now (t .1 .0))
-sheets·rewrite-settled κs a x y s t p q = (same (p .0) (q .0), same (p .1) (q .1))
+day-sheet·rewrite-settled κs a x y s t p q = (same (p .0) (q .0), same (p .1) (q .1))
 
-pub sheets·join-settled :
-    (κs : _) (a : _) (x y : _) (s t : _) → sheets·join.Post κs a x s → sheets·join.Post κs a y t
+pub day-sheet·join-settled :
+    (κs : _) (a : _) (x y : _) (s t : _) → day-sheet·join.Post κs a x s → day-sheet·join.Post κs a y t
     → (x ≡ y) × (now (s .1 .1 .0) ≡ now (t .1 .1 .0))
-sheets·join-settled κs a x y s t p q = (same (p .0) (q .0), same (p .1) (q .1))
+day-sheet·join-settled κs a x y s t p q = (same (p .0) (q .0), same (p .1) (q .1))
 
-pub sheets·add-settled :
-    (κs : _) (a : _) (x y : _) (s t : _) → sheets·add.Post κs a x s → sheets·add.Post κs a y t
+pub day-sheet·add-settled :
+    (κs : _) (a : _) (x y : _) (s t : _) → day-sheet·add.Post κs a x s → day-sheet·add.Post κs a y t
     → (x ≡ y) × (now (s .1 .1 .1 .0) ≡ now (t .1 .1 .1 .0))
-sheets·add-settled κs a x y s t p q = (same (p .0) (q .0), same (p .1) (q .1))
+day-sheet·add-settled κs a x y s t p q = (same (p .0) (q .0), same (p .1) (q .1))
 
-pub strings·letter-settled : (κs : _) (a : _) (x y : _) (s t : _) → strings·letter.Post κs a x s → strings·letter.Post κs a y t → x ≡ y
-strings·letter-settled κs a x y s t p q = same p q
+pub parity·letter-settled : (κs : _) (a : _) (x y : _) (s t : _) → parity·letter.Post κs a x s → parity·letter.Post κs a y t → x ≡ y
+parity·letter-settled κs a x y s t p q = same p q
 
-pub strings·odds-settled : (κs : _) (a : _) (x y : _) (s t : _) → strings·odds.Post κs a x s → strings·odds.Post κs a y t → x ≡ y
-strings·odds-settled κs a x y s t p q = same p q
+pub parity·odds-settled : (κs : _) (a : _) (x y : _) (s t : _) → parity·odds.Post κs a x s → parity·odds.Post κs a y t → x ≡ y
+parity·odds-settled κs a x y s t p q = same p q
 
 pub menu-forms·info-bytes-settled : (κs : _) (a : _) (x y : _) (s t : _) → menu-forms·info-bytes.Post κs a x s → menu-forms·info-bytes.Post κs a y t → x ≡ y
 menu-forms·info-bytes-settled κs a x y s t p q = same (p .0) (q .0)
 
-pub menu·read-menu-settled :
-    (κs : _) (a : _) (x y : _) (s t : _) → menu·read-menu.Post κs a x s → menu·read-menu.Post κs a y t
+pub menu-reader·read-menu-settled :
+    (κs : _) (a : _) (x y : _) (s t : _) → menu-reader·read-menu.Post κs a x s → menu-reader·read-menu.Post κs a y t
     → (x ≡ y) × (now (s .1 .1 .0) ≡ now (t .1 .1 .0))
-menu·read-menu-settled κs a x y s t p q = (same (p .0) (q .0), same (p .1) (q .1))
+menu-reader·read-menu-settled κs a x y s t p q = (same (p .0) (q .0), same (p .1) (q .1))
 
 pub menu-writer·write-menu-settled :
     (κs : _) (a : _) (x y : _) (s t : _) → menu-writer·write-menu.Post κs a x s → menu-writer·write-menu.Post κs a y t → (x ≡ y) × (now (s .1 .1 .0) ≡ now (t .1 .1 .0))

@@ -1,5 +1,5 @@
 -- Cases with another value in every field, so that none can stand in another's place unseen. Their bytes don't come from our definitions or
--- programs: packets are spelled by hand from SCOPE 7, blocks are laid out from the standard's syntax tables, field after field from the lowest
+-- programs: packets are inNibbles by hand from SCOPE 7, blocks are laid out from the standard's syntax tables, field after field from the lowest
 -- bit up, each nibble as its protected byte (SCOPE 5.2), and the model in tests/model makes the same bytes. Assumes nothing.
 use mathlib.Core.Path.{_≡_, refl, subst}
 use mathlib.Core.Bool.{true}
@@ -22,12 +22,12 @@ use Rattle.sums.specs.Block.{nibbles, checksumOf, blockWith, recordOf}
 use Rattle.frames.specs.Outcome.{accepted}
 use Rattle.table.specs.Reading.{readBlock}
 use Rattle.table.proofs.Back.{writes-back}
-use Rattle.strings.specs.Parity.{ones, letter}
+use Rattle.parity.specs.Parity.{ones, letter}
 use Rattle.menu_forms.specs.Rows.{each}
 use Rattle.menu_forms.specs.Menus.{Menu, infoBytes, textFields, eventFields, fillFields, fields as Menu·fields, strings, sevens, fits as Menu·fits}
-use Rattle.menu_forms.specs.Block.{spelled, checksumOf as Menu·checksumOf, blockWith as Menu·blockWith, recordOf as Menu·recordOf}
-use Rattle.menu.specs.Reading.{readMenu}
-use Rattle.menu.proofs.Written.{writes-back as Menu·writes-back}
+use Rattle.menu_forms.specs.Block.{inNibbles, checksumOf as Menu·checksumOf, blockWith as Menu·blockWith, recordOf as Menu·recordOf}
+use Rattle.menu_reader.specs.Reading.{readMenu}
+use Rattle.menu_reader.proofs.Written.{writes-back as Menu·writes-back}
 
 -- ---- packets (SCOPE 7.1 to 7.4)
 
@@ -137,7 +137,7 @@ unfolding
     Menu·checksumOf
     checksum
     total
-    spelled
+    inNibbles
     Menu·fields
     textFields
     eventFields

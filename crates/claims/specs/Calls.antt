@@ -20,15 +20,15 @@ use Rattle.forms.specs.Tables.{Table}
 use Rattle.forms.specs.Form.{form}
 use Rattle.sums.specs.Block.{recordOf}
 use Rattle.table_writer.proofs.write_block.Reads as table-writer·write-block
-use Rattle.writer.proofs.cut.Reads as guide·cut
-use Rattle.writer.proofs.cut_pages.Reads as guide·cut-pages
+use Rattle.writer.proofs.cut.Reads as writer·cut
+use Rattle.writer.proofs.cut_pages.Reads as writer·cut-pages
 use Rattle.state.proofs.fresh.Reads as reader·fresh
 use Rattle.reader.proofs.feed.Reads as reader·feed
 use Rattle.reader.proofs.many.feed_all.Reads as reader·feed-all
 use Rattle.frames.specs.declared.Read.{Read}
 use Rattle.frames.specs.declared.Read.the-variants.{Taken, Refused as Read·Refused}
 use Rattle.table.proofs.read_block.Reads as table·read-block
-use Rattle.menu.proofs.read_menu.Reads as menu·read-menu
+use Rattle.menu_reader.proofs.read_menu.Reads as menu-reader·read-menu
 use Rattle.menu_writer.proofs.write_menu.Reads as menu-writer·write-menu
 use Rattle.claims.specs.Noise.{Aired, Came}
 use Rattle.claims.specs.Damage.{streamIn, sendings, Counted, damaged}
@@ -46,10 +46,10 @@ pub data Writes : ℕ → List ℕ → List ℕ → Answer → List ℕ → Type
 -- setting, index, packets of a page, records and lent output; the answer, and the output afterwards
 pub data Cuts : Setting → ℕ → ℕ → List ℕ → List ℕ → Answer → List ℕ → Type 0 where
   cut-pages :
-      (κs : _) (a : _) (x : _) (t : _) → guide·cut-pages.Post κs a x t
+      (κs : _) (a : _) (x : _) (t : _) → writer·cut-pages.Post κs a x t
       → Cuts (a .0) (a .1 .0) (a .1 .1 .0) (now (a .1 .1 .1 .0)) (now (a .1 .1 .1 .1 .0)) x (now (t .1 .1 .1 .1 .0))
   cut :
-      (κs : _) (a : _) (x : _) (t : _) → guide·cut.Post κs a x t
+      (κs : _) (a : _) (x : _) (t : _) → writer·cut.Post κs a x t
       → Cuts (a .0) (a .1 .0) usualPage (now (a .1 .1 .0)) (now (a .1 .1 .1 .0)) x (now (t .1 .1 .1 .0))
 
 -- the reader that comes back
@@ -82,7 +82,7 @@ pub data WritesMenu : ℕ → List ℕ → List ℕ → Answer → List ℕ → 
 
 pub data ReadsMenu : ℕ → List ℕ → List ℕ → Read → List ℕ → Type 0 where
   read-menu :
-      (κs : _) (a : _) (x : _) (t : _) → menu·read-menu.Post κs a x t
+      (κs : _) (a : _) (x : _) (t : _) → menu-reader·read-menu.Post κs a x t
       → ReadsMenu (a .0) (now (a .1 .0)) (now (a .1 .1 .0)) x (now (t .1 .1 .0))
 
 -- ---- what their answers say

@@ -30,7 +30,7 @@ pub field-first : (w n : ℕ) → field 0 w n ≡ n % 2 ^ w
 unfolding field
 field-first w n = ap (λ (x : ℕ). x % 2 ^ w) (div-one n)
 
--- two fields in a alike are one
+-- two fields in a row are one
 pub field-join : (at w v n : ℕ) → field at (v + w) n ≡ field (at + w) v n * 2 ^ w + field at w n
 unfolding field
 field-join at w v n = rw (← shr-shr) (mod-pow-add (n / 2 ^ at) v w)
@@ -45,7 +45,7 @@ field-in at v w n h =
     e : w - (at + v) + v + at ≡ w
     e = omega arith
 
--- ---- fields laid in a alike
+-- ---- fields laid in a row
 
 pub laid-first : (f : Field) (fs : List Field) (rest : ℕ) → laid (f ∷ fs) rest % 2 ^ f .0 ≡ f .1 % 2 ^ f .0
 unfolding laid
@@ -110,7 +110,7 @@ unfolding parts
 length-parts w zero n = refl
 length-parts w (suc k) n = ap suc (length-parts w k (n / 2 ^ w))
 
--- parts in a alike, from where the first end
+-- parts in a row, from where the first end
 pub parts-append : (w a b n : ℕ) → parts w (a + b) n ≡ parts w a n ++ parts w b (n / 2 ^ (a * w))
 unfolding parts
 parts-append w zero b n = rw (zero-add, zero-mul, div-one)

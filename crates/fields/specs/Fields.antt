@@ -1,4 +1,4 @@
--- Fields in a alike of bits. Control data is one number: the first field has its lowest bits, and each next one those above (clause 9;
+-- Fields in a row of bits. Control data is one number: the first field has its lowest bits, and each next one those above (clause 9;
 -- SCOPE 12.1).
 use mathlib.Core.Bool.{Bool, true}
 use mathlib.Core.List.{List, [], _∷_}
@@ -10,12 +10,12 @@ use Rattle.laws.specs.Pick.{both}
 abbrev pub Field : Type 0
 Field = ℕ × ℕ
 
--- values in a alike, of w bits each
+-- values in a row, of w bits each
 unfoldable pub alike : ℕ → List ℕ → List Field
 alike w [] = []
 alike w (x ∷ xs) = (w, x) ∷ alike w xs
 
--- the number of bits of fields in a alike
+-- the number of bits of fields in a row
 unfoldable pub width : List Field → ℕ
 width [] = 0
 width (f ∷ fs) = f .0 + width fs

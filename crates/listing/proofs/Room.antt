@@ -18,8 +18,8 @@ use Rattle.forms.specs.Form.{spelled, listed, form, tableIn}
 use Rattle.forms.specs.Writing.{formRules}
 use Rattle.forms.proofs.Measures.{length-spelled, length-listed, length-form}
 use Rattle.forms.proofs.Sendable.{Sendable, parted}
-use Rattle.printing.specs.Lines.{digitMost, hexed, numberLine, letters, languageOf, languageLine, pageLine}
-use Rattle.printing.proofs.Decimals.{digits-few}
+use Rattle.text_lines.specs.Lines.{digitMost, hexed, numberLine, letters, languageOf, languageLine, pageLine}
+use Rattle.text_lines.proofs.Decimals.{digits-few}
 use Rattle.listing.specs.Lines.{blockName, networkName, mendedName, descriptorName, kindLine, kindTI, kindLI, languageLines, subtitleLines}
 use Rattle.listing.specs.Lines.{entryLines, descriptorLine, descriptorLines, headLines, descriptorLinesOf, linesOf}
 use Rattle.listing.specs.Internal.{linesFrom}

@@ -14,7 +14,7 @@ use Rattle.laws.proofs.Countdown.{at-none, at-more}
 use Rattle.forms.specs.Tables.{TI, per}
 use Rattle.forms.specs.Form.{wordAt, wordsIn, descriptorsIn, tableIn}
 use Rattle.forms.proofs.Forms.{in-on, two-bytes}
-use Rattle.printing.specs.Lines.{numberLine, languageLine, pageLine}
+use Rattle.text_lines.specs.Lines.{numberLine, languageLine, pageLine}
 use Rattle.listing.specs.Lines.{kindLine, blockName, networkName, mendedName, headLines, languageLines, subtitleLines, entryLines, descriptorLine, descriptorLines}
 
 -- ---- entries

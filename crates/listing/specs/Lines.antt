@@ -4,7 +4,7 @@ use Prim.Native.Nat.{ℕ}
 use lib.Dec.{eqb}
 use Rattle.laws.specs.Pick.{pick}
 use Rattle.forms.specs.Tables.{Descriptor, Table, TI}
-use Rattle.printing.specs.Lines.{numberLine, languageLine, pageLine}
+use Rattle.text_lines.specs.Lines.{numberLine, languageLine, pageLine}
 
 -- ---- a line each
 

@@ -11,7 +11,7 @@ ghost use Rattle.forms.specs.Internal.{descriptorMost, formMost};
 ghost use Rattle.forms.specs.Writing.{formRules};
 ghost use Rattle.listing.specs.Lines.{kindLine, entryLines, descriptorLine, headLines, descriptorLinesOf, linesOf};
 ghost use Rattle.listing.specs.Internal.{linesFrom, headMost, entryMost, descriptorLinesMost};
-ghost use Rattle.printing.specs.Putting.{Put, reach};
+ghost use Rattle.text_lines.specs.Putting.{Put, reach};
 use answer::Answer;
 use answer::Refusal;
 use forms::OPENING;
@@ -97,9 +97,9 @@ fn put_head(table: &[u8], mended: u16, out: &mut [u8]) -> usize
     let block = forms::byte_at(table, 2) + 256 * forms::byte_at(table, 3);
     let network = forms::byte_at(table, 4);
     let a = put_kind(kind, out, 0);
-    let b = printing::put_number(b"block=", block, out, a);
-    let c = printing::put_number(b"network=", network, out, b);
-    printing::put_number(b"mended=", mended as usize, out, c)
+    let b = text_lines::put_number(b"block=", block, out, a);
+    let c = text_lines::put_number(b"network=", network, out, b);
+    text_lines::put_number(b"mended=", mended as usize, out, c)
 }
 
 // The lines from `descriptor=` on.
@@ -137,7 +137,7 @@ fn put_descriptor(
         × (r ≤ q + descriptorLinesMost) ⌝ }
 {
     let id = forms::byte_at(table, i);
-    let at = printing::put_number(b"descriptor=", id, out, q);
+    let at = text_lines::put_number(b"descriptor=", id, out, q);
     put_entries(table, kind, i + 2, entries, out, at)
 }
 
@@ -167,11 +167,11 @@ fn put_entry(table: &[u8], kind: usize, i: usize, out: &mut [u8], q: usize) -> u
         ⌜ Put (now (out .entry)) q (entryLines kind (wordsIn (per kind) (drop i (now (table .entry))))) (now (out .exit)) r
         × (r ≤ q + entryMost) ⌝ }
 {
-    let at = printing::put_language(forms::word_at(table, i), out, q);
+    let at = text_lines::put_language(forms::word_at(table, i), out, q);
     if kind != TI {
         return at;
     }
-    printing::put_page(forms::word_at(table, i + 3), out, at)
+    text_lines::put_page(forms::word_at(table, i + 3), out, at)
 }
 
 fn put_kind(kind: usize, out: &mut [u8], q: usize) -> usize
@@ -179,7 +179,7 @@ fn put_kind(kind: usize, out: &mut [u8], q: usize) -> usize
     ensures { λ r. ⌜ Put (now (out .entry)) q (kindLine kind) (now (out .exit)) r × (r ≤ q + 8) ⌝ }
 {
     if kind == TI {
-        return printing::put(b"kind=TI\n", out, q);
+        return text_lines::put(b"kind=TI\n", out, q);
     }
-    printing::put(b"kind=LI\n", out, q)
+    text_lines::put(b"kind=LI\n", out, q)
 }

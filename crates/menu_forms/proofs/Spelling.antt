@@ -1,4 +1,4 @@
--- Fields of whole nibbles are spelled one after the other. Assumes nothing.
+-- Fields of whole nibbles are inNibbles one after the other. Assumes nothing.
 use mathlib.Core.Path.{_≡_, _∙_, refl, ap, ap₂}
 use mathlib.Core.List.{List, [], _∷_, _++_}
 use Prim.Native.Nat.{ℕ, _+_, _*_, _/_, _%_, _^_}
@@ -8,15 +8,15 @@ use lib.ListN.{length}
 use Rattle.fields.specs.Fields.{Field, width, laid, parts}
 use Rattle.fields.proofs.Laid.{laid-append, laid-past, laid-above, width-append, length-parts, parts-append, parts-same}
 use Rattle.menu_forms.specs.Rows.{each}
-use Rattle.menu_forms.specs.Block.{spelled}
+use Rattle.menu_forms.specs.Block.{inNibbles}
 
-pub length-spelled : (fs : List Field) → length (spelled fs) ≡ width fs / 4
-unfolding spelled
-length-spelled fs = length-parts 4 (width fs / 4) (laid fs 0)
+pub length-inNibbles : (fs : List Field) → length (inNibbles fs) ≡ width fs / 4
+unfolding inNibbles
+length-inNibbles fs = length-parts 4 (width fs / 4) (laid fs 0)
 
-pub spelled-append : (fs gs : List Field) → width fs % 4 ≡ 0 → spelled (fs ++ gs) ≡ spelled fs ++ spelled gs
-unfolding spelled
-spelled-append fs gs h =
+pub inNibbles-append : (fs gs : List Field) → width fs % 4 ≡ 0 → inNibbles (fs ++ gs) ≡ inNibbles fs ++ inNibbles gs
+unfolding inNibbles
+inNibbles-append fs gs h =
     let a = width fs / 4 in
     let b = width gs / 4 in
     let n = laid (fs ++ gs) 0 in
@@ -30,15 +30,15 @@ spelled-append fs gs h =
     ∙ ap₂ (λ (x y : List ℕ). x ++ y) low (ap (parts 4 b) high)
 
 -- a field of k nibbles
-pub spelled-one : (w k v : ℕ) → w ≡ k * 4 → spelled ((w, v) ∷ []) ≡ parts 4 k v
-unfolding spelled width laid
-spelled-one w k v h =
+pub inNibbles-one : (w k v : ℕ) → w ≡ k * 4 → inNibbles ((w, v) ∷ []) ≡ parts 4 k v
+unfolding inNibbles width laid
+inNibbles-one w k v h =
     let e : (k * 4 + 0) / 4 ≡ k = omega arith in
     rw (h, e, zero-mul, zero-add) (parts-same 4 k (v % 2 ^ (k * 4)) v (mod-mod v (2 ^ (k * 4))))
 
-pub spelled-first : (w k v : ℕ) (fs : List Field) → w ≡ k * 4 → spelled ((w, v) ∷ fs) ≡ parts 4 k v ++ spelled fs
-spelled-first w k v fs h =
-    spelled-append ((w, v) ∷ []) fs (unfold width in omega arith) ∙ ap (λ (l : List ℕ). l ++ spelled fs) (spelled-one w k v h)
+pub inNibbles-first : (w k v : ℕ) (fs : List Field) → w ≡ k * 4 → inNibbles ((w, v) ∷ fs) ≡ parts 4 k v ++ inNibbles fs
+inNibbles-first w k v fs h =
+    inNibbles-append ((w, v) ∷ []) fs (unfold width in omega arith) ∙ ap (λ (l : List ℕ). l ++ inNibbles fs) (inNibbles-one w k v h)
 
 -- ---- entries in a row
 
@@ -48,8 +48,8 @@ module _ {E : Type 0} (fieldsOf : E → List Field) (nibbled : (e : E) → width
   each-nibbled [] = unfold width in refl
   each-nibbled (e ∷ es) = rw width-append (omega (arith, nibbled e, each-nibbled es))
 
-  pub each-spelled : (es : List E) → spelled (each fieldsOf es) ≡ each (λ (e : E). spelled (fieldsOf e)) es
+  pub each-inNibbles : (es : List E) → inNibbles (each fieldsOf es) ≡ each (λ (e : E). inNibbles (fieldsOf e)) es
   unfolding each
-  each-spelled [] = unfold spelled width parts in refl
-  each-spelled (e ∷ es) =
-      spelled-append (fieldsOf e) (each fieldsOf es) (nibbled e) ∙ ap (λ (l : List ℕ). spelled (fieldsOf e) ++ l) (each-spelled es)
+  each-inNibbles [] = unfold inNibbles width parts in refl
+  each-inNibbles (e ∷ es) =
+      inNibbles-append (fieldsOf e) (each fieldsOf es) (nibbled e) ∙ ap (λ (l : List ℕ). inNibbles (fieldsOf e) ++ l) (each-inNibbles es)

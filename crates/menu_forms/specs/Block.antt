@@ -10,16 +10,16 @@ use Rattle.blocks.specs.Block.{Block, headLength, headOf, recordOf as carried}
 use Rattle.fields.specs.Fields.{Field, width, laid, parts}
 use Rattle.sums.specs.Sums.{checksum}
 use Rattle.sums.specs.Block.{header, InRange}
-use Rattle.strings.specs.Parity.{letter}
+use Rattle.parity.specs.Parity.{letter}
 use Rattle.menu_forms.specs.Menus.{Menu, Spare, zeros, fields, strings, control, size, fits}
 
 -- fields of whole nibbles as these nibbles, the lowest first (A.3; SCOPE 12.1)
-unfoldable pub spelled : List Field → List ℕ
-spelled fs = parts 4 (width fs / 4) (laid fs 0)
+unfoldable pub inNibbles : List Field → List ℕ
+inNibbles fs = parts 4 (width fs / 4) (laid fs 0)
 
 -- the nibbles of a menu's control data, for any checksum and spare bits
 abbrev pub nibbles : ℕ → Spare → Menu → List ℕ
-nibbles sum spare m = spelled (fields sum (control m) spare m)
+nibbles sum spare m = inNibbles (fields sum (control m) spare m)
 
 -- the 16 bits of its head
 abbrev pub headBits : ℕ → Menu → ℕ

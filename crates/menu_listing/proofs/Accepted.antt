@@ -24,10 +24,10 @@ use Rattle.menu_forms.specs.Menus.{fillFields, fields, codesOf, strings, contro
 use Rattle.menu_forms.specs.Block.{Says}
 use Rattle.menu_forms.specs.Form.{descriptorForm, escapeForm, attributeForm, textForm, eventForm, form}
 use Rattle.menu_forms.proofs.Forms.{high-length}
-use Rattle.menu.specs.Control.{bitsAt, menuOf}
-use Rattle.menu.proofs.Places.{bits-take}
-use Rattle.menu.proofs.Exact.{accepted-says, sent-ends}
-use Rattle.menu.specs.Reading.{controlLength, menuRead, mendedIn, readRules, readMenu}
+use Rattle.menu_reader.specs.Control.{bitsAt, menuOf}
+use Rattle.menu_reader.proofs.Places.{bits-take}
+use Rattle.menu_reader.proofs.Exact.{accepted-says, sent-ends}
+use Rattle.menu_reader.specs.Reading.{controlLength, menuRead, mendedIn, readRules, readMenu}
 
 -- ---- a form is no longer than its block: a byte of it comes from four bits of control data at least, or from a byte of a string
 

@@ -10,7 +10,7 @@ use Rattle.fields.specs.Fields.{whole}
 use Rattle.laws.proofs.Countdown.{at-none, at-more}
 use Rattle.menu_forms.specs.Menus.{infoBytes}
 use Rattle.menu_forms.specs.Form.{codesIn}
-use Rattle.printing.specs.Lines.{numberLine}
+use Rattle.text_lines.specs.Lines.{numberLine}
 use Rattle.menu_listing.specs.Lines.{levelName, menuName, headerName, eventName, shown, textLine, linkLine}
 use Rattle.menu_listing.specs.Internal.{attributesLength, stringLength, codesAt, textPlace, eventLength, linkAt, headerPlace, eventsPlace}
 use Rattle.menu_listing.specs.Internal.{ownLinesAt, headLinesAt}

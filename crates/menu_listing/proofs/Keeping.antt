@@ -21,7 +21,7 @@ use Rattle.laws.proofs.Byted.{bytes-take, bytes-drop}
 use Rattle.menu_forms.specs.Menus.{Menu, fits}
 use Rattle.menu_forms.specs.Form.{form, menuIn}
 use Rattle.menu_forms.proofs.Forms.{form-back-on}
-use Rattle.menu.specs.Reading.{readRules, menuRead}
+use Rattle.menu_reader.specs.Reading.{readRules, menuRead}
 use Rattle.menu_listing.specs.Lines.{menuLines}
 use Rattle.menu_listing.specs.Listing.{holding, isMenu, menusOf, linesOf, listing}
 use Rattle.menu_listing.specs.Kept.{formMost, formAt, keptMenus, keptListing, HasAt, none, first, Holds}

@@ -8,8 +8,8 @@ use native.Mathlib.Omega.{arith}
 use borrow.Author.Tests.{leb-true, leb-false}
 use lib.Dec.{leb}
 use lib.ListN.{length, length-append}
-use Rattle.printing.specs.Put.{Put}
-use Rattle.printing.proofs.Printed.{then}
+use Rattle.text_lines.specs.Put.{Put}
+use Rattle.text_lines.proofs.Printed.{then}
 use Rattle.menu_listing.specs.Internal.{Penned}
 
 le-or-lt : (a b : ℕ) → (a ≤ b) ⊎ (b < a)

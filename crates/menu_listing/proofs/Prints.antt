@@ -7,9 +7,9 @@ use native.Mathlib.Omega.{arith}
 use lib.ListN.{length, take, drop, set, length-append}
 use lib.Seq.{take-at, set-at, append-snoc}
 use Rattle.laws.proofs.Lists.{sets-front}
-use Rattle.printing.specs.Lines.{decimal, numberLine}
-use Rattle.printing.specs.Put.{Put, last, placed}
-use Rattle.printing.proofs.Putting.{put-at}
+use Rattle.text_lines.specs.Lines.{decimal, numberLine}
+use Rattle.text_lines.specs.Put.{Put, last, placed}
+use Rattle.text_lines.proofs.Putting.{put-at}
 
 module _ {line xs line′ : List ℕ} {end : ℕ} (h : length xs ≤ length line) (a : Put line 0 xs line′ end) where
   -- what was put at the front, taken off again

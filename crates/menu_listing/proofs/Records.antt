@@ -28,7 +28,7 @@ use Rattle.frames.specs.declared.Read.the-variants.{Taken, Refused}
 use Rattle.menu_forms.specs.Menus.{Menu}
 use Rattle.menu_forms.specs.Form.{form, menuIn}
 use Rattle.menu_forms.proofs.Forms.{form-back-on}
-use Rattle.menu.specs.Reading.{readRules, bodyRules, menuRead}
+use Rattle.menu_reader.specs.Reading.{readRules, bodyRules, menuRead}
 use Rattle.menu_listing.specs.Listing.{holding, isMenu, menusOf}
 use Rattle.menu_listing.specs.Internal.{Held, none, first, Judged}
 use Rattle.menu_listing.specs.Kept.{formMost}

@@ -9,7 +9,7 @@ use lib.ListN.{getD, drop}
 use lib.Seq.{drop-drop, getD-drop}
 use Rattle.laws.proofs.Countdown.{at-none, at-more}
 use Rattle.menu_forms.specs.Menus.{Menu}
-use Rattle.printing.specs.Lines.{numberLine}
+use Rattle.text_lines.specs.Lines.{numberLine}
 use Rattle.menu_listing.specs.Lines.{missingName, deeperName, toMenu, menuLines}
 use Rattle.menu_listing.specs.Listing.{linesOf}
 use Rattle.menu_listing.specs.Internal.{eventLength, linkAt, ownLinesAt, eventLinesAt, eventsLinesAt, eventsPlace, headLinesAt, Held, none, first}

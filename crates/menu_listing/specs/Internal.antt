@@ -9,11 +9,11 @@ use lib.ListN.{length, getD, drop}
 use Rattle.laws.specs.Pick.{both}
 use Rattle.fields.specs.Fields.{whole}
 use Rattle.blocks.specs.Block.{headLength, blocks}
-use Rattle.menu.specs.Reading.{readRules, menuRead}
+use Rattle.menu_reader.specs.Reading.{readRules, menuRead}
 use Rattle.menu_forms.specs.Menus.{Menu, infoBytes}
 use Rattle.menu_forms.specs.Form.{codesIn, opening, menuIn}
-use Rattle.printing.specs.Lines.{numberLine}
-use Rattle.printing.specs.Put.{Put}
+use Rattle.text_lines.specs.Lines.{numberLine}
+use Rattle.text_lines.specs.Put.{Put}
 use Rattle.menu_listing.specs.Lines.{levelName, menuName, headerName, eventName, toMenu, textLine, linkLine, behind}
 use Rattle.menu_listing.specs.Listing.{holding, menusOf}
 use Rattle.menu_listing.specs.Kept.{keptMenus}

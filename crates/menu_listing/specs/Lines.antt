@@ -5,7 +5,7 @@ use Prim.Native.Nat.{ℕ}
 use lib.Dec.{eqb, ltb}
 use Rattle.laws.specs.Pick.{pick}
 use Rattle.menu_forms.specs.Menus.{Event, Menu, codesOf}
-use Rattle.printing.specs.Lines.{decimal, numberLine}
+use Rattle.text_lines.specs.Lines.{decimal, numberLine}
 
 -- ---- a line each
 

@@ -7,8 +7,8 @@ use Rattle.laws.specs.Pick.{pick, both}
 use Rattle.answer.specs.Rules.{Rule, rule, judged}
 use Rattle.blocks.specs.Block.{Block, recordOf, whole, blocks}
 use Rattle.menu_forms.specs.Menus.{Menu}
-use Rattle.menu.specs.Reading.{readRules, menuRead}
-use Rattle.printing.specs.Lines.{numberLine}
+use Rattle.menu_reader.specs.Reading.{readRules, menuRead}
+use Rattle.text_lines.specs.Lines.{numberLine}
 use Rattle.menu_listing.specs.Lines.{deeperName, menuLines}
 
 -- every rule holds

@@ -63,7 +63,7 @@ fn find_kept(number: usize, heads: &[u8], shelf: &[u8], form: &mut [u8]) -> bool
     if at == 0 {
         return false;
     }
-    moves::copy(shelf, at, FORM, form, 0);
+    lent_bytes::copy(shelf, at, FORM, form, 0);
     true
 }
 
@@ -99,7 +99,7 @@ fn judge(application: u8, number: usize, rec: &[u8], form: &mut [u8]) -> bool
     if fields::field_of(&rec[HEAD..], NUMBER, WIDE) != number {
         return false;
     }
-    match menu::read_menu(application, rec, form) {
+    match menu_reader::read_menu(application, rec, form) {
         Read::Taken {
             written: _,
             mended: _,

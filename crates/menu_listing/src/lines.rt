@@ -4,8 +4,8 @@ ghost use mathlib.Core.List.{map};
 ghost use Prim.Native.Nat.{_+_, _*_, _<_, _≤_};
 ghost use lib.ListN.{length, drop};
 ghost use Rattle.menu_forms.specs.Form.{codesIn};
-ghost use Rattle.printing.specs.Lines.{numberLine};
-ghost use Rattle.printing.specs.Put.{Put, last};
+ghost use Rattle.text_lines.specs.Lines.{numberLine};
+ghost use Rattle.text_lines.specs.Put.{Put, last};
 ghost use Rattle.menu_listing.specs.Lines.{shown as Lines·shown, textLine, linkLine};
 ghost use Rattle.menu_listing.specs.Internal.{codesAt, stringLength, textPlace, eventLength, linkAt, ownLinesAt};
 ghost use Rattle.menu_listing.specs.Internal.{headerPlace, eventsPlace, headLinesAt, numberMost, textMost, beyond, placeMost, eventMost};
@@ -38,7 +38,7 @@ pub(crate) fn put_event(form: &[u8], i: usize, level: usize, out: &mut [u8], q: 
     put_link(kind, link, out, b)
 }
 
-// A line of a name and a number, by way of spare bytes: `printing` puts a number only up to a place that no table's list passes, and these
+// A line of a name and a number, by way of spare bytes: `text_lines` puts a number only up to a place that no table's list passes, and these
 // lines may go on further.
 pub(crate) fn put_line(name: &[u8], n: usize, out: &mut [u8], q: usize) -> usize
     requires { ⌜ (length (now name) ≤ 30) × (q + numberMost ≤ last) ⌝ }
@@ -47,8 +47,8 @@ pub(crate) fn put_line(name: &[u8], n: usize, out: &mut [u8], q: usize) -> usize
         × (r ≤ q + length (now (name .entry)) + 21) ⌝ }
 {
     let mut line = [0u8; LINE];
-    let end = printing::put_number(name, n, &mut line, 0);
-    printing::put(&line[..end], out, q)
+    let end = text_lines::put_number(name, n, &mut line, 0);
+    text_lines::put(&line[..end], out, q)
 }
 
 // A link's line.
@@ -57,7 +57,7 @@ fn put_link(kind: usize, link: usize, out: &mut [u8], q: usize) -> usize
     ensures { λ r. ⌜ Put (now (out .entry)) q (linkLine kind link) (now (out .exit)) r × (r ≤ q + 47) ⌝ }
 {
     let mut name = [0u8; LINE];
-    let end = printing::put_number(b"link=", kind, &mut name, 0);
+    let end = text_lines::put_number(b"link=", kind, &mut name, 0);
     name[end - 1] = b',';
     put_line(&name[..end], link, out, q)
 }
@@ -71,9 +71,9 @@ fn put_text(name: &[u8], form: &[u8], at: usize, out: &mut [u8], q: usize) -> us
 {
     let escapes = forms::byte_at(form, at);
     let count = forms::byte_at(form, at + 1);
-    let a = printing::put(name, out, q);
+    let a = text_lines::put(name, out, q);
     let b = put_codes(form, at + (2 + 4 * escapes), count, out, a);
-    printing::put(b"\n", out, b)
+    text_lines::put(b"\n", out, b)
 }
 
 // So many codes from a place of a form on, each as it is shown.
@@ -88,7 +88,7 @@ fn put_codes(form: &[u8], from: usize, count: usize, out: &mut [u8], q: usize) -
     let mut p = q;
     while 0 < left {
         let code = [shown(forms::byte_at(form, i))];
-        p = printing::put(&code, out, p);
+        p = text_lines::put(&code, out, p);
         i += 1;
         left -= 1;
     }

@@ -16,7 +16,7 @@ use Rattle.fields.specs.Fields.{width, laid, fitting, parts, whole}
 use Rattle.fields.proofs.Laid.{length-parts}
 use Rattle.menu_forms.specs.Menus.{infoBytes, descriptorFields, escapeFields, attributeFields}
 use Rattle.menu_forms.specs.Form.{numberIn, descriptorIn, escapeIn, attributeIn}
-use Rattle.menu_forms.specs.Block.{spelled}
+use Rattle.menu_forms.specs.Block.{inNibbles}
 
 pub byte-front : (at : ℕ) (f : List ℕ) → getD (drop at f) 0 0 ≡ getD f at 0
 byte-front at f = getD-drop at f 0 0 ∙ ap (λ (x : ℕ). getD f x 0) (add-zero at)
@@ -64,23 +64,23 @@ attribute-fits f at kind h =
 
 pub descriptor-number :
     (f : List ℕ) (at w i e : ℕ) → w ≡ getD f at 0 → i ≡ getD f (at + 1) 0 → e ≡ getD f (at + 2) 0 → e < 256
-    → spelled (descriptorFields (descriptorIn (drop at f))) ≡ parts 4 5 ((e * 64 + i % 64) * 64 + w % 64)
-unfolding spelled width laid
+    → inNibbles (descriptorFields (descriptorIn (drop at f))) ≡ parts 4 5 ((e * 64 + i % 64) * 64 + w % 64)
+unfolding inNibbles width laid
 descriptor-number f at w i e hw hi he le =
     rw (byte-front at f, getD-drop at f 1 0, getD-drop at f 2 0, ← hw, ← hi, ← he, mod-eq-of-lt le, zero-mul, zero-add)
 
 pub escape-number :
     (f : List ℕ) (at a b m e : ℕ) → a ≡ getD f at 0 → b ≡ getD f (at + 1) 0 → m ≡ getD f (at + 2) 0 → e ≡ getD f (at + 3) 0
     → a < 256 → b < 256 → e < 256
-    → spelled (escapeFields (escapeIn (drop at f))) ≡ parts 4 6 ((e * 64 + m % 64) * 1024 + (a + 256 * b) % 1024)
-unfolding spelled width laid
+    → inNibbles (escapeFields (escapeIn (drop at f))) ≡ parts 4 6 ((e * 64 + m % 64) * 1024 + (a + 256 * b) % 1024)
+unfolding inNibbles width laid
 escape-number f at a b m e ha hb hm he la lb le =
     rw (byte-front at f, getD-drop at f 1 0, getD-drop at f 2 0, getD-drop at f 3 0, ← ha, ← hb, ← hm, ← he, low-high a b la lb, mod-eq-of-lt le, zero-mul, zero-add)
 
 pub attribute-number :
     (f : List ℕ) (at kind k info : ℕ) → kind ≡ getD f at 0 → k ≡ infoBytes kind → info ≡ numberIn k (drop (at + 1) f) → kind < 256
-    → spelled (attributeFields (attributeIn (drop at f))) ≡ parts 4 (2 + 2 * k) (info * 256 + kind)
-unfolding spelled width laid
+    → inNibbles (attributeFields (attributeIn (drop at f))) ≡ parts 4 (2 + 2 * k) (info * 256 + kind)
+unfolding inNibbles width laid
 attribute-number f at kind k info h hk hi l =
     let small : info < 2 ^ (8 * k) = rw hi (number-lt k (drop (at + 1) f)) in
     let e : (8 + (8 * k + 0)) / 4 ≡ 2 + 2 * k = omega arith in

@@ -15,13 +15,13 @@ use Rattle.laws.proofs.Countdown.{at-none, at-more}
 use Rattle.octet.specs.Image.{image}
 use Rattle.fields.specs.Fields.{Field, width, laid, fitting, parts, whole}
 use Rattle.fields.proofs.Laid.{fitting-append, width-append, whole-lt}
-use Rattle.strings.specs.Parity.{letter}
+use Rattle.parity.specs.Parity.{letter}
 use Rattle.menu_forms.specs.Rows.{each, inRow}
 use Rattle.menu_forms.specs.Menus.{Attribute, Text, Event, attributeFields, textFields, eventFields, codesOf, sevens}
 use Rattle.menu_forms.specs.Form.{attributeForm, attributeIn, textForm, textIn, eventForm, eventIn}
-use Rattle.menu_forms.specs.Block.{spelled}
+use Rattle.menu_forms.specs.Block.{inNibbles}
 use Rattle.menu_forms.proofs.Forms.{row-count}
-use Rattle.menu_forms.proofs.Spelling.{spelled-append, each-nibbled}
+use Rattle.menu_forms.proofs.Spelling.{inNibbles-append, each-nibbled}
 use Rattle.menu_forms.proofs.Nibbled.{attribute-nibbled, attributes-width, event-nibbled}
 use Rattle.menu_writer.specs.declared.Tally.{Tally}
 use Rattle.menu_writer.specs.declared.Loop.the-variants.{Attributes}
@@ -230,8 +230,8 @@ module _ (f : List ℕ) (at low high kind a : ℕ) (hl : low ≡ getD f at 0) (h
   t₂ : Text
   t₂ = textIn (drop (at + 4 + loopLength Attributes a (drop (at + 4) f)) f)
 
-  heading-number : spelled (heading (whole 8 (low ∷ high ∷ [])) kind a) ≡ parts 4 6 (((a % 16 * 16 + kind % 16) * 256 + high) * 256 + low)
-  unfolding spelled heading width laid
+  heading-number : inNibbles (heading (whole 8 (low ∷ high ∷ [])) kind a) ≡ parts 4 6 (((a % 16 * 16 + kind % 16) * 256 + high) * 256 + low)
+  unfolding inNibbles heading width laid
   heading-number =
       let l : low + 256 * high < 65536 = omega arith in
       let e : (a % 16 * 16 + kind % 16) * 65536 + (low + 256 * high) ≡ ((a % 16 * 16 + kind % 16) * 256 + high) * 256 + low = omega arith in
@@ -242,33 +242,33 @@ module _ (f : List ℕ) (at low high kind a : ℕ) (hl : low ≡ getD f at 0) (h
   is = ap eventFields (event-is f at a ha) ∙ (rw (row-count attributeForm attributeIn a (drop (at + 4) f), ← hl, ← hh, ← hk))
 
   pub event-sent :
-      map image (spelled (eventFields (eventIn (drop at f))))
+      map image (inNibbles (eventFields (eventIn (drop at f))))
       ≡ map image (parts 4 6 (((a % 16 * 16 + kind % 16) * 256 + high) * 256 + low))
       ++ (loopBytes Attributes a (drop (at + 4) f)
-      ++ map image (spelled (textFields (textIn (drop (at + 4 + loopLength Attributes a (drop (at + 4) f)) f)))))
+      ++ map image (inNibbles (textFields (textIn (drop (at + 4 + loopLength Attributes a (drop (at + 4) f)) f)))))
   unfolding t₂ attrs₂
   event-sent =
       let h = heading (whole 8 (low ∷ high ∷ [])) kind a in
       let rest : List Field = each attributeFields attrs₂ ++ textFields t₂ in
       let nibbled : width h % 4 ≡ 0 = unfold heading width in refl in
-      ap (λ (fs : List Field). map image (spelled fs)) is
+      ap (λ (fs : List Field). map image (inNibbles fs)) is
       ∙ ap (map image)
-      (spelled-append h rest nibbled
-      ∙ ap₂ (λ (x y : List ℕ). x ++ y) heading-number (spelled-append (each attributeFields attrs₂) (textFields t₂) (each-nibbled attributeFields attribute-nibbled attrs₂)))
-      ∙ map-append image (parts 4 6 (((a % 16 * 16 + kind % 16) * 256 + high) * 256 + low)) (spelled (each attributeFields attrs₂) ++ spelled (textFields t₂))
+      (inNibbles-append h rest nibbled
+      ∙ ap₂ (λ (x y : List ℕ). x ++ y) heading-number (inNibbles-append (each attributeFields attrs₂) (textFields t₂) (each-nibbled attributeFields attribute-nibbled attrs₂)))
+      ∙ map-append image (parts 4 6 (((a % 16 * 16 + kind % 16) * 256 + high) * 256 + low)) (inNibbles (each attributeFields attrs₂) ++ inNibbles (textFields t₂))
       ∙ ap (λ (l : List ℕ). map image (parts 4 6 (((a % 16 * 16 + kind % 16) * 256 + high) * 256 + low)) ++ l)
-      (map-append image (spelled (each attributeFields attrs₂)) (spelled (textFields t₂))
-      ∙ ap (λ (l : List ℕ). l ++ map image (spelled (textFields t₂)))
+      (map-append image (inNibbles (each attributeFields attrs₂)) (inNibbles (textFields t₂))
+      ∙ ap (λ (l : List ℕ). l ++ map image (inNibbles (textFields t₂)))
       (row-bytes Attributes attributeForm attributeIn attribute-long attributeFields attribute-nibbled (λ (l : List ℕ). refl) a (drop (at + 4) f)))
 
 -- one event's control data, then that of the others
 pub sent-split :
     (e : Event) (es : List Event)
-    → map image (spelled (each eventFields (e ∷ es))) ≡ map image (spelled (eventFields e)) ++ map image (spelled (each eventFields es))
+    → map image (inNibbles (each eventFields (e ∷ es))) ≡ map image (inNibbles (eventFields e)) ++ map image (inNibbles (each eventFields es))
 unfolding each
 sent-split e es =
-    ap (map image) (spelled-append (eventFields e) (each eventFields es) (event-nibbled e))
-    ∙ map-append image (spelled (eventFields e)) (spelled (each eventFields es))
+    ap (map image) (inNibbles-append (eventFields e) (each eventFields es) (event-nibbled e))
+    ∙ map-append image (inNibbles (eventFields e)) (inNibbles (each eventFields es))
 
 pub codes-split : (e : Event) (es : List Event) → map letter (each codesOf (e ∷ es)) ≡ map letter (codesOf e) ++ map letter (each codesOf es)
 unfolding each

@@ -10,13 +10,13 @@ use Rattle.laws.specs.Pick.{both}
 use Rattle.octet.specs.Image.{image}
 use Rattle.fields.specs.Fields.{Field, width, fitting}
 use Rattle.fields.proofs.Laid.{fitting-append}
-use Rattle.strings.specs.Parity.{letter}
+use Rattle.parity.specs.Parity.{letter}
 use Rattle.menu_forms.specs.Rows.{each, inRow}
 use Rattle.menu_forms.specs.Menus.{infoBytes, sevens}
 use Rattle.menu_forms.specs.Form.{attributeForm, attributeIn, codesIn}
-use Rattle.menu_forms.specs.Block.{spelled}
+use Rattle.menu_forms.specs.Block.{inNibbles}
 use Rattle.menu_forms.proofs.Forms.{high-length}
-use Rattle.menu_forms.proofs.Spelling.{each-spelled}
+use Rattle.menu_forms.proofs.Spelling.{each-inNibbles}
 use Rattle.menu_writer.specs.declared.Loop.{Loop}
 use Rattle.menu_writer.specs.declared.Loop.the-variants.{Codes, Attributes}
 use Rattle.menu_writer.specs.Internal.{entryLength, entryFine, entryBytes, loopLength, loopFine, loopBytes}
@@ -40,15 +40,15 @@ module _ {E : Type 0} (what : Loop) (spell : E → List ℕ) (read : List ℕ �
         ∙ (rw (fine l, long l) (ap (λ (x : Bool). both (entryFine what l) x) (row-fine fine k (drop (entryLength what l) l))))
 
     pub row-bytes :
-        ((e : E) → width (fieldsOf e) % 4 ≡ 0) → ((l : List ℕ) → map image (spelled (fieldsOf (read l))) ≡ entryBytes what l)
-        → (k : ℕ) (l : List ℕ) → map image (spelled (each fieldsOf (inRow spell read k l))) ≡ loopBytes what k l
+        ((e : E) → width (fieldsOf e) % 4 ≡ 0) → ((l : List ℕ) → map image (inNibbles (fieldsOf (read l))) ≡ entryBytes what l)
+        → (k : ℕ) (l : List ℕ) → map image (inNibbles (each fieldsOf (inRow spell read k l))) ≡ loopBytes what k l
     unfolding each inRow loopBytes
-    row-bytes nibbled sent k l = ap (map image) (each-spelled fieldsOf nibbled (inRow spell read k l)) ∙ go k l
+    row-bytes nibbled sent k l = ap (map image) (each-inNibbles fieldsOf nibbled (inRow spell read k l)) ∙ go k l
       where
-        go : (k : ℕ) (l : List ℕ) → map image (each (λ (e : E). spelled (fieldsOf e)) (inRow spell read k l)) ≡ loopBytes what k l
+        go : (k : ℕ) (l : List ℕ) → map image (each (λ (e : E). inNibbles (fieldsOf e)) (inRow spell read k l)) ≡ loopBytes what k l
         go zero l = refl
         go (suc k) l =
-            map-append image (spelled (fieldsOf (read l))) (each (λ (e : E). spelled (fieldsOf e)) (inRow spell read k (drop (length (spell (read l))) l)))
+            map-append image (inNibbles (fieldsOf (read l))) (each (λ (e : E). inNibbles (fieldsOf e)) (inRow spell read k (drop (length (spell (read l))) l)))
             ∙ (rw (sent l, long l) (ap (λ (x : List ℕ). entryBytes what l ++ x) (go k (drop (entryLength what l) l))))
 
 -- ---- each loop

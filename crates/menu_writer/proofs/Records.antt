@@ -22,12 +22,12 @@ use Rattle.octet.specs.Decoding.{nib}
 use Rattle.fields.specs.Fields.{width, laid, fitting, parts}
 use Rattle.sums.specs.Sums.{checksum}
 use Rattle.sums.proofs.Nibbles.{nibbles-back}
-use Rattle.strings.specs.Parity.{letter}
+use Rattle.parity.specs.Parity.{letter}
 use Rattle.menu_forms.specs.Menus.{Menu, zeros, fields, strings, control, size, fits, sevens}
 use Rattle.menu_forms.specs.Form.{form, menuIn}
 use Rattle.menu_forms.specs.Writing.{formRules, writeRules}
-use Rattle.menu_forms.specs.Block.{spelled, nibbles, headBits, checksumOf, blockWith, recordOf}
-use Rattle.menu_forms.proofs.Saying.{nibbles-long as spelled-long, sum-first}
+use Rattle.menu_forms.specs.Block.{inNibbles, nibbles, headBits, checksumOf, blockWith, recordOf}
+use Rattle.menu_forms.proofs.Saying.{nibbles-long as inNibbles-long, sum-first}
 use Rattle.menu_writer.specs.declared.Tally.{Tally}
 use Rattle.menu_writer.specs.Internal.{Whole}
 use Rattle.menu_writer.proofs.Storing.{store-on}
@@ -38,7 +38,7 @@ module _ (m : Menu) (c : ℕ) (whole : 8 * c ≡ width (fields 0 0 zeros m)) whe
   control-is = omega (arith, whole)
 
   pub nibbles-long : (s : ℕ) → length (map image (nibbles s zeros m)) ≡ 2 * c
-  nibbles-long s = length-map (nibbles s zeros m) image ∙ spelled-long s zeros m ∙ ap (λ (x : ℕ). 2 * x) (sym control-is)
+  nibbles-long s = length-map (nibbles s zeros m) image ∙ inNibbles-long s zeros m ∙ ap (λ (x : ℕ). 2 * x) (sym control-is)
 
   pub record-long : (application : ℕ) → length (recordOf application m) ≡ 4 + (2 * c + length (strings m))
   unfolding blockWith
@@ -62,7 +62,7 @@ resealed a b c d x y x′ y′ t out h =
 
 -- fields behind the checksum
 rest : Menu → List ℕ
-rest m = spelled (drop 1 (fields 0 (control m) zeros m))
+rest m = inNibbles (drop 1 (fields 0 (control m) zeros m))
 
 split : (s : ℕ) (m : Menu) → nibbles s zeros m ≡ s % 16 ∷ s / 16 % 16 ∷ rest m
 unfolding rest parts
@@ -106,7 +106,7 @@ module _ (application c : ℕ) (m : Menu) (la : application < 32) (ls : size m <
       ∙ take-append-seam xs (ys ++ r)
 
   sum-is : checksum h (map nib (map image (nibbles 0 zeros m))) ≡ checksumOf application zeros m
-  unfolding checksumOf spelled
+  unfolding checksumOf inNibbles
   sum-is =
       ap (checksum h) (nibbles-back (width (fields 0 (control m) zeros m) / 4) (laid (fields 0 (control m) zeros m) 0))
       ∙ ap (λ (x : ℕ). checksum x (nibbles 0 zeros m)) (head-is application m la ls)

@@ -13,14 +13,14 @@ use Rattle.laws.specs.Pick.{both}
 use Rattle.laws.proofs.Tests.{both-false}
 use Rattle.octet.specs.Image.{image}
 use Rattle.fields.specs.Fields.{Field, width, laid, fitting, parts, whole}
-use Rattle.strings.specs.Parity.{letter}
+use Rattle.parity.specs.Parity.{letter}
 use Rattle.fields.proofs.Laid.{fitting-append, width-append, whole-lt}
 use Rattle.menu_forms.specs.Rows.{each, inRow}
 use Rattle.menu_forms.specs.Menus.{Descriptor, Menu, zeros, descriptorFields, fillFields, openingFields, textFields, eventFields, fields, strings, codesOf, sevens}
 use Rattle.menu_forms.specs.Form.{descriptorForm, descriptorIn, textForm, textIn, eventForm, eventIn, form, menuIn}
-use Rattle.menu_forms.specs.Block.{spelled}
+use Rattle.menu_forms.specs.Block.{inNibbles}
 use Rattle.menu_forms.proofs.Forms.{row-count}
-use Rattle.menu_forms.proofs.Spelling.{spelled-append, spelled-one, spelled-first, each-nibbled, length-spelled}
+use Rattle.menu_forms.proofs.Spelling.{inNibbles-append, inNibbles-one, inNibbles-first, each-nibbled, length-inNibbles}
 use Rattle.menu_forms.proofs.Nibbled.{descriptor-nibbled, text-nibbled, fill-nibbled, descriptors-width, fill-width, fill-fits}
 use Rattle.menu_writer.specs.declared.Tally.{Tally}
 use Rattle.menu_writer.specs.declared.Loop.the-variants.{Descriptors}
@@ -30,12 +30,12 @@ use Rattle.menu_writer.proofs.Listed.{row-length, row-fine, row-bytes}
 use Rattle.menu_writer.proofs.Events.{eventsIn, sevens-append}
 
 -- what is sent of fill_up_2: a nibble where the number is even, else nothing
-pub even-fill : (d : ℕ) → d % 2 ≡ 0 → map image (spelled (fillFields d 0)) ≡ map image (parts 4 1 0)
+pub even-fill : (d : ℕ) → d % 2 ≡ 0 → map image (inNibbles (fillFields d 0)) ≡ map image (parts 4 1 0)
 unfolding fillFields
-even-fill d h = rw (eq-eqb (d % 2) 0 h) (ap (map image) (spelled-one 4 1 0 refl))
+even-fill d h = rw (eq-eqb (d % 2) 0 h) (ap (map image) (inNibbles-one 4 1 0 refl))
 
-pub odd-fill : (d : ℕ) → (d % 2 ≡ 0 → ⊥) → map image (spelled (fillFields d 0)) ≡ []
-unfolding fillFields spelled width parts
+pub odd-fill : (d : ℕ) → (d % 2 ≡ 0 → ⊥) → map image (inNibbles (fillFields d 0)) ≡ []
+unfolding fillFields inNibbles width parts
 odd-fill d h = rw (ne-eqb (d % 2) 0 h)
 
 order :
@@ -193,15 +193,15 @@ module _ (f : List ℕ) (d n b h : ℕ) (hd : d ≡ getD f 7 0) (hn : n ≡ getD
   secondFields =
       (16, whole 8 (getD f 2 0 ∷ getD f 3 0 ∷ [])) ∷ (2, getD f 4 0) ∷ (4, n) ∷ (3, getD f 5 0) ∷ (1, 0) ∷ (6, d) ∷ []
 
-  first-number : (c : ℕ) → spelled (firstFields c) ≡ parts 4 7 (((getD f 1 0 % 2 * 256 + 3) * 1024 + c % 1024) * 256)
-  unfolding spelled width laid
+  first-number : (c : ℕ) → inNibbles (firstFields c) ≡ parts 4 7 (((getD f 1 0 % 2 * 256 + 3) * 1024 + c % 1024) * 256)
+  unfolding inNibbles width laid
   first-number c = ap (parts 4 7) (omega arith)
 
   second-number :
       getD f 2 0 < 256 → getD f 3 0 < 256
-      → spelled secondFields
+      → inNibbles secondFields
       ≡ parts 4 8 ((((d % 64 * 16 + getD f 5 0 % 8) * 16 + n % 16) * 4 + getD f 4 0 % 4) * 65536 + (getD f 2 0 + 256 * getD f 3 0))
-  unfolding spelled width laid
+  unfolding inNibbles width laid
   second-number l2 l3 =
       let l : getD f 2 0 + 256 * getD f 3 0 < 65536 = omega arith in
       rw (low-high (getD f 2 0) (getD f 3 0) l2 l3, mod-eq-of-lt l) (ap (parts 4 8) (omega arith))
@@ -213,13 +213,13 @@ module _ (f : List ℕ) (d n b h : ℕ) (hd : d ≡ getD f 7 0) (hn : n ≡ getD
 
   pub opening-sent :
       (c : ℕ) → getD f 2 0 < 256 → getD f 3 0 < 256
-      → map image (spelled (openingFields 0 c zeros (menuIn f)))
+      → map image (inNibbles (openingFields 0 c zeros (menuIn f)))
       ≡ map image (parts 4 7 (((getD f 1 0 % 2 * 256 + 3) * 1024 + c % 1024) * 256))
       ++ map image (parts 4 8 ((((d % 64 * 16 + getD f 5 0 % 8) * 16 + n % 16) * 4 + getD f 4 0 % 4) * 65536 + (getD f 2 0 + 256 * getD f 3 0)))
   opening-sent c l2 l3 =
       let nibbled : width (firstFields c) % 4 ≡ 0 = unfold width in refl in
-      ap (λ (fs : List Field). map image (spelled fs)) (opening-is c)
-      ∙ ap (map image) (spelled-append (firstFields c) secondFields nibbled ∙ ap₂ (λ (x y : List ℕ). x ++ y) (first-number c) (second-number l2 l3))
+      ap (λ (fs : List Field). map image (inNibbles fs)) (opening-is c)
+      ∙ ap (map image) (inNibbles-append (firstFields c) secondFields nibbled ∙ ap₂ (λ (x y : List ℕ). x ++ y) (first-number c) (second-number l2 l3))
       ∙ map-append image (parts 4 7 (((getD f 1 0 % 2 * 256 + 3) * 1024 + c % 1024) * 256)) _
 
   fields-are :
@@ -233,12 +233,12 @@ module _ (f : List ℕ) (d n b h : ℕ) (hd : d ≡ getD f 7 0) (hn : n ≡ getD
 
   pub control-sent :
       (c : ℕ)
-      → map image (spelled (fields 0 c zeros (menuIn f)))
-      ≡ map image (spelled (openingFields 0 c zeros (menuIn f)))
+      → map image (inNibbles (fields 0 c zeros (menuIn f)))
+      ≡ map image (inNibbles (openingFields 0 c zeros (menuIn f)))
       ++ (loopBytes Descriptors d (drop 9 f)
-      ++ (map image (spelled (fillFields d 0))
-      ++ (map image (spelled (textFields (textIn (drop b f))))
-      ++ (map image (parts 4 2 (getD f 6 0)) ++ map image (spelled (each eventFields (eventsIn n (drop h f))))))))
+      ++ (map image (inNibbles (fillFields d 0))
+      ++ (map image (inNibbles (textFields (textIn (drop b f))))
+      ++ (map image (parts 4 2 (getD f 6 0)) ++ map image (inNibbles (each eventFields (eventsIn n (drop h f))))))))
   control-sent c =
       let hdr : List Field = textFields (textIn (drop b f)) in
       let ev : List Field = each eventFields (eventsIn n (drop h f)) in
@@ -246,17 +246,17 @@ module _ (f : List ℕ) (d n b h : ℕ) (hd : d ≡ getD f 7 0) (hn : n ≡ getD
       let each′ : List Field = each descriptorFields ds in
       let nibbled : width open′ % 4 ≡ 0 = unfold width in refl in
       ap (map image)
-      (ap spelled (fields-are c)
-      ∙ spelled-append open′ (each′ ++ (fillFields d 0 ++ (hdr ++ (8, getD f 6 0) ∷ ev))) nibbled
-      ∙ ap (λ (x : List ℕ). spelled open′ ++ x)
-      (spelled-append each′ (fillFields d 0 ++ (hdr ++ (8, getD f 6 0) ∷ ev)) (each-nibbled descriptorFields descriptor-nibbled ds)
-      ∙ ap (λ (x : List ℕ). spelled each′ ++ x)
-      (spelled-append (fillFields d 0) (hdr ++ (8, getD f 6 0) ∷ ev) (fill-nibbled d 0)
-      ∙ ap (λ (x : List ℕ). spelled (fillFields d 0) ++ x)
-      (spelled-append hdr ((8, getD f 6 0) ∷ ev) (text-nibbled (textIn (drop b f)))
-      ∙ ap (λ (x : List ℕ). spelled hdr ++ x) (spelled-first 8 2 (getD f 6 0) ev refl)))))
+      (ap inNibbles (fields-are c)
+      ∙ inNibbles-append open′ (each′ ++ (fillFields d 0 ++ (hdr ++ (8, getD f 6 0) ∷ ev))) nibbled
+      ∙ ap (λ (x : List ℕ). inNibbles open′ ++ x)
+      (inNibbles-append each′ (fillFields d 0 ++ (hdr ++ (8, getD f 6 0) ∷ ev)) (each-nibbled descriptorFields descriptor-nibbled ds)
+      ∙ ap (λ (x : List ℕ). inNibbles each′ ++ x)
+      (inNibbles-append (fillFields d 0) (hdr ++ (8, getD f 6 0) ∷ ev) (fill-nibbled d 0)
+      ∙ ap (λ (x : List ℕ). inNibbles (fillFields d 0) ++ x)
+      (inNibbles-append hdr ((8, getD f 6 0) ∷ ev) (text-nibbled (textIn (drop b f)))
+      ∙ ap (λ (x : List ℕ). inNibbles hdr ++ x) (inNibbles-first 8 2 (getD f 6 0) ev refl)))))
       ∙ (rw (map-append, map-append, map-append, map-append, map-append)
-      (ap (λ (x : List ℕ). map image (spelled open′) ++ (x ++ (map image (spelled (fillFields d 0)) ++ (map image (spelled hdr) ++ (map image (parts 4 2 (getD f 6 0)) ++ map image (spelled ev))))))
+      (ap (λ (x : List ℕ). map image (inNibbles open′) ++ (x ++ (map image (inNibbles (fillFields d 0)) ++ (map image (inNibbles hdr) ++ (map image (parts 4 2 (getD f 6 0)) ++ map image (inNibbles ev))))))
       (row-bytes Descriptors descriptorForm descriptorIn (λ (l : List ℕ). refl) descriptorFields descriptor-nibbled (λ (l : List ℕ). refl) d (drop 9 f))))
 
   pub all-codes : map letter (strings (menuIn f)) ≡ map letter (textIn (drop b f) .codes) ++ map letter (each codesOf (eventsIn n (drop h f)))
@@ -274,7 +274,7 @@ pub opening-numbers :
     → n ≡ getD f 8 0
     → x < 256
     → y < 256
-    → map image (spelled (openingFields 0 c zeros (menuIn f)))
+    → map image (inNibbles (openingFields 0 c zeros (menuIn f)))
     ≡ map image (parts 4 7 (((v % 2 * 256 + 3) * 1024 + c % 1024) * 256))
     ++ map image (parts 4 8 ((((d % 64 * 16 + m % 8) * 16 + n % 16) * 4 + h % 4) * 65536 + (x + 256 * y)))
 opening-numbers f c v x y h m d n hv hx hy hh hm hd hn lx ly =
@@ -283,6 +283,6 @@ opening-numbers f c v x y h m d n hv hx hy hh hm hd hn lx ly =
     (9 + loopLength Descriptors d (drop 9 f) + length (textForm (textIn (drop (9 + loopLength Descriptors d (drop 9 f)) f)))) hd hn refl refl c
     (rw hx at lx) (rw hy at ly))
 
-pub opening-long : (f : List ℕ) (c : ℕ) → 19 ≡ 4 + length (map image (spelled (openingFields 0 c zeros (menuIn f))))
+pub opening-long : (f : List ℕ) (c : ℕ) → 19 ≡ 4 + length (map image (inNibbles (openingFields 0 c zeros (menuIn f))))
 unfolding width
-opening-long f c = sym (ap (λ (k : ℕ). 4 + k) (length-map (spelled (openingFields 0 c zeros (menuIn f))) image ∙ length-spelled (openingFields 0 c zeros (menuIn f))))
+opening-long f c = sym (ap (λ (k : ℕ). 4 + k) (length-map (inNibbles (openingFields 0 c zeros (menuIn f))) image ∙ length-inNibbles (openingFields 0 c zeros (menuIn f))))

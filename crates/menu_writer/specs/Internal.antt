@@ -9,10 +9,10 @@ use lib.ListN.{length, getD, drop}
 use Rattle.laws.specs.Pick.{both}
 use Rattle.octet.specs.Image.{image}
 use Rattle.fields.specs.Fields.{Field, width, fitting}
-use Rattle.strings.specs.Parity.{letter}
+use Rattle.parity.specs.Parity.{letter}
 use Rattle.menu_forms.specs.Menus.{infoBytes, descriptorFields, escapeFields, attributeFields, zeros, fields, strings, sevens}
 use Rattle.menu_forms.specs.Form.{descriptorIn, escapeIn, attributeIn, form, menuIn}
-use Rattle.menu_forms.specs.Block.{spelled}
+use Rattle.menu_forms.specs.Block.{inNibbles}
 use Rattle.menu_writer.specs.declared.Tally.{Tally}
 use Rattle.menu_writer.specs.declared.Loop.{Loop}
 use Rattle.menu_writer.specs.declared.Loop.the-variants.{Codes, Descriptors, Escapes, Attributes}
@@ -34,9 +34,9 @@ entryFine Attributes f = fitting (attributeFields (attributeIn f))
 -- what is sent for it
 abbrev pub entryBytes : Loop → List ℕ → List ℕ
 entryBytes Codes f = letter (getD f 0 0) ∷ []
-entryBytes Descriptors f = map image (spelled (descriptorFields (descriptorIn f)))
-entryBytes Escapes f = map image (spelled (escapeFields (escapeIn f)))
-entryBytes Attributes f = map image (spelled (attributeFields (attributeIn f)))
+entryBytes Descriptors f = map image (inNibbles (descriptorFields (descriptorIn f)))
+entryBytes Escapes f = map image (inNibbles (escapeFields (escapeIn f)))
+entryBytes Attributes f = map image (inNibbles (attributeFields (attributeIn f)))
 
 -- the same of the k entries at its front
 unfoldable pub loopLength : Loop → ℕ → List ℕ → ℕ

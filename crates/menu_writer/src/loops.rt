@@ -140,7 +140,7 @@ fn put_code(form: &[u8], at: usize, out: &mut [u8], to: usize) -> usize
         × (now (out .exit) ≡ sets (now (out .entry)) to (entryBytes Codes (drop at (now (form .entry))))) ⌝ }
 {
     let code = (forms::byte_at(form, at) % 256) as u8;
-    put(strings::letter(code), out, to);
+    put(parity::letter(code), out, to);
     1
 }
 

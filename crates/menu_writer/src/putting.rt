@@ -5,11 +5,11 @@ ghost use Prim.Native.Nat.{_+_, _*_, _<_, _≤_};
 ghost use lib.ListN.{length, drop};
 ghost use lib.Seq.{sets};
 ghost use Rattle.octet.specs.Image.{image};
-ghost use Rattle.strings.specs.Parity.{letter};
+ghost use Rattle.parity.specs.Parity.{letter};
 ghost use Rattle.menu_forms.specs.Rows.{each, inRow};
 ghost use Rattle.menu_forms.specs.Menus.{openingFields, fillFields, textFields, eventFields, codesOf, zeros, strings, control as Menus·control};
 ghost use Rattle.menu_forms.specs.Form.{textIn, textForm, eventIn, eventForm, menuIn};
-ghost use Rattle.menu_forms.specs.Block.{spelled, nibbles};
+ghost use Rattle.menu_forms.specs.Block.{inNibbles, nibbles};
 use crate::Loop;
 use crate::Spot;
 use crate::loops;
@@ -43,7 +43,7 @@ pub(crate) fn put_control(form: &[u8], control: usize, out: &mut [u8])
 fn put_opening(form: &[u8], control: usize, out: &mut [u8])
     ensures { λ _.
         ⌜ now (out .exit)
-        ≡ sets (now (out .entry)) 4 (map image (spelled (openingFields 0 control zeros (menuIn (now (form .entry)))))) ⌝ }
+        ≡ sets (now (out .entry)) 4 (map image (inNibbles (openingFields 0 control zeros (menuIn (now (form .entry)))))) ⌝ }
 {
     let copyright = forms::byte_at(form, 1) % 2;
     let first = ((copyright * 256 + NI) * 1024 + control % 1024) * 256;
@@ -61,9 +61,9 @@ fn put_opening(form: &[u8], control: usize, out: &mut [u8])
 fn put_fill(descriptors: usize, out: &mut [u8], to: usize) -> usize
     requires { ⌜ to < 3000000 ⌝ }
     ensures { λ r.
-        ⌜ (r ≡ to + length (map image (spelled (fillFields descriptors 0))))
+        ⌜ (r ≡ to + length (map image (inNibbles (fillFields descriptors 0))))
         × (r ≤ to + 1)
-        × (now (out .exit) ≡ sets (now (out .entry)) to (map image (spelled (fillFields descriptors 0)))) ⌝ }
+        × (now (out .exit) ≡ sets (now (out .entry)) to (map image (inNibbles (fillFields descriptors 0)))) ⌝ }
 {
     if descriptors % 2 == 0 {
         loops::put_nibbles(0, 1, out, to);
@@ -89,10 +89,10 @@ pub(crate) fn put_text(form: &[u8], at: usize, out: &mut [u8], to: usize) -> Spo
     requires { ⌜ (at < 990000) × (to < 2000000) ⌝ }
     ensures { λ r.
         ⌜ (r .at ≡ at + length (textForm (textIn (drop at (now (form .entry))))))
-        × (r .to ≡ to + length (map image (spelled (textFields (textIn (drop at (now (form .entry))))))))
+        × (r .to ≡ to + length (map image (inNibbles (textFields (textIn (drop at (now (form .entry))))))))
         × (r .at ≤ at + 2552)
         × (r .to ≤ to + 2554)
-        × (now (out .exit) ≡ sets (now (out .entry)) to (map image (spelled (textFields (textIn (drop at (now (form .entry)))))))) ⌝ }
+        × (now (out .exit) ≡ sets (now (out .entry)) to (map image (inNibbles (textFields (textIn (drop at (now (form .entry)))))))) ⌝ }
 {
     let escapes = forms::byte_at(form, at);
     let codes = forms::byte_at(form, at + 1);
@@ -110,10 +110,10 @@ fn put_event(form: &[u8], at: usize, out: &mut [u8], to: usize) -> Spot
     requires { ⌜ (at < 980000) × (to < 1900000) ⌝ }
     ensures { λ r.
         ⌜ (r .at ≡ at + length (eventForm (eventIn (drop at (now (form .entry))))))
-        × (r .to ≡ to + length (map image (spelled (eventFields (eventIn (drop at (now (form .entry))))))))
+        × (r .to ≡ to + length (map image (inNibbles (eventFields (eventIn (drop at (now (form .entry))))))))
         × (r .at ≤ at + 3831)
         × (r .to ≤ to + 5110)
-        × (now (out .exit) ≡ sets (now (out .entry)) to (map image (spelled (eventFields (eventIn (drop at (now (form .entry)))))))) ⌝ }
+        × (now (out .exit) ≡ sets (now (out .entry)) to (map image (inNibbles (eventFields (eventIn (drop at (now (form .entry)))))))) ⌝ }
 {
     let low = forms::byte_at(form, at);
     let high = forms::byte_at(form, at + 1);
@@ -129,9 +129,9 @@ fn put_event(form: &[u8], at: usize, out: &mut [u8], to: usize) -> Spot
 pub(crate) fn put_events(form: &[u8], from: usize, count: usize, out: &mut [u8], to: usize) -> Spot
     requires { ⌜ (from < 3840) × (count < 256) × (to < 10000) ⌝ }
     ensures { λ r.
-        ⌜ (r .to ≡ to + length (map image (spelled (each eventFields (inRow eventForm eventIn count (drop from (now (form .entry))))))))
+        ⌜ (r .to ≡ to + length (map image (inNibbles (each eventFields (inRow eventForm eventIn count (drop from (now (form .entry))))))))
         × (now (out .exit)
-        ≡ sets (now (out .entry)) to (map image (spelled (each eventFields (inRow eventForm eventIn count (drop from (now (form .entry)))))))) ⌝ }
+        ≡ sets (now (out .entry)) to (map image (inNibbles (each eventFields (inRow eventForm eventIn count (drop from (now (form .entry)))))))) ⌝ }
 {
     let mut p = Spot { at: from, to };
     let mut left = count;

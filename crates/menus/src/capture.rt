@@ -377,7 +377,7 @@ fn keep_record(
     store: &mut [u8],
     numbers: &mut [u8],
 ) -> Kept {
-    let answer = menu::read_menu(application, record, form);
+    let answer = menu_reader::read_menu(application, record, form);
     match answer {
         Read::Taken { written, mended: _ } => {
             kept::keep(

@@ -2,7 +2,7 @@
 use mathlib.Core.List.{List, [], _∷_}
 use Prim.Native.Nat.{ℕ}
 use Rattle.laws.specs.Pick.{pick}
-use Rattle.texts.specs.Texts.{alike}
+use Rattle.texts.specs.Texts.{sameText}
 use Rattle.wanted.specs.declared.stages.Words.{Words}
 use Rattle.wanted.specs.declared.stages.Stage.the-variants.{Names}
 use Rattle.wanted.specs.Stages.{words}
@@ -23,8 +23,8 @@ check = 99 ∷ 104 ∷ 101 ∷ 99 ∷ 107 ∷ []
 
 -- any other word is bad
 unfoldable pub taskOf : List ℕ → Task
-taskOf w = pick (alike w add) Add (pick (alike w join) Join (pick (alike w check) Check Bad))
+taskOf w = pick (sameText w add) Add (pick (sameText w join) Join (pick (sameText w check) Check Bad))
 
 -- only `add` takes options: the words behind another task begin where names do
 unfoldable pub openedBy : Words → List ℕ → Words
-openedBy ws w = pick (alike w add) ws (words (ws .setting) (ws .verbose) Names)
+openedBy ws w = pick (sameText w add) ws (words (ws .setting) (ws .verbose) Names)

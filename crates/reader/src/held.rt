@@ -134,7 +134,7 @@ fn flow(got: Got, store: &mut [u8; 2047], s: &[u8], out: &mut [u8]) -> Got
                 let size = (head / 32) as usize;
                 let there = s.len() - next;
                 if there < size {
-                    moves::copy(s, next, there, store, 0);
+                    lent_bytes::copy(s, next, there, store, 0);
                     let left = Run::Body {
                         head: head,
                         part: mended,
@@ -212,7 +212,7 @@ fn body_in(head: u16, part: u8, held: usize, store: &mut [u8; 2047], s: &[u8], f
 {
     let need = (head / 32) as usize - held;
     let there = s.len() - from;
-    moves::copy(s, from, need, store, held);
+    lent_bytes::copy(s, from, need, store, held);
     if need < there {
         return Taken {
             run: Run::Body {
@@ -272,7 +272,7 @@ fn hand_out(head: u16, part: u8, held: usize, store: &mut [u8; 2047], out: &mut 
     ensures { λ _. ⌜ now (out .exit) ≡ sets (now (out .entry)) q (recordOf (blockWith head part (take held (now (store .entry))))) ⌝ }
 {
     emit(head, part, &*store, 0, held, out, q);
-    moves::clear(store, held);
+    lent_bytes::clear(store, held);
 }
 
 // The running block, dropped where the test holds.
@@ -303,7 +303,7 @@ fn let_go(run: Run, store: &mut [u8; 2047])
             head: _,
             part: _,
             held,
-        } => moves::clear(store, held),
+        } => lent_bytes::clear(store, held),
     }
 }
 
@@ -336,7 +336,7 @@ fn emit(head: u16, part: u8, raw: &[u8], from: usize, size: usize, out: &mut [u8
     out[q + 1] = (head / 256) as u8;
     out[q + 2] = part;
     out[q + 3] = 0;
-    moves::copy(raw, from, size, out, q + HEAD);
+    lent_bytes::copy(raw, from, size, out, q + HEAD);
 }
 
 // At least one of two tests.

@@ -422,7 +422,7 @@ fn add_other(
     spare: &mut [u8],
     known: &mut [u8],
 ) -> Added {
-    let answer = sheets::add(stamp, front(sheet, work.length), form, spare);
+    let answer = day_sheet::add(stamp, front(sheet, work.length), form, spare);
     match answer {
         Answer::Done(n) => done(settle(work, stamp, form, n, sheet, spare, known)),
         Answer::Refused(r) => Added {
@@ -448,14 +448,14 @@ fn settle(
         let work = keep(work, form, is_same, known);
         return work::stays(work, is_same);
     }
-    moves::copy(spare, 0, n, sheet, 0);
+    lent_bytes::copy(spare, 0, n, sheet, 0);
     let work = work::changed(work, n, texts::entries(front(spare, n)) as u64);
     keep(work, form, true, known)
 }
 
 // Whether the table's entry stands in the sheet: its text is that of a sheet with no other.
 fn is_there(stamp: u32, form: &[u8], sheet: &[u8], spare: &mut [u8]) -> bool {
-    let answer = sheets::add(stamp, front(sheet, 0), form, spare);
+    let answer = day_sheet::add(stamp, front(sheet, 0), form, spare);
     match answer {
         Answer::Done(n) => texts::holds(sheet, front(spare, n)),
         Answer::Refused(_) => false,

@@ -114,7 +114,7 @@ fn read_sheet(fd: i32, name: &[u8], work: Work, sheet: &mut [u8], spare: &mut [u
 
 // Whether the sheet is in form, in order and within its limits; what it isn't is told.
 fn judge(name: &[u8], sheet: &[u8], spare: &mut [u8]) -> bool {
-    let answer = sheets::rewrite(sheet, spare);
+    let answer = day_sheet::rewrite(sheet, spare);
     match answer {
         Answer::Done(_) => true,
         Answer::Refused(r) => {
@@ -183,10 +183,10 @@ fn fill_sheet(fd: i32, sheet: &mut [u8; SHEET]) -> Got {
 }
 
 fn join(name: &[u8], other: &[u8], work: Work, sheet: &mut [u8], spare: &mut [u8]) -> Work {
-    let answer = sheets::join(front(sheet, work.length), other, spare);
+    let answer = day_sheet::join(front(sheet, work.length), other, spare);
     match answer {
         Answer::Done(n) => {
-            moves::copy(spare, 0, n, sheet, 0);
+            lent_bytes::copy(spare, 0, n, sheet, 0);
             work::resized(work, n, texts::entries(front(spare, n)) as u64)
         }
         Answer::Refused(r) => {
@@ -263,8 +263,8 @@ pub fn replace(i: usize, work: Work, sheet: &[u8]) {
 
 // The name of a temporary file beside a file, and how long it is.
 fn name_temp(name: &[u8], temp: &mut [u8]) -> usize {
-    moves::copy(name, 0, name.len(), temp, 0);
-    moves::copy(b".XXXXXX", 0, 7, temp, name.len());
+    lent_bytes::copy(name, 0, name.len(), temp, 0);
+    lent_bytes::copy(b".XXXXXX", 0, 7, temp, name.len());
     says::plus(name.len(), 7)
 }
 

@@ -94,8 +94,8 @@ pub fn keep(known: &mut [u8], at: usize, form: &[u8], is_same: bool) -> bool {
         (form.len() / 256 % 256) as u8,
         mark(is_same),
     ];
-    moves::copy(&head, 0, HEAD, known, from);
-    moves::copy(form, 0, form.len(), known, from + HEAD);
+    lent_bytes::copy(&head, 0, HEAD, known, from);
+    lent_bytes::copy(form, 0, form.len(), known, from + HEAD);
     true
 }
 

@@ -1,5 +1,5 @@
 // The day sheet, a file with an entry for each table: captures' tables are added to it, other sheets are joined to it, or it is looked
-// at (SCOPE 20.11). What it says is settled by the rooms `sheets` and `orders`; here are its files.
+// at (SCOPE 20.11). What it says is settled by the rooms `day_sheet` and `orders`; here are its files.
 //
 // The file is replaced whole or not at all: the new sheet goes to a temporary file beside it, which is written, synced and renamed over
 // it. Whatever fails before that leaves the file as it was.

@@ -130,7 +130,7 @@ fn count(name: &[u8], number: u64, line: &mut [u8], at: usize) -> usize {
 }
 
 fn text(text: &[u8], line: &mut [u8], at: usize) -> usize {
-    moves::copy(text, 0, text.len(), line, at);
+    lent_bytes::copy(text, 0, text.len(), line, at);
     plus(at, text.len())
 }
 

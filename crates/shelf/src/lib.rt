@@ -75,7 +75,7 @@ fn put_entry(form: &[u8], used: usize, heads: &mut [u8], shelf: &mut [u8])
     let last = three(heads, row);
     put_three(used + 1, heads, row);
     put_three(last, shelf, used);
-    moves::copy(form, 0, form.len(), shelf, used + LINK);
+    lent_bytes::copy(form, 0, form.len(), shelf, used + LINK);
 }
 
 // Whether the heads are whole, and the bytes in use are within a shelf that isn't too long.

@@ -13,8 +13,8 @@ beginsWith (p ∷ part) [] = false
 beginsWith (p ∷ part) (x ∷ text) = both (eqb x p) (beginsWith part text)
 
 -- the two are as long as each other, and the one begins with the other
-abbrev pub alike : List ℕ → List ℕ → Bool
-alike text other = both (eqb (length text) (length other)) (beginsWith other text)
+abbrev pub sameText : List ℕ → List ℕ → Bool
+sameText text other = both (eqb (length text) (length other)) (beginsWith other text)
 
 -- a part stands at some place of a text
 unfoldable pub standsIn : List ℕ → List ℕ → Bool

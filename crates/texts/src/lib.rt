@@ -2,13 +2,13 @@
 ghost use mathlib.Core.Path.{_≡_};
 ghost use Prim.Native.Nat.{_≤_};
 ghost use Rattle.laws.specs.Pick.{pick, both};
-ghost use Rattle.texts.specs.Texts.{alike, beginsWith, standsIn, emptyLines};
+ghost use Rattle.texts.specs.Texts.{sameText, beginsWith, standsIn, emptyLines};
 
 const LINE_END: u8 = 10;
 
 // Whether the two are the same bytes.
 pub fn same(text: &[u8], other: &[u8]) -> bool
-    ensures { λ r. ⌜ r ≡ alike (now (text .entry)) (now (other .entry)) ⌝ }
+    ensures { λ r. ⌜ r ≡ sameText (now (text .entry)) (now (other .entry)) ⌝ }
 {
     if text.len() != other.len() {
         return false;

@@ -50,7 +50,7 @@ fn read(op: u8, payload: &[u8], out: &mut [u8]) -> Line {
     if payload.len() < 1 {
         return Line::Unknown(op);
     }
-    match menu::read_menu(payload[0], &payload[1..], out) {
+    match menu_reader::read_menu(payload[0], &payload[1..], out) {
         Read::Taken { written, mended } => Line::Counted {
             op: op,
             answer: Answer::Done(written),

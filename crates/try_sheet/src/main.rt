@@ -40,7 +40,7 @@ fn call(op: u8, payload: &[u8], out: &mut [u8]) -> Line {
     match op {
         50 => Line::Answered {
             op: op,
-            answer: sheets::rewrite(payload, out),
+            answer: day_sheet::rewrite(payload, out),
         },
         51 => add(op, payload, out),
         52 => join(op, payload, out),
@@ -61,7 +61,7 @@ fn add(op: u8, payload: &[u8], out: &mut [u8]) -> Line {
     let stamp = number_at(payload, 0) as u32;
     Line::Answered {
         op: op,
-        answer: sheets::add(stamp, &payload[8..end], &payload[end..], out),
+        answer: day_sheet::add(stamp, &payload[8..end], &payload[end..], out),
     }
 }
 
@@ -77,7 +77,7 @@ fn join(op: u8, payload: &[u8], out: &mut [u8]) -> Line {
     let end = 4 + long;
     Line::Answered {
         op: op,
-        answer: sheets::join(&payload[4..end], &payload[end..], out),
+        answer: day_sheet::join(&payload[4..end], &payload[end..], out),
     }
 }
 

@@ -15,7 +15,7 @@ pub fn lend(out: &mut [u8], room: usize) -> usize
     ensures there { λ r. ⌜ r ≡ length (take r (now (out .exit))) ⌝ }
     ensures filled { λ _. ⌜ now (out .exit) ≡ sets (now (out .entry)) 0 (replicate room filler) ⌝ }
 {
-    moves::fill(out, room, FILLER);
+    lent_bytes::fill(out, room, FILLER);
     least(room, out.len())
 }
 

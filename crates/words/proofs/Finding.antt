@@ -11,7 +11,7 @@ use lib.ListN.{length, take, drop, getD, drop-of-length-le}
 use lib.Seq.{drop-cons}
 use Rattle.laws.specs.Pick.{both}
 use Rattle.laws.proofs.Lists.{part-rest}
-use Rattle.texts.specs.Texts.{alike}
+use Rattle.texts.specs.Texts.{sameText}
 use Rattle.words.specs.Rows.{before, upTo, behind, rowFrom, space, lineEnd}
 use Rattle.words.specs.Options.{letterOf, optionFrom}
 
@@ -46,9 +46,9 @@ module _ (b : ℕ) (t : List ℕ) {n : ℕ} (first : n ≡ before b t) where
 -- ---- the row of a word
 
 module _ (t w : List ℕ) (i : ℕ) (begins : Bool) {b : Bool} (within : i < length t)
-    (asked : b ≡ both begins (alike w (upTo space (drop i t)))) where
-  front : b ≡ both begins (alike w (upTo space (getD t i 0 ∷ drop (suc i) t)))
-  front = asked ∙ ap (λ (l : List ℕ). both begins (alike w (upTo space l))) (drop-cons t i 0 within)
+    (asked : b ≡ both begins (sameText w (upTo space (drop i t)))) where
+  front : b ≡ both begins (sameText w (upTo space (getD t i 0 ∷ drop (suc i) t)))
+  front = asked ∙ ap (λ (l : List ℕ). both begins (sameText w (upTo space l))) (drop-cons t i 0 within)
 
   pub row-here : b ≡ true → rowFrom (drop i t) begins i w ≡ i
   unfolding rowFrom

@@ -6,7 +6,7 @@ use Prim.Native.Nat.{ℕ, _≤_, _<_}
 use native.Mathlib.Omega.{arith}
 use borrow.Author.Tests.{lt-ltb, le-ltb, eq-eqb, ne-eqb}
 use lib.ListN.{length, getD}
-use Rattle.texts.specs.Texts.{alike, standsIn}
+use Rattle.texts.specs.Texts.{sameText, standsIn}
 use Rattle.words.specs.declared.Said.{Said}
 use Rattle.words.specs.declared.places.Spot.{Spot}
 use Rattle.words.specs.declared.Stage.{Stage}
@@ -48,7 +48,7 @@ module _ (t : List ℕ) (s : Said) (w : List ℕ) where
     unfolding heardLast
     last-name is put = rw (← asked, is, put)
 
-    module _ (not : b ≡ false) {d : Bool} (other : d ≡ alike w (dash ∷ dash ∷ [])) where
+    module _ (not : b ≡ false) {d : Bool} (other : d ≡ sameText w (dash ∷ dash ∷ [])) where
       pub last-bad : d ≡ false → r ≡ bad s → r ≡ heardLast t s w
       unfolding heardLast
       last-bad nor lost = rw (← asked, not, ← other, nor, lost)

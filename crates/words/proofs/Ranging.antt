@@ -14,7 +14,7 @@ use Rattle.words.specs.declared.Said.{Said}
 use Rattle.words.specs.declared.places.Spot.{Spot}
 use Rattle.words.specs.declared.Stage.{Stage}
 use Rattle.words.specs.declared.Stage.the-variants.{Task, Options, Value, Names, AllNames, Bad}
-use Rattle.texts.specs.Texts.{alike, standsIn}
+use Rattle.texts.specs.Texts.{sameText, standsIn}
 use Rattle.words.specs.Rows.{before, upTo, behind, lettersAt, placesAt, rowOf}
 use Rattle.words.specs.Numbers.{decimalOf, hexPairOf}
 use Rattle.words.specs.Places.{after, fits}
@@ -110,7 +110,7 @@ module _ (o : List ℕ) where
     unfolding heardLast
     last-within word =
         picked (isName word) (λ e. named-within Names word)
-        (picked (alike word (dash ∷ dash ∷ [])) (λ e. same AllNames (s .row) (s .spot)) (same Bad (s .row) (s .spot)))
+        (picked (sameText word (dash ∷ dash ∷ [])) (λ e. same AllNames (s .row) (s .spot)) (same Bad (s .row) (s .spot)))
 
     letter-within : (c : ℕ) → Within o (heardLetter o t s c)
     unfolding heardLetter

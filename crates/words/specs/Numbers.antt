@@ -4,7 +4,7 @@ use Prim.Native.Nat.{ℕ, _+_, _-_, _*_}
 use lib.Dec.{eqb, leb, ltb}
 use lib.ListN.{length, getD}
 use Rattle.laws.specs.Pick.{pick, both}
-use Rattle.texts.specs.Texts.{alike}
+use Rattle.texts.specs.Texts.{sameText}
 
 -- the greatest number that a word can say
 abbrev pub most : ℕ
@@ -46,4 +46,4 @@ hexPairOf w =
 
 -- a kind of table: `LI` is 7, `TI` is 8, any other word 0
 unfoldable pub kindOf : List ℕ → ℕ
-kindOf w = pick (alike w (76 ∷ 73 ∷ [])) 7 (pick (alike w (84 ∷ 73 ∷ [])) 8 0)
+kindOf w = pick (sameText w (76 ∷ 73 ∷ [])) 7 (pick (sameText w (84 ∷ 73 ∷ [])) 8 0)

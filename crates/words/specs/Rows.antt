@@ -6,7 +6,7 @@ use Prim.Native.Nat.{ℕ, suc, _+_}
 use lib.Dec.{eqb}
 use lib.ListN.{take, drop}
 use Rattle.laws.specs.Pick.{pick, both}
-use Rattle.texts.specs.Texts.{alike}
+use Rattle.texts.specs.Texts.{sameText}
 
 abbrev pub space : ℕ
 space = 32
@@ -39,7 +39,7 @@ placesAt t i = upTo lineEnd (behind space (behind space (drop i t)))
 -- where the row of a word begins in what is left of a text, from place i on; the text's end where there is none
 unfoldable pub rowFrom : List ℕ → Bool → ℕ → List ℕ → ℕ
 rowFrom [] first i w = i
-rowFrom (b ∷ t) first i w = pick (both first (alike w (upTo space (b ∷ t)))) i (rowFrom t (eqb b lineEnd) (suc i) w)
+rowFrom (b ∷ t) first i w = pick (both first (sameText w (upTo space (b ∷ t)))) i (rowFrom t (eqb b lineEnd) (suc i) w)
 
 abbrev pub rowOf : List ℕ → List ℕ → ℕ
 rowOf t w = rowFrom t true 0 w

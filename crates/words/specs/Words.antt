@@ -5,7 +5,7 @@ use Prim.Native.Nat.{ℕ, _+_, _*_}
 use lib.Dec.{eqb, ltb}
 use lib.ListN.{length, getD, replicate}
 use Rattle.laws.specs.Pick.{pick, both}
-use Rattle.texts.specs.Texts.{alike, standsIn}
+use Rattle.texts.specs.Texts.{sameText, standsIn}
 use Rattle.words.specs.declared.Said.{Said}
 use Rattle.words.specs.declared.Stage.{Stage}
 use Rattle.words.specs.declared.Stage.the-variants.{Task, Options, Value, Names, AllNames, Bad}
@@ -47,7 +47,7 @@ named t s n w =
 
 -- a word where only a name or `--` may stand
 unfoldable pub heardLast : List ℕ → Said → List ℕ → Said
-heardLast t s w = pick (isName w) (named t s Names w) (pick (alike w (dash ∷ dash ∷ [])) (toStage AllNames s) (bad s))
+heardLast t s w = pick (isName w) (named t s Names w) (pick (sameText w (dash ∷ dash ∷ [])) (toStage AllNames s) (bad s))
 
 -- the letter behind a `-`: an option that the row takes
 unfoldable pub heardLetter : List ℕ → List ℕ → Said → ℕ → Said

@@ -19,7 +19,7 @@ pub use numbers::number_of;
 pub use places::Spot;
 ghost use mathlib.Core.Path.{_≡_};
 ghost use Rattle.laws.specs.Pick.{pick};
-ghost use Rattle.texts.specs.Texts.{alike};
+ghost use Rattle.texts.specs.Texts.{sameText};
 ghost use Rattle.words.specs.Rows.{wordAt};
 ghost use Rattle.words.specs.Words.{startSaid, heard, placeOf, isGood, valueAt, secondAt, chosen, heardOption, heardLetter, heardLast, named, isName, letterNow, isWhole};
 
@@ -118,7 +118,7 @@ pub fn is_good(tasks: &[u8], said: Said) -> bool
 
 // Whether the task is this one; a program asks it once the words are good.
 pub fn is_task(tasks: &[u8], said: Said, word: &[u8]) -> bool
-    ensures { λ r. ⌜ r ≡ alike (now (word .entry)) (wordAt (now (tasks .entry)) (said .row)) ⌝ }
+    ensures { λ r. ⌜ r ≡ sameText (now (word .entry)) (wordAt (now (tasks .entry)) (said .row)) ⌝ }
 {
     rows::has_word(tasks, said.row, word)
 }

@@ -4,7 +4,7 @@ ghost use mathlib.Core.List.{[], _∷_};
 ghost use Prim.Native.Nat.{_≤_};
 ghost use lib.ListN.{length, drop};
 ghost use Rattle.laws.specs.Pick.{both};
-ghost use Rattle.texts.specs.Texts.{alike, standsIn};
+ghost use Rattle.texts.specs.Texts.{sameText, standsIn};
 ghost use Rattle.words.specs.Rows.{before, upTo, behind, wordAt, lettersAt, placesAt, rowOf};
 
 const SPACE: u8 = b' ';
@@ -29,7 +29,7 @@ pub(crate) fn row_of(tasks: &[u8], word: &[u8]) -> usize
 
 // Whether a row begins here, and has that word.
 fn is_row(tasks: &[u8], i: usize, begins: bool, word: &[u8]) -> bool
-    ensures { λ r. ⌜ r ≡ both begins (alike (now (word .entry)) (wordAt (now (tasks .entry)) i)) ⌝ }
+    ensures { λ r. ⌜ r ≡ both begins (sameText (now (word .entry)) (wordAt (now (tasks .entry)) i)) ⌝ }
 {
     if !begins {
         return false;
@@ -39,7 +39,7 @@ fn is_row(tasks: &[u8], i: usize, begins: bool, word: &[u8]) -> bool
 
 // Whether the row that begins here has that word.
 pub(crate) fn has_word(tasks: &[u8], row: usize, word: &[u8]) -> bool
-    ensures { λ r. ⌜ r ≡ alike (now (word .entry)) (wordAt (now (tasks .entry)) row) ⌝ }
+    ensures { λ r. ⌜ r ≡ sameText (now (word .entry)) (wordAt (now (tasks .entry)) row) ⌝ }
 {
     texts::same(word, up_to(from(tasks, row), SPACE))
 }

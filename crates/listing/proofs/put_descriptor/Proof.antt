@@ -2,7 +2,7 @@
 use borrow.Author.Needs.{needs}
 use native.Mathlib.Omega.{arith}
 use Rattle.listing.specs.Lines.{descriptorLine}
-use Rattle.printing.proofs.Printed.{then, put-as, put-there}
+use Rattle.text_lines.proofs.Printed.{then, put-as, put-there}
 use Rattle.listing.proofs.put_descriptor.Statement.{statement}
 use Rattle.listing.proofs.put_descriptor.Tie as tie
 

@@ -13,7 +13,7 @@ use Rattle.forms.specs.Internal.{descriptorMost, formMost}
 use Rattle.forms.specs.Tables.{per}
 use Rattle.listing.specs.Lines.{descriptorLines, descriptorLinesOf}
 use Rattle.listing.specs.Internal.{descriptorLinesMost, linesMost}
-use Rattle.printing.proofs.Printed.{Left, left-start, left-on, left-end}
+use Rattle.text_lines.proofs.Printed.{Left, left-start, left-on, left-end}
 use Rattle.listing.proofs.Walk.{descriptors-on}
 use Rattle.listing.proofs.put_descriptors.Statement.{statement}
 use Rattle.listing.proofs.put_descriptors.Tie as tie

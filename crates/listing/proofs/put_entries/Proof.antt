@@ -10,7 +10,7 @@ use Rattle.forms.specs.Form.{wordsIn}
 use Rattle.forms.specs.Tables.{per}
 use Rattle.listing.specs.Lines.{entryLines}
 use Rattle.listing.specs.Internal.{entryMost}
-use Rattle.printing.proofs.Printed.{Left, left-start, left-on, left-end}
+use Rattle.text_lines.proofs.Printed.{Left, left-start, left-on, left-end}
 use Rattle.listing.proofs.Walk.{entries-on, entries-end}
 use Rattle.listing.proofs.put_entries.Statement.{statement}
 use Rattle.listing.proofs.put_entries.Tie as tie

@@ -4,7 +4,7 @@ use mathlib.Core.List.{List}
 use Prim.Native.Nat.{ℕ}
 use native.Mathlib.Omega.{arith}
 use denote.Ref.{now}
-use Rattle.printing.proofs.Printed.{then, put-as, put-there}
+use Rattle.text_lines.proofs.Printed.{then, put-as, put-there}
 use Rattle.listing.proofs.Walk.{entry-ti, entry-li}
 use Rattle.listing.proofs.put_entry.Statement.{statement}
 use Rattle.listing.proofs.put_entry.Tie as tie

@@ -2,7 +2,7 @@
 use borrow.Author.Needs.{needs}
 use borrow.Author.Tests.{eq-eqb, ne-eqb}
 use Rattle.listing.specs.Lines.{kindTI, kindLI, kindLine}
-use Rattle.printing.proofs.Putting.{put-as, put-at}
+use Rattle.text_lines.proofs.Putting.{put-as, put-at}
 use Rattle.listing.proofs.put_kind.Statement.{statement}
 use Rattle.listing.proofs.put_kind.Tie as tie
 

@@ -6,7 +6,7 @@ use denote.Ref.{now}
 use Rattle.forms.specs.Form.{tableIn}
 use Rattle.listing.specs.Lines.{linesOf}
 use Rattle.listing.specs.Internal.{linesFrom}
-use Rattle.printing.proofs.Printed.{then, put-as}
+use Rattle.text_lines.proofs.Printed.{then, put-as}
 use Rattle.listing.proofs.put_lines.Statement.{statement}
 use Rattle.listing.proofs.put_lines.Tie as tie
 

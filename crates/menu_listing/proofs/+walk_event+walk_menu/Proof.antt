@@ -8,7 +8,7 @@ use Prim.Native.Nat.{ℕ, _+_, _-_, _*_, _≤_, _<_}
 use native.Mathlib.Omega.{arith}
 use denote.Ref.{now}
 use lib.ListN.{length, drop}
-use Rattle.printing.proofs.Printed.{put-as, put-none}
+use Rattle.text_lines.proofs.Printed.{put-as, put-none}
 use Rattle.menu_listing.specs.Listing.{linesOf}
 use Rattle.menu_listing.specs.Internal.{menusFrom, eventsLinesAt, beyond, eventMost, placeMost}
 use Rattle.menu_listing.proofs.Pens.{Rest, penned, stopped, penned-as, pen-on}

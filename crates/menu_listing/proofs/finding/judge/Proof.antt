@@ -9,7 +9,7 @@ use Rattle.laws.proofs.Lists.{part-rest}
 use Rattle.fields.specs.Fields.{field}
 use Rattle.fields.specs.Compound.{compound}
 use Rattle.laws.specs.Bytes.{Bytes}
-use Rattle.menu.specs.Reading.{mendedIn}
+use Rattle.menu_reader.specs.Reading.{mendedIn}
 use Rattle.menu_listing.proofs.Records.{judged-other, judged-taken, judged-refused}
 use Rattle.menu_listing.proofs.finding.judge.Statement.{statement}
 use Rattle.menu_listing.proofs.finding.judge.Tie as tie

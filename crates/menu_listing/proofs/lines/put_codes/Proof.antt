@@ -6,8 +6,8 @@ use Prim.Native.Nat.{_+_, _≤_}
 use native.Mathlib.Omega.{arith}
 use lib.ListN.{length, drop}
 use Rattle.menu_forms.specs.Form.{codesIn}
-use Rattle.printing.proofs.Putting.{put-at}
-use Rattle.printing.proofs.Printed.{Left, left-start, left-on, left-end}
+use Rattle.text_lines.proofs.Putting.{put-at}
+use Rattle.text_lines.proofs.Printed.{Left, left-start, left-on, left-end}
 use Rattle.menu_listing.specs.Lines.{shown}
 use Rattle.menu_listing.proofs.Bytes.{code-on, code-end}
 use Rattle.menu_listing.proofs.lines.put_codes.Statement.{statement}

@@ -2,7 +2,7 @@
 use borrow.Author.Needs.{needs}
 use native.Mathlib.Omega.{arith}
 use denote.Ref.{now}
-use Rattle.printing.proofs.Printed.{then, put-as}
+use Rattle.text_lines.proofs.Printed.{then, put-as}
 use Rattle.menu_listing.proofs.Bytes.{own-lines}
 use Rattle.menu_listing.proofs.lines.put_event.Statement.{statement}
 use Rattle.menu_listing.proofs.lines.put_event.Tie as tie

@@ -6,8 +6,8 @@ use mathlib.Core.Path.{_≡_, sym}
 use lib.ListN.{length, replicate}
 use lib.Seq.{length-take-le}
 use denote.Ref.{now}
-use Rattle.printing.specs.Lines.{numberLine}
-use Rattle.printing.proofs.Printed.{put-there}
+use Rattle.text_lines.specs.Lines.{numberLine}
+use Rattle.text_lines.proofs.Printed.{put-there}
 use Rattle.menu_listing.proofs.Prints.{line-put}
 use Rattle.menu_listing.proofs.lines.put_line.Statement.{statement}
 use Rattle.menu_listing.proofs.lines.put_line.Tie as tie

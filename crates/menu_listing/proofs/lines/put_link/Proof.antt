@@ -6,8 +6,8 @@ use Prim.Native.Nat.{ℕ, _-_, _≤_}
 use native.Mathlib.Omega.{arith}
 use lib.ListN.{length, set, replicate, length-set}
 use lib.Seq.{length-take-le}
-use Rattle.printing.specs.Lines.{decimal, numberLine}
-use Rattle.printing.proofs.Printed.{put-there, put-as}
+use Rattle.text_lines.specs.Lines.{decimal, numberLine}
+use Rattle.text_lines.proofs.Printed.{put-there, put-as}
 use Rattle.menu_listing.specs.Lines.{linkName, linkLine}
 use Rattle.menu_listing.proofs.Prints.{number-some, ends-otherwise}
 use Rattle.menu_listing.proofs.lines.put_link.Statement.{statement}

@@ -4,8 +4,8 @@ use mathlib.Core.Path.{ap}
 use mathlib.Core.List.{List, [], _∷_, _++_, map}
 use Prim.Native.Nat.{ℕ}
 use denote.Ref.{now}
-use Rattle.printing.proofs.Putting.{put-at}
-use Rattle.printing.proofs.Printed.{then, put-as}
+use Rattle.text_lines.proofs.Putting.{put-at}
+use Rattle.text_lines.proofs.Printed.{then, put-as}
 use Rattle.menu_listing.specs.Lines.{shown, textLine}
 use Rattle.menu_listing.proofs.Bytes.{codes-at}
 use Rattle.menu_listing.proofs.lines.put_text.Statement.{statement}

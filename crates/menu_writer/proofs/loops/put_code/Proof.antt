@@ -5,7 +5,7 @@ use Prim.Native.Nat.{ℕ}
 use native.Mathlib.Nat.{mod-eq-of-lt}
 use lib.ListN.{set}
 use denote.Ref.{now}
-use Rattle.strings.specs.Parity.{letter}
+use Rattle.parity.specs.Parity.{letter}
 use Rattle.menu_writer.proofs.Entries.{byte-front}
 use Rattle.menu_writer.proofs.loops.put_code.Statement.{statement}
 use Rattle.menu_writer.proofs.loops.put_code.Tie as tie

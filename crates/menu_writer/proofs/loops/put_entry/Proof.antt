@@ -7,7 +7,7 @@ use lib.ListN.{length, drop}
 use lib.Seq.{sets}
 use denote.Ref.{now}
 use Rattle.fields.specs.Fields.{width}
-use Rattle.menu_forms.specs.Block.{spelled}
+use Rattle.menu_forms.specs.Block.{inNibbles}
 use Rattle.menu_writer.specs.declared.Loop.{Loop}
 use Rattle.menu_writer.specs.Internal.{entryBytes}
 use Rattle.menu_writer.proofs.Entries.{sent-length}
@@ -56,7 +56,7 @@ same-length-2 : tie.Need-same-length-2
 same-length-2 c = search needs
 
 returns-2 : tie.Need-returns-2
-unfolding spelled width
+unfolding inNibbles width
 returns-2 c =
     let a = c .before .before .before .before .before .before .before .before .args in
     let f : List ℕ = drop (a .at) (now (a .form)) in
@@ -71,7 +71,7 @@ same-length-3 : tie.Need-same-length-3
 same-length-3 c = search needs
 
 returns-3 : tie.Need-returns-3
-unfolding spelled width
+unfolding inNibbles width
 returns-3 c =
     let a = c .before .before .before .before .before .before .before .before .args in
     let f : List ℕ = drop (a .at) (now (a .form)) in

@@ -12,7 +12,7 @@ use Rattle.fields.specs.Fields.{parts}
 use Rattle.menu_forms.specs.Rows.{each}
 use Rattle.menu_forms.specs.Menus.{zeros, fields, openingFields, fillFields, textFields, eventFields}
 use Rattle.menu_forms.specs.Form.{textIn, menuIn}
-use Rattle.menu_forms.specs.Block.{spelled}
+use Rattle.menu_forms.specs.Block.{inNibbles}
 use Rattle.menu_writer.specs.declared.Loop.the-variants.{Descriptors}
 use Rattle.menu_writer.specs.Internal.{loopBytes}
 use Rattle.menu_writer.proofs.Entries.{sent-length}
@@ -79,12 +79,12 @@ returns c =
     let g = c .before .before .before .before .before .before .before .before .before .byte-at3 in
     let m = c .before .before .before .before .before .before .before .put-nibbles in
     let e = c .before .before .put-events in
-    let O = map image (spelled (openingFields 0 (a .control) zeros (menuIn f))) in
+    let O = map image (inNibbles (openingFields 0 (a .control) zeros (menuIn f))) in
     let D = loopBytes Descriptors (d .result) (drop 9 f) in
-    let F = map image (spelled (fillFields (d .result) 0)) in
-    let H = map image (spelled (textFields (textIn (drop (s .result .at) f)))) in
+    let F = map image (inNibbles (fillFields (d .result) 0)) in
+    let H = map image (inNibbles (textFields (textIn (drop (s .result .at) f)))) in
     let M = map image (parts 4 2 (g .result)) in
-    let E = map image (spelled (each eventFields (eventsIn (n .result) (drop (t .result .at) f)))) in
+    let E = map image (inNibbles (each eventFields (eventsIn (n .result) (drop (t .result .at) f)))) in
     let sent =
     control-sent f (d .result) (n .result) (s .result .at) (t .result .at) (d .ensures .0) (n .ensures .0) (s .ensures .0) (t .ensures .0) (a .control)
     ∙ ap (λ (x : ℕ). O ++ (D ++ (F ++ (H ++ (map image (parts 4 2 x) ++ E))))) (sym (g .ensures .0)) in
@@ -96,7 +96,7 @@ returns c =
     ∙ store-on D (F ++ (H ++ (M ++ E))) 19 (s .result .to) (s .ensures .1) (o .last .1 .1 .0) (s .last .1 .1 .1 .1 .0) (s .ensures .4)
     ∙ store-on O (D ++ (F ++ (H ++ (M ++ E)))) 4 19 (opening-long f (a .control)) (now (a .out)) (o .last .1 .1 .0) (o .ensures)
     ∙ ap (λ (l : List ℕ). sets (now (a .out)) 4 l) (sym sent)
-    ∙ ap (λ (x : ℕ). sets (now (a .out)) 4 (map image (spelled (fields 0 x zeros (menuIn f))))) (c .before .before .before .before .before .before .before .before .before .before .before .before .before .before .before .before .before .before .before .before .before .before .before .before .before .before .before .before .before .before .pre)
+    ∙ ap (λ (x : ℕ). sets (now (a .out)) 4 (map image (inNibbles (fields 0 x zeros (menuIn f))))) (c .before .before .before .before .before .before .before .before .before .before .before .before .before .before .before .before .before .before .before .before .before .before .before .before .before .before .before .before .before .before .pre)
 
 pub put-control-spec : {M : Type 1} → statement M
 put-control-spec =

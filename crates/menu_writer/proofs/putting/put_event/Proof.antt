@@ -11,7 +11,7 @@ use Rattle.octet.specs.Image.{image}
 use Rattle.fields.specs.Fields.{parts}
 use Rattle.menu_forms.specs.Menus.{textFields}
 use Rattle.menu_forms.specs.Form.{textIn}
-use Rattle.menu_forms.specs.Block.{spelled}
+use Rattle.menu_forms.specs.Block.{inNibbles}
 use Rattle.menu_writer.specs.declared.Loop.the-variants.{Attributes}
 use Rattle.menu_writer.specs.Internal.{loopBytes}
 use Rattle.menu_writer.proofs.Entries.{sent-length}
@@ -90,13 +90,13 @@ returns c =
     let v = ((n .result % 16 * 16 + k .result % 16) * 256 + y .result) * 256 + x .result in
     let xs = map image (parts 4 6 v) in
     let ys = loopBytes Attributes (n .result) (drop (a .at + 4) f) in
-    let zs = map image (spelled (textFields (textIn (drop (s .result .at) f)))) in
+    let zs = map image (inNibbles (textFields (textIn (drop (s .result .at) f)))) in
     let first : a .to + 6 ≡ a .to + length xs = ap (λ (j : ℕ). a .to + j) (sym (sent-length 6 v)) in
     let q : s .result .to ≡ a .to + length (xs ++ ys) = s .ensures .1 ∙ two-places xs ys (a .to) (a .to + 6) first in
     let sent =
     event-sent f (a .at) (x .result) (y .result) (k .result) (n .result) (x .ensures .0) (y .ensures .0) (k .ensures .0) (n .ensures .0) (x .ensures .1)
     (y .ensures .1)
-    ∙ ap (λ (z : ℕ). xs ++ (ys ++ map image (spelled (textFields (textIn (drop z f)))))) (sym (s .ensures .0)) in
+    ∙ ap (λ (z : ℕ). xs ++ (ys ++ map image (inNibbles (textFields (textIn (drop z f)))))) (sym (s .ensures .0)) in
     let grouped = append-assoc xs ys zs in (
       event-past f (a .at) (n .result) (n .ensures .0) (s .result .at) (t .result .at) (s .ensures .0) (t .ensures .0),
       t .ensures .1 ∙ two-places (xs ++ ys) zs (a .to) (s .result .to) q ∙ ap (λ (l : List ℕ). a .to + length l) (grouped ∙ sym sent),

@@ -14,7 +14,7 @@ use Rattle.fields.specs.Fields.{width, parts}
 use Rattle.menu_forms.specs.Rows.{each}
 use Rattle.menu_forms.specs.Menus.{Event, eventFields}
 use Rattle.menu_forms.specs.Form.{eventIn}
-use Rattle.menu_forms.specs.Block.{spelled}
+use Rattle.menu_forms.specs.Block.{inNibbles}
 use Rattle.menu_writer.proofs.Storing.{two-stores, two-places}
 use Rattle.menu_writer.proofs.Events.{eventsIn, events-split, events-none, sent-split}
 use Rattle.menu_writer.proofs.putting.put_events.Statement.{statement}
@@ -23,10 +23,10 @@ use Rattle.menu_writer.proofs.putting.put_events.Tie as tie
 abbrev Inv-loop : tie.InvT-loop
 Inv-loop form from count out₀ to p₀ left₀ out p left =
     (length out ≡ length out₀) × (p .at + 3831 * left ≤ from + 3831 * count) × (p .to + 5110 * left ≤ to + 5110 * count)
-    × (p .to + length (map image (spelled (each eventFields (eventsIn left (drop (p .at) form)))))
-    ≡ to + length (map image (spelled (each eventFields (eventsIn count (drop from form))))))
-    × (sets out (p .to) (map image (spelled (each eventFields (eventsIn left (drop (p .at) form)))))
-    ≡ sets out₀ to (map image (spelled (each eventFields (eventsIn count (drop from form))))))
+    × (p .to + length (map image (inNibbles (each eventFields (eventsIn left (drop (p .at) form)))))
+    ≡ to + length (map image (inNibbles (each eventFields (eventsIn count (drop from form))))))
+    × (sets out (p .to) (map image (inNibbles (each eventFields (eventsIn left (drop (p .at) form)))))
+    ≡ sets out₀ to (map image (inNibbles (each eventFields (eventsIn count (drop from form))))))
 
 abbrev μ-loop : tie.MeasureT-loop
 μ-loop form from count out₀ to p₀ left₀ out p left = left
@@ -51,11 +51,11 @@ loop-again c =
     let p = c .before .before .put-event in
     let ev = eventIn (drop (l .p .at) f) in
     let rest = eventsIn (l .left - 1) (drop (p .result .at) f) in
-    let xs = map image (spelled (eventFields ev)) in
-    let ys = map image (spelled (each eventFields rest)) in
-    let whole = map image (spelled (each eventFields (eventsIn (l .left) (drop (l .p .at) f)))) in
+    let xs = map image (inNibbles (eventFields ev)) in
+    let ys = map image (inNibbles (each eventFields rest)) in
+    let whole = map image (inNibbles (each eventFields (eventsIn (l .left) (drop (l .p .at) f)))) in
     let e : whole ≡ xs ++ ys =
-    ap (λ (es : List Event). map image (spelled (each eventFields es))) (events-split f (l .p .at) (l .left) (p .result .at) (search needs) (p .ensures .0))
+    ap (λ (es : List Event). map image (inNibbles (each eventFields es))) (events-split f (l .p .at) (l .left) (p .result .at) (search needs) (p .ensures .0))
     ∙ sent-split ev rest in (
       p .kept .1 .1 .0 ∙ l .inv .0,
       omega (arith, l .inv .1, p .ensures .2, c .before .before .before .before .loop-test .taken),
@@ -70,11 +70,11 @@ same-length : tie.Need-same-length Inv-loop μ-loop
 same-length c = search needs
 
 returns : tie.Need-returns Inv-loop μ-loop
-unfolding each spelled width parts
+unfolding each inNibbles width parts
 returns c =
     let a = c .before .before .before .before .args in
     let l = c .before .loop in
-    let e = ap (λ (es : List Event). map image (spelled (each eventFields es))) (events-none (now (a .form)) (l .p .at) (l .left) (search needs)) in (
+    let e = ap (λ (es : List Event). map image (inNibbles (each eventFields es))) (events-none (now (a .form)) (l .p .at) (l .left) (search needs)) in (
       sym (ap (λ (x : List ℕ). l .p .to + length x) e ∙ add-zero (l .p .to)) ∙ l .inv .3,
       sym (ap (λ (x : List ℕ). sets (l .out) (l .p .to) x) e) ∙ l .inv .4,
     )

@@ -7,7 +7,7 @@ use native.Mathlib.Omega.{arith}
 use lib.ListN.{length, drop}
 use lib.Seq.{sets}
 use denote.Ref.{now}
-use Rattle.strings.specs.Parity.{letter}
+use Rattle.parity.specs.Parity.{letter}
 use Rattle.menu_forms.specs.Form.{codesIn, textIn}
 use Rattle.menu_writer.specs.declared.Loop.the-variants.{Codes}
 use Rattle.menu_writer.specs.Internal.{loopBytes}

@@ -8,7 +8,7 @@ use native.Mathlib.Omega.{arith}
 use lib.ListN.{length, drop}
 use lib.Seq.{sets}
 use denote.Ref.{now}
-use Rattle.strings.specs.Parity.{letter}
+use Rattle.parity.specs.Parity.{letter}
 use Rattle.menu_forms.specs.Rows.{each}
 use Rattle.menu_forms.specs.Menus.{Event, codesOf}
 use Rattle.menu_forms.specs.Form.{textIn, eventIn}

@@ -1,4 +1,4 @@
--- `table::spelling::write_opening` meets its contract: six stores in a alike. Assumes nothing.
+-- `table::spelling::write_opening` meets its contract: six stores in a row. Assumes nothing.
 use borrow.Author.Needs.{needs}
 use mathlib.Core.Path.{refl}
 use mathlib.Core.List.{List, [], _∷_}

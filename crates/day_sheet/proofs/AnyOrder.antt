@@ -1,0 +1,268 @@
+-- Sheets joined in any order and grouping: joining is the merge of rising lists by the greater of two, and text and entries go over into
+-- each other. Assumes nothing.
+use mathlib.Core.Path.{_≡_, _∙_, refl, sym, ap, subst}
+use mathlib.Core.Bool.{Bool, true, false}
+use mathlib.Core.List.{List, [], _∷_, _++_, map, map-append, append-nil}
+use Prim.Native.Nat.{ℕ, _≤_}
+use native.Mathlib.Omega.{arith}
+use lib.Dec.{leb}
+use lib.ListN.{length, drop, length-append}
+use borrow.Author.Tests.{leb-true, le-leb}
+use Rattle.laws.specs.Pick.{pick}
+use Rattle.laws.specs.Each.{Each, nil, and}
+use Rattle.laws.specs.Keyed.{risingFrom, rising}
+use Rattle.laws.specs.Orders.{greater, Ordered, Decides}
+use Rattle.laws.specs.Together.{Reordered, none, keep, Tree, one, two, leaves, mergeTree, total, Within, Allowed}
+use Rattle.laws.proofs.Tests.{both-true, both-holds}
+use Rattle.laws.proofs.Eaches.{each-left, each-right, each-all, each-map}
+use Rattle.laws.proofs.Ordering.{ordered-numbers, ordered-on, ordered-before, ordered-turn, before-only, in-turn}
+use Rattle.laws.proofs.Joined.{join-itself as itself}
+use Rattle.laws.proofs.Trees.{Good, good-join, either-order, any-tree, each-reordered, reordered-map}
+use Rattle.laws.proofs.Needs.{within-left, within-right, within-reordered, within-allowed}
+use Rattle.answer.specs.declared.Answer.{Answer}
+use Rattle.answer.specs.declared.Answer.the-variants.{Done}
+use Rattle.answer.specs.Rules.{Every, none as all-hold, more}
+use Rattle.answer.specs.Writing.{after}
+use Rattle.answer.proofs.Lent.{lent-accepted}
+use Rattle.day_sheet.specs.Entries.{Entry, keyOf, headLines, tableLines, entryText, sheetText, written, allWritten, entryLimit, byteLimit}
+use Rattle.day_sheet.specs.Reading.{sheetOf}
+use Rattle.day_sheet.specs.Joining.{byStamp, byLines, atMost, joined}
+use Rattle.day_sheet.specs.Calls.{entriesOf, limited, joinRules, joinResult}
+use Rattle.day_sheet.specs.AnyOrder.{joinAnswer, joinLeft, InForm, Joins, Run, lent, call, sizeOf, Room}
+use Rattle.day_sheet.proofs.Choosing.{key-only}
+use Rattle.day_sheet.proofs.Exact.{read-written, reads-exactly}
+
+-- an entry that can stand in a sheet
+abbrev pub Fit : Entry → Type 0
+Fit e = written e ≡ true
+
+fit-all : (es : List Entry) → allWritten es ≡ true → Each Fit es
+unfolding allWritten
+fit-all [] w = nil
+fit-all (e ∷ es) w = let p = both-true (written e) (allWritten es) w in and (p .0) (fit-all es (p .1))
+
+all-fit : {es : List Entry} → Each Fit es → allWritten es ≡ true
+unfolding allWritten
+all-fit nil = refl
+all-fit (and {a = x} {l = xs} p e) = both-holds (written x) (allWritten xs) p (all-fit e)
+
+pub text-length : (es : List Entry) → length (sheetText es) ≡ total sizeOf es
+unfolding sheetText total
+text-length [] = refl
+text-length (e ∷ es) = length-append (entryText e) (sheetText es) ∙ rw (text-length es)
+
+swap-tests : (s t : Bool) (a r : Answer) → pick s (pick t a r) r ≡ pick t (pick s a r) r
+swap-tests true true a r = refl
+swap-tests true false a r = refl
+swap-tests false true a r = refl
+swap-tests false false a r = refl
+
+-- a tree of sheets as one of their entries
+unfoldable mapped : Tree (List ℕ) → Tree (List Entry)
+mapped (one sheet) = one (entriesOf sheet)
+mapped (two s t) = two (mapped s) (mapped t)
+
+first-two :
+    {a b c sheet : List ℕ} → Run (two (two (one a) (one b)) (one c)) sheet → (ab : List ℕ) × Joins a b ab × Joins ab c sheet
+first-two (call (call {c = ab} (lent a) (lent b) j) (lent c) k) = (ab, j, k)
+
+last-two :
+    {a b c sheet : List ℕ} → Run (two (one a) (two (one b) (one c))) sheet → (bc : List ℕ) × Joins b c bc × Joins a bc sheet
+last-two (call (lent a) (call {c = bc} (lent b) (lent c) j) k) = (bc, j, k)
+
+one-written : (e : Entry) → Fit e → sheetOf (sheetText (e ∷ [])) .items ≡ e ∷ []
+unfolding risingFrom allWritten
+one-written e w = reads-exactly (sheetText (e ∷ [])) (e ∷ []) .1 (refl, rw (le-leb 0 (keyOf e) (omega arith)), rw w) .1
+
+-- the text of one entry is a sheet in form, of that entry
+pub one-read : (e : Entry) → Fit e → InForm (entryText e) × (entriesOf (entryText e) ≡ e ∷ [])
+unfolding risingFrom allWritten sheetText
+one-read e w =
+    reads-exactly (entryText e) (e ∷ []) .1 (sym (append-nil (entryText e)), rw (le-leb 0 (keyOf e) (omega arith)), rw w)
+
+-- entries of a key that stand above each other are equal
+tells-apart : (x y : Entry) → Fit x → Fit y → keyOf x ≡ keyOf y → atMost x y ≡ true → atMost y x ≡ true → x ≡ y
+unfolding headLines entryText sheetText
+tells-apart x y v w e p q =
+    let a = in-turn byStamp-ordered byLines-ordered x y p in
+    let b = in-turn byStamp-ordered byLines-ordered y x q in
+    let k = key-only x y v w e in
+    let s : x .stamp ≡ y .stamp = omega (arith, leb-true (x .stamp) (y .stamp) (a .0), leb-true (y .stamp) (x .stamp) (b .0)) in
+    let l : tableLines x ≡ tableLines y = before-only (tableLines x) (tableLines y) (a .1 (b .0)) (b .1 (a .0)) in
+    let t : sheetText (x ∷ []) ≡ sheetText (y ∷ []) = rw (l, s, k .0, k .1, k .2) in
+    let f : x ∷ [] ≡ y ∷ [] = sym (one-written x v) ∙ ap (λ (text : List ℕ). sheetOf text .items) t ∙ one-written y w in
+    cc
+  where
+    byStamp-ordered : Ordered byStamp
+    byStamp-ordered = ordered-on ordered-numbers (λ (e : Entry). e .stamp)
+
+    byLines-ordered : Ordered byLines
+    byLines-ordered = ordered-on ordered-before tableLines
+
+pub decides : Decides keyOf Fit atMost
+decides =
+    record {
+      ordered = ordered-turn (ordered-on ordered-numbers (λ (e : Entry). e .stamp)) (ordered-on ordered-before tableLines);
+      only = tells-apart;
+    }
+
+abbrev Sheet : List Entry → Type 0
+Sheet = Good keyOf Fit atMost decides
+
+-- the entries of a sheet in form rise and can be written, and it is their text
+pub sheet-of : (sheet : List ℕ) → InForm sheet → Sheet (entriesOf sheet)
+sheet-of sheet f = let e = read-written sheet 0 f in record { rises = e .1; fit = fit-all (entriesOf sheet) (e .2) }
+
+pub text-of : {es : List Entry} → Sheet es → InForm (sheetText es) × (entriesOf (sheetText es) ≡ es)
+text-of {es} g = reads-exactly (sheetText es) es .1 (refl, g .rises, all-fit (g .fit))
+
+pub sheet-joined : {xs ys : List Entry} → Sheet xs → Sheet ys → Sheet (joined xs ys)
+unfolding joined
+sheet-joined g h = good-join keyOf Fit atMost decides g h
+
+-- ---- the calls
+
+-- what is within the limits is written
+pub joins :
+    {xs ys : List Entry} → Sheet xs → Sheet ys → total sizeOf xs ≤ byteLimit → total sizeOf ys ≤ byteLimit
+    → Allowed sizeOf entryLimit byteLimit (joined xs ys) → Joins (sheetText xs) (sheetText ys) (sheetText (joined xs ys))
+unfolding joinRules joinResult
+joins {xs} {ys} g h l m a =
+    let t = text-of g in
+    let u = text-of h in
+    let r : joinResult (sheetText xs) (sheetText ys) ≡ joined xs ys = rw (t .1, u .1) in
+    let n = text-length xs in
+    let o = text-length ys in
+    let p = text-length (joined xs ys) in
+    let f = a .entries in
+    let b = a .length-in-all in
+    let kept : Every (limited (joined xs ys)) =
+    more (le-leb (length (joined xs ys)) entryLimit f)
+    (more (le-leb (length (sheetText (joined xs ys))) byteLimit (omega arith)) all-hold) in
+    let every : Every (joinRules (sheetText xs) (sheetText ys)) =
+    more (le-leb (length (sheetText xs)) byteLimit (omega arith))
+    (more (le-leb (length (sheetText ys)) byteLimit (omega arith)) (more (t .0) (more (u .0) (subst (λ (es : List Entry). Every (limited es)) (sym r) kept)))) in
+    let done : (out : List ℕ) → byteLimit ≤ length out
+    → (joinAnswer (sheetText xs) (sheetText ys) out ≡ Done (length (sheetText (joinResult (sheetText xs) (sheetText ys)))))
+    × (joinLeft (sheetText xs) (sheetText ys) out
+    ≡ sheetText (joinResult (sheetText xs) (sheetText ys)) ++ drop (length (sheetText (joinResult (sheetText xs) (sheetText ys)))) out) =
+    λ out big.
+    lent-accepted (joinRules (sheetText xs) (sheetText ys)) (sheetText (joinResult (sheetText xs) (sheetText ys))) out every
+    (rw r (omega arith)) in
+    record {
+      answers = λ out big. done out big .0 ∙ ap (λ (es : List Entry). Done (length (sheetText es))) r;
+      writes = λ out big. done out big .1 ∙ ap (λ (es : List Entry). sheetText es ++ drop (length (sheetText es)) out) r;
+    }
+
+-- ---- either order
+
+result-either : (first second : List ℕ) → InForm first → InForm second → joinResult first second ≡ joinResult second first
+unfolding joinResult joined
+result-either first second f g = either-order keyOf Fit atMost decides (sheet-of first f) (sheet-of second g)
+
+answer-either :
+    (first second out : List ℕ) → InForm first → InForm second → joinAnswer first second out ≡ joinAnswer second first out
+unfolding joinRules
+answer-either first second out f g =
+    rw (f, g, result-either first second f g) (swap-tests (leb (length first) byteLimit) (leb (length second) byteLimit) _ _)
+
+-- either order: for any two sheets in form the two orders answer the same and leave the same
+pub join-either-order :
+    (first second out : List ℕ) → InForm first → InForm second
+    → (joinAnswer first second out ≡ joinAnswer second first out) × (joinLeft first second out ≡ joinLeft second first out)
+join-either-order first second out f g =
+    let a = answer-either first second out f g in
+    let r = result-either first second f g in (
+      a,
+      ap (λ (x : Answer). after x (sheetText (joinResult first second)) out) a
+          ∙ ap (λ (es : List Entry). after (joinAnswer second first out) (sheetText es) out) r,
+    )
+
+-- ---- any number of sheets
+
+leaves-map : (t : Tree (List ℕ)) → leaves (mapped t) ≡ map entriesOf (leaves t)
+unfolding leaves mapped
+leaves-map (one sheet) = refl
+leaves-map (two s t) = rw (leaves-map s, leaves-map t) (sym (map-append entriesOf (leaves s) (leaves t)))
+
+pub sheets-of : {sheets : List (List ℕ)} → Each InForm sheets → Each Sheet (map entriesOf sheets)
+sheets-of e = each-map entriesOf sheet-of e
+
+good-leaves : (t : Tree (List ℕ)) → Each InForm (leaves t) → Each Sheet (leaves (mapped t))
+good-leaves t e = rw (leaves-map t) (sheets-of e)
+
+-- the entries that the calls of a tree come to
+abbrev whole : Tree (List ℕ) → List Entry
+whole t = mergeTree keyOf (greater atMost) (mapped t)
+
+rising-leaves : {xss : List (List Entry)} → Each Sheet xss → Each (λ (es : List Entry). rising keyOf es ≡ true) xss
+rising-leaves e = each-all (λ es g. g .rises) e
+
+room-at : (t : Tree (List ℕ)) → Room (leaves t) → Within keyOf sizeOf entryLimit byteLimit (leaves (mapped t))
+room-at t r = rw (leaves-map t) r
+
+allowed-at : (t : Tree (List ℕ)) → Each InForm (leaves t) → Room (leaves t) → Allowed sizeOf entryLimit byteLimit (whole t)
+allowed-at t e r = within-allowed keyOf sizeOf Fit atMost decides (mapped t) (good-leaves t e) (room-at t r)
+
+sheet-at : (t : Tree (List ℕ)) → Each InForm (leaves t) → Sheet (whole t)
+unfolding leaves mapped mergeTree
+sheet-at (one sheet) (and f e) = sheet-of sheet f
+sheet-at (two s t) e =
+    good-join keyOf Fit atMost decides (sheet-at s (each-left (leaves s) (leaves t) e)) (sheet-at t (each-right (leaves s) (leaves t) e))
+
+-- where the premise holds, every call of a tree is accepted, and the last one writes the sheet of its entries
+runs : (t : Tree (List ℕ)) → Each InForm (leaves t) → Room (leaves t) → Run t (sheetText (whole t))
+unfolding leaves mapped mergeTree joined
+runs (one sheet) (and f e) r = rw (sym (read-written sheet 0 f .0)) (lent sheet)
+runs (two s t) e r =
+    let a = each-left (leaves s) (leaves t) e in
+    let b = each-right (leaves s) (leaves t) e in
+    let w : Within keyOf sizeOf entryLimit byteLimit (map entriesOf (leaves s) ++ map entriesOf (leaves t)) =
+    rw (sym (map-append entriesOf (leaves s) (leaves t))) r in
+    let g : Each (λ (es : List Entry). rising keyOf es ≡ true) (map entriesOf (leaves s) ++ map entriesOf (leaves t)) =
+    rw (sym (map-append entriesOf (leaves s) (leaves t))) (rising-leaves (sheets-of e)) in
+    let p = within-left keyOf sizeOf (map entriesOf (leaves s)) (map entriesOf (leaves t)) g w in
+    let q = within-right keyOf sizeOf (map entriesOf (leaves s)) (map entriesOf (leaves t)) g w in
+    call (runs s a p) (runs t b q)
+    (joins (sheet-at s a) (sheet-at t b) (allowed-at s a p .length-in-all) (allowed-at t b q .length-in-all)
+    (allowed-at (two s t) e r))
+
+-- every tree of calls over every order of the sheets gives the same sheet, and no call of it is refused
+pub any-order :
+    (s t : Tree (List ℕ)) → Each InForm (leaves s) → Reordered (leaves s) (leaves t) → Room (leaves s)
+    → (sheet : List ℕ) × Run s sheet × Run t sheet
+any-order s t e o r =
+    let f = each-reordered o e in
+    let m = reordered-map entriesOf o in
+    let q = within-reordered keyOf sizeOf (rising-leaves (sheets-of e)) m r in
+    let w : whole s ≡ whole t = any-tree keyOf Fit atMost decides (mapped s) (mapped t) (rw (leaves-map s, leaves-map t) m) (good-leaves s e) in
+    (sheetText (whole s), runs s e r, rw w (runs t f q))
+
+-- either grouping of three, with outputs as long as the limit
+pub join-either-grouping :
+    (a b c : List ℕ) → InForm a → InForm b → InForm c → Room (a ∷ b ∷ c ∷ [])
+    → (ab : List ℕ) × (bc : List ℕ) × (abc : List ℕ) × Joins a b ab × Joins ab c abc × Joins b c bc × Joins a bc abc
+unfolding leaves
+join-either-grouping a b c f g h r =
+    let s = two (two (one a) (one b)) (one c) in
+    let t = two (one a) (two (one b) (one c)) in
+    let x = any-order s t (and f (and g (and h nil))) (keep (keep (keep none))) r in
+    let p = first-two (x .1) in
+    let q = last-two (x .2) in
+    (p .0, q .0, x .0, p .1, p .2, q .1, q .2)
+
+-- a sheet within the limits with itself
+pub join-itself :
+    (sheet : List ℕ) → InForm sheet → length (entriesOf sheet) ≤ entryLimit → length sheet ≤ byteLimit → Joins sheet sheet sheet
+unfolding joined
+join-itself sheet f n l =
+    let e = read-written sheet 0 f in
+    let g = sheet-of sheet f in
+    let k = text-length (entriesOf sheet) in
+    let i : joined (entriesOf sheet) (entriesOf sheet) ≡ entriesOf sheet = itself keyOf Fit atMost decides 0 (entriesOf sheet) (g .rises) in
+    let m : length (sheetText (entriesOf sheet)) ≤ byteLimit = rw (sym (e .0)) l in
+    let a : Allowed sizeOf entryLimit byteLimit (entriesOf sheet) = record { entries = n; length-in-all = omega arith } in
+    let j : Joins (sheetText (entriesOf sheet)) (sheetText (entriesOf sheet)) (sheetText (joined (entriesOf sheet) (entriesOf sheet))) =
+    joins g g (omega arith) (omega arith) (subst (Allowed sizeOf entryLimit byteLimit) (sym i) a) in
+    let t : Joins (sheetText (entriesOf sheet)) (sheetText (entriesOf sheet)) (sheetText (entriesOf sheet)) = rw i at j in
+    rw (sym (e .0)) at t

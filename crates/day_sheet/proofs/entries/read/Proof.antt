@@ -1,0 +1,95 @@
+-- `day_sheet::entries::read` meets its contract: the entries counted, with those left from here on, are the whole sheet. The measure is what is left of it. Assumes nothing.
+use mathlib.Core.Path.{_≡_, _∙_}
+use Prim.Native.Nat.{_-_, _≤_}
+use native.Mathlib.Omega.{arith}
+use borrow.Author.Tests.{not-true, not-false}
+use denote.Ref.{now}
+use lib.ListN.{length, drop, length-drop}
+use Rattle.day_sheet.specs.Internal.{sheetRead}
+use Rattle.day_sheet.specs.Reading.{sheetFrom, sheetOf}
+use Rattle.day_sheet.proofs.Finding.{sheetAfter, sheet-start, sheet-on, sheet-end}
+use Rattle.day_sheet.proofs.entries.read.Statement.{statement}
+use Rattle.day_sheet.proofs.entries.read.Tie as tie
+
+abbrev Inv-loop : tie.InvT-loop
+Inv-loop sheet at₀ least₀ count₀ at least count = (at ≤ length sheet) × (count ≤ at) × (sheetAfter count at (sheetFrom least (drop at sheet)) ≡ sheetRead (sheetOf sheet))
+
+abbrev μ-loop : tie.MeasureT-loop
+μ-loop sheet at₀ least₀ count₀ at least count = length sheet - at
+
+loop-holds : tie.Need-loop-holds Inv-loop μ-loop
+loop-holds c = (omega arith, omega arith, sheet-start (sheetOf (now (c .before .args .sheet))))
+
+entry-at-requires : tie.Need-entry-at-requires Inv-loop μ-loop
+entry-at-requires c κs = record { inside = c .loop .inv .0; short = c .before .before .pre .short }
+
+add-t8 : tie.Need-add-t8 Inv-loop μ-loop
+add-t8 c =
+    let s = c .before .before .before .before .before in
+    let loop = c .before .before .before .loop in
+    let entry-at = c .before .before .entry-at in
+    let e = sheet-end (now (s .args .sheet)) (loop .at) (loop .least) _ (entry-at .ensures) (loop .count) (not-true _ (c .before .if1 .taken)) in
+    omega (arith, loop .inv .0, s .pre .short, simp length-drop at (e .0))
+
+returns : tie.Need-returns Inv-loop μ-loop
+returns c =
+    let s = c .before .before .before .before .before in
+    let loop = c .before .before .before .loop in
+    let entry-at = c .before .before .entry-at in
+    let e = sheet-end (now (s .args .sheet)) (loop .at) (loop .least) _ (entry-at .ensures) (loop .count) (not-true _ (c .before .if1 .taken)) in
+    e .1 ∙ loop .inv .2
+
+add-at : tie.Need-add-at Inv-loop μ-loop
+add-at c =
+    let s = c .before .before .before .before .before in
+    let loop = c .before .before .before .loop in
+    let entry-at = c .before .before .entry-at in
+    let e = sheet-on (now (s .args .sheet)) (loop .at) (loop .least) _ (entry-at .ensures) (loop .count) (not-false _ (c .before .if1 .left)) in
+    omega (arith, loop .inv .0, s .pre .short, simp length-drop at (e .1))
+
+add-least : tie.Need-add-least Inv-loop μ-loop
+add-least c =
+    let s = c .before .before .before .before .before .before in
+    let loop = c .before .before .before .before .loop in
+    let entry-at = c .before .before .before .entry-at in
+    let if1 = c .before .before .if1 in
+    let e = sheet-on (now (s .args .sheet)) (loop .at) (loop .least) _ (entry-at .ensures) (loop .count) (not-false _ (if1 .left)) in
+    omega (arith, e .2)
+
+add-count : tie.Need-add-count Inv-loop μ-loop
+add-count c = omega (arith, c .before .before .before .before .loop .inv .0, c .before .before .before .before .loop .inv .1, c .before .before .before .before .before .before .pre .short)
+
+loop-less : tie.Need-loop-less Inv-loop μ-loop
+loop-less c =
+    let s = c .before .before .before .before .before .before in
+    let loop = c .before .before .before .before .loop in
+    let entry-at = c .before .before .before .entry-at in
+    let if1 = c .before .before .if1 in
+    let e = sheet-on (now (s .args .sheet)) (loop .at) (loop .least) _ (entry-at .ensures) (loop .count) (not-false _ (if1 .left)) in
+    omega (arith, e .0, loop .inv .0, simp length-drop at (e .1))
+
+loop-again : tie.Need-loop-again Inv-loop μ-loop
+loop-again c =
+    let s = c .before .before .before .before .before .before in
+    let loop = c .before .before .before .before .loop in
+    let entry-at = c .before .before .before .entry-at in
+    let if1 = c .before .before .if1 in
+    let e = sheet-on (now (s .args .sheet)) (loop .at) (loop .least) _ (entry-at .ensures) (loop .count) (not-false _ (if1 .left)) in
+    let l = c .before .before .before .before .loop in
+    (omega (arith, l .inv .0, simp length-drop at (e .1)), omega (arith, e .0, l .inv .1), e .3 ∙ l .inv .2)
+
+pub read-spec : {M : Type 1} → statement M
+read-spec =
+    tie.close
+    (tie.spec
+    Inv-loop
+    μ-loop
+    loop-holds
+    entry-at-requires
+    add-t8
+    returns
+    add-at
+    add-least
+    add-count
+    loop-less
+    loop-again)

@@ -1,0 +1,84 @@
+-- `day_sheet::joining::join` meets its contract: `judge_join` says which rule refuses, then the room decides. Assumes nothing.
+use borrow.Author.Needs.{needs}
+use mathlib.Core.Path.{_∙_, sym, ap}
+use mathlib.Core.List.{List}
+use Prim.Native.Nat.{ℕ}
+use native.Mathlib.Omega.{arith}
+use denote.Ref.{now}
+use Rattle.answer.specs.declared.Answer.the-variants.{Done}
+use Rattle.answer.proofs.Lent.{lent-value, lent-refused, lent-short, lent-done}
+use Rattle.day_sheet.specs.Entries.{sheetText}
+use Rattle.day_sheet.specs.Calls.{joinRules, joinResult}
+use Rattle.day_sheet.proofs.Judged.{judged-halves}
+use Rattle.day_sheet.proofs.joining.join.Statement.{statement}
+use Rattle.day_sheet.proofs.joining.join.Tie as tie
+
+judge-join-requires : tie.Need-judge-join-requires
+judge-join-requires c κs = search needs
+
+enum-known-why : tie.Need-enum-known-why
+enum-known-why c = search needs
+
+enum-known-n : tie.Need-enum-known-n
+enum-known-n c = search needs
+
+refuse-requires : tie.Need-refuse-requires
+refuse-requires c κs = search needs
+
+returns : tie.Need-returns
+returns c =
+    let s = c .before .before .before .before .before .before .before .before .before in
+    let f : List ℕ = now (s .args .first) in
+    let g : List ℕ = now (s .args .second) in
+    let j = c .before .before .before .before .before .judge-join .ensures in
+    let v = lent-value (joinRules f g) (sheetText (joinResult f g)) (now (s .args .out)) _ j (c .before .before .before .n .given .1) in
+    let p =
+    lent-short (joinRules f g) (sheetText (joinResult f g)) (now (s .args .out)) _ j (c .before .before .before .n .given .1) (omega (arith, v, c .before .if1 .taken)) in
+    (c .refuse .ensures ∙ p .0, p .1)
+
+put-joined-requires : tie.Need-put-joined-requires
+put-joined-requires c κs =
+    let s = c .before .before .before .before .before .before .before .before .before in
+    let f : List ℕ = now (s .args .first) in
+    let g : List ℕ = now (s .args .second) in
+    let j = c .before .before .before .before .before .judge-join .ensures in
+    judged-halves f g _ _ (sym j ∙ c .before .before .before .n .given .1)
+
+returns-2 : tie.Need-returns-2
+returns-2 c =
+    let s = c .before .before .before .before .before .before .before in
+    let f : List ℕ = now (s .args .first) in
+    let g : List ℕ = now (s .args .second) in
+    let j = c .before .before .before .judge-join .ensures in
+    lent-refused (joinRules f g) (sheetText (joinResult f g)) (now (s .args .out)) _ j (c .before .why .given .1)
+
+same-length : tie.Need-same-length
+same-length c = search needs
+
+returns-3 : tie.Need-returns-3
+returns-3 c =
+    let s = c .before .before .before .before .before .before .before .before .before .before .before .before in
+    let n = c .before .before .before .before .before .before .n in
+    let if1 = c .before .before .before .before .if1 in
+    let put-joined = c .before .before .put-joined in
+    let f : List ℕ = now (s .args .first) in
+    let g : List ℕ = now (s .args .second) in
+    let j = c .before .before .before .before .before .before .before .before .judge-join .ensures in
+    let v = lent-value (joinRules f g) (sheetText (joinResult f g)) (now (s .args .out)) _ j (n .given .1) in
+    let p =
+    lent-done (joinRules f g) (sheetText (joinResult f g)) (now (s .args .out)) _ j (n .given .1) (omega (arith, v, if1 .left)) in
+    (ap Done v ∙ p .0, put-joined .ensures .0 ∙ p .1)
+
+pub join-spec : {M : Type 1} → statement M
+join-spec =
+    tie.close
+    (tie.spec
+    judge-join-requires
+    enum-known-why
+    enum-known-n
+    refuse-requires
+    returns
+    put-joined-requires
+    returns-2
+    same-length
+    returns-3)

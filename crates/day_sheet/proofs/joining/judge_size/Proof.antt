@@ -1,0 +1,31 @@
+-- `day_sheet::joining::judge_size` meets its contract: the two limits, one after the other. Assumes nothing.
+use borrow.Author.Needs.{needs}
+use mathlib.Core.Path.{_∙_}
+use Rattle.day_sheet.proofs.Judged.{sized-many, sized-long, sized-done}
+use Rattle.day_sheet.proofs.joining.judge_size.Statement.{statement}
+use Rattle.day_sheet.proofs.joining.judge_size.Tie as tie
+
+refuse-requires : tie.Need-refuse-requires
+refuse-requires c κs = search needs
+
+returns : tie.Need-returns
+returns c =
+    let a = c .before .before .args in
+    c .refuse .ensures ∙ sized-many (a .entries) (a .long) (search needs)
+
+refuse-requires-2 : tie.Need-refuse-requires-2
+refuse-requires-2 c κs = search needs
+
+returns-2 : tie.Need-returns-2
+returns-2 c =
+    let a = c .before .before .before .args in
+    c .refuse2 .ensures ∙ sized-long (a .entries) (a .long) (search needs) (search needs)
+
+returns-3 : tie.Need-returns-3
+returns-3 c =
+    let a = c .before .before .args in
+    sized-done (a .entries) (a .long) (search needs) (search needs)
+
+pub judge-size-spec : {M : Type 1} → statement M
+judge-size-spec =
+    tie.close (tie.spec refuse-requires returns refuse-requires-2 returns-2 returns-3)

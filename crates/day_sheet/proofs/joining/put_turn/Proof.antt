@@ -1,0 +1,57 @@
+-- `day_sheet::joining::put_turn` meets its contract: what is copied is the text of the turn. Assumes nothing.
+use borrow.Author.Needs.{needs}
+use mathlib.Core.Path.{_∙_, sym, ap}
+use Prim.Native.Nat.{ℕ, _+_}
+use lib.ListN.{length, drop}
+use lib.Seq.{sets}
+use denote.Ref.{now}
+use Rattle.day_sheet.proofs.Turning.{later-text, first-text, part-length}
+use Rattle.day_sheet.proofs.joining.put_turn.Statement.{statement}
+use Rattle.day_sheet.proofs.joining.put_turn.Tie as tie
+
+copy-requires : tie.Need-copy-requires
+copy-requires c κs = search needs
+
+add-result : tie.Need-add-result
+add-result c = search needs
+
+same-length : tie.Need-same-length
+same-length c = search needs
+
+returns : tie.Need-returns
+returns c =
+    let a = c .before .before .before .before .before .before .before .before .args in
+    let e = later-text (a .t) (drop (a .i) (now (a .first))) (drop (a .j) (now (a .second))) (c .before .before .before .before .if1 .taken) in (
+      c .before .before .copy .ensures ∙ ap (sets (now (a .out)) (a .q)) e,
+      ap (λ (n : ℕ). a .q + n) (sym (part-length (a .t .second) (a .j) (now (a .second)) (search needs)) ∙ ap length e),
+    )
+
+copy-requires-2 : tie.Need-copy-requires-2
+copy-requires-2 c κs = search needs
+
+add-result-2 : tie.Need-add-result-2
+add-result-2 c = search needs
+
+same-length-2 : tie.Need-same-length-2
+same-length-2 c = search needs
+
+returns-2 : tie.Need-returns-2
+returns-2 c =
+    let a = c .before .before .before .before .before .before .before .before .args in
+    let e = first-text (a .t) (drop (a .i) (now (a .first))) (drop (a .j) (now (a .second))) (c .before .before .before .before .if1 .left) in (
+      c .before .before .copy2 .ensures ∙ ap (sets (now (a .out)) (a .q)) e,
+      ap (λ (n : ℕ). a .q + n) (sym (part-length (a .t .first) (a .i) (now (a .first)) (search needs)) ∙ ap length e),
+    )
+
+pub put-turn-spec : {M : Type 1} → statement M
+put-turn-spec =
+    tie.close
+    (tie.spec
+    copy-requires
+    add-result
+    same-length
+    returns
+    copy-requires-2
+    add-result-2
+    same-length-2
+    returns-2)

@@ -1,0 +1,55 @@
+-- `day_sheet::judge` meets its contract: a law for each way. Assumes nothing.
+use borrow.Author.Needs.{needs}
+use mathlib.Core.Path.{_∙_}
+use denote.Ref.{now}
+use Rattle.answer.specs.declared.Answer.the-variants.{Done}
+use Rattle.day_sheet.proofs.Rewriting.{judge-long, judge-bad, judge-many, judge-good}
+use Rattle.day_sheet.proofs.judge.Statement.{statement}
+use Rattle.day_sheet.proofs.judge.Tie as tie
+
+refuse-requires : tie.Need-refuse-requires
+refuse-requires c κs = search needs
+
+returns : tie.Need-returns
+returns c = c .refuse .ensures ∙ judge-long (now (c .before .before .before .args .sheet)) (Done _) (search needs)
+
+judge-lines-requires : tie.Need-judge-lines-requires
+judge-lines-requires c κs = search needs
+
+enum-known-why : tie.Need-enum-known-why
+enum-known-why c = search needs
+
+enum-known-count : tie.Need-enum-known-count
+enum-known-count c = search needs
+
+refuse-requires-2 : tie.Need-refuse-requires-2
+refuse-requires-2 c κs = search needs
+
+returns-2 : tie.Need-returns-2
+returns-2 c =
+    let s = c .before .before .before .before .before .before .before .before in
+    let judge-lines = c .before .before .before .before .before .judge-lines in
+    let count = c .before .before .before .count in
+    c .refuse2 .ensures ∙ judge-many (now (s .args .sheet)) (Done _) (search needs) (judge-lines .ensures) (count .given .1) (search needs)
+
+returns-3 : tie.Need-returns-3
+returns-3 c = judge-bad (now (c .before .before .before .before .before .before .args .sheet)) (Done _) (search needs) (c .before .before .before .judge-lines .ensures) (c .before .why .given .1)
+
+returns-4 : tie.Need-returns-4
+returns-4 c =
+    let s = c .before .before .before .before .before .before .before in
+    judge-good (now (s .args .sheet)) (Done _) (search needs) (c .before .before .before .before .judge-lines .ensures) (c .before .before .count .given .1) (search needs)
+
+pub judge-spec : {M : Type 1} → statement M
+judge-spec =
+    tie.close
+    (tie.spec
+    refuse-requires
+    returns
+    judge-lines-requires
+    enum-known-why
+    enum-known-count
+    refuse-requires-2
+    returns-2
+    returns-3
+    returns-4)

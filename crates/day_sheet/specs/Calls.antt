@@ -1,0 +1,62 @@
+-- What the calls judge, in their order (SCOPE 20.9), and what they write.
+use mathlib.Core.List.{List, [], _∷_, _++_}
+use Prim.Native.Nat.{ℕ}
+use lib.Dec.{leb}
+use lib.ListN.{length}
+use Rattle.answer.specs.Rules.{Rule, rule}
+use Rattle.forms.specs.Form.{tableIn}
+use Rattle.forms.specs.Writing.{formRules}
+use Rattle.day_sheet.specs.Entries.{Entry, sheetText, entryLimit, byteLimit}
+use Rattle.day_sheet.specs.Reading.{sheetOf}
+use Rattle.day_sheet.specs.Joining.{joined}
+
+-- 21: a lent sheet that is too long to be one
+abbrev pub short : List ℕ → Rule
+short sheet = rule (leb (length sheet) byteLimit) 21 0
+
+-- 20: a line out of form or order, at its first byte
+abbrev pub formed : List ℕ → Rule
+formed sheet = rule (sheetOf sheet .fine) 20 (sheetOf sheet .long)
+
+-- 21: a result of too many entries or bytes
+abbrev pub limited : List Entry → List Rule
+limited es = rule (leb (length es) entryLimit) 21 0 ∷ rule (leb (length (sheetText es)) byteLimit) 21 0 ∷ []
+
+-- the entries of a sheet in form
+abbrev pub entriesOf : List ℕ → List Entry
+entriesOf sheet = sheetOf sheet .items
+
+-- ---- rewrite
+
+unfoldable pub rewriteRules : List ℕ → List Rule
+rewriteRules sheet = short sheet ∷ formed sheet ∷ limited (entriesOf sheet)
+
+unfoldable pub rewritten : List ℕ → List ℕ
+rewritten sheet = sheetText (entriesOf sheet)
+
+-- ---- add
+
+-- the entry of a table form, whose copyright bit is dropped
+unfoldable pub stamped : ℕ → List ℕ → Entry
+stamped at form =
+    let t = tableIn form in
+    record {
+      stamp = at;
+      table =
+          record { kind = t .kind; copyright = 0; block = t .block; network = t .network; descriptors = t .descriptors };
+    }
+
+unfoldable pub addResult : ℕ → List ℕ → List ℕ → List Entry
+addResult at sheet form = joined (entriesOf sheet) (stamped at form ∷ [])
+
+unfoldable pub addRules : ℕ → List ℕ → List ℕ → List Rule
+addRules at sheet form = formRules form ++ short sheet ∷ formed sheet ∷ limited (addResult at sheet form)
+
+-- ---- join
+
+unfoldable pub joinResult : List ℕ → List ℕ → List Entry
+joinResult first second = joined (entriesOf first) (entriesOf second)
+
+unfoldable pub joinRules : List ℕ → List ℕ → List Rule
+joinRules first second =
+    short first ∷ short second ∷ formed first ∷ formed second ∷ limited (joinResult first second)

@@ -1,0 +1,239 @@
+// Two sheets in form, merged along their texts: whole entries are passed and copied by their places (SCOPE 20.8).
+ghost use mathlib.Core.Path.{_≡_};
+ghost use mathlib.Core.List.{_∷_, []};
+ghost use Prim.Native.Nat.{_+_, _≤_};
+ghost use lib.Dec.{leb};
+ghost use lib.ListN.{length, drop};
+ghost use lib.Seq.{sets};
+ghost use Rattle.laws.specs.Orders.{before};
+ghost use Rattle.answer.specs.Rules.{rule, judged};
+ghost use Rattle.answer.specs.Values.{refused};
+ghost use Rattle.answer.specs.Writing.{answered, left};
+ghost use Rattle.day_sheet.specs.Entries.{sheetText, entryLimit, byteLimit};
+ghost use Rattle.day_sheet.specs.Calls.{joinRules, joinResult};
+ghost use Rattle.day_sheet.specs.Internal.{Halfway, Lies, secondStays, turnOf, turnText};
+use crate::BYTES;
+use crate::ENTRIES;
+use crate::entries;
+use crate::entries::Found;
+use answer::Answer;
+
+// How many entries, and how long they are in all.
+pub struct Size {
+    pub entries: usize,
+    pub long: usize,
+}
+
+// How far the merge goes on in each of the two sheets, and whether the entry that it takes is the second's.
+pub struct Turn {
+    pub first: usize,
+    pub second: usize,
+    pub later: bool,
+}
+
+// The two sheets joined, to the front of `out`: for each key the greater entry (SCOPE 20.8).
+pub fn join(first: &[u8], second: &[u8], out: &mut [u8]) -> Answer
+    ensures answer { λ r.
+        ⌜ r
+        ≡ answered (joinRules (now (first .entry)) (now (second .entry)))
+        (sheetText (joinResult (now (first .entry)) (now (second .entry)))) (now (out .entry)) ⌝ }
+    ensures output { λ _.
+        ⌜ now (out .exit)
+        ≡ left (joinRules (now (first .entry)) (now (second .entry)))
+        (sheetText (joinResult (now (first .entry)) (now (second .entry)))) (now (out .entry)) ⌝ }
+{
+    match judge_join(first, second) {
+        Answer::Refused(why) => Answer::Refused(why),
+        Answer::Done(n) => {
+            if out.len() < n {
+                return answer::refuse(1, 0);
+            }
+            put_joined(first, second, out);
+            Answer::Done(n)
+        }
+    }
+}
+
+// Which of the rules refuses, but for the room; otherwise how long the joined sheet is.
+fn judge_join(first: &[u8], second: &[u8]) -> Answer
+    ensures { λ r.
+        ⌜ r
+        ≡ judged refused (joinRules (now (first .entry)) (now (second .entry)))
+        (Answer.Done (length (sheetText (joinResult (now (first .entry)) (now (second .entry)))))) ⌝ }
+{
+    if BYTES < first.len() {
+        return answer::refuse(21, 0);
+    }
+    if BYTES < second.len() {
+        return answer::refuse(21, 0);
+    }
+    let a = entries::read(first);
+    let sound = a.fine;
+    if !sound {
+        return answer::refuse(20, a.long);
+    }
+    let b = entries::read(second);
+    let fine = b.fine;
+    if !fine {
+        return answer::refuse(20, b.long);
+    }
+    let size = measure(first, second);
+    judge_size(size.entries, size.long)
+}
+
+// How large the joined sheet is: the walk that puts it, with next to no room.
+fn measure(first: &[u8], second: &[u8]) -> Size
+    requires { ⌜ Halfway (now first) 0 × Halfway (now second) 0 ⌝ }
+    ensures { λ r.
+        ⌜ (r .entries ≡ length (joinResult (now (first .entry)) (now (second .entry))))
+        × (r .long ≡ length (sheetText (joinResult (now (first .entry)) (now (second .entry))))) ⌝ }
+{
+    let mut scrap = [0u8; 1];
+    put_joined(first, second, &mut scrap)
+}
+
+// Whether a sheet may be so large.
+fn judge_size(entries: usize, long: usize) -> Answer
+    ensures { λ r.
+        ⌜ r ≡ judged refused (rule (leb entries entryLimit) 21 0 ∷ rule (leb long byteLimit) 21 0 ∷ []) (Answer.Done long) ⌝ }
+{
+    if ENTRIES < entries {
+        return answer::refuse(21, 0);
+    }
+    if BYTES < long {
+        return answer::refuse(21, 0);
+    }
+    Answer::Done(long)
+}
+
+// Puts the joined sheet to the front of `out`, as far as there is room, and answers its size.
+pub(crate) fn put_joined(first: &[u8], second: &[u8], out: &mut [u8]) -> Size
+    requires { ⌜ Halfway (now first) 0 × Halfway (now second) 0 ⌝ }
+    ensures { λ r.
+        ⌜ (now (out .exit) ≡ sets (now (out .entry)) 0 (sheetText (joinResult (now (first .entry)) (now (second .entry)))))
+        × (r .entries ≡ length (joinResult (now (first .entry)) (now (second .entry))))
+        × (r .long ≡ length (sheetText (joinResult (now (first .entry)) (now (second .entry))))) ⌝ }
+{
+    let whole = first.len() + second.len();
+    let mut i = 0;
+    let mut j = 0;
+    let mut n = 0;
+    let mut q = 0;
+    while i + j < whole {
+        let t = next_turn(first, i, second, j);
+        q = put_turn(first, i, second, j, t, out, q);
+        i += t.first;
+        j += t.second;
+        n += 1;
+    }
+    Size {
+        entries: n,
+        long: q,
+    }
+}
+
+// Puts the entry that a turn takes, and answers the place after it.
+fn put_turn(
+    first: &[u8],
+    i: usize,
+    second: &[u8],
+    j: usize,
+    t: Turn,
+    out: &mut [u8],
+    q: usize,
+) -> usize
+    requires { ⌜ (i + t .first ≤ length (now first)) × (j + t .second ≤ length (now second)) × (q + t .first + t .second ≤ 200000) ⌝ }
+    ensures { λ r.
+        ⌜ (now (out .exit) ≡ sets (now (out .entry)) q (turnText t (drop i (now (first .entry))) (drop j (now (second .entry)))))
+        × (r ≡ q + length (turnText t (drop i (now (first .entry))) (drop j (now (second .entry))))) ⌝ }
+{
+    let a = t.first;
+    let b = t.second;
+    if t.later {
+        lent_bytes::copy(second, j, b, out, q);
+        return q + b;
+    }
+    lent_bytes::copy(first, i, a, out, q);
+    q + a
+}
+
+// The next entry, by the smaller key; of two with one key both are passed, and the greater is taken.
+fn next_turn(first: &[u8], i: usize, second: &[u8], j: usize) -> Turn
+    requires { ⌜ Halfway (now first) i × Halfway (now second) j ⌝ }
+    ensures { λ r. ⌜ r ≡ turnOf (drop i (now (first .entry))) (drop j (now (second .entry))) ⌝ }
+{
+    let a = entries::entry_at(first, i, 0);
+    let b = entries::entry_at(second, j, 0);
+    if !b.more {
+        return Turn {
+            first: a.long,
+            second: 0,
+            later: false,
+        };
+    }
+    if !a.more {
+        return Turn {
+            first: 0,
+            second: b.long,
+            later: true,
+        };
+    }
+    if a.key < b.key {
+        return Turn {
+            first: a.long,
+            second: 0,
+            later: false,
+        };
+    }
+    if b.key < a.key {
+        return Turn {
+            first: 0,
+            second: b.long,
+            later: true,
+        };
+    }
+    let later = second_stays(first, i, a, second, j, b);
+    Turn {
+        first: a.long,
+        second: b.long,
+        later,
+    }
+}
+
+// Of two entries of one key, whether it is the second's that stays: by the stamps, then by the table's lines.
+fn second_stays(first: &[u8], i: usize, a: Found, second: &[u8], j: usize, b: Found) -> bool
+    requires { ⌜ Lies (now first) i a × Lies (now second) j b ⌝ }
+    ensures { λ r. ⌜ r ≡ secondStays (drop i (now (first .entry))) a (drop j (now (second .entry))) b ⌝ }
+{
+    if a.stamp < b.stamp {
+        return true;
+    }
+    if b.stamp < a.stamp {
+        return false;
+    }
+    let from = i + a.head;
+    let to = i + (a.long - 1);
+    let begin = j + b.head;
+    let end = j + (b.long - 1);
+    is_before(&first[from..to], &second[begin..end])
+}
+
+// Whether the first of two texts comes before the second, byte by byte, a prefix first, or is the same.
+fn is_before(a: &[u8], b: &[u8]) -> bool
+    ensures { λ r. ⌜ r ≡ before (now (a .entry)) (now (b .entry)) ⌝ }
+{
+    let mut i = 0;
+    while i < a.len() {
+        if b.len() <= i {
+            return false;
+        }
+        if a[i] < b[i] {
+            return true;
+        }
+        if b[i] < a[i] {
+            return false;
+        }
+        i += 1;
+    }
+    true
+}

@@ -1,0 +1,72 @@
+// The day sheet (SCOPE 20): text of all tables, an entry for each key, read, written again, added to and joined.
+pub mod adding;
+mod entries;
+pub mod joining;
+mod lines;
+
+pub use adding::add;
+pub use joining::join;
+ghost use mathlib.Core.Path.{_≡_};
+ghost use mathlib.Core.List.{_∷_, []};
+ghost use Prim.Native.Nat.{_≤_};
+ghost use lib.ListN.{length};
+ghost use Rattle.answer.specs.Rules.{judged};
+ghost use Rattle.answer.specs.Values.{refused};
+ghost use Rattle.answer.specs.Writing.{answered, left};
+ghost use Rattle.answer.specs.declared.Answer.the-variants.{Done};
+ghost use Rattle.day_sheet.specs.Calls.{formed, entriesOf, rewriteRules, rewritten};
+use answer::Answer;
+
+// The limits of a sheet, and of a result.
+pub const BYTES: usize = 16384;
+
+pub const ENTRIES: usize = 64;
+
+// A sheet, read and written again to the front of `out`: the same bytes.
+pub fn rewrite(sheet: &[u8], out: &mut [u8]) -> Answer
+    ensures answer { λ r. ⌜ r ≡ answered (rewriteRules (now (sheet .entry))) (rewritten (now (sheet .entry))) (now (out .entry)) ⌝ }
+    ensures output { λ _. ⌜ now (out .exit) ≡ left (rewriteRules (now (sheet .entry))) (rewritten (now (sheet .entry))) (now (out .entry)) ⌝ }
+{
+    match judge(sheet) {
+        Answer::Refused(why) => Answer::Refused(why),
+        Answer::Done(_) => {
+            let n = sheet.len();
+            if out.len() < n {
+                return answer::refuse(1, 0);
+            }
+            lent_bytes::copy(sheet, 0, n, out, 0);
+            Answer::Done(n)
+        }
+    }
+}
+
+// 21, 20, 21: whether a sheet can be written again.
+fn judge(sheet: &[u8]) -> Answer
+    ensures { λ r. ⌜ r ≡ judged refused (rewriteRules (now (sheet .entry))) (Done (length (now (sheet .entry)))) ⌝ }
+{
+    if BYTES < sheet.len() {
+        return answer::refuse(21, 0);
+    }
+    match judge_lines(sheet) {
+        Answer::Refused(why) => Answer::Refused(why),
+        Answer::Done(count) => {
+            if ENTRIES < count {
+                return answer::refuse(21, 0);
+            }
+            Answer::Done(sheet.len())
+        }
+    }
+}
+
+// 20: whether every line is in form and in order; where each is, the number of entries.
+pub(crate) fn judge_lines(sheet: &[u8]) -> Answer
+    requires { ⌜ length (now sheet) ≤ 65000 ⌝ }
+    ensures { λ r. ⌜ r ≡ judged refused (formed (now (sheet .entry)) ∷ []) (Done (length (entriesOf (now (sheet .entry))))) ⌝ }
+{
+    let all = entries::read(sheet);
+    let fine = all.fine;
+    if !fine {
+        return answer::refuse(20, all.long);
+    }
+    Answer::Done(all.count)
+}

@@ -1,0 +1,379 @@
+-- Menu reading is exact: a record is accepted as a menu, with a count of mended bytes, exactly when it says that menu and has that
+-- count. What is read is inNibbles again into the same nibbles and codes, and what is inNibbles is read again. Assumes nothing.
+use mathlib.Core.Path.{_≡_, _∙_, refl, sym, ap, ap₂, subst}
+use mathlib.Core.Bool.{true}
+use mathlib.Core.Logic.{_↔_}
+use mathlib.Core.List.{List, [], _∷_, _++_, map}
+use Prim.Native.Nat.{ℕ, _+_, _-_, _*_, _/_, _%_, _^_, _≤_, _<_}
+use native.Mathlib.Omega.{arith}
+use borrow.Author.Tests.{ltb-true, lt-ltb, eqb-true, eq-eqb}
+use lib.Dec.{eqb, ltb}
+use lib.ListN.{length, take, drop, length-map, length-take, length-drop}
+use Rattle.laws.specs.Pick.{both}
+use Rattle.laws.proofs.Tests.{both-true, both-holds}
+use Rattle.laws.proofs.Maps.{map-take}
+use Rattle.answer.specs.Rules.{Rule, Every, none, more}
+use Rattle.answer.proofs.Judging.{passes, every-append}
+use Rattle.answer.proofs.Lent.{front-holds, back-holds}
+use Rattle.answer.proofs.Steps.{first-holds, others-hold}
+use Rattle.octet.specs.Decoding.{nib}
+use Rattle.octet.proofs.Hearing.{harms-le}
+use Rattle.blocks.specs.Block.{headOf}
+use Rattle.fields.specs.Fields.{Field, width, fitting}
+use Rattle.fields.proofs.Laid.{field-lt, length-parts}
+use Rattle.laws.specs.Bytes.{Bytes}
+use Rattle.laws.proofs.Byted.{bytes-drop}
+use Rattle.sums.specs.Sums.{checksum, sound}
+use Rattle.sums.proofs.Nibbles.{parts-sound, sound-take}
+use Rattle.sums.proofs.Summing.{checksum-lt}
+use Rattle.frames.specs.Framing.{framing}
+use Rattle.frames.specs.Outcome.{accepted, refused}
+use Rattle.frames.proofs.Framed.{Framed, framed, frame-holds, header-of, headed, accepts}
+use Rattle.parity.specs.Parity.{letter, odds}
+use Rattle.menu_forms.specs.Menus.{Menu, NI, zeros, fields, strings, control, size, sevens, fits}
+use Rattle.menu_forms.specs.Block.{inNibbles, nibbles, headBits, checksumOf, Says}
+use Rattle.menu_forms.proofs.Nibbled.{menu-nibbled, menu-bytes, menu-whole}
+use Rattle.menu_forms.proofs.Saying.{nibbles-long, sum-apart}
+use Rattle.menu_reader.specs.Control.{bitsAt, menuOf}
+use Rattle.menu_reader.specs.Reading.{controlLength, controlPart, stringPart, codeOf, frontRules, wholeRules, lengthRules, menuRead, bodyRules, mendedIn, readRules, readMenu}
+use Rattle.menu_reader.proofs.Places.{bits-take}
+use Rattle.menu_reader.proofs.Strings.{letters-again, codes-seven, codes-again, letters-odd}
+use Rattle.menu_reader.proofs.Back.{field-back, menu-back}
+use Rattle.menu_reader.proofs.Inverse.{spareIn, menu-fitting, inNibbles-again, strings-again}
+
+-- ---- what the rules say
+
+-- of the nibbles and the string bytes behind the frame, and of the menu that they hold
+record Bodied (head : ℕ) (ns bs : List ℕ) (m : Menu) : Type 0 where
+  kind : bitsAt 18 6 ns ≡ NI
+  clear : bitsAt 24 2 ns ≡ 0
+  decodes : sound ns ≡ length ns
+  odd : odds bs ≡ length bs
+  agrees : bitsAt 0 8 ns ≡ checksum head ns
+  lines : m .headerSize < 3
+  control-said : bitsAt 8 10 ns ≡ control m
+  size-said : head / 32 ≡ size m
+
+module _ (head : ℕ) (ns bs : List ℕ) (m : Menu) where
+  -- what follows the frame
+  abbrev rulesOf : List Rule
+  rulesOf = frontRules ns ++ (wholeRules head ns bs ++ lengthRules (bitsAt 8 10 ns) (head / 32) m)
+
+  bodied : Every rulesOf → Bodied head ns bs m
+  unfolding frontRules wholeRules lengthRules
+  bodied e₀ =
+      let e₁ = others-hold e₀ in
+      let e₂ = others-hold e₁ in
+      let e₃ = others-hold e₂ in
+      let e₄ = others-hold e₃ in
+      let e₅ = others-hold e₄ in
+      let p = both-true (eqb (bitsAt 18 6 ns) NI) (eqb (bitsAt 24 2 ns) 0) (first-holds e₁) in
+      let q = both-true (ltb (m .headerSize) 3) _ (first-holds e₅) in
+      let s = both-true (eqb (bitsAt 8 10 ns) (control m)) (eqb (head / 32) (size m)) (q .1) in
+      record {
+        kind = eqb-true (bitsAt 18 6 ns) NI (p .0);
+        clear = eqb-true (bitsAt 24 2 ns) 0 (p .1);
+        decodes = eqb-true (sound ns) (length ns) (first-holds e₂);
+        odd = eqb-true (odds bs) (length bs) (first-holds e₃);
+        agrees = eqb-true (bitsAt 0 8 ns) (checksum head ns) (first-holds e₄);
+        lines = ltb-true (m .headerSize) 3 (q .0);
+        control-said = eqb-true (bitsAt 8 10 ns) (control m) (s .0);
+        size-said = eqb-true (head / 32) (size m) (s .1);
+      }
+
+  body-holds : 8 ≤ length ns → Bodied head ns bs m → Every rulesOf
+  unfolding frontRules wholeRules lengthRules
+  body-holds eight k =
+      more (eq-eqb (sound (take 8 ns)) 8 (sound-take 8 ns (k .decodes) eight))
+      (more
+      (both-holds (eqb (bitsAt 18 6 ns) NI) (eqb (bitsAt 24 2 ns) 0) (eq-eqb (bitsAt 18 6 ns) NI (k .kind)) (eq-eqb (bitsAt 24 2 ns) 0 (k .clear)))
+      (more (eq-eqb (sound ns) (length ns) (k .decodes))
+      (more (eq-eqb (odds bs) (length bs) (k .odd))
+      (more (eq-eqb (bitsAt 0 8 ns) (checksum head ns) (k .agrees))
+      (more
+      (both-holds (ltb (m .headerSize) 3) (both (eqb (bitsAt 8 10 ns) (control m)) (eqb (head / 32) (size m))) (lt-ltb (m .headerSize) 3 (k .lines))
+      (both-holds (eqb (bitsAt 8 10 ns) (control m)) (eqb (head / 32) (size m)) (eq-eqb (bitsAt 8 10 ns) (control m) (k .control-said))
+      (eq-eqb (head / 32) (size m) (k .size-said))))
+      none)))))
+
+-- ---- where the control bytes end
+
+-- the control size that a block's first eight bytes say is that of all
+bits-front : (raw : List ℕ) (k : ℕ) → 8 ≤ k → bitsAt 8 10 (map nib (take 8 raw)) ≡ bitsAt 8 10 (map nib (take k raw))
+bits-front raw k h =
+    ap (bitsAt 8 10) (map-take nib 8 raw)
+    ∙ bits-take 8 10 8 (map nib raw) (omega arith)
+    ∙ sym (bits-take 8 10 k (map nib raw) (omega arith))
+    ∙ ap (bitsAt 8 10) (sym (map-take nib k raw))
+
+-- a menu has nine bytes of control data at least
+nine : (m : Menu) → 9 ≤ control m
+nine m = omega (arith, menu-bytes 0 0 zeros m)
+
+-- where the block holds as many as it says, they end there
+ends-there :
+    (raw : List ℕ) (c : ℕ) → bitsAt 8 10 (map nib (take 8 raw)) ≡ c → 4 ≤ c → 2 * c ≤ length raw → controlLength raw ≡ 2 * c
+ends-there raw c e h l = rw e (omega arith)
+
+at-least : (raw : List ℕ) → 8 ≤ controlLength raw
+at-least raw = omega arith
+
+-- ---- accepted as the menu that it says
+
+module _ (application : ℕ) (r : List ℕ) (b : Bytes r) (f : Framed application r) where
+  abbrev raw : List ℕ
+  raw = drop 4 r
+
+  abbrev ns : List ℕ
+  ns = map nib (controlPart raw)
+
+  abbrev cs : List ℕ
+  cs = map codeOf (stringPart raw)
+
+  abbrev m : Menu
+  m = menuOf ns cs
+
+  module _ (k : Bodied (headOf r) ns (stringPart raw) m) where
+    raw-long : length raw ≡ size m
+    raw-long = omega (arith, length-drop 4 r, f .long, k .size-said)
+
+    ends : controlLength raw ≡ 2 * control m
+    ends =
+        ends-there raw (control m) (bits-front raw (controlLength raw) (at-least raw) ∙ k .control-said) (omega (arith, nine m))
+        (omega (arith, raw-long))
+
+    ns-long : length ns ≡ 2 * control m
+    ns-long =
+        length-map (controlPart raw) nib ∙ length-take (controlLength raw) raw ∙ (omega (arith, ends, raw-long))
+
+    cs-long : length (strings m) ≡ length cs
+    cs-long =
+        sym (length-map (stringPart raw) codeOf ∙ length-drop (controlLength raw) raw ∙ (omega (arith, ends, raw-long)))
+
+    own : ns ≡ nibbles (bitsAt 0 8 ns) (spareIn ns cs) m
+    own =
+        inNibbles-again ns cs (k .kind) (k .clear) (k .decodes)
+        (menu-whole (bitsAt 0 8 ns) (bitsAt 8 10 ns) (spareIn ns cs) m ∙ (omega (arith, ns-long)))
+        ∙ ap (λ (c : ℕ). inNibbles (fields (bitsAt 0 8 ns) c (spareIn ns cs) m)) (k .control-said)
+
+    said-strings : cs ≡ strings m
+    said-strings = strings-again ns cs cs-long
+
+    small : size m < 2048
+    small = omega (arith, k .size-said, b 0, b 1)
+
+    can : fits m ≡ true
+    unfolding fits
+    can =
+        both-holds (fitting (fields 0 0 zeros m)) _ (menu-fitting ns cs)
+        (both-holds (ltb (m .headerSize) 3) _ (lt-ltb (m .headerSize) 3 (k .lines))
+        (both-holds (sevens (strings m)) (ltb (size m) 2048) (ap sevens (sym said-strings) ∙ codes-seven (stringPart raw)) (lt-ltb (size m) 2048 small)))
+
+    said-head : headOf r ≡ headBits application m
+    said-head = header-of application (size m) (headOf r) (f .within) small (f .ours) (k .size-said)
+
+    said-sum : bitsAt 0 8 ns ≡ checksumOf application (spareIn ns cs) m
+    unfolding checksumOf
+    said-sum =
+        k .agrees ∙ ap₂ checksum said-head own
+        ∙ sum-apart (headBits application m) (bitsAt 0 8 ns) 0 (spareIn ns cs) m
+
+    says : Says application r m
+    says =
+        record {
+          spare = spareIn ns cs;
+          within = f .within;
+          sendable = can;
+          ranged = f .in-range;
+          reserved = field-lt 27 1 _;
+          first = field-lt 53 1 _;
+          second = field-lt 0 4 _;
+          head = said-head;
+          body =
+              ap (λ (l : ℕ). map nib (take l raw)) (sym ends) ∙ own
+              ∙ ap (λ (s : ℕ). nibbles s (spareIn ns cs) m) said-sum;
+          codes =
+              ap (λ (l : ℕ). drop l raw) (sym ends)
+              ∙ sym (letters-again (stringPart raw) (bytes-drop (controlLength raw) raw (bytes-drop 4 r b)) (k .odd))
+              ∙ ap (map letter) said-strings;
+        }
+
+-- ---- what says a menu is accepted as it
+
+module _ (application : ℕ) (r : List ℕ) (m : Menu) (s : Says application r m) where
+  abbrev sum : ℕ
+  sum = checksumOf application (s .spare) m
+
+  abbrev sent : List ℕ
+  sent = nibbles sum (s .spare) m
+
+  abbrev block : List ℕ
+  block = drop 4 r
+
+  sent-parts : (m .headerSize < 3) × (sevens (strings m) ≡ true) × (size m < 2048)
+  unfolding fits
+  sent-parts =
+      let p = both-true (fitting (fields 0 0 zeros m)) _ (s .sendable) in
+      let q = both-true (ltb (m .headerSize) 3) _ (p .1) in
+      let t = both-true (sevens (strings m)) (ltb (size m) 2048) (q .1) in
+      (ltb-true (m .headerSize) 3 (q .0), t .0, ltb-true (size m) 2048 (t .1))
+
+  -- a field of its control data, by those before it
+  at-field : (pre : List Field) (w v : ℕ) (gs : List Field) → fields sum (control m) (s .spare) m ≡ pre ++ (w, v) ∷ gs → v < 2 ^ w → bitsAt (width pre) w sent ≡ v
+  at-field pre w v gs e h = field-back (fields sum (control m) (s .spare) m) pre w v gs e (menu-nibbled sum (control m) (s .spare) m) h
+
+  at-sum : bitsAt 0 8 sent ≡ sum
+  unfolding fields width checksumOf
+  at-sum = at-field [] 8 sum _ refl (checksum-lt _ _)
+
+  at-control : bitsAt 8 10 sent ≡ control m
+  unfolding fields width
+  at-control = at-field ((8, sum) ∷ []) 10 (control m) _ refl (omega (arith, sent-parts .2))
+
+  at-kind : bitsAt 18 6 sent ≡ NI
+  unfolding fields width
+  at-kind = at-field ((8, sum) ∷ (10, control m) ∷ []) 6 3 _ refl (omega arith)
+
+  at-access : bitsAt 24 2 sent ≡ 0
+  unfolding fields width
+  at-access = at-field ((8, sum) ∷ (10, control m) ∷ (6, 3) ∷ []) 2 0 _ refl (omega arith)
+
+  sent-long : length sent ≡ 2 * control m
+  sent-long = nibbles-long sum (s .spare) m
+
+  enough : 2 * control m ≤ length block
+  enough =
+      omega (arith, length-map (take (2 * control m) block) nib, length-take (2 * control m) block, ap length (s .body), sent-long)
+
+  pub sent-ends : controlLength block ≡ 2 * control m
+  sent-ends =
+      ends-there block (control m)
+      (bits-front block (2 * control m) (omega (arith, nine m)) ∙ ap (bitsAt 8 10) (s .body) ∙ at-control)
+      (omega (arith, nine m)) enough
+
+  sent-nibbles : map nib (controlPart block) ≡ sent
+  sent-nibbles = ap (λ (l : ℕ). map nib (take l block)) sent-ends ∙ s .body
+
+  sent-strings : stringPart block ≡ map letter (strings m)
+  sent-strings = ap (λ (l : ℕ). drop l block) sent-ends ∙ s .codes
+
+  -- the menu that is read is the one that was said
+  pub menu-said : menuRead block ≡ m
+  menu-said =
+      ap₂ menuOf sent-nibbles (ap (map codeOf) sent-strings ∙ codes-again (strings m) (sent-parts .1))
+      ∙ menu-back sum (control m) (s .spare) m (s .sendable)
+
+  decodes-said : sound sent ≡ length sent
+  unfolding inNibbles
+  decodes-said = parts-sound _ _ ∙ sym (length-parts 4 _ _)
+
+  headed-said : (headOf r % 32 ≡ application) × (headOf r / 32 ≡ size m)
+  headed-said = headed application (size m) (headOf r) (s .within) (sent-parts .2) (s .head)
+
+  sum-said : sum ≡ checksum (headOf r) sent
+  unfolding checksumOf
+  sum-said =
+      sum-apart (headBits application m) 0 sum (s .spare) m ∙ ap (λ (h : ℕ). checksum h sent) (sym (s .head))
+
+  framed-said : Framed application r
+  framed-said =
+      record {
+        within = s .within;
+        long =
+            omega (
+              arith,
+              length-drop 4 r,
+              length-drop (2 * control m) block,
+              ap length (s .codes),
+              length-map (strings m) letter,
+              enough,
+              nine m,
+              headed-said .1,
+            );
+        in-range = s .ranged;
+        ours = headed-said .0;
+        eight = omega (arith, headed-said .1, nine m);
+      }
+
+  bodied-said : Bodied (headOf r) (map nib (controlPart block)) (stringPart block) (menuRead block)
+  bodied-said =
+      let k : Bodied (headOf r) sent (map letter (strings m)) m =
+      record {
+        kind = at-kind;
+        clear = at-access;
+        decodes = decodes-said;
+        odd = letters-odd (strings m) (sent-parts .1);
+        agrees = at-sum ∙ sum-said;
+        lines = sent-parts .0;
+        control-said = at-control;
+        size-said = headed-said .1;
+      } in
+      subst (λ (x : Menu). Bodied (headOf r) (map nib (controlPart block)) (stringPart block) x) (sym menu-said)
+      (subst (λ (x : List ℕ). Bodied (headOf r) (map nib (controlPart block)) x m) (sym sent-strings)
+      (subst (λ (x : List ℕ). Bodied (headOf r) x (map letter (strings m)) m) (sym sent-nibbles) k))
+
+-- ---- the second demand: a record of our application is accepted as a menu in clear, with a count, exactly when its two bytes are in range,
+-- its control bytes decode, its string bytes are odd, its checksum agrees and its lengths fit, and the count is that of its mended bytes
+
+-- what every rule of reading says
+taken :
+    (application : ℕ) (r : List ℕ) → Every (readRules application r)
+    → Framed application r
+    × Bodied (headOf r) (map nib (controlPart (drop 4 r))) (stringPart (drop 4 r)) (menuRead (drop 4 r))
+taken application r e =
+    let raw = drop 4 r in
+    let body = bodyRules (headOf r) raw in (
+      framed application r (front-holds (framing application r) body e),
+      bodied (headOf r) (map nib (controlPart raw)) (stringPart raw) (menuRead raw) (back-holds (framing application r) body e),
+    )
+
+-- what is accepted says the menu, and the count is its own
+pub accepted-says :
+    (application : ℕ) (r : List ℕ) (m : Menu) (c : ℕ) → Bytes r → readMenu application r ≡ accepted m c
+    → Says application r m × (c ≡ mendedIn r)
+unfolding readMenu
+accepted-says application r m c b e =
+    let a = accepts (readRules application r) (menuRead (drop 4 r)) m (mendedIn r) c e in
+    let k = taken application r (a .0) in
+    (subst (Says application r) (a .1) (says application r b (k .0) (k .1)), sym (a .2))
+
+-- and what says a menu is accepted as it
+pub says-rules : (application : ℕ) (r : List ℕ) (m : Menu) → Says application r m → Every (readRules application r)
+says-rules application r m s =
+    let raw = drop 4 r in
+    let eight : 8 ≤ length (map nib (controlPart raw)) =
+    omega (arith, ap length (sent-nibbles application r m s), sent-long application r m s, nine m) in
+    every-append (frame-holds application r (framed-said application r m s))
+    (body-holds (headOf r) (map nib (controlPart raw)) (stringPart raw) (menuRead raw) eight (bodied-said application r m s))
+
+pub says-accepted :
+    (application : ℕ) (r : List ℕ) (m : Menu) → Says application r m → readMenu application r ≡ accepted m (mendedIn r)
+unfolding readMenu
+says-accepted application r m s =
+    passes refused (accepted (menuRead (drop 4 r)) (mendedIn r)) (says-rules application r m s)
+    ∙ ap (λ (x : Menu). accepted x (mendedIn r)) (menu-said application r m s)
+
+-- a count is at most 5 and twice the greatest control size
+pub mended-most : (application : ℕ) (r : List ℕ) → Every (readRules application r) → mendedIn r ≤ 2051
+unfolding mendedIn
+mended-most application r e =
+    let raw = drop 4 r in
+    let part = taken application r e .0 .in-range .part in
+    let small : bitsAt 8 10 (map nib (take 8 raw)) < 1024 = field-lt 8 10 _ in
+    omega (arith, part, small, harms-le (controlPart raw), length-take (controlLength raw) raw)
+
+-- in particular each of its string bytes is of right parity
+pub odd-all :
+    (application : ℕ) (r : List ℕ) (m : Menu) (c : ℕ) → readMenu application r ≡ accepted m c
+    → odds (stringPart (drop 4 r)) ≡ length (stringPart (drop 4 r))
+unfolding readMenu
+odd-all application r m c e =
+    taken application r (accepts (readRules application r) (menuRead (drop 4 r)) m (mendedIn r) c e .0) .1 .odd
+
+pub reads-exactly :
+    (application : ℕ) (r : List ℕ) (m : Menu) (c : ℕ) → Bytes r
+    → (readMenu application r ≡ accepted m c) ↔ (Says application r m × (c ≡ mendedIn r))
+reads-exactly application r m c b = (accepted-says application r m c b, from)
+  where
+    from : Says application r m × (c ≡ mendedIn r) → readMenu application r ≡ accepted m c
+    from s = says-accepted application r m (s .0) ∙ ap (accepted m) (sym (s .1))

@@ -1,0 +1,30 @@
+-- `menu_reader::control_length` meets its contract: each `return` is what the greatest and the least of the sizes come to. Assumes nothing.
+use borrow.Author.Needs.{needs}
+use mathlib.Core.Path.{sym}
+use lib.Seq.{length-take-le}
+use denote.Ref.{now}
+use Rattle.menu_reader.proofs.control_length.Statement.{statement}
+use Rattle.menu_reader.proofs.control_length.Tie as tie
+
+slice-aggregate-field-of : tie.Need-slice-aggregate-field-of
+slice-aggregate-field-of c = sym (length-take-le 8 (now (c .before .before .args .raw)) (c .before .before .pre))
+
+field-of-requires : tie.Need-field-of-requires
+field-of-requires c κs = search needs
+
+mul-control : tie.Need-mul-control
+mul-control c = search needs
+
+returns : tie.Need-returns
+returns c = search needs
+
+returns-2 : tie.Need-returns-2
+returns-2 c = search needs
+
+returns-3 : tie.Need-returns-3
+returns-3 c = search needs
+
+pub control-length-spec : {M : Type 1} → statement M
+control-length-spec =
+    tie.close
+    (tie.spec slice-aggregate-field-of field-of-requires mul-control returns returns-2 returns-3)

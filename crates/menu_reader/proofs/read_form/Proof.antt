@@ -1,0 +1,94 @@
+-- `menu_reader::read_form` meets its contract: the frame is judged first, and where it is taken the block behind the head is there.
+-- Assumes nothing.
+use borrow.Author.Needs.{needs}
+use mathlib.Core.Path.{_≡_, _∙_, ap, ap₂}
+use mathlib.Core.List.{List}
+use Prim.Native.Nat.{ℕ, _+_, _/_, _≤_}
+use native.Mathlib.Omega.{arith}
+use lib.ListN.{length, drop, length-drop}
+use denote.Ref.{now}
+use Rattle.laws.proofs.Lists.{part-rest}
+use Rattle.answer.specs.declared.Answer.{Answer}
+use Rattle.answer.specs.Writing.{answered, after, left}
+use Rattle.blocks.specs.Block.{headOf}
+use Rattle.frames.specs.Framing.{framing}
+use Rattle.frames.proofs.Framed.{framed}
+use Rattle.frames.proofs.Judging.{head-every, head-value, frame-refused, frame-taken}
+use Rattle.menu_forms.specs.Form.{form}
+use Rattle.menu_reader.specs.Reading.{bodyRules, menuRead}
+use Rattle.menu_reader.proofs.read_form.Statement.{statement}
+use Rattle.menu_reader.proofs.read_form.Tie as tie
+
+judge-requires : tie.Need-judge-requires
+judge-requires c κs = search needs
+
+enum-known-why : tie.Need-enum-known-why
+enum-known-why c = search needs
+
+enum-known-head : tie.Need-enum-known-head
+enum-known-head c = search needs
+
+-- a frame that is taken says how long the record is
+taken :
+    (c : tie.After-known-told2)
+    → let r = now (c .before .before .before .before .before .before .args .rec) in
+    (length r ≡ 4 + headOf r / 32) × (8 ≤ headOf r / 32)
+taken c =
+    let a = c .before .before .before .before .before .before .args in
+    let rules = framing (a .application) (now (a .rec)) in
+    let k = framed (a .application) (now (a .rec)) (head-every rules _ (c .before .before .before .judge .ensures) (c .before .head .given .1)) in
+    (k .long, k .eight)
+
+sub-read-body : tie.Need-sub-read-body
+sub-read-body c = omega (arith, taken c)
+
+part-read-body-start : tie.Need-part-read-body-start
+part-read-body-start c = omega (arith, taken c)
+
+part-read-body-end : tie.Need-part-read-body-end
+part-read-body-end c = search needs
+
+read-body-requires : tie.Need-read-body-requires
+read-body-requires c κs =
+    rw (part-rest 4 (now (c .before .before .before .before .before .before .before .before .args .rec)), length-drop) (omega (arith, taken (c .before .before)))
+
+returns : tie.Need-returns
+returns c =
+    let a = c .before .before .before .before .before .before .args in
+    let r = now (a .rec) in
+    frame-refused (framing (a .application) r) (headOf r) (c .before .before .before .judge .ensures) (bodyRules (headOf r) (drop 4 r))
+    (form (menuRead (drop 4 r))) (now (a .out)) (c .before .why .given .1)
+
+same-length : tie.Need-same-length
+same-length c = search needs
+
+returns-2 : tie.Need-returns-2
+returns-2 c =
+    let a = c .before .before .before .before .before .before .before .before .before .before .before .args in
+    let r = now (a .rec) in
+    let out : List ℕ = now (a .out) in
+    let j = c .before .before .before .before .before .before .before .before .judge .ensures in
+    let d = c .before .before .before .before .before .before .head .given .1 in
+    let h = head-value (framing (a .application) r) _ j d in
+    let bytes : List ℕ → List ℕ = λ l. form (menuRead l) in
+    let one = ap₂ (λ (k : ℕ) (l : List ℕ). answered (bodyRules k l) (bytes l) out) h (part-rest 4 r) in
+    let all = ap₂ (λ (k : ℕ) (l : List ℕ). left (bodyRules k l) (bytes l) out) h (part-rest 4 r) in
+    let two = frame-taken (framing (a .application) r) (headOf r) j (bodyRules (headOf r) (drop 4 r)) (bytes (drop 4 r)) out d in (
+      c .before .before .read-body .ensures .0 ∙ one ∙ two,
+      c .before .before .read-body .ensures .1 ∙ all ∙ ap (λ (x : Answer). after x (bytes (drop 4 r)) out) two,
+    )
+
+pub read-form-spec : {M : Type 1} → statement M
+read-form-spec =
+    tie.close
+    (tie.spec
+    judge-requires
+    enum-known-why
+    enum-known-head
+    sub-read-body
+    part-read-body-start
+    part-read-body-end
+    read-body-requires
+    returns
+    same-length
+    returns-2)

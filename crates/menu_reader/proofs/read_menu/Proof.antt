@@ -1,0 +1,75 @@
+-- `menu_reader::read_menu` meets its contract: the answer of `read_form`, with the count beside it. Assumes nothing.
+use borrow.Author.Needs.{needs}
+use mathlib.Core.Path.{_∙_, sym, ap}
+use mathlib.Core.List.{List}
+use Prim.Native.Nat.{ℕ}
+use native.Mathlib.Omega.{arith}
+use lib.ListN.{drop}
+use denote.Ref.{now}
+use Rattle.answer.proofs.Lent.{lent-all}
+use Rattle.frames.specs.declared.Read.the-variants.{Taken}
+use Rattle.frames.specs.Values.{counted}
+use Rattle.menu_forms.specs.Form.{form}
+use Rattle.menu_reader.specs.Reading.{readRules, menuRead, mendedIn}
+use Rattle.menu_reader.proofs.Exact.{mended-most}
+use Rattle.menu_reader.proofs.Mending.{record-long}
+use Rattle.menu_reader.proofs.read_menu.Statement.{statement}
+use Rattle.menu_reader.proofs.read_menu.Tie as tie
+
+read-form-requires : tie.Need-read-form-requires
+read-form-requires c κs = search needs
+
+enum-known-why : tie.Need-enum-known-why
+enum-known-why c = search needs
+
+enum-known-written : tie.Need-enum-known-written
+enum-known-written c = search needs
+
+mended-in-requires : tie.Need-mended-in-requires
+mended-in-requires c κs =
+    let a = c .before .before .before .before .before .before .before .before .before .args in
+    let r : List ℕ = now (a .rec) in
+    let d = sym (c .before .before .before .before .before .read-form .ensures .0) ∙ c .before .written .given .1 in
+    let all = lent-all (readRules (a .application) r) (form (menuRead (drop 4 r))) (now (a .out)) _ d in
+    record-long (a .application) r (all .0)
+
+cast-mended : tie.Need-cast-mended
+cast-mended c =
+    let a = c .before .before .before .before .before .before .before .before .before .before .args in
+    let r : List ℕ = now (a .rec) in
+    let d = sym (c .before .before .before .before .before .before .read-form .ensures .0) ∙ c .before .before .written .given .1 in
+    let all = lent-all (readRules (a .application) r) (form (menuRead (drop 4 r))) (now (a .out)) _ d in
+    omega (arith, c .mended-in .ensures, mended-most (a .application) r (all .0))
+
+same-length : tie.Need-same-length
+same-length c = search needs
+
+returns : tie.Need-returns
+returns c =
+    let b = c .before .before .before .before .before in
+    (sym (ap (counted (mendedIn _)) (sym (b .read-form .ensures .0) ∙ c .before .why .given .1)), b .read-form .ensures .1)
+
+same-length-2 : tie.Need-same-length-2
+same-length-2 c = search needs
+
+returns-2 : tie.Need-returns-2
+returns-2 c =
+    let b = c .before .before .before .before .before .before in (
+      ap (Taken (c .before .before .written .given .0 .0)) (c .mended-in .ensures)
+          ∙ sym (ap (counted (mendedIn _)) (sym (b .read-form .ensures .0) ∙ c .before .before .written .given .1)),
+      b .read-form .ensures .1,
+    )
+
+pub read-menu-spec : {M : Type 1} → statement M
+read-menu-spec =
+    tie.close
+    (tie.spec
+    read-form-requires
+    enum-known-why
+    enum-known-written
+    mended-in-requires
+    cast-mended
+    same-length
+    returns
+    same-length-2
+    returns-2)

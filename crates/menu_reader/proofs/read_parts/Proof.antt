@@ -1,0 +1,74 @@
+-- `menu_reader::read_parts` meets its contract: `judge_parts` says which rule refuses or how many bytes are needed, then the room decides.
+-- Assumes nothing.
+use borrow.Author.Needs.{needs}
+use mathlib.Core.Path.{_∙_, ap}
+use native.Mathlib.Omega.{arith}
+use denote.Ref.{now}
+use Rattle.answer.specs.declared.Answer.the-variants.{Done}
+use Rattle.answer.proofs.Lent.{lent-refused, lent-short, lent-done, lent-value}
+use Rattle.menu_forms.specs.Form.{form}
+use Rattle.menu_reader.specs.Reading.{menuHeld, partRules}
+use Rattle.menu_reader.proofs.read_parts.Statement.{statement}
+use Rattle.menu_reader.proofs.read_parts.Tie as tie
+
+judge-parts-requires : tie.Need-judge-parts-requires
+judge-parts-requires c κs = search needs
+
+enum-known-why : tie.Need-enum-known-why
+enum-known-why c = search needs
+
+enum-known-need : tie.Need-enum-known-need
+enum-known-need c = search needs
+
+refuse-requires : tie.Need-refuse-requires
+refuse-requires c κs = search needs
+
+returns : tie.Need-returns
+returns c =
+    let a = c .before .before .before .before .before .before .before .before .before .args in
+    let rules = partRules (a .head) (now (a .control)) (now (a .strings)) in
+    let bytes = form (menuHeld (now (a .control)) (now (a .strings))) in
+    let j = c .before .before .before .before .before .judge-parts .ensures in
+    let d = c .before .before .before .need .given .1 in
+    let e = lent-value rules bytes (now (a .out)) _ j d in
+    let p = lent-short rules bytes (now (a .out)) _ j d (omega (arith, e)) in
+    (c .refuse .ensures ∙ p .0, p .1)
+
+spell-requires : tie.Need-spell-requires
+spell-requires c κs = search needs
+
+returns-2 : tie.Need-returns-2
+returns-2 c =
+    let a = c .before .before .before .before .before .before .before .args in
+    let rules = partRules (a .head) (now (a .control)) (now (a .strings)) in
+    let bytes = form (menuHeld (now (a .control)) (now (a .strings))) in
+    let j = c .before .before .before .judge-parts .ensures in
+    lent-refused rules bytes (now (a .out)) _ j (c .before .why .given .1)
+
+same-length : tie.Need-same-length
+same-length c = search needs
+
+returns-3 : tie.Need-returns-3
+returns-3 c =
+    let a = c .before .before .before .before .before .before .before .before .before .before .before .before .args in
+    let rules = partRules (a .head) (now (a .control)) (now (a .strings)) in
+    let bytes = form (menuHeld (now (a .control)) (now (a .strings))) in
+    let j = c .before .before .before .before .before .before .before .before .judge-parts .ensures in
+    let d = c .before .before .before .before .before .before .need .given .1 in
+    let e = lent-value rules bytes (now (a .out)) _ j d in
+    let p = lent-done rules bytes (now (a .out)) _ j d (omega (arith, e)) in
+    (ap Done e ∙ p .0, c .before .before .spell .ensures .0 .writes ∙ p .1)
+
+pub read-parts-spec : {M : Type 1} → statement M
+read-parts-spec =
+    tie.close
+    (tie.spec
+    judge-parts-requires
+    enum-known-why
+    enum-known-need
+    refuse-requires
+    returns
+    spell-requires
+    returns-2
+    same-length
+    returns-3)

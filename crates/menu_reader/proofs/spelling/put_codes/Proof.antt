@@ -1,0 +1,82 @@
+-- `menu_reader::spelling::put_codes` meets its contract: what is left to be stored makes what was to be stored. The measure is the codes left.
+-- Assumes nothing.
+use borrow.Author.Needs.{needs}
+use mathlib.Core.Path.{_≡_, _∙_, refl}
+use mathlib.Core.List.{map}
+use Prim.Native.Nat.{_+_, _≤_}
+use lib.ListN.{length, drop}
+use lib.Seq.{sets}
+use denote.Ref.{now}
+use Rattle.menu_forms.specs.Form.{codesIn}
+use Rattle.menu_reader.specs.Reading.{codeOf}
+use Rattle.menu_reader.proofs.Rows.{codes-on, codes-end}
+use Rattle.menu_reader.proofs.spelling.put_codes.Statement.{statement}
+use Rattle.menu_reader.proofs.spelling.put_codes.Tie as tie
+
+abbrev Inv-loop : tie.InvT-loop
+Inv-loop strings from count out₀ to i₀ q₀ left₀ out i q left =
+    (length out ≡ length out₀) × (i + left ≤ from + count) × (q + left ≤ to + count)
+    × (sets out q (codesIn left (drop i (map codeOf strings))) ≡ sets out₀ to (codesIn count (drop from (map codeOf strings))))
+
+abbrev μ-loop : tie.MeasureT-loop
+μ-loop strings from count out₀ to i₀ q₀ left₀ out i q left = left
+
+loop-holds : tie.Need-loop-holds Inv-loop μ-loop
+loop-holds c = (refl, search needs, search needs, refl)
+
+byte-at-requires : tie.Need-byte-at-requires Inv-loop μ-loop
+byte-at-requires c κs = search needs
+
+cast-put : tie.Need-cast-put Inv-loop μ-loop
+cast-put c = search needs
+
+put-requires : tie.Need-put-requires Inv-loop μ-loop
+put-requires c κs = search needs
+
+add-i : tie.Need-add-i Inv-loop μ-loop
+add-i c = search needs
+
+add-q : tie.Need-add-q Inv-loop μ-loop
+add-q c = search needs
+
+sub-left : tie.Need-sub-left Inv-loop μ-loop
+sub-left c = search needs
+
+loop-less : tie.Need-loop-less Inv-loop μ-loop
+loop-less c = search needs
+
+loop-again : tie.Need-loop-again Inv-loop μ-loop
+loop-again c =
+    let a = c .before .before .before .before .before .before .before .before .before .args in
+    let l = c .before .before .before .before .before .before .loop in
+    let b = c .before .before .before .before .byte-at in
+    let p = c .before .before .put in (
+      p .kept .1 .0 ∙ l .inv .0,
+      search needs,
+      search needs,
+      codes-on (now (a .strings)) (l .left) (l .i) (l .q) (b .result) (l .out) (p .last .1 .0) _ (search needs) (b .ensures .0) (p .ensures) (l .inv .3),
+    )
+
+same-length : tie.Need-same-length Inv-loop μ-loop
+same-length c = search needs
+
+returns : tie.Need-returns Inv-loop μ-loop
+returns c = let l = c .before .loop in codes-end _ (l .left) (l .q) (l .out) _ (search needs) (l .inv .3)
+
+pub put-codes-spec : {M : Type 1} → statement M
+put-codes-spec =
+    tie.close
+    (tie.spec
+    Inv-loop
+    μ-loop
+    loop-holds
+    byte-at-requires
+    cast-put
+    put-requires
+    add-i
+    add-q
+    sub-left
+    loop-less
+    loop-again
+    same-length
+    returns)

@@ -1,0 +1,22 @@
+-- Whether a word's bytes are letters, byte by byte. Assumes nothing.
+use mathlib.Core.Path.{_≡_}
+use mathlib.Core.Bool.{true, false}
+use mathlib.Core.List.{[], _∷_}
+use Prim.Native.Nat.{ℕ, _/_, _%_}
+use Rattle.laws.proofs.Tests.{both-right}
+use Rattle.forms.specs.Form.{spelled}
+use Rattle.text_lines.specs.Lines.{letter, letters}
+
+module _ (w : ℕ) where
+  pub letters-1 : letter (w / 256 / 256 % 256) ≡ false → letters (spelled (w ∷ [])) ≡ false
+  unfolding letters spelled
+  letters-1 a = rw a
+
+  pub letters-2 : letter (w / 256 / 256 % 256) ≡ true → letter (w / 256 % 256) ≡ false → letters (spelled (w ∷ [])) ≡ false
+  unfolding letters spelled
+  letters-2 a b = rw (a, b)
+
+  pub letters-3 :
+      letter (w / 256 / 256 % 256) ≡ true → letter (w / 256 % 256) ≡ true → letters (spelled (w ∷ [])) ≡ letter (w % 256)
+  unfolding letters spelled
+  letters-3 a b = rw (a, b) (both-right (letter (w % 256)))

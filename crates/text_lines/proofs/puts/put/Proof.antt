@@ -1,0 +1,58 @@
+-- `text_lines::puts::put` meets its contract: all is stored where there is room for it. Assumes nothing.
+use mathlib.Core.Path.{refl}
+use denote.Ref.{now}
+use borrow.Author.Needs.{needs}
+use Rattle.text_lines.proofs.Putting.{put-placed, put-beyond}
+use Rattle.text_lines.proofs.puts.put.Statement.{statement}
+use Rattle.text_lines.proofs.puts.put.Tie as tie
+
+sub-if1 : tie.Need-sub-if1
+sub-if1 c = search needs
+
+returns : tie.Need-returns
+returns c =
+    let a = c .before .before .before .args in
+    (put-beyond (now (a .out)) (a .q) (now (a .text)) (search needs), search needs)
+
+add-if2 : tie.Need-add-if2
+add-if2 c = search needs
+
+store-requires : tie.Need-store-requires
+store-requires c κs = search needs
+
+add-result : tie.Need-add-result
+add-result c = search needs
+
+same-length : tie.Need-same-length
+same-length c = search needs
+
+returns-2 : tie.Need-returns-2
+returns-2 c =
+    let t = now (c .before .before .before .before .before .before .before .before .args .text) in
+    (put-placed {xs = t} (search needs) (record { stored = c .before .before .store .ensures; moved = refl }), search needs)
+
+put-cut-requires : tie.Need-put-cut-requires
+put-cut-requires c κs = search needs
+
+same-length-2 : tie.Need-same-length-2
+same-length-2 c = search needs
+
+returns-3 : tie.Need-returns-3
+returns-3 c =
+    let e = c .before .before .put-cut .ensures in
+    (put-placed (search needs) (e .0), e .1)
+
+pub put-spec : {M : Type 1} → statement M
+put-spec =
+    tie.close
+    (tie.spec
+    sub-if1
+    returns
+    add-if2
+    store-requires
+    add-result
+    same-length
+    returns-2
+    put-cut-requires
+    same-length-2
+    returns-3)
