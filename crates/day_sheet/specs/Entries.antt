@@ -7,6 +7,7 @@ use Rattle.laws.specs.Pick.{pick, both}
 use Rattle.forms.specs.Tables.{Table, TI, fits}
 use Rattle.text_lines.specs.Lines.{numberLine}
 use Rattle.listing.specs.Lines.{kindLine, networkName, blockName, descriptorLinesOf}
+use Rattle.text_lines.specs.Codes.{codes}
 
 -- a table, and the second at which its capture started
 pub record Entry : Type 0 where
@@ -26,7 +27,7 @@ keyOf e = keyIn (e .table .network) (e .table .kind) (e .table .block)
 
 -- `stamp=`
 abbrev pub stampName : List ℕ
-stampName = 115 ∷ 116 ∷ 97 ∷ 109 ∷ 112 ∷ 61 ∷ []
+stampName = codes "stamp="
 
 -- the lines before those of the table: stamp, kind, network, block
 unfoldable pub headLines : Entry → List ℕ

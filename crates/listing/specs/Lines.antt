@@ -5,14 +5,15 @@ use lib.Dec.{eqb}
 use Rattle.laws.specs.Pick.{pick}
 use Rattle.forms.specs.Tables.{Descriptor, Table, TI}
 use Rattle.text_lines.specs.Lines.{numberLine, languageLine, pageLine}
+use Rattle.text_lines.specs.Codes.{codes}
 
 -- ---- a line each
 
 abbrev pub kindTI : List ℕ
-kindTI = 107 ∷ 105 ∷ 110 ∷ 100 ∷ 61 ∷ 84 ∷ 73 ∷ 10 ∷ []
+kindTI = codes "kind=TI" ++ (10 ∷ [])
 
 abbrev pub kindLI : List ℕ
-kindLI = 107 ∷ 105 ∷ 110 ∷ 100 ∷ 61 ∷ 76 ∷ 73 ∷ 10 ∷ []
+kindLI = codes "kind=LI" ++ (10 ∷ [])
 
 -- `kind=TI`, `kind=LI`
 unfoldable pub kindLine : ℕ → List ℕ
@@ -20,19 +21,19 @@ kindLine kind = pick (eqb kind TI) kindTI kindLI
 
 -- `block=`
 abbrev pub blockName : List ℕ
-blockName = 98 ∷ 108 ∷ 111 ∷ 99 ∷ 107 ∷ 61 ∷ []
+blockName = codes "block="
 
 -- `network=`
 abbrev pub networkName : List ℕ
-networkName = 110 ∷ 101 ∷ 116 ∷ 119 ∷ 111 ∷ 114 ∷ 107 ∷ 61 ∷ []
+networkName = codes "network="
 
 -- `mended=`
 abbrev pub mendedName : List ℕ
-mendedName = 109 ∷ 101 ∷ 110 ∷ 100 ∷ 101 ∷ 100 ∷ 61 ∷ []
+mendedName = codes "mended="
 
 -- `descriptor=`
 abbrev pub descriptorName : List ℕ
-descriptorName = 100 ∷ 101 ∷ 115 ∷ 99 ∷ 114 ∷ 105 ∷ 112 ∷ 116 ∷ 111 ∷ 114 ∷ 61 ∷ []
+descriptorName = codes "descriptor="
 
 -- ---- the lines of a table
 

@@ -6,36 +6,37 @@ use lib.Dec.{eqb, ltb}
 use Rattle.laws.specs.Pick.{pick}
 use Rattle.menu_forms.specs.Menus.{Event, Menu, codesOf}
 use Rattle.text_lines.specs.Lines.{decimal, numberLine}
+use Rattle.text_lines.specs.Codes.{codes}
 
 -- ---- a line each
 
 -- `level=`
 abbrev pub levelName : List ℕ
-levelName = 108 ∷ 101 ∷ 118 ∷ 101 ∷ 108 ∷ 61 ∷ []
+levelName = codes "level="
 
 -- `menu=`
 abbrev pub menuName : List ℕ
-menuName = 109 ∷ 101 ∷ 110 ∷ 117 ∷ 61 ∷ []
+menuName = codes "menu="
 
 -- `header=`
 abbrev pub headerName : List ℕ
-headerName = 104 ∷ 101 ∷ 97 ∷ 100 ∷ 101 ∷ 114 ∷ 61 ∷ []
+headerName = codes "header="
 
 -- `event=`
 abbrev pub eventName : List ℕ
-eventName = 101 ∷ 118 ∷ 101 ∷ 110 ∷ 116 ∷ 61 ∷ []
+eventName = codes "event="
 
 -- `link=`
 abbrev pub linkName : List ℕ
-linkName = 108 ∷ 105 ∷ 110 ∷ 107 ∷ 61 ∷ []
+linkName = codes "link="
 
 -- `missing=`
 abbrev pub missingName : List ℕ
-missingName = 109 ∷ 105 ∷ 115 ∷ 115 ∷ 105 ∷ 110 ∷ 103 ∷ 61 ∷ []
+missingName = codes "missing="
 
 -- `deeper=`
 abbrev pub deeperName : List ℕ
-deeperName = 100 ∷ 101 ∷ 101 ∷ 112 ∷ 101 ∷ 114 ∷ 61 ∷ []
+deeperName = codes "deeper="
 
 -- a code as it is printed: one below 20 as a space, 7F as `#`, the others as they stand
 unfoldable pub shown : ℕ → ℕ

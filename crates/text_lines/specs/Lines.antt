@@ -5,6 +5,7 @@ use Prim.Native.Nat.{ℕ, zero, suc, _+_, _/_, _%_}
 use lib.Dec.{ltb, leb}
 use Rattle.laws.specs.Pick.{pick, both}
 use Rattle.forms.specs.Form.{spelled}
+use Rattle.text_lines.specs.Codes.{codes}
 
 -- ---- numbers
 
@@ -38,11 +39,11 @@ numberLine name n = name ++ decimal n ++ (10 ∷ [])
 
 -- `language=`
 abbrev pub languageName : List ℕ
-languageName = 108 ∷ 97 ∷ 110 ∷ 103 ∷ 117 ∷ 97 ∷ 103 ∷ 101 ∷ 61 ∷ []
+languageName = codes "language="
 
 -- `page=`
 abbrev pub pageName : List ℕ
-pageName = 112 ∷ 97 ∷ 103 ∷ 101 ∷ 61 ∷ []
+pageName = codes "page="
 
 -- one of a..z
 abbrev pub letter : ℕ → Bool
