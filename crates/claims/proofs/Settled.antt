@@ -20,24 +20,9 @@ use Rattle.octet.proofs.quick.mark.Reads as octet·quick-mark
 use Rattle.fields.proofs.field_of.Reads as fields·field-of
 use Rattle.fields.proofs.opening_of.Reads as fields·opening-of
 use Rattle.forms.proofs.items.words_of.Reads as forms·words-of
-use Rattle.wanted.proofs.stages.start.Reads as wanted·start
-use Rattle.wanted.proofs.next.Reads as wanted·next
-use Rattle.wanted.proofs.is_name.Reads as wanted·is-name
-use Rattle.wanted.proofs.stages.is_good.Reads as wanted·is-good
-use Rattle.wanted.proofs.names.plain.Reads as wanted·plain
-use Rattle.wanted.proofs.values.decimal.Reads as wanted·decimal
 use Rattle.texts.proofs.same.Reads as texts·same
 use Rattle.texts.proofs.holds.Reads as texts·holds
 use Rattle.texts.proofs.entries.Reads as texts·entries
-use Rattle.orders.proofs.start.Reads as orders·start
-use Rattle.orders.proofs.next.Reads as orders·next
-use Rattle.orders.proofs.role.Reads as orders·role
-use Rattle.orders.proofs.is_good.Reads as orders·is-good
-use Rattle.orders.proofs.stamps.stamp_of.Reads as orders·stamp-of
-use Rattle.asked.proofs.start.Reads as asked·start
-use Rattle.asked.proofs.next.Reads as asked·next
-use Rattle.asked.proofs.is_name.Reads as asked·is-name
-use Rattle.asked.proofs.is_good.Reads as asked·is-good
 use Rattle.words.proofs.start.Reads as words·start
 use Rattle.words.proofs.next.Reads as words·next
 use Rattle.words.proofs.place.Reads as words·place
@@ -419,24 +404,6 @@ captures·start-settled κs a x y s t p q = same p q
 pub captures·pages-settled : (κs : _) (a : _) (x y : _) (s t : _) → captures·pages.Post κs a x s → captures·pages.Post κs a y t → x ≡ y
 captures·pages-settled κs a x y s t p q = same p q
 
-pub wanted·start-settled : (κs : _) (a : _) (x y : _) (s t : _) → wanted·start.Post κs a x s → wanted·start.Post κs a y t → x ≡ y
-wanted·start-settled κs a x y s t p q = same p q
-
-pub wanted·next-settled : (κs : _) (a : _) (x y : _) (s t : _) → wanted·next.Post κs a x s → wanted·next.Post κs a y t → x ≡ y
-wanted·next-settled κs a x y s t p q = same p q
-
-pub wanted·is-name-settled : (κs : _) (a : _) (x y : _) (s t : _) → wanted·is-name.Post κs a x s → wanted·is-name.Post κs a y t → x ≡ y
-wanted·is-name-settled κs a x y s t p q = same p q
-
-pub wanted·is-good-settled : (κs : _) (a : _) (x y : _) (s t : _) → wanted·is-good.Post κs a x s → wanted·is-good.Post κs a y t → x ≡ y
-wanted·is-good-settled κs a x y s t p q = same p q
-
-pub wanted·plain-settled : (κs : _) (a : _) (x y : _) (s t : _) → wanted·plain.Post κs a x s → wanted·plain.Post κs a y t → now (s .0) ≡ now (t .0)
-wanted·plain-settled κs a x y s t p q = same p q
-
-pub wanted·decimal-settled : (κs : _) (a : _) (x y : _) (s t : _) → wanted·decimal.Post κs a x s → wanted·decimal.Post κs a y t → x ≡ y
-wanted·decimal-settled κs a x y s t p q = same p q
-
 pub texts·same-settled : (κs : _) (a : _) (x y : _) (s t : _) → texts·same.Post κs a x s → texts·same.Post κs a y t → x ≡ y
 texts·same-settled κs a x y s t p q = same p q
 
@@ -445,33 +412,6 @@ texts·holds-settled κs a x y s t p q = same p q
 
 pub texts·entries-settled : (κs : _) (a : _) (x y : _) (s t : _) → texts·entries.Post κs a x s → texts·entries.Post κs a y t → x ≡ y
 texts·entries-settled κs a x y s t p q = same p q
-
-pub orders·start-settled : (κs : _) (a : _) (x y : _) (s t : _) → orders·start.Post κs a x s → orders·start.Post κs a y t → x ≡ y
-orders·start-settled κs a x y s t p q = same p q
-
-pub orders·next-settled : (κs : _) (a : _) (x y : _) (s t : _) → orders·next.Post κs a x s → orders·next.Post κs a y t → x ≡ y
-orders·next-settled κs a x y s t p q = same p q
-
-pub orders·role-settled : (κs : _) (a : _) (x y : _) (s t : _) → orders·role.Post κs a x s → orders·role.Post κs a y t → x ≡ y
-orders·role-settled κs a x y s t p q = same p q
-
-pub orders·is-good-settled : (κs : _) (a : _) (x y : _) (s t : _) → orders·is-good.Post κs a x s → orders·is-good.Post κs a y t → x ≡ y
-orders·is-good-settled κs a x y s t p q = same p q
-
-pub orders·stamp-of-settled : (κs : _) (a : _) (x y : _) (s t : _) → orders·stamp-of.Post κs a x s → orders·stamp-of.Post κs a y t → x ≡ y
-orders·stamp-of-settled κs a x y s t p q = same p q
-
-pub asked·start-settled : (κs : _) (a : _) (x y : _) (s t : _) → asked·start.Post κs a x s → asked·start.Post κs a y t → x ≡ y
-asked·start-settled κs a x y s t p q = same p q
-
-pub asked·next-settled : (κs : _) (a : _) (x y : _) (s t : _) → asked·next.Post κs a x s → asked·next.Post κs a y t → x ≡ y
-asked·next-settled κs a x y s t p q = same p q
-
-pub asked·is-name-settled : (κs : _) (a : _) (x y : _) (s t : _) → asked·is-name.Post κs a x s → asked·is-name.Post κs a y t → x ≡ y
-asked·is-name-settled κs a x y s t p q = same p q
-
-pub asked·is-good-settled : (κs : _) (a : _) (x y : _) (s t : _) → asked·is-good.Post κs a x s → asked·is-good.Post κs a y t → x ≡ y
-asked·is-good-settled κs a x y s t p q = same p q
 
 pub words·start-settled : (κs : _) (a : _) (x y : _) (s t : _) → words·start.Post κs a x s → words·start.Post κs a y t → x ≡ y
 words·start-settled κs a x y s t p q = same p q

@@ -1,2 +1,0 @@
--- The words that `menus` is called with.
-pub mod Asked
