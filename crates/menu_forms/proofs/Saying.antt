@@ -14,18 +14,18 @@ use Rattle.sums.proofs.Nibbles.{nibbles-back}
 use Rattle.parity.specs.Parity.{letter}
 use Rattle.menu_forms.specs.Menus.{Menu, Spare, fields, strings, control, fits}
 use Rattle.menu_forms.specs.Block.{Says, inNibbles, nibbles, checksumOf, blockWith, recordWith}
-use Rattle.menu_forms.proofs.Spelling.{length-inNibbles, inNibbles-first}
+use Rattle.menu_forms.proofs.Spelling.{length-spelled, spelled-first}
 use Rattle.menu_forms.proofs.Nibbled.{menu-whole}
 
 -- two protected bytes for eight bits
 pub nibbles-long : (sum : ℕ) (spare : Spare) (m : Menu) → length (nibbles sum spare m) ≡ 2 * control m
 nibbles-long sum spare m =
-    length-inNibbles (fields sum (control m) spare m) ∙ (omega (arith, menu-whole sum (control m) spare m))
+    length-spelled (fields sum (control m) spare m) ∙ (omega (arith, menu-whole sum (control m) spare m))
 
 -- the checksum's two nibbles, and those of the fields behind it
 pub sum-first : (sum : ℕ) (spare : Spare) (m : Menu) → nibbles sum spare m ≡ parts 4 2 sum ++ inNibbles (drop 1 (fields 0 (control m) spare m))
 unfolding fields
-sum-first sum spare m = inNibbles-first 8 2 sum (drop 1 (fields 0 (control m) spare m)) refl
+sum-first sum spare m = spelled-first 8 2 sum (drop 1 (fields 0 (control m) spare m)) refl
 
 -- so it is the same whatever stands in its place
 pub sum-apart : (head s₁ s₂ : ℕ) (spare : Spare) (m : Menu) → checksum head (nibbles s₁ spare m) ≡ checksum head (nibbles s₂ spare m)

@@ -10,13 +10,13 @@ use Rattle.fields.proofs.Laid.{laid-append, laid-past, laid-above, width-append
 use Rattle.menu_forms.specs.Rows.{each}
 use Rattle.menu_forms.specs.Block.{inNibbles}
 
-pub length-inNibbles : (fs : List Field) → length (inNibbles fs) ≡ width fs / 4
+pub length-spelled : (fs : List Field) → length (inNibbles fs) ≡ width fs / 4
 unfolding inNibbles
-length-inNibbles fs = length-parts 4 (width fs / 4) (laid fs 0)
+length-spelled fs = length-parts 4 (width fs / 4) (laid fs 0)
 
-pub inNibbles-append : (fs gs : List Field) → width fs % 4 ≡ 0 → inNibbles (fs ++ gs) ≡ inNibbles fs ++ inNibbles gs
+pub spelled-append : (fs gs : List Field) → width fs % 4 ≡ 0 → inNibbles (fs ++ gs) ≡ inNibbles fs ++ inNibbles gs
 unfolding inNibbles
-inNibbles-append fs gs h =
+spelled-append fs gs h =
     let a = width fs / 4 in
     let b = width gs / 4 in
     let n = laid (fs ++ gs) 0 in
@@ -30,15 +30,15 @@ inNibbles-append fs gs h =
     ∙ ap₂ (λ (x y : List ℕ). x ++ y) low (ap (parts 4 b) high)
 
 -- a field of k nibbles
-pub inNibbles-one : (w k v : ℕ) → w ≡ k * 4 → inNibbles ((w, v) ∷ []) ≡ parts 4 k v
+pub spelled-one : (w k v : ℕ) → w ≡ k * 4 → inNibbles ((w, v) ∷ []) ≡ parts 4 k v
 unfolding inNibbles width laid
-inNibbles-one w k v h =
+spelled-one w k v h =
     let e : (k * 4 + 0) / 4 ≡ k = omega arith in
     rw (h, e, zero-mul, zero-add) (parts-same 4 k (v % 2 ^ (k * 4)) v (mod-mod v (2 ^ (k * 4))))
 
-pub inNibbles-first : (w k v : ℕ) (fs : List Field) → w ≡ k * 4 → inNibbles ((w, v) ∷ fs) ≡ parts 4 k v ++ inNibbles fs
-inNibbles-first w k v fs h =
-    inNibbles-append ((w, v) ∷ []) fs (unfold width in omega arith) ∙ ap (λ (l : List ℕ). l ++ inNibbles fs) (inNibbles-one w k v h)
+pub spelled-first : (w k v : ℕ) (fs : List Field) → w ≡ k * 4 → inNibbles ((w, v) ∷ fs) ≡ parts 4 k v ++ inNibbles fs
+spelled-first w k v fs h =
+    spelled-append ((w, v) ∷ []) fs (unfold width in omega arith) ∙ ap (λ (l : List ℕ). l ++ inNibbles fs) (spelled-one w k v h)
 
 -- ---- entries in a row
 
@@ -48,8 +48,8 @@ module _ {E : Type 0} (fieldsOf : E → List Field) (nibbled : (e : E) → width
   each-nibbled [] = unfold width in refl
   each-nibbled (e ∷ es) = rw width-append (omega (arith, nibbled e, each-nibbled es))
 
-  pub each-inNibbles : (es : List E) → inNibbles (each fieldsOf es) ≡ each (λ (e : E). inNibbles (fieldsOf e)) es
+  pub each-spelled : (es : List E) → inNibbles (each fieldsOf es) ≡ each (λ (e : E). inNibbles (fieldsOf e)) es
   unfolding each
-  each-inNibbles [] = unfold inNibbles width parts in refl
-  each-inNibbles (e ∷ es) =
-      inNibbles-append (fieldsOf e) (each fieldsOf es) (nibbled e) ∙ ap (λ (l : List ℕ). inNibbles (fieldsOf e) ++ l) (each-inNibbles es)
+  each-spelled [] = unfold inNibbles width parts in refl
+  each-spelled (e ∷ es) =
+      spelled-append (fieldsOf e) (each fieldsOf es) (nibbled e) ∙ ap (λ (l : List ℕ). inNibbles (fieldsOf e) ++ l) (each-spelled es)

@@ -18,7 +18,7 @@ use Rattle.menu_forms.specs.Menus.{Descriptor, Escape, Text, Attribute, Event, 
 use Rattle.menu_forms.specs.Menus.{descriptorFields, escapeFields, attributeFields, textFields, eventFields, fillFields, openingFields, fields}
 use Rattle.menu_forms.specs.Form.{codesIn}
 use Rattle.menu_forms.specs.Block.{inNibbles}
-use Rattle.menu_forms.proofs.Spelling.{inNibbles-append, inNibbles-first, inNibbles-one, each-inNibbles, each-nibbled, length-inNibbles}
+use Rattle.menu_forms.proofs.Spelling.{spelled-append, spelled-first, spelled-one, each-spelled, each-nibbled, length-spelled}
 use Rattle.menu_forms.proofs.Forms.{row-back, codes-back, fits-parts}
 use Rattle.menu_forms.proofs.Nibbled.{descriptor-nibbled, escape-nibbled, attribute-nibbled, text-nibbled, event-nibbled, fill-nibbled, fill-same, menu-nibbled}
 use Rattle.menu_reader.specs.Control.{bitsAt, descriptorAt, escapeAt, attributeAt, descriptorNibbles, escapeNibbles, attributeNibbles, textAt, eventAt, eventsAt, menuOf}
@@ -38,9 +38,9 @@ whole-append w (x ∷ xs) ys =
     ∙ ap (λ (n : ℕ). whole w ys * n) (sym (pow-add 2 (length xs * w) w) ∙ ap (λ (n : ℕ). 2 ^ n) (sym (suc-mul (length xs) w))))
 
 -- fields that are inNibbles, with more behind them, are the fields laid under that
-pub whole-inNibbles : (fs : List Field) (rest : List ℕ) → width fs % 4 ≡ 0 → whole 4 (inNibbles fs ++ rest) ≡ laid fs (whole 4 rest)
+pub whole-spelled : (fs : List Field) (rest : List ℕ) → width fs % 4 ≡ 0 → whole 4 (inNibbles fs ++ rest) ≡ laid fs (whole 4 rest)
 unfolding inNibbles
-whole-inNibbles fs rest h =
+whole-spelled fs rest h =
     let k = width fs / 4 in
     let w : k * 4 ≡ width fs = omega arith in
     let small : laid fs 0 < 2 ^ width fs = subst (λ (x : ℕ). laid fs 0 < 2 ^ x) (omega arith) (laid-lt fs 0 0 (pow-pos 0)) in
@@ -52,7 +52,7 @@ pub bits-back :
     (pre : List Field) (w v : ℕ) (gs : List Field) (rest : List ℕ) → width (pre ++ (w, v) ∷ gs) % 4 ≡ 0 → v < 2 ^ w
     → bitsAt (width pre) w (inNibbles (pre ++ (w, v) ∷ gs) ++ rest) ≡ v
 bits-back pre w v gs rest h l =
-    ap (field (width pre) w) (whole-inNibbles (pre ++ (w, v) ∷ gs) rest h) ∙ laid-at pre w v gs (whole 4 rest) ∙ mod-eq-of-lt l
+    ap (field (width pre) w) (whole-spelled (pre ++ (w, v) ∷ gs) rest h) ∙ laid-at pre w v gs (whole 4 rest) ∙ mod-eq-of-lt l
 
 -- ---- entries
 
@@ -97,22 +97,22 @@ attribute-back x h rest =
 
 -- ---- strings
 
-text-inNibbles :
+text-spelled :
     (t : Text)
     → inNibbles (textFields t) ≡ parts 4 2 (length (t .escapes)) ++ (each escapeNibbles (t .escapes) ++ parts 4 2 (length (t .codes)))
 unfolding textFields
-text-inNibbles t =
+text-spelled t =
     let last : List Field = (8, length (t .codes)) ∷ [] in
     let es : List Field = each escapeFields (t .escapes) in
-    inNibbles-first 8 2 (length (t .escapes)) (es ++ last) refl
+    spelled-first 8 2 (length (t .escapes)) (es ++ last) refl
     ∙ ap (λ (l : List ℕ). parts 4 2 (length (t .escapes)) ++ l)
-    (inNibbles-append es last (each-nibbled escapeFields escape-nibbled (t .escapes))
-    ∙ ap₂ (λ (x y : List ℕ). x ++ y) (each-inNibbles escapeFields escape-nibbled (t .escapes)) (inNibbles-one 8 2 (length (t .codes)) refl))
+    (spelled-append es last (each-nibbled escapeFields escape-nibbled (t .escapes))
+    ∙ ap₂ (λ (x y : List ℕ). x ++ y) (each-spelled escapeFields escape-nibbled (t .escapes)) (spelled-one 8 2 (length (t .codes)) refl))
 
 -- a byte at the front
 byte-back : (n : ℕ) (rest : List ℕ) → n < 256 → bitsAt 0 8 (parts 4 2 n ++ rest) ≡ n
 unfolding width
-byte-back n rest l = ap (λ (x : List ℕ). bitsAt 0 8 (x ++ rest)) (sym (inNibbles-one 8 2 n refl)) ∙ bits-back [] 8 n [] rest refl l
+byte-back n rest l = ap (λ (x : List ℕ). bitsAt 0 8 (x ++ rest)) (sym (spelled-one 8 2 n refl)) ∙ bits-back [] 8 n [] rest refl l
 
 text-back : (t : Text) → fitting (textFields t) ≡ true → (rest codes : List ℕ) → textAt (inNibbles (textFields t) ++ rest) (t .codes ++ codes) ≡ t
 unfolding textAt textFields fitting parts
@@ -136,27 +136,27 @@ text-back t h rest codes =
     ap (λ (l : List ℕ). codesIn (bitsAt 0 8 l) (t .codes ++ codes)) behind
     ∙ ap (λ (k : ℕ). codesIn k (t .codes ++ codes)) (byte-back c rest small)
     ∙ codes-back (t .codes) codes in
-    ap (λ (l : List ℕ). textAt (l ++ rest) (t .codes ++ codes)) (text-inNibbles t) ∙ (rw (first, es, last))
+    ap (λ (l : List ℕ). textAt (l ++ rest) (t .codes ++ codes)) (text-spelled t) ∙ (rw (first, es, last))
 
 -- ---- events
 
 abbrev heading : Event → List Field
 heading e = (16, e .link) ∷ (4, e .linkType) ∷ (4, length (e .attributes)) ∷ []
 
-event-inNibbles :
+event-spelled :
     (e : Event) → inNibbles (eventFields e) ≡ inNibbles (heading e) ++ (each attributeNibbles (e .attributes) ++ inNibbles (textFields (e .text)))
 unfolding eventFields
-event-inNibbles e =
+event-spelled e =
     let xs : List Field = each attributeFields (e .attributes) in
     let nibbled : width (heading e) % 4 ≡ 0 = unfold width in refl in
-    inNibbles-append (heading e) (xs ++ textFields (e .text)) nibbled
+    spelled-append (heading e) (xs ++ textFields (e .text)) nibbled
     ∙ ap (λ (l : List ℕ). inNibbles (heading e) ++ l)
-    (inNibbles-append xs (textFields (e .text)) (each-nibbled attributeFields attribute-nibbled (e .attributes))
-    ∙ ap (λ (l : List ℕ). l ++ inNibbles (textFields (e .text))) (each-inNibbles attributeFields attribute-nibbled (e .attributes)))
+    (spelled-append xs (textFields (e .text)) (each-nibbled attributeFields attribute-nibbled (e .attributes))
+    ∙ ap (λ (l : List ℕ). l ++ inNibbles (textFields (e .text))) (each-spelled attributeFields attribute-nibbled (e .attributes)))
 
 heading-long : (e : Event) → length (inNibbles (heading e)) ≡ 6
 unfolding width
-heading-long e = length-inNibbles (heading e)
+heading-long e = length-spelled (heading e)
 
 event-back :
     (e : Event) → fitting (eventFields e) ≡ true → (rest codes : List ℕ)
@@ -179,7 +179,7 @@ event-back e h rest codes =
     let b = bits-back ((16, e .link) ∷ []) 4 (e .linkType) ((4, length (e .attributes)) ∷ tail) rest nibbled (ltb-true (e .linkType) 16 (p₂ .0)) in
     let c = bits-back ((16, e .link) ∷ (4, e .linkType) ∷ []) 4 (length (e .attributes)) tail rest nibbled (ltb-true (length (e .attributes)) 16 (p₃ .0)) in
     let grouped : ns ≡ top ++ (xs ++ (ys ++ rest)) =
-    ap (λ (l : List ℕ). l ++ rest) (event-inNibbles e) ∙ append-assoc top (xs ++ ys) rest ∙ ap (λ (l : List ℕ). top ++ l) (append-assoc xs ys rest) in
+    ap (λ (l : List ℕ). l ++ rest) (event-spelled e) ∙ append-assoc top (xs ++ ys) rest ∙ ap (λ (l : List ℕ). top ++ l) (append-assoc xs ys rest) in
     let past : drop 6 ns ≡ xs ++ (ys ++ rest) =
     ap (drop 6) grouped ∙ ap (λ (k : ℕ). drop k (top ++ (xs ++ (ys ++ rest)))) (sym (heading-long e)) ∙ drop-append-seam top (xs ++ (ys ++ rest)) in
     let r : inRow attributeNibbles attributeAt (length (e .attributes)) (drop 6 ns) ≡ e .attributes =
@@ -200,7 +200,7 @@ events-back (e ∷ es) h rest codes =
     let ys = inNibbles (each eventFields es) ++ rest in
     let cs = each codesOf es ++ codes in
     let n : inNibbles (eventFields e ++ each eventFields es) ++ rest ≡ xs ++ ys =
-    ap (λ (l : List ℕ). l ++ rest) (inNibbles-append (eventFields e) (each eventFields es) (event-nibbled e)) ∙ append-assoc xs (inNibbles (each eventFields es)) rest in
+    ap (λ (l : List ℕ). l ++ rest) (spelled-append (eventFields e) (each eventFields es) (event-nibbled e)) ∙ append-assoc xs (inNibbles (each eventFields es)) rest in
     rw (n, append-assoc (codesOf e) (each codesOf es) codes, event-back e (p .0) ys cs, drop-append-seam xs ys, drop-append-seam (codesOf e) cs)
     (ap (λ (l : List Event). e ∷ l) (events-back es (p .1) rest codes))
 
@@ -208,7 +208,7 @@ events-back (e ∷ es) h rest codes =
 
 opening-long : (sum control : ℕ) (spare : Spare) (m : Menu) → length (inNibbles (openingFields sum control spare m)) ≡ 15
 unfolding width
-opening-long sum control spare m = length-inNibbles (openingFields sum control spare m)
+opening-long sum control spare m = length-spelled (openingFields sum control spare m)
 
 -- a field of control data, with nothing behind it
 pub field-back :
@@ -233,23 +233,23 @@ module _ (sum control : ℕ) (spare : Spare) (m : Menu) where
   abbrev ev : List ℕ
   ev = inNibbles (each eventFields (m .events))
 
-  menu-inNibbles : inNibbles (fields sum control spare m) ≡ top ++ (ds ++ (fl ++ (tx ++ (parts 4 2 (m .message) ++ ev))))
+  menu-spelled : inNibbles (fields sum control spare m) ≡ top ++ (ds ++ (fl ++ (tx ++ (parts 4 2 (m .message) ++ ev))))
   unfolding fields
-  menu-inNibbles =
+  menu-spelled =
       let open′ : List Field = openingFields sum control spare m in
       let each′ : List Field = each descriptorFields (m .descriptors) in
       let fill′ : List Field = fillFields (length (m .descriptors)) (spare .second) in
       let text′ : List Field = textFields (m .header) in
       let events′ : List Field = each eventFields (m .events) in
       let nibbled : width open′ % 4 ≡ 0 = unfold width in refl in
-      inNibbles-append open′ (each′ ++ (fill′ ++ (text′ ++ (8, m .message) ∷ events′))) nibbled
+      spelled-append open′ (each′ ++ (fill′ ++ (text′ ++ (8, m .message) ∷ events′))) nibbled
       ∙ ap (λ (l : List ℕ). inNibbles open′ ++ l)
-      (inNibbles-append each′ (fill′ ++ (text′ ++ (8, m .message) ∷ events′)) (each-nibbled descriptorFields descriptor-nibbled (m .descriptors))
-      ∙ ap₂ (λ (x y : List ℕ). x ++ y) (each-inNibbles descriptorFields descriptor-nibbled (m .descriptors))
-      (inNibbles-append fill′ (text′ ++ (8, m .message) ∷ events′) (fill-nibbled (length (m .descriptors)) (spare .second))
+      (spelled-append each′ (fill′ ++ (text′ ++ (8, m .message) ∷ events′)) (each-nibbled descriptorFields descriptor-nibbled (m .descriptors))
+      ∙ ap₂ (λ (x y : List ℕ). x ++ y) (each-spelled descriptorFields descriptor-nibbled (m .descriptors))
+      (spelled-append fill′ (text′ ++ (8, m .message) ∷ events′) (fill-nibbled (length (m .descriptors)) (spare .second))
       ∙ ap (λ (l : List ℕ). inNibbles fill′ ++ l)
-      (inNibbles-append text′ ((8, m .message) ∷ events′) (text-nibbled (m .header))
-      ∙ ap (λ (l : List ℕ). inNibbles text′ ++ l) (inNibbles-first 8 2 (m .message) events′ refl))))
+      (spelled-append text′ ((8, m .message) ∷ events′) (text-nibbled (m .header))
+      ∙ ap (λ (l : List ℕ). inNibbles text′ ++ l) (spelled-first 8 2 (m .message) events′ refl))))
 
   -- control data and strings of a menu that can be sent hold that menu
   pub menu-back : fits m ≡ true → menuOf (inNibbles (fields sum control spare m)) (strings m) ≡ m
@@ -283,12 +283,12 @@ module _ (sum control : ℕ) (spare : Spare) (m : Menu) where
       let x₂ : List ℕ = parts 4 2 (m .message) ++ ev in
       let x₁ : List ℕ = fl ++ (tx ++ x₂) in
       let past : drop 15 ns ≡ ds ++ x₁ =
-      ap (drop 15) menu-inNibbles ∙ ap (λ (k : ℕ). drop k (top ++ (ds ++ x₁))) (sym (opening-long sum control spare m)) ∙ drop-append-seam top (ds ++ x₁) in
+      ap (drop 15) menu-spelled ∙ ap (λ (k : ℕ). drop k (top ++ (ds ++ x₁))) (sym (opening-long sum control spare m)) ∙ drop-append-seam top (ds ++ x₁) in
       let found : inRow descriptorNibbles descriptorAt nd (drop 15 ns) ≡ m .descriptors =
       ap (inRow descriptorNibbles descriptorAt nd) past
       ∙ row-back descriptorNibbles descriptorAt descriptorFields descriptor-back (m .descriptors) (p .fits-descriptors) x₁ in
       let long : length (inNibbles (fillFields nd 0)) ≡ length fl =
-      length-inNibbles (fillFields nd 0) ∙ ap (λ (k : ℕ). k / 4) (fill-same nd 0 (spare .second)) ∙ sym (length-inNibbles (fillFields nd (spare .second))) in
+      length-spelled (fillFields nd 0) ∙ ap (λ (k : ℕ). k / 4) (fill-same nd 0 (spare .second)) ∙ sym (length-spelled (fillFields nd (spare .second))) in
       let behind : drop (15 + length ds + length (inNibbles (fillFields nd 0))) ns ≡ tx ++ x₂ =
       sym (drop-drop (length (inNibbles (fillFields nd 0))) (15 + length ds) ns)
       ∙ ap (drop (length (inNibbles (fillFields nd 0)))) (sym (drop-drop (length ds) 15 ns) ∙ ap (drop (length ds)) past ∙ drop-append-seam ds x₁)

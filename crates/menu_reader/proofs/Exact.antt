@@ -39,7 +39,7 @@ use Rattle.menu_reader.specs.Reading.{controlLength, controlPart, string
 use Rattle.menu_reader.proofs.Places.{bits-take}
 use Rattle.menu_reader.proofs.Strings.{letters-again, codes-seven, codes-again, letters-odd}
 use Rattle.menu_reader.proofs.Back.{field-back, menu-back}
-use Rattle.menu_reader.proofs.Inverse.{spareIn, menu-fitting, inNibbles-again, strings-again}
+use Rattle.menu_reader.proofs.Inverse.{spareIn, menu-fitting, spelled-again, strings-again}
 
 -- ---- what the rules say
 
@@ -152,7 +152,7 @@ module _ (application : ℕ) (r : List ℕ) (b : Bytes r) (f : Framed applicatio
 
     own : ns ≡ nibbles (bitsAt 0 8 ns) (spareIn ns cs) m
     own =
-        inNibbles-again ns cs (k .kind) (k .clear) (k .decodes)
+        spelled-again ns cs (k .kind) (k .clear) (k .decodes)
         (menu-whole (bitsAt 0 8 ns) (bitsAt 8 10 ns) (spareIn ns cs) m ∙ (omega (arith, ns-long)))
         ∙ ap (λ (c : ℕ). inNibbles (fields (bitsAt 0 8 ns) c (spareIn ns cs) m)) (k .control-said)
 

@@ -11,7 +11,7 @@ use Rattle.menu_forms.specs.Rows.{each, inRow}
 use Rattle.menu_forms.specs.Menus.{Descriptor, Text, Event, Menu, NI, zeros, textFields, eventFields, fillFields, fields, codesOf, strings, control, size}
 use Rattle.menu_forms.specs.Form.{textForm, eventForm, form}
 use Rattle.menu_forms.specs.Block.{inNibbles}
-use Rattle.menu_forms.proofs.Spelling.{length-inNibbles, each-nibbled}
+use Rattle.menu_forms.proofs.Spelling.{length-spelled, each-nibbled}
 use Rattle.menu_forms.proofs.Forms.{row-count}
 use Rattle.menu_forms.proofs.Nibbled.{text-nibbled, event-nibbled, fill-width, menu-bytes}
 use Rattle.menu_reader.specs.Control.{bitsAt, descriptorAt, descriptorNibbles, textAt, eventsAt, menuOf}
@@ -39,7 +39,7 @@ module _ (ns cs : List ℕ) (descriptors events behind escapes message : ℕ) (e
   fill-nibbles : length (inNibbles (fillFields descriptors 0)) ≡ (descriptors + 1) % 2
   fill-nibbles =
       let e : 4 * ((descriptors + 1) % 2) / 4 ≡ (descriptors + 1) % 2 = omega arith in
-      length-inNibbles (fillFields descriptors 0) ∙ ap (λ (x : ℕ). x / 4) (fill-bits descriptors) ∙ e
+      length-spelled (fillFields descriptors 0) ∙ ap (λ (x : ℕ). x / 4) (fill-bits descriptors) ∙ e
 
   module _ (e₃ : escapes ≡ bitsAt 0 8 (drop behind ns)) (e₄ : message ≡ bitsAt 0 8 (drop (behind + 4 + 6 * escapes) ns)) (at from : ℕ)
       (e₅ : at ≡ behind + length (inNibbles (textFields header))) (e₆ : from ≡ length (header .codes)) where
@@ -94,7 +94,7 @@ module _ (ns cs : List ℕ) (descriptors events behind escapes message : ℕ) (e
         let tx = textFields header in
         ap (λ (m : Menu). width (fields 0 0 zeros m)) menu-found
         ∙ menu-bytes 0 0 zeros _
-        ∙ (rw (count, descriptors-long descriptors (drop 15 ns), length-inNibbles tx, length-inNibbles (each eventFields evs))
+        ∙ (rw (count, descriptors-long descriptors (drop 15 ns), length-spelled tx, length-spelled (each eventFields evs))
         (omega (arith, fill-width descriptors 0, fill-bits descriptors, text-nibbled header, each-nibbled eventFields event-nibbled evs)))
 
     all-codes : length (header .codes) + length (each codesOf evs) ≡ length (strings (menuOf ns cs))
@@ -102,7 +102,7 @@ module _ (ns cs : List ℕ) (descriptors events behind escapes message : ℕ) (e
     all-codes = sym (ap (λ (m : Menu). length (strings m)) menu-found ∙ length-append (header .codes) (each codesOf evs))
 
 -- the walk's parts, one behind another, are the menu inNibbles
-pub inNibbles-all :
+pub spelled-all :
     (ns cs : List ℕ) (descriptors events behind escapes message : ℕ) (d h r : Spot) (out₀ out₁ out₂ out₃ out₄ : List ℕ)
     → descriptors ≡ bitsAt 54 6 ns
     → events ≡ bitsAt 46 4 ns
@@ -115,7 +115,7 @@ pub inNibbles-all :
     → PutText (record { at = behind; from = 0; to = d .to }) h (textAt (drop behind ns) cs) out₂ out₃
     → PutEvents (record { at = h .at + 2; from = h .from; to = h .to }) r (eventsAt events (drop (h .at + 2) ns) (drop (h .from) cs)) out₃ out₄
     → Spelled r (menuOf ns cs) out₀ out₄
-inNibbles-all ns cs descriptors events behind escapes message d h r out₀ out₁ out₂ out₃ out₄ e₁ e₂ e e₃ e₄ w₀ w₁ w₂ w₃ =
+spelled-all ns cs descriptors events behind escapes message d h r out₀ out₁ out₂ out₃ out₄ e₁ e₂ e e₃ e₄ w₀ w₁ w₂ w₃ =
     let t = textAt (drop behind ns) cs in
     let from : h .from ≡ length (t .codes) = w₂ .takes ∙ zero-add _ in
     let first : Went (record { at = 0; from = 0; to = 0 }) (record { at = 15; from = 0; to = 9 }) 15 0 (openingBytes ns message) out₀ out₁ =
@@ -142,11 +142,11 @@ inNibbles-all ns cs descriptors events behind escapes message d h r out₀ out�
 
 -- what a inNibbles menu takes
 module _ {r : Spot} {m : Menu} {old new : List ℕ} (s : Spelled r m old new) where
-  pub control-inNibbles : r .at / 2 ≡ control m
-  control-inNibbles = (omega (arith, s .passes))
+  pub control-spelled : r .at / 2 ≡ control m
+  control-spelled = (omega (arith, s .passes))
 
-  pub size-inNibbles : 2 * (r .at / 2) + r .from ≡ size m
-  size-inNibbles = ap₂ (λ (x y : ℕ). 2 * x + y) control-inNibbles (s .takes)
+  pub size-spelled : 2 * (r .at / 2) + r .from ≡ size m
+  size-spelled = ap₂ (λ (x y : ℕ). 2 * x + y) control-spelled (s .takes)
 
 pub header-read : (ns cs : List ℕ) → bitsAt 44 2 ns ≡ menuOf ns cs .headerSize
 unfolding menuOf

@@ -23,7 +23,7 @@ use Rattle.menu_forms.specs.Form.{codesIn}
 use Rattle.menu_forms.specs.Block.{inNibbles}
 use Rattle.menu_forms.proofs.Forms.{row-count, codes-count}
 use Rattle.menu_forms.proofs.Formed.{Begins, begins-append, begins-codes, begins-all}
-use Rattle.menu_forms.proofs.Spelling.{each-nibbled, each-inNibbles}
+use Rattle.menu_forms.proofs.Spelling.{each-nibbled, each-spelled}
 use Rattle.menu_forms.proofs.Nibbled.{descriptor-nibbled, escape-nibbled, attribute-nibbled, text-nibbled, event-nibbled, fill-nibbled, fill-same, fill-fits}
 use Rattle.menu_reader.specs.Control.{bitsAt, descriptorAt, escapeAt, attributeAt, descriptorNibbles, escapeNibbles, attributeNibbles, textAt, eventAt, eventsAt, menuOf}
 use Rattle.menu_reader.proofs.Places.{whole-drop, whole-behind}
@@ -95,7 +95,7 @@ module _ {E : Type 0} (fieldsOf : E → List Field) (nibbled : (e : E) → width
       → whole 4 (drop (j + length (each spell es)) ns) ≡ whole 4 ns / 2 ^ (j * 4) / 2 ^ width (each fieldsOf es)
   row-behind j es ns =
       let fs : List Field = each fieldsOf es in
-      ap (λ (k : ℕ). whole 4 (drop (j + k) ns)) (ap length (sym (each-inNibbles fieldsOf nibbled es)))
+      ap (λ (k : ℕ). whole 4 (drop (j + k) ns)) (ap length (sym (each-spelled fieldsOf nibbled es)))
       ∙ ap (whole 4) (sym (drop-drop (length (inNibbles fs)) j ns))
       ∙ whole-behind fs (drop j ns) (each-nibbled fieldsOf nibbled es)
       ∙ ap (λ (n : ℕ). n / 2 ^ width fs) (whole-drop 4 j ns)
@@ -321,12 +321,12 @@ module _ (ns cs : List ℕ) where
       (both-holds (ltb (bitsAt 50 3 ns) 8) _ (lt-ltb _ 8 (field-lt 50 3 n)) (both-holds (ltb (length found) 64) _ (lt-ltb _ 64 descriptors) rest)))))
 
   -- and where they take all of it, it is the menu's, inNibbles
-  pub inNibbles-again :
+  pub spelled-again :
       bitsAt 18 6 ns ≡ 3 → bitsAt 24 2 ns ≡ 0 → sound ns ≡ length ns
       → width (fields (bitsAt 0 8 ns) (bitsAt 8 10 ns) spareIn (menuOf ns cs)) ≡ length ns * 4
       → ns ≡ inNibbles (fields (bitsAt 0 8 ns) (bitsAt 8 10 ns) spareIn (menuOf ns cs))
   unfolding inNibbles
-  inNibbles-again kind clear decodes wide =
+  spelled-again kind clear decodes wide =
       let n = whole 4 ns in
       let fs : List Field = fields (bitsAt 0 8 ns) (bitsAt 8 10 ns) spareIn (menuOf ns cs) in
       let none : n / 2 ^ width fs ≡ 0 = ap (λ (x : ℕ). n / 2 ^ x) wide ∙ div-eq-of-lt (whole-lt 4 ns) in

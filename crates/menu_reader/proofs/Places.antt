@@ -9,7 +9,7 @@ use lib.Pow.{shr-shr, mod-pow-add}
 use Rattle.fields.specs.Fields.{Field, width, field, whole}
 use Rattle.fields.proofs.Laid.{whole-first, whole-next, field-past, field-in}
 use Rattle.menu_forms.specs.Block.{inNibbles}
-use Rattle.menu_forms.proofs.Spelling.{length-inNibbles}
+use Rattle.menu_forms.proofs.Spelling.{length-spelled}
 use Rattle.menu_reader.specs.Control.{bitsAt}
 
 pub whole-drop : (w k : ℕ) (xs : List ℕ) → whole w (drop k xs) ≡ whole w xs / 2 ^ (k * w)
@@ -45,4 +45,4 @@ bits-take at w k ns h = ap (field at w) (whole-take 4 k ns) ∙ field-in at w (k
 pub whole-behind : (fs : List Field) (ns : List ℕ) → width fs % 4 ≡ 0 → whole 4 (drop (length (inNibbles fs)) ns) ≡ whole 4 ns / 2 ^ width fs
 whole-behind fs ns h =
     let e : width fs / 4 * 4 ≡ width fs = omega arith in
-    ap (λ (k : ℕ). whole 4 (drop k ns)) (length-inNibbles fs) ∙ whole-drop 4 (width fs / 4) ns ∙ ap (λ (x : ℕ). whole 4 ns / 2 ^ x) e
+    ap (λ (k : ℕ). whole 4 (drop k ns)) (length-spelled fs) ∙ whole-drop 4 (width fs / 4) ns ∙ ap (λ (x : ℕ). whole 4 ns / 2 ^ x) e

@@ -13,7 +13,7 @@ use Rattle.menu_forms.specs.Rows.{each, inRow}
 use Rattle.menu_forms.specs.Menus.{Escape, Text, Attribute, Event, escapeFields, attributeFields, textFields, eventFields, codesOf}
 use Rattle.menu_forms.specs.Form.{escapeForm, attributeForm, textForm, eventForm, codesIn}
 use Rattle.menu_forms.specs.Block.{inNibbles}
-use Rattle.menu_forms.proofs.Spelling.{length-inNibbles, inNibbles-append, each-inNibbles, each-nibbled}
+use Rattle.menu_forms.proofs.Spelling.{length-spelled, spelled-append, each-spelled, each-nibbled}
 use Rattle.menu_forms.proofs.Forms.{row-count, codes-count}
 use Rattle.menu_forms.proofs.Nibbled.{attribute-nibbled, text-nibbled, event-nibbled, escapes-width}
 use Rattle.menu_reader.specs.Control.{bitsAt, escapeAt, attributeAt, escapeNibbles, attributeNibbles, textAt, eventAt, eventsAt}
@@ -32,7 +32,7 @@ text-width t =
 pub text-long : (t : Text) → length (inNibbles (textFields t)) ≡ 4 + 6 * length (t .escapes)
 text-long t =
     let e : (16 + 24 * length (t .escapes)) / 4 ≡ 4 + 6 * length (t .escapes) = omega arith in
-    length-inNibbles (textFields t) ∙ ap (λ (x : ℕ). x / 4) (text-width t) ∙ e
+    length-spelled (textFields t) ∙ ap (λ (x : ℕ). x / 4) (text-width t) ∙ e
 
 module _ (ns cs : List ℕ) (at escapes : ℕ) (e₁ : escapes ≡ bitsAt 0 8 (drop at ns)) where
   es : List Escape
@@ -80,10 +80,10 @@ event-long e =
     let xs : List Field = each attributeFields (e .attributes) in
     let ts = textFields (e .text) in
     let row : length (each attributeNibbles (e .attributes)) ≡ width xs / 4 =
-    ap length (sym (each-inNibbles attributeFields attribute-nibbled (e .attributes))) ∙ length-inNibbles xs in
+    ap length (sym (each-spelled attributeFields attribute-nibbled (e .attributes))) ∙ length-spelled xs in
     let w = width-append xs ts in
-    length-inNibbles (eventFields e)
-    ∙ (rw (w, row, length-inNibbles ts)
+    length-spelled (eventFields e)
+    ∙ (rw (w, row, length-spelled ts)
     (omega (arith, each-nibbled attributeFields attribute-nibbled (e .attributes), text-nibbled (e .text))))
 
 module _ (ns cs : List ℕ) (at link kind count behind : ℕ) (e₁ : link ≡ bitsAt 0 16 (drop at ns)) (e₂ : kind ≡ bitsAt 16 4 (drop at ns))
@@ -144,7 +144,7 @@ module _ (ns cs : List ℕ) (at from left : ℕ) where
     unfolding each here others
     events-nibbles =
         ap (λ (l : List Event). length (inNibbles (each eventFields l))) events-split
-        ∙ ap length (inNibbles-append (eventFields here) (each eventFields others) (event-nibbled here))
+        ∙ ap length (spelled-append (eventFields here) (each eventFields others) (event-nibbled here))
         ∙ length-append (inNibbles (eventFields here)) (inNibbles (each eventFields others))
 
     pub events-codes :

@@ -21,7 +21,7 @@ use Rattle.menu_forms.specs.Menus.{Attribute, Text, Event, attributeFields, tex
 use Rattle.menu_forms.specs.Form.{attributeForm, attributeIn, textForm, textIn, eventForm, eventIn}
 use Rattle.menu_forms.specs.Block.{inNibbles}
 use Rattle.menu_forms.proofs.Forms.{row-count}
-use Rattle.menu_forms.proofs.Spelling.{inNibbles-append, each-nibbled}
+use Rattle.menu_forms.proofs.Spelling.{spelled-append, each-nibbled}
 use Rattle.menu_forms.proofs.Nibbled.{attribute-nibbled, attributes-width, event-nibbled}
 use Rattle.menu_writer.specs.declared.Tally.{Tally}
 use Rattle.menu_writer.specs.declared.Loop.the-variants.{Attributes}
@@ -253,8 +253,8 @@ module _ (f : List ℕ) (at low high kind a : ℕ) (hl : low ≡ getD f at 0) (h
       let nibbled : width h % 4 ≡ 0 = unfold heading width in refl in
       ap (λ (fs : List Field). map image (inNibbles fs)) is
       ∙ ap (map image)
-      (inNibbles-append h rest nibbled
-      ∙ ap₂ (λ (x y : List ℕ). x ++ y) heading-number (inNibbles-append (each attributeFields attrs₂) (textFields t₂) (each-nibbled attributeFields attribute-nibbled attrs₂)))
+      (spelled-append h rest nibbled
+      ∙ ap₂ (λ (x y : List ℕ). x ++ y) heading-number (spelled-append (each attributeFields attrs₂) (textFields t₂) (each-nibbled attributeFields attribute-nibbled attrs₂)))
       ∙ map-append image (parts 4 6 (((a % 16 * 16 + kind % 16) * 256 + high) * 256 + low)) (inNibbles (each attributeFields attrs₂) ++ inNibbles (textFields t₂))
       ∙ ap (λ (l : List ℕ). map image (parts 4 6 (((a % 16 * 16 + kind % 16) * 256 + high) * 256 + low)) ++ l)
       (map-append image (inNibbles (each attributeFields attrs₂)) (inNibbles (textFields t₂))
@@ -267,7 +267,7 @@ pub sent-split :
     → map image (inNibbles (each eventFields (e ∷ es))) ≡ map image (inNibbles (eventFields e)) ++ map image (inNibbles (each eventFields es))
 unfolding each
 sent-split e es =
-    ap (map image) (inNibbles-append (eventFields e) (each eventFields es) (event-nibbled e))
+    ap (map image) (spelled-append (eventFields e) (each eventFields es) (event-nibbled e))
     ∙ map-append image (inNibbles (eventFields e)) (inNibbles (each eventFields es))
 
 pub codes-split : (e : Event) (es : List Event) → map letter (each codesOf (e ∷ es)) ≡ map letter (codesOf e) ++ map letter (each codesOf es)

@@ -16,7 +16,7 @@ use Rattle.menu_forms.specs.Menus.{infoBytes, sevens}
 use Rattle.menu_forms.specs.Form.{attributeForm, attributeIn, codesIn}
 use Rattle.menu_forms.specs.Block.{inNibbles}
 use Rattle.menu_forms.proofs.Forms.{high-length}
-use Rattle.menu_forms.proofs.Spelling.{each-inNibbles}
+use Rattle.menu_forms.proofs.Spelling.{each-spelled}
 use Rattle.menu_writer.specs.declared.Loop.{Loop}
 use Rattle.menu_writer.specs.declared.Loop.the-variants.{Codes, Attributes}
 use Rattle.menu_writer.specs.Internal.{entryLength, entryFine, entryBytes, loopLength, loopFine, loopBytes}
@@ -43,7 +43,7 @@ module _ {E : Type 0} (what : Loop) (spell : E → List ℕ) (read : List ℕ �
         ((e : E) → width (fieldsOf e) % 4 ≡ 0) → ((l : List ℕ) → map image (inNibbles (fieldsOf (read l))) ≡ entryBytes what l)
         → (k : ℕ) (l : List ℕ) → map image (inNibbles (each fieldsOf (inRow spell read k l))) ≡ loopBytes what k l
     unfolding each inRow loopBytes
-    row-bytes nibbled sent k l = ap (map image) (each-inNibbles fieldsOf nibbled (inRow spell read k l)) ∙ go k l
+    row-bytes nibbled sent k l = ap (map image) (each-spelled fieldsOf nibbled (inRow spell read k l)) ∙ go k l
       where
         go : (k : ℕ) (l : List ℕ) → map image (each (λ (e : E). inNibbles (fieldsOf e)) (inRow spell read k l)) ≡ loopBytes what k l
         go zero l = refl

@@ -27,7 +27,7 @@ use Rattle.menu_forms.specs.Menus.{Menu, zeros, fields, strings, control, size,
 use Rattle.menu_forms.specs.Form.{form, menuIn}
 use Rattle.menu_forms.specs.Writing.{formRules, writeRules}
 use Rattle.menu_forms.specs.Block.{inNibbles, nibbles, headBits, checksumOf, blockWith, recordOf}
-use Rattle.menu_forms.proofs.Saying.{nibbles-long as inNibbles-long, sum-first}
+use Rattle.menu_forms.proofs.Saying.{nibbles-long as spelled-long, sum-first}
 use Rattle.menu_writer.specs.declared.Tally.{Tally}
 use Rattle.menu_writer.specs.Internal.{Whole}
 use Rattle.menu_writer.proofs.Storing.{store-on}
@@ -38,7 +38,7 @@ module _ (m : Menu) (c : ℕ) (whole : 8 * c ≡ width (fields 0 0 zeros m)) whe
   control-is = omega (arith, whole)
 
   pub nibbles-long : (s : ℕ) → length (map image (nibbles s zeros m)) ≡ 2 * c
-  nibbles-long s = length-map (nibbles s zeros m) image ∙ inNibbles-long s zeros m ∙ ap (λ (x : ℕ). 2 * x) (sym control-is)
+  nibbles-long s = length-map (nibbles s zeros m) image ∙ spelled-long s zeros m ∙ ap (λ (x : ℕ). 2 * x) (sym control-is)
 
   pub record-long : (application : ℕ) → length (recordOf application m) ≡ 4 + (2 * c + length (strings m))
   unfolding blockWith

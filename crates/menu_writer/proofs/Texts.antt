@@ -18,7 +18,7 @@ use Rattle.menu_forms.specs.Menus.{Escape, Text, escapeFields, textFields, seve
 use Rattle.menu_forms.specs.Form.{escapeForm, escapeIn, textForm, textIn, codesIn}
 use Rattle.menu_forms.specs.Block.{inNibbles}
 use Rattle.menu_forms.proofs.Forms.{row-count, codes-count}
-use Rattle.menu_forms.proofs.Spelling.{inNibbles-append, inNibbles-one, inNibbles-first, each-nibbled}
+use Rattle.menu_forms.proofs.Spelling.{spelled-append, spelled-one, spelled-first, each-nibbled}
 use Rattle.menu_forms.proofs.Nibbled.{escape-nibbled, escapes-width}
 use Rattle.menu_writer.specs.declared.Loop.the-variants.{Codes, Escapes}
 use Rattle.menu_writer.specs.Internal.{loopLength, loopFine, loopBytes, Told}
@@ -100,8 +100,8 @@ module _ (f : List ℕ) (at e c : ℕ) (he : e ≡ getD f at 0) (hc : c ≡ getD
       let last : List Field = (8, length cs) ∷ [] in
       ap (λ (t : Text). map image (inNibbles (textFields t))) text-is
       ∙ ap (map image)
-      (inNibbles-first 8 2 (length es) (each escapeFields es ++ last) refl
-      ∙ ap (λ (l : List ℕ). parts 4 2 (length es) ++ l) (inNibbles-append (each escapeFields es) last (each-nibbled escapeFields escape-nibbled es) ∙ ap (λ (l : List ℕ). inNibbles (each escapeFields es) ++ l) (inNibbles-one 8 2 (length cs) refl)))
+      (spelled-first 8 2 (length es) (each escapeFields es ++ last) refl
+      ∙ ap (λ (l : List ℕ). parts 4 2 (length es) ++ l) (spelled-append (each escapeFields es) last (each-nibbled escapeFields escape-nibbled es) ∙ ap (λ (l : List ℕ). inNibbles (each escapeFields es) ++ l) (spelled-one 8 2 (length cs) refl)))
       ∙ map-append image (parts 4 2 (length es)) (inNibbles (each escapeFields es) ++ parts 4 2 (length cs))
       ∙ ap (λ (l : List ℕ). map image (parts 4 2 (length es)) ++ l) (map-append image (inNibbles (each escapeFields es)) (parts 4 2 (length cs)))
       ∙ (rw (

@@ -20,7 +20,7 @@ use Rattle.menu_forms.specs.Menus.{Descriptor, Menu, zeros, descriptorFields, f
 use Rattle.menu_forms.specs.Form.{descriptorForm, descriptorIn, textForm, textIn, eventForm, eventIn, form, menuIn}
 use Rattle.menu_forms.specs.Block.{inNibbles}
 use Rattle.menu_forms.proofs.Forms.{row-count}
-use Rattle.menu_forms.proofs.Spelling.{inNibbles-append, inNibbles-one, inNibbles-first, each-nibbled, length-inNibbles}
+use Rattle.menu_forms.proofs.Spelling.{spelled-append, spelled-one, spelled-first, each-nibbled, length-spelled}
 use Rattle.menu_forms.proofs.Nibbled.{descriptor-nibbled, text-nibbled, fill-nibbled, descriptors-width, fill-width, fill-fits}
 use Rattle.menu_writer.specs.declared.Tally.{Tally}
 use Rattle.menu_writer.specs.declared.Loop.the-variants.{Descriptors}
@@ -32,7 +32,7 @@ use Rattle.menu_writer.proofs.Events.{eventsIn, sevens-append}
 -- what is sent of fill_up_2: a nibble where the number is even, else nothing
 pub even-fill : (d : ℕ) → d % 2 ≡ 0 → map image (inNibbles (fillFields d 0)) ≡ map image (parts 4 1 0)
 unfolding fillFields
-even-fill d h = rw (eq-eqb (d % 2) 0 h) (ap (map image) (inNibbles-one 4 1 0 refl))
+even-fill d h = rw (eq-eqb (d % 2) 0 h) (ap (map image) (spelled-one 4 1 0 refl))
 
 pub odd-fill : (d : ℕ) → (d % 2 ≡ 0 → ⊥) → map image (inNibbles (fillFields d 0)) ≡ []
 unfolding fillFields inNibbles width parts
@@ -219,7 +219,7 @@ module _ (f : List ℕ) (d n b h : ℕ) (hd : d ≡ getD f 7 0) (hn : n ≡ getD
   opening-sent c l2 l3 =
       let nibbled : width (firstFields c) % 4 ≡ 0 = unfold width in refl in
       ap (λ (fs : List Field). map image (inNibbles fs)) (opening-is c)
-      ∙ ap (map image) (inNibbles-append (firstFields c) secondFields nibbled ∙ ap₂ (λ (x y : List ℕ). x ++ y) (first-number c) (second-number l2 l3))
+      ∙ ap (map image) (spelled-append (firstFields c) secondFields nibbled ∙ ap₂ (λ (x y : List ℕ). x ++ y) (first-number c) (second-number l2 l3))
       ∙ map-append image (parts 4 7 (((getD f 1 0 % 2 * 256 + 3) * 1024 + c % 1024) * 256)) _
 
   fields-are :
@@ -247,14 +247,14 @@ module _ (f : List ℕ) (d n b h : ℕ) (hd : d ≡ getD f 7 0) (hn : n ≡ getD
       let nibbled : width open′ % 4 ≡ 0 = unfold width in refl in
       ap (map image)
       (ap inNibbles (fields-are c)
-      ∙ inNibbles-append open′ (each′ ++ (fillFields d 0 ++ (hdr ++ (8, getD f 6 0) ∷ ev))) nibbled
+      ∙ spelled-append open′ (each′ ++ (fillFields d 0 ++ (hdr ++ (8, getD f 6 0) ∷ ev))) nibbled
       ∙ ap (λ (x : List ℕ). inNibbles open′ ++ x)
-      (inNibbles-append each′ (fillFields d 0 ++ (hdr ++ (8, getD f 6 0) ∷ ev)) (each-nibbled descriptorFields descriptor-nibbled ds)
+      (spelled-append each′ (fillFields d 0 ++ (hdr ++ (8, getD f 6 0) ∷ ev)) (each-nibbled descriptorFields descriptor-nibbled ds)
       ∙ ap (λ (x : List ℕ). inNibbles each′ ++ x)
-      (inNibbles-append (fillFields d 0) (hdr ++ (8, getD f 6 0) ∷ ev) (fill-nibbled d 0)
+      (spelled-append (fillFields d 0) (hdr ++ (8, getD f 6 0) ∷ ev) (fill-nibbled d 0)
       ∙ ap (λ (x : List ℕ). inNibbles (fillFields d 0) ++ x)
-      (inNibbles-append hdr ((8, getD f 6 0) ∷ ev) (text-nibbled (textIn (drop b f)))
-      ∙ ap (λ (x : List ℕ). inNibbles hdr ++ x) (inNibbles-first 8 2 (getD f 6 0) ev refl)))))
+      (spelled-append hdr ((8, getD f 6 0) ∷ ev) (text-nibbled (textIn (drop b f)))
+      ∙ ap (λ (x : List ℕ). inNibbles hdr ++ x) (spelled-first 8 2 (getD f 6 0) ev refl)))))
       ∙ (rw (map-append, map-append, map-append, map-append, map-append)
       (ap (λ (x : List ℕ). map image (inNibbles open′) ++ (x ++ (map image (inNibbles (fillFields d 0)) ++ (map image (inNibbles hdr) ++ (map image (parts 4 2 (getD f 6 0)) ++ map image (inNibbles ev))))))
       (row-bytes Descriptors descriptorForm descriptorIn (λ (l : List ℕ). refl) descriptorFields descriptor-nibbled (λ (l : List ℕ). refl) d (drop 9 f))))
@@ -285,4 +285,4 @@ opening-numbers f c v x y h m d n hv hx hy hh hm hd hn lx ly =
 
 pub opening-long : (f : List ℕ) (c : ℕ) → 19 ≡ 4 + length (map image (inNibbles (openingFields 0 c zeros (menuIn f))))
 unfolding width
-opening-long f c = sym (ap (λ (k : ℕ). 4 + k) (length-map (inNibbles (openingFields 0 c zeros (menuIn f))) image ∙ length-inNibbles (openingFields 0 c zeros (menuIn f))))
+opening-long f c = sym (ap (λ (k : ℕ). 4 + k) (length-map (inNibbles (openingFields 0 c zeros (menuIn f))) image ∙ length-spelled (openingFields 0 c zeros (menuIn f))))
