@@ -6,66 +6,115 @@
 // A line on standard error that tells of a failure begins `desk: `. Once standard output has failed, nothing more goes out: a list that
 // lacks something in its middle is what nobody could see.
 mod capture;
+mod help;
+mod lack;
 mod says;
-mod sight;
 
-use libc::STDERR_FILENO;
 use libc::STDIN_FILENO;
 use packet::Setting;
-use wanted::Words;
+use words::Said;
+
+// The options, five numbers each: letter, form, least, greatest and usual value (words::options).
+const OPTIONS: [u32; 25] = [
+    109, // m, the magazine
+    1,
+    1,
+    8,
+    1,
+    112, // p, the page: two hex digits
+    2,
+    0,
+    255,
+    0xDF,
+    115, // s, the stream
+    1,
+    0,
+    15,
+    1,
+    97, // a, the application
+    1,
+    0,
+    31,
+    1,
+    118, // v, the line of counts: no value
+    0,
+    1,
+    1,
+    0,
+];
+
+// No task's word, the options, and any number of files.
+const TASKS: [u8; 9] = *b" mpsav *f";
 
 // Where the second hearing stands: the words so far, whether one of them was a name, and whether
 // standard output still takes what is written.
 struct Heard {
-    words: Words,
+    said: Said,
     named: bool,
     sound: bool,
 }
 
 fn main() {
-    let words = hear_all();
-    if wanted::is_good(words) {
-        list_all(words.setting, words.verbose);
-    } else {
-        io::write_all(
-            STDERR_FILENO,
-            b"desk: usage: desk [-v] [-m 1..8] [-p 00..FF] [-s 0..15] [-a 0..31] [--] [FILE ...]\n",
-        );
+    if is_first(b"--help") {
+        help::put();
+        return;
     }
+    if is_first(b"--version") {
+        told::put_version(b"desk");
+        return;
+    }
+    let said = hear_all();
+    if words::is_good(&TASKS, said) {
+        list_all(setting(said), value(said, 4) == 1);
+        return;
+    }
+    told::begin(b"desk");
+    told::say(&help::USAGE);
 }
 
-fn hear_all() -> Words {
+// Whether the first word is this one.
+fn is_first(word: &[u8]) -> bool {
+    let mut first = io::buffer();
+    let n = told::argument(1, &mut first);
+    texts::same(told::front(&first, n), word)
+}
+
+fn hear_all() -> Said {
     let count = os::arg_count();
-    let mut words = wanted::start();
+    let mut said = words::start(&TASKS);
     let mut i = 1;
     while i < count {
-        words = hear(words, i);
+        said = hear(said, i);
         i += 1;
     }
-    words
+    said
 }
 
-fn hear(words: Words, i: usize) -> Words {
+fn hear(said: Said, i: usize) -> Said {
     let mut word = io::buffer();
-    let n = argument(i, &mut word);
-    wanted::next(words, front(&word, n))
+    let n = told::argument(i, &mut word);
+    words::next(&OPTIONS, &TASKS, said, told::front(&word, n))
 }
 
-// Puts an argument at the start of a buffer. One that is too long for it is its first bytes, which no
-// option is and no file's name.
-fn argument(i: usize, word: &mut [u8]) -> usize {
-    let n = os::arg(i, word);
-    if os::errno() == libc::ENAMETOOLONG {
-        return word.len();
+fn setting(said: Said) -> Setting {
+    Setting {
+        magazine: value(said, 0),
+        page: value(said, 1),
+        stream: value(said, 2),
+        application: value(said, 3),
     }
-    n
+}
+
+// The value of an option.
+fn value(said: Said, k: usize) -> u8 {
+    (words::value(&OPTIONS, said, k) % 256) as u8
 }
 
 // Lists each file that is named, or standard input where none is.
 fn list_all(setting: Setting, is_verbose: bool) {
     let count = os::arg_count();
     let mut heard = Heard {
-        words: wanted::start(),
+        said: words::start(&TASKS),
         named: false,
         sound: true,
     };
@@ -82,46 +131,29 @@ fn list_all(setting: Setting, is_verbose: bool) {
 // Hears a word again, and lists the file where it is a name.
 fn visit(heard: Heard, i: usize, setting: Setting, is_verbose: bool) -> Heard {
     let mut word = io::buffer();
-    let n = argument(i, &mut word);
-    let words = wanted::next(heard.words, front(&word, n));
-    if !wanted::is_name(heard.words, front(&word, n)) {
-        return Heard {
-            words,
-            named: heard.named,
-            sound: heard.sound,
-        };
+    let n = told::argument(i, &mut word);
+    let mut heard = heard;
+    let place = words::place(&TASKS, heard.said, told::front(&word, n));
+    heard.said = words::next(&OPTIONS, &TASKS, heard.said, told::front(&word, n));
+    if place == 0 {
+        return heard;
     }
-    if !heard.sound {
-        return Heard {
-            words,
-            named: true,
-            sound: false,
-        };
+    heard.named = true;
+    if heard.sound {
+        heard.sound = list_file(&mut word, n, setting, is_verbose);
     }
-    Heard {
-        words,
-        named: true,
-        sound: list_file(&mut word, n, setting, is_verbose),
-    }
+    heard
 }
 
 // Lists the file of a name, which is told with a `?` for each byte that isn't printed. Answers whether standard output took all.
 fn list_file(word: &mut [u8; 4096], n: usize, setting: Setting, is_verbose: bool) -> bool {
-    let fd = os::open_read(front(word, n));
-    wanted::plain(word);
+    let fd = os::open_read(told::front(word, n));
+    told::plain(word);
     if fd < 0 {
-        says::tell(front(word, n));
+        told::tell(b"desk", told::front(word, n));
         return true;
     }
-    let sound = capture::list(fd, front(word, n), true, setting, is_verbose);
+    let sound = capture::list(fd, told::front(word, n), true, setting, is_verbose);
     libc::close(fd);
     sound
-}
-
-// The first n bytes; nothing where there are fewer.
-fn front(s: &[u8], n: usize) -> &[u8] {
-    if s.len() < n {
-        return &s[0..0];
-    }
-    &s[0..n]
 }

@@ -1,38 +1,26 @@
-// One capture: its packets are read in large pieces and fed to a fresh reader, and each table that comes is added to the sheet. Counts
-// that a room hands back are held against the space that they count in, so that no proof here has to know the room's definitions; a
-// count that doesn't fit never comes.
-use crate::files;
-use crate::files::Got;
-use crate::front;
+// One capture: the room `captures` reads it, and each table that comes is added to the sheet. Counts that a room hands back are held
+// against the space that they count in, so that no proof here has to know the room's definitions; a count that doesn't fit never comes.
 use crate::known;
 use crate::says;
 use crate::work;
 use crate::work::Work;
 use answer::Answer;
+use captures::Came;
+use captures::Capture;
+use captures::PAGES;
+use captures::PIECE;
+use captures::RECORDS;
 use frames::Read;
 use packet::Setting;
-use reader::HeardAll;
-use reader::Reader;
-ghost use Prim.Native.Nat.{_≤_, _<_};
-ghost use lib.ListN.{length};
-
-const PACKET: usize = 42;
-
-// 1,560 packets. A piece is read until it is full, so only the last can end within a packet.
-const PIECE: usize = 65520;
-
-// More than the records that the packets of one piece finish.
-const RECORDS: usize = 65536;
+ghost use Prim.Native.Nat.{_≤_};
 
 // More than the longest table form.
 const FORM: usize = 2048;
 
-// The reader, what was done, where adding was refused its number and offset, and whether more may come.
-struct Desk {
-    reader: Reader,
+// Where a capture stands, what was done, and whether more may come.
+struct Going {
+    capture: Capture,
     work: Work,
-    no: u8,
-    at: usize,
     on: bool,
 }
 
@@ -43,10 +31,10 @@ struct Added {
     at: usize,
 }
 
-// After one call of the reader: how many bytes of packets it took.
-struct Turn {
-    desk: Desk,
-    taken: usize,
+// What was done, and whether more may come.
+struct Step {
+    work: Work,
+    on: bool,
 }
 
 // Adds the tables of the capture of a name, unless something failed before. The name is told with a `?` for each byte that isn't
@@ -64,18 +52,18 @@ pub fn open(
     if !work.sound {
         return work;
     }
-    let fd = os::open_read(front(word, n));
-    wanted::plain(word);
+    let fd = os::open_read(told::front(word, n));
+    told::plain(word);
     if fd < 0 {
         says::fail(
-            front(word, n),
+            told::front(word, n),
             b"it can't be opened, and the sheet stays as it was",
         );
         return work::broken(work);
     }
     let work = read(
         fd,
-        front(word, n),
+        told::front(word, n),
         stamp,
         setting,
         work,
@@ -99,35 +87,34 @@ fn read(
 ) -> Work {
     let mut piece = [0u8; PIECE];
     let mut records = [0u8; RECORDS];
+    let mut pages = captures::pages(setting);
     let mut form = [0u8; FORM];
-    let mut desk = fresh(work);
+    let mut going = begin(setting, work);
     let mut turns = u64::MAX;
     while turns > 0 {
         turns -= 1;
-        desk = take_piece(
+        going = pull(
             fd,
             name,
             stamp,
-            setting,
-            desk,
+            going,
             &mut piece,
             &mut records,
+            &mut pages,
             &mut form,
             sheet,
             spare,
             known,
         );
-        turns = left(desk.on, turns);
+        turns = left(going.on, turns);
     }
-    end(desk)
+    end(going)
 }
 
-fn fresh(work: Work) -> Desk {
-    Desk {
-        reader: reader::fresh(),
+fn begin(setting: Setting, work: Work) -> Going {
+    Going {
+        capture: captures::start(setting, false),
         work: work::capture(work),
-        no: 0,
-        at: 0,
         on: true,
     }
 }
@@ -143,199 +130,108 @@ fn left(is_on: bool, turns: u64) -> u64
 }
 
 // Where more may come, the capture didn't end.
-fn end(desk: Desk) -> Work {
-    let work = desk.work;
-    if desk.on {
+fn end(going: Going) -> Work {
+    let work = going.work;
+    if going.on {
         return work::broken(work);
     }
     work
 }
 
-// One piece of the capture.
-fn take_piece(
+// One call of the room, and what it is for.
+fn pull(
     fd: i32,
     name: &[u8],
     stamp: u32,
-    setting: Setting,
-    desk: Desk,
+    going: Going,
     piece: &mut [u8; PIECE],
     records: &mut [u8; RECORDS],
+    pages: &mut [u16; PAGES],
     form: &mut [u8; FORM],
     sheet: &mut [u8],
     spare: &mut [u8],
     known: &mut [u8],
-) -> Desk {
-    let got = fill(fd, piece);
-    let Got::Bytes(n) = got else {
-        says::fail(name, b"it can't be read, and the sheet stays as it was");
-        return stop(desk, false);
-    };
-    let desk = feed(
-        setting,
+) -> Going {
+    let work = going.work;
+    let turn = captures::next(fd, going.capture, piece, records, pages);
+    let capture = turn.capture;
+    let came = turn.came;
+    let application = capture.course.setting.application;
+    let step = heed(
+        name,
         stamp,
-        desk,
-        piece,
-        n,
-        records,
-        form,
-        sheet,
-        spare,
-        known,
-    );
-    if desk.no > 0 {
-        says::refuse_table(name, desk.no, desk.at);
-        return stop(desk, false);
-    }
-    if n < PIECE {
-        return stop(desk, true);
-    }
-    desk
-}
-
-// Nothing more is read.
-fn stop(desk: Desk, is_sound: bool) -> Desk {
-    let mut desk = desk;
-    desk.on = false;
-    desk.work.sound = is_sound;
-    desk
-}
-
-fn fill(fd: i32, piece: &mut [u8; PIECE]) -> Got {
-    files::fill(fd, piece)
-}
-
-// Feeds the whole packets among the first n bytes of the piece.
-fn feed(
-    setting: Setting,
-    stamp: u32,
-    desk: Desk,
-    piece: &[u8; PIECE],
-    n: usize,
-    records: &mut [u8; RECORDS],
-    form: &mut [u8; FORM],
-    sheet: &mut [u8],
-    spare: &mut [u8],
-    known: &mut [u8],
-) -> Desk {
-    feed_packets(
-        setting,
-        stamp,
-        desk,
-        front(piece, n - n % PACKET),
-        records,
-        form,
-        sheet,
-        spare,
-        known,
-    )
-}
-
-// Feeds packets, and adds the tables that they finish, up to one that is refused.
-fn feed_packets(
-    setting: Setting,
-    stamp: u32,
-    desk: Desk,
-    packets: &[u8],
-    records: &mut [u8],
-    form: &mut [u8],
-    sheet: &mut [u8],
-    spare: &mut [u8],
-    known: &mut [u8],
-) -> Desk {
-    let mut desk = desk;
-    let mut at = 0;
-    while at < packets.len() {
-        let turn = feed_once(
-            setting,
-            stamp,
-            desk,
-            &packets[at..],
-            records,
-            form,
-            sheet,
-            spare,
-            known,
-        );
-        desk = turn.desk;
-        at = files::ahead(at, turn.taken, packets.len());
-    }
-    desk
-}
-
-// One call of the reader. It takes all packets of a piece, since the room for records is enough for them.
-fn feed_once(
-    setting: Setting,
-    stamp: u32,
-    desk: Desk,
-    packets: &[u8],
-    records: &mut [u8],
-    form: &mut [u8],
-    sheet: &mut [u8],
-    spare: &mut [u8],
-    known: &mut [u8],
-) -> Turn {
-    let reader = desk.reader;
-    let work = desk.work;
-    let fed = reader::feed_all(setting, reader, packets, records);
-    let reader = fed.reader;
-    let heard = fed.heard;
-    let finished = front(records, written(heard));
-    let added = Added { work, no: 0, at: 0 };
-    let added = add_records(
-        added,
-        stamp,
-        setting.application,
-        finished,
-        form,
-        sheet,
-        spare,
-        known,
-    );
-    let work = added.work;
-    let desk = Desk {
-        reader,
+        application,
         work,
-        no: added.no,
-        at: added.at,
-        on: true,
-    };
-    Turn {
-        taken: taken(desk.no, heard),
-        desk,
+        came,
+        records,
+        form,
+        sheet,
+        spare,
+        known,
+    );
+    let work = step.work;
+    Going {
+        capture,
+        work,
+        on: step.on,
     }
 }
 
-// How many bytes of records were written.
-fn written(heard: HeardAll) -> usize {
-    match heard {
-        HeardAll::TookAll {
-            packets: _,
-            blocks: _,
-            written,
-            dropped: _,
-        } => written,
-        HeardAll::RefusedAll(_) => 0,
-    }
-}
-
-// How many bytes of packets were taken; none where a table was refused, so that no more are.
-fn taken(no: u8, heard: HeardAll) -> usize {
-    if no > 0 {
-        return 0;
-    }
-    match heard {
-        HeardAll::TookAll {
-            packets,
-            blocks: _,
-            written: _,
-            dropped: _,
-        } => {
-            if packets > PIECE {
-                return 0;
-            }
-            PACKET * packets
+// What came of the capture. Whatever fails is told, and ends it.
+fn heed(
+    name: &[u8],
+    stamp: u32,
+    application: u8,
+    work: Work,
+    came: Came,
+    records: &[u8; RECORDS],
+    form: &mut [u8; FORM],
+    sheet: &mut [u8],
+    spare: &mut [u8],
+    known: &mut [u8],
+) -> Step {
+    match came {
+        Came::Records(n) => {
+            let finished = told::front(records, n);
+            let added = Added { work, no: 0, at: 0 };
+            let added = add_records(
+                added,
+                stamp,
+                application,
+                finished,
+                form,
+                sheet,
+                spare,
+                known,
+            );
+            judge(name, added)
         }
-        HeardAll::RefusedAll(_) => 0,
+        Came::Ended(_) => Step { work, on: false },
+        Came::Unread => {
+            says::fail(name, b"it can't be read, and the sheet stays as it was");
+            stop(work)
+        }
+        Came::Stuck => {
+            says::stuck(name);
+            stop(work)
+        }
+    }
+}
+
+// It goes on where no table was refused.
+fn judge(name: &[u8], added: Added) -> Step {
+    let work = added.work;
+    if added.no > 0 {
+        says::refuse_table(name, added.no, added.at);
+        return stop(work);
+    }
+    Step { work, on: true }
+}
+
+fn stop(work: Work) -> Step {
+    Step {
+        work: work::broken(work),
+        on: false,
     }
 }
 
@@ -385,7 +281,14 @@ fn add_record(
     let answer = table::read_block(application, record, form);
     match answer {
         Read::Taken { written, mended: _ } => {
-            add_form(added, stamp, front(form, written), sheet, spare, known)
+            add_form(
+                added,
+                stamp,
+                told::front(form, written),
+                sheet,
+                spare,
+                known,
+            )
         }
         Read::Refused(_) => added,
     }
@@ -422,7 +325,7 @@ fn add_other(
     spare: &mut [u8],
     known: &mut [u8],
 ) -> Added {
-    let answer = day_sheet::add(stamp, front(sheet, work.length), form, spare);
+    let answer = day_sheet::add(stamp, told::front(sheet, work.length), form, spare);
     match answer {
         Answer::Done(n) => done(settle(work, stamp, form, n, sheet, spare, known)),
         Answer::Refused(r) => Added {
@@ -443,21 +346,21 @@ fn settle(
     spare: &mut [u8],
     known: &mut [u8],
 ) -> Work {
-    if texts::same(front(spare, n), front(sheet, work.length)) {
-        let is_same = is_there(stamp, form, front(sheet, work.length), spare);
+    if texts::same(told::front(spare, n), told::front(sheet, work.length)) {
+        let is_same = is_there(stamp, form, told::front(sheet, work.length), spare);
         let work = keep(work, form, is_same, known);
         return work::stays(work, is_same);
     }
     lent_bytes::copy(spare, 0, n, sheet, 0);
-    let work = work::changed(work, n, texts::entries(front(spare, n)) as u64);
+    let work = work::changed(work, n, texts::entries(told::front(spare, n)) as u64);
     keep(work, form, true, known)
 }
 
 // Whether the table's entry stands in the sheet: its text is that of a sheet with no other.
 fn is_there(stamp: u32, form: &[u8], sheet: &[u8], spare: &mut [u8]) -> bool {
-    let answer = day_sheet::add(stamp, front(sheet, 0), form, spare);
+    let answer = day_sheet::add(stamp, told::front(sheet, 0), form, spare);
     match answer {
-        Answer::Done(n) => texts::holds(sheet, front(spare, n)),
+        Answer::Done(n) => texts::holds(sheet, told::front(spare, n)),
         Answer::Refused(_) => false,
     }
 }

@@ -1,65 +1,15 @@
 // The sheet's files: one is read and judged, another joined to it, and the new one put in its place.
-use crate::argument;
-use crate::front;
 use crate::says;
 use crate::work;
 use crate::work::Work;
 use answer::Answer;
-ghost use Prim.Native.Nat.{_≤_, _<_};
-ghost use lib.ListN.{length};
+use captures::Got;
 
 // One more than the most that a sheet has, so that a longer one is seen.
 pub const SHEET: usize = 16385;
 
 // Who may read the new sheet, and who may change it: a temporary file is its owner's alone.
 const MODE: u32 = 0o644;
-
-// What was read: so many bytes, fewer than asked for only where the input ended.
-pub enum Got {
-    Bytes(usize),
-    Failed,
-}
-
-// Reads until the slice is full, the input ends or a read fails.
-pub fn fill(fd: i32, slice: &mut [u8]) -> Got {
-    let mut n = 0;
-    while n < slice.len() {
-        let got = read_at(fd, slice, n);
-        let Got::Bytes(more) = got else {
-            return Got::Failed;
-        };
-        if more == 0 {
-            return Got::Bytes(n);
-        }
-        n = ahead(n, more, slice.len());
-    }
-    Got::Bytes(n)
-}
-
-// One read into the slice from a place on.
-fn read_at(fd: i32, slice: &mut [u8], n: usize) -> Got
-    requires { ⌜ n ≤ length (now slice) ⌝ }
-{
-    let got = libc::read(fd, &mut slice[n..]);
-    if got < 0 {
-        return Got::Failed;
-    }
-    Got::Bytes(io::count(got, &slice[n..]))
-}
-
-// The place so many bytes further on, or the end where that is nearer or the bytes are none.
-pub fn ahead(at: usize, more: usize, end: usize) -> usize
-    requires { ⌜ at < end ⌝ }
-    ensures { λ r. ⌜ (at < r) × (r ≤ end) ⌝ }
-{
-    if more == 0 {
-        return end;
-    }
-    if end - at <= more {
-        return end;
-    }
-    at + more
-}
 
 // Opens the sheet and judges it. Where tables are added, a missing one is empty.
 pub fn open_sheet(
@@ -70,19 +20,22 @@ pub fn open_sheet(
     sheet: &mut [u8],
     spare: &mut [u8],
 ) -> Work {
-    let fd = os::open_read(front(word, n));
+    let fd = os::open_read(told::front(word, n));
     let is_missing = is_none(fd);
-    wanted::plain(word);
+    told::plain(word);
     if fd < 0 {
         if is_add {
             if is_missing {
                 return work;
             }
         }
-        says::fail(front(word, n), b"it can't be opened, and stays as it was");
+        says::fail(
+            told::front(word, n),
+            b"it can't be opened, and stays as it was",
+        );
         return work::broken(work);
     }
-    let work = read_sheet(fd, front(word, n), work, sheet, spare);
+    let work = read_sheet(fd, told::front(word, n), work, sheet, spare);
     libc::close(fd);
     work
 }
@@ -97,7 +50,7 @@ fn is_none(fd: i32) -> bool {
 
 // Reads the sheet and judges it. A device or a pipe can't be synced: what is no plain file is not replaced.
 fn read_sheet(fd: i32, name: &[u8], work: Work, sheet: &mut [u8], spare: &mut [u8]) -> Work {
-    let got = fill(fd, sheet);
+    let got = captures::fill(fd, sheet);
     let Got::Bytes(n) = got else {
         says::fail(name, b"it can't be read, and stays as it was");
         return work::broken(work);
@@ -106,10 +59,10 @@ fn read_sheet(fd: i32, name: &[u8], work: Work, sheet: &mut [u8], spare: &mut [u
         says::fail(name, b"it is no plain file, and stays as it was");
         return work::broken(work);
     }
-    if !judge(name, front(sheet, n), spare) {
+    if !judge(name, told::front(sheet, n), spare) {
         return work::broken(work);
     }
-    work::resized(work, n, texts::entries(front(sheet, n)) as u64)
+    work::resized(work, n, texts::entries(told::front(sheet, n)) as u64)
 }
 
 // Whether the sheet is in form, in order and within its limits; what it isn't is told.
@@ -135,16 +88,16 @@ pub fn open_other(
     if !work.sound {
         return work;
     }
-    let fd = os::open_read(front(word, n));
-    wanted::plain(word);
+    let fd = os::open_read(told::front(word, n));
+    told::plain(word);
     if fd < 0 {
         says::fail(
-            front(word, n),
+            told::front(word, n),
             b"it can't be opened, and the first sheet stays as it was",
         );
         return work::broken(work);
     }
-    let work = read_other(fd, front(word, n), work, sheet, spare);
+    let work = read_other(fd, told::front(word, n), work, sheet, spare);
     libc::close(fd);
     work
 }
@@ -171,7 +124,7 @@ fn join_read(
     sheet: &mut [u8],
     spare: &mut [u8],
 ) -> Work {
-    let other = front(other, n);
+    let other = told::front(other, n);
     if !judge(name, other, spare) {
         return work::broken(work);
     }
@@ -179,15 +132,15 @@ fn join_read(
 }
 
 fn fill_sheet(fd: i32, sheet: &mut [u8; SHEET]) -> Got {
-    fill(fd, sheet)
+    captures::fill(fd, sheet)
 }
 
 fn join(name: &[u8], other: &[u8], work: Work, sheet: &mut [u8], spare: &mut [u8]) -> Work {
-    let answer = day_sheet::join(front(sheet, work.length), other, spare);
+    let answer = day_sheet::join(told::front(sheet, work.length), other, spare);
     match answer {
         Answer::Done(n) => {
             lent_bytes::copy(spare, 0, n, sheet, 0);
-            work::resized(work, n, texts::entries(front(spare, n)) as u64)
+            work::resized(work, n, texts::entries(told::front(spare, n)) as u64)
         }
         Answer::Refused(r) => {
             says::refuse_other(name, r.no, r.at);
@@ -198,13 +151,13 @@ fn join(name: &[u8], other: &[u8], work: Work, sheet: &mut [u8], spare: &mut [u8
 
 // Looks at the sheet of a name, and prints its line. Answers whether standard output took it.
 pub fn check(word: &mut [u8; 4096], n: usize) -> bool {
-    let fd = os::open_read(front(word, n));
-    wanted::plain(word);
+    let fd = os::open_read(told::front(word, n));
+    told::plain(word);
     if fd < 0 {
-        says::fail(front(word, n), b"it can't be opened");
+        says::fail(told::front(word, n), b"it can't be opened");
         return true;
     }
-    let is_sound = check_read(fd, front(word, n));
+    let is_sound = check_read(fd, told::front(word, n));
     libc::close(fd);
     is_sound
 }
@@ -221,7 +174,7 @@ fn check_read(fd: i32, name: &[u8]) -> bool {
 }
 
 fn check_bytes(name: &[u8], sheet: &[u8; SHEET], n: usize, spare: &mut [u8; SHEET]) -> bool {
-    let sheet = front(sheet, n);
+    let sheet = told::front(sheet, n);
     if !judge(name, sheet, spare) {
         return true;
     }
@@ -232,16 +185,16 @@ fn check_bytes(name: &[u8], sheet: &[u8; SHEET], n: usize, spare: &mut [u8; SHEE
 // it isn't taken the old sheet stays.
 pub fn replace(i: usize, work: Work, sheet: &[u8]) {
     let mut name = io::buffer();
-    let n = argument(i, &mut name);
-    let mut told = io::buffer();
-    let m = argument(i, &mut told);
-    wanted::plain(&mut told);
+    let n = told::argument(i, &mut name);
+    let mut shown = io::buffer();
+    let m = told::argument(i, &mut shown);
+    told::plain(&mut shown);
     let mut temp = io::buffer();
-    let long = name_temp(front(&name, n), &mut temp);
+    let long = name_temp(told::front(&name, n), &mut temp);
     let fd = create(&mut temp, long);
     if fd < 0 {
         says::fail(
-            front(&told, m),
+            told::front(&shown, m),
             b"no file can be made beside it, and it stays as it was",
         );
         return;
@@ -250,14 +203,17 @@ pub fn replace(i: usize, work: Work, sheet: &[u8]) {
         fd,
         work,
         sheet,
-        front(&name, n),
-        front(&told, m),
-        front(&temp, long),
+        told::front(&name, n),
+        told::front(&shown, m),
+        told::front(&temp, long),
     ) {
         return;
     }
-    if os::unlink(front(&temp, long)) < 0 {
-        says::fail(front(&told, m), b"a temporary file is left beside it");
+    if os::unlink(told::front(&temp, long)) < 0 {
+        says::fail(
+            told::front(&shown, m),
+            b"a temporary file is left beside it",
+        );
     }
 }
 
@@ -277,8 +233,8 @@ fn create(temp: &mut [u8], n: usize) -> i32 {
 }
 
 // Writes the temporary file, says what was done, and renames the file over the old one. Answers whether all that was done.
-fn is_renamed(fd: i32, work: Work, sheet: &[u8], name: &[u8], told: &[u8], temp: &[u8]) -> bool {
-    if !is_written(fd, told, sheet) {
+fn is_renamed(fd: i32, work: Work, sheet: &[u8], name: &[u8], shown: &[u8], temp: &[u8]) -> bool {
+    if !is_written(fd, shown, sheet) {
         return false;
     }
     if !says::put_work(work) {
@@ -286,7 +242,7 @@ fn is_renamed(fd: i32, work: Work, sheet: &[u8], name: &[u8], told: &[u8], temp:
     }
     if os::rename(temp, name) < 0 {
         says::fail(
-            told,
+            shown,
             b"the new sheet can't take its place, and it stays as it was",
         );
         return false;
@@ -294,10 +250,10 @@ fn is_renamed(fd: i32, work: Work, sheet: &[u8], name: &[u8], told: &[u8], temp:
     true
 }
 
-fn is_written(fd: i32, told: &[u8], sheet: &[u8]) -> bool {
+fn is_written(fd: i32, shown: &[u8], sheet: &[u8]) -> bool {
     if !is_synced(fd, sheet) {
         says::fail(
-            told,
+            shown,
             b"the new sheet can't be written, and it stays as it was",
         );
         libc::close(fd);
@@ -305,7 +261,7 @@ fn is_written(fd: i32, told: &[u8], sheet: &[u8]) -> bool {
     }
     if libc::close(fd) < 0 {
         says::fail(
-            told,
+            shown,
             b"the new sheet can't be written, and it stays as it was",
         );
         return false;

@@ -1,5 +1,5 @@
 // The day sheet, a file with an entry for each table: captures' tables are added to it, other sheets are joined to it, or it is looked
-// at (SCOPE 20.11). What it says is settled by the rooms `day_sheet` and `orders`; here are its files.
+// at (SCOPE 20.11). What it says is settled by the rooms `day_sheet` and `words`; here are its files.
 //
 // The file is replaced whole or not at all: the new sheet goes to a temporary file beside it, which is written, synced and renamed over
 // it. Whatever fails before that leaves the file as it was.
@@ -8,112 +8,130 @@
 // are judged, then the files are opened.
 mod capture;
 mod files;
+mod help;
 mod known;
 mod says;
 mod work;
 
 use files::SHEET;
 use known::KNOWN;
-use orders::Orders;
-use orders::Role;
-use orders::Stamp;
-use orders::Task;
 use packet::Setting;
+use words::Said;
+use words::numbers::MOST;
+use words::numbers::NO_NUMBER;
 use work::Work;
+
+// The options, five numbers each: letter, form, least, greatest and usual value (words::options).
+const OPTIONS: [u32; 20] = [
+    109, // m, the magazine
+    1,
+    1,
+    8,
+    1,
+    112, // p, the page: two hex digits
+    2,
+    0,
+    255,
+    0xDF,
+    115, // s, the stream
+    1,
+    0,
+    15,
+    1,
+    97, // a, the application
+    1,
+    0,
+    31,
+    1,
+];
+
+// The tasks (SCOPE 20.12, 20.13). A name is `f` the sheet, `s` a stamp, `c` a capture or `o` another sheet.
+const TASKS: [u8; 34] = *b"add mpsa f+sc\njoin  f+o\ncheck  +f\n";
 
 // Where the second hearing stands: the words so far, the last stamp, which word names the sheet, and what was done.
 struct Heard {
-    orders: Orders,
+    said: Said,
     stamp: u32,
     named: usize,
     work: Work,
 }
 
 fn main() {
-    let orders = hear_all();
-    if !orders::is_good(orders) {
+    if help::is_asked() {
+        return;
+    }
+    let said = hear_all();
+    if !words::is_good(&TASKS, said) {
         if !tell_stamp() {
             says::usage();
         }
         return;
     }
-    let task = orders.task;
-    let words = orders.words;
-    let setting = words.setting;
-    match task {
-        Task::Unsaid => says::usage(),
-        Task::Add => change(setting, true),
-        Task::Join => change(setting, false),
-        Task::Check => check_all(),
-        Task::Bad => says::usage(),
+    if words::is_task(&TASKS, said, b"check") {
+        check_all();
+        return;
     }
+    change(setting_of(said), words::is_task(&TASKS, said, b"add"));
 }
 
-fn hear_all() -> Orders {
+fn hear_all() -> Said {
     let count = os::arg_count();
-    let mut orders = orders::start();
+    let mut said = words::start(&TASKS);
     let mut i = 1;
     while i < count {
-        orders = hear(orders, i);
+        said = hear(said, i);
         i += 1;
     }
-    orders
+    said
 }
 
-fn hear(orders: Orders, i: usize) -> Orders {
+fn hear(said: Said, i: usize) -> Said {
     let mut word = io::buffer();
-    let n = argument(i, &mut word);
-    orders::next(orders, front(&word, n))
+    let n = told::argument(i, &mut word);
+    words::next(&OPTIONS, &TASKS, said, told::front(&word, n))
 }
 
-// Puts an argument at the start of a buffer. One that is too long for it is its first bytes, which no option is, no stamp and no
-// file's name.
-fn argument(i: usize, word: &mut [u8]) -> usize {
-    let n = os::arg(i, word);
-    if os::errno() == libc::ENAMETOOLONG {
-        return word.len();
+fn setting_of(said: Said) -> Setting {
+    Setting {
+        magazine: value(said, 0),
+        page: value(said, 1),
+        stream: value(said, 2),
+        application: value(said, 3),
     }
-    n
+}
+
+// The value of an option, none of which is more than 255.
+fn value(said: Said, k: usize) -> u8 {
+    (words::value(&OPTIONS, said, k) % 256) as u8
 }
 
 // Tells of the first word that has to be a stamp and isn't. Answers whether there is one.
 fn tell_stamp() -> bool {
     let count = os::arg_count();
-    let mut orders = orders::start();
+    let mut said = words::start(&TASKS);
     let mut i = 1;
     while i < count {
-        if is_bad_stamp(orders, i) {
+        if is_bad_stamp(said, i) {
             return true;
         }
-        orders = hear(orders, i);
+        said = hear(said, i);
         i += 1;
     }
     false
 }
 
-fn is_bad_stamp(orders: Orders, i: usize) -> bool {
+fn is_bad_stamp(said: Said, i: usize) -> bool {
     let mut word = io::buffer();
-    let n = argument(i, &mut word);
-    let role = orders::role(orders, front(&word, n));
-    match role {
-        Role::Sheet => false,
-        Role::Stamp => tell_if_bad(&mut word, n),
-        Role::Capture => false,
-        Role::Other => false,
-        Role::Nothing => false,
+    let n = told::argument(i, &mut word);
+    if words::place(&TASKS, said, told::front(&word, n)) != b's' {
+        return false;
     }
-}
-
-fn tell_if_bad(word: &mut [u8; 4096], n: usize) -> bool {
-    let stamp = orders::stamp_of(front(word, n));
-    match stamp {
-        Stamp::At(_) => false,
-        Stamp::Bad => {
-            wanted::plain(word);
-            says::bad_stamp(front(word, n));
-            true
-        }
+    if words::number_of(told::front(&word, n)) <= MOST {
+        return false;
     }
+    told::plain(&mut word);
+    says::bad_stamp(told::front(&word, n));
+    true
 }
 
 // Adds captures to a sheet, or joins sheets to it: all of them, or none.
@@ -123,7 +141,7 @@ fn change(setting: Setting, is_add: bool) {
     let mut known = [0u8; KNOWN];
     let count = os::arg_count();
     let mut heard = Heard {
-        orders: orders::start(),
+        said: words::start(&TASKS),
         stamp: 0,
         named: 0,
         work: work::none(),
@@ -156,84 +174,68 @@ fn visit(
     known: &mut [u8; KNOWN],
 ) -> Heard {
     let mut word = io::buffer();
-    let n = argument(i, &mut word);
-    let before = heard.orders;
+    let n = told::argument(i, &mut word);
+    let before = heard.said;
     let work = heard.work;
-    let role = orders::role(before, front(&word, n));
+    let letter = words::place(&TASKS, before, told::front(&word, n));
     let mut heard = heard;
-    heard.orders = orders::next(before, front(&word, n));
-    match role {
-        Role::Sheet => {
+    heard.said = words::next(&OPTIONS, &TASKS, before, told::front(&word, n));
+    match letter {
+        b'f' => {
             heard.named = i;
             heard.work = files::open_sheet(&mut word, n, is_add, work, sheet, spare);
             heard
         }
-        Role::Stamp => {
-            heard.stamp = stamp_said(front(&word, n));
+        b's' => {
+            heard.stamp = stamp_of(told::front(&word, n));
             heard
         }
-        Role::Capture => {
+        b'c' => {
             let stamp = heard.stamp;
             heard.work = capture::open(&mut word, n, stamp, setting, work, sheet, spare, known);
             heard
         }
-        Role::Other => {
+        b'o' => {
             heard.work = files::open_other(&mut word, n, work, sheet, spare);
             heard
         }
-        Role::Nothing => heard,
+        _ => heard,
     }
 }
 
 // The stamp that a word says; the words were judged before.
-fn stamp_said(word: &[u8]) -> u32 {
-    let stamp = orders::stamp_of(word);
-    match stamp {
-        Stamp::At(second) => second,
-        Stamp::Bad => 0,
-    }
+fn stamp_of(word: &[u8]) -> u32 {
+    (words::number_of(word) % NO_NUMBER) as u32
 }
 
 // Puts the new sheet in the place of the old one, unless something failed.
 fn finish(named: usize, work: Work, sheet: &[u8; SHEET]) {
     if work.sound {
-        files::replace(named, work, front(sheet, work.length));
+        files::replace(named, work, told::front(sheet, work.length));
     }
 }
 
 // Looks at each sheet that is named, and goes on after one that is refused.
 fn check_all() {
     let count = os::arg_count();
-    let mut orders = orders::start();
+    let mut said = words::start(&TASKS);
     let mut is_sound = true;
     let mut i = 1;
     while i < count {
         if is_sound {
-            is_sound = check(orders, i);
+            is_sound = check(said, i);
         }
-        orders = hear(orders, i);
+        said = hear(said, i);
         i += 1;
     }
 }
 
 // Answers whether standard output still takes what is written.
-fn check(orders: Orders, i: usize) -> bool {
+fn check(said: Said, i: usize) -> bool {
     let mut word = io::buffer();
-    let n = argument(i, &mut word);
-    let role = orders::role(orders, front(&word, n));
-    match role {
-        Role::Sheet => files::check(&mut word, n),
-        Role::Stamp => true,
-        Role::Capture => true,
-        Role::Other => true,
-        Role::Nothing => true,
+    let n = told::argument(i, &mut word);
+    if words::place(&TASKS, said, told::front(&word, n)) == b'f' {
+        return files::check(&mut word, n);
     }
-}
-
-// The first n bytes; nothing where there are fewer.
-fn front(s: &[u8], n: usize) -> &[u8] {
-    if s.len() < n {
-        return &s[0..0];
-    }
-    &s[0..n]
+    true
 }

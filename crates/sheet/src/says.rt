@@ -1,9 +1,10 @@
 // What the sheet writes and says. A line to standard output goes out in one piece, and is looked at. A line on standard error tells of a
 // failure and begins `sheet: `.
-use crate::front;
+use crate::help::PROGRAM;
 use crate::work::Work;
-use libc::STDERR_FILENO;
 use libc::STDOUT_FILENO;
+use told::say;
+use told::say_number;
 
 // More than the longest name and the counts behind it.
 const LINE: usize = 4608;
@@ -17,7 +18,7 @@ pub fn usage() {
 
 // A word that has to be a stamp and isn't.
 pub fn bad_stamp(word: &[u8]) {
-    say(b"sheet: ");
+    told::begin(&PROGRAM);
     say(word);
     say(
         b": it is no stamp, and the sheet stays as it was: a stamp is 0, or digits without a leading zero, up to 4294967295\n",
@@ -26,10 +27,17 @@ pub fn bad_stamp(word: &[u8]) {
 
 // Tells of a call that failed on what is named, and what follows from it.
 pub fn fail(name: &[u8], what: &[u8]) {
-    say(b"sheet: ");
+    told::begin(&PROGRAM);
     say(name);
     say(b": ");
     os::fail(what);
+}
+
+// A capture that the reader doesn't go on with, which never comes.
+pub fn stuck(name: &[u8]) {
+    told::begin(&PROGRAM);
+    say(name);
+    say(b": the reader took nothing, and the sheet stays as it was\n");
 }
 
 // A sheet that was refused by itself.
@@ -51,7 +59,7 @@ pub fn refuse_other(name: &[u8], no: u8, at: usize) {
 }
 
 fn refuse(name: &[u8], no: u8, at: usize) {
-    say(b"sheet: ");
+    told::begin(&PROGRAM);
     say(name);
     say(b": refused with number ");
     say_number(no as u64);
@@ -73,15 +81,6 @@ fn say_cause(no: u8) {
         return;
     }
     say(b"; the sheet stays as it was");
-}
-
-// Says a part of a line on standard error. Where that isn't taken, there is nobody to tell.
-fn say(text: &[u8]) {
-    io::write_all(STDERR_FILENO, text);
-}
-
-fn say_number(number: u64) {
-    io::print_decimal(STDERR_FILENO, number);
 }
 
 // The line of what was done. Answers whether standard output took it.
@@ -143,11 +142,7 @@ pub fn plus(a: usize, b: usize) -> usize {
 }
 
 fn put_line(line: &[u8; LINE], n: usize) -> bool {
-    put(front(line, n))
-}
-
-fn put(bytes: &[u8]) -> bool {
-    if io::write_all(STDOUT_FILENO, bytes) {
+    if io::write_all(STDOUT_FILENO, told::front(line, n)) {
         return true;
     }
     fail(

@@ -9,6 +9,9 @@ ghost use mathlib.Core.Path.{_≡_};
 ghost use Rattle.io.specs.Counts.{Counts};
 ghost use Rattle.told.specs.Fronts.{frontOf};
 
+// The version of every program.
+pub const VERSION: [u8; 5] = *b"0.9.0";
+
 // The first n bytes; nothing where there are fewer.
 pub fn front(s: &[u8], n: usize) -> &[u8]
     ensures { λ r. ⌜ now r ≡ frontOf n (now (s .entry)) ⌝ }
@@ -35,6 +38,13 @@ pub fn argument(i: usize, word: &mut [u8]) -> usize
 pub fn tell(program: &[u8], name: &[u8]) {
     begin(program);
     os::fail(name);
+}
+
+// Tells that the reader took nothing of a capture, which never comes (captures::Came).
+pub fn tell_stuck(program: &[u8], name: &[u8]) {
+    begin(program);
+    say(name);
+    say(b": the reader took nothing; nothing more is read\n");
 }
 
 // Begins a line on standard error that tells of a failure.
@@ -82,4 +92,29 @@ pub fn put_count(program: &[u8], name: &[u8], count: u64) -> bool {
     let mut text = [0u8; 20];
     let n = io::decimal(count, &mut text);
     put(program, &text[..n])
+}
+
+// The line above what is written of a file.
+pub fn put_title(program: &[u8], name: &[u8]) -> bool {
+    if !put(program, b"file=") {
+        return false;
+    }
+    if !put(program, name) {
+        return false;
+    }
+    put(program, b"\n")
+}
+
+// The line that `--version` asks for.
+pub fn put_version(program: &[u8]) -> bool {
+    if !put(program, program) {
+        return false;
+    }
+    if !put(program, b" ") {
+        return false;
+    }
+    if !put(program, &VERSION) {
+        return false;
+    }
+    put(program, b"\n")
 }

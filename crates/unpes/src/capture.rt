@@ -1,9 +1,7 @@
 // One capture: its bytes are read in large pieces, and what its PES packets carry goes out. Counts and places that a
 // room hands back are held against the space that they count in, so that no proof here has to know the room's
 // definitions; one that doesn't fit never comes.
-use crate::front;
-use libc::STDERR_FILENO;
-use libc::STDOUT_FILENO;
+use crate::help::PROGRAM;
 use pes::HEAD;
 use pes::Start;
 use stripped::Stripped;
@@ -122,7 +120,7 @@ fn refill(fd: i32, name: &[u8], held: Held, space: &mut [u8; SPACE]) -> Held {
             passing: held.passing,
         },
         Got::Failed(end) => {
-            tell(name);
+            told::tell(&PROGRAM, name);
             Held {
                 at: 0,
                 end,
@@ -220,7 +218,7 @@ fn packet(
         let tally = lose(tally, packets);
         return end(held, left(tally, bytes.len()));
     }
-    let tally = strip_on(tally, front(bytes, size), packets, seen);
+    let tally = strip_on(tally, told::front(bytes, size), packets, seen);
     Turn {
         held: onward(held, size, false),
         on: tally.sound,
@@ -251,7 +249,7 @@ fn strip_on(tally: Tally, pes: &[u8], packets: &mut [u8; LONGEST], seen: &mut [u
             refused: tally.refused,
             left: tally.left,
             begun: true,
-            sound: put(tally.sound, front(packets, n)),
+            sound: send(tally.sound, told::front(packets, n)),
         },
         Stripped::Lost(r) => refuse(tally, r.no, packets, seen),
         Stripped::Refused(r) => refuse(tally, r.no, packets, seen),
@@ -347,7 +345,7 @@ fn lose(tally: Tally, packets: &mut [u8; LONGEST]) -> Tally {
         refused: tally.refused,
         left: tally.left,
         begun: true,
-        sound: put(tally.sound, front(packets, PACKET)),
+        sound: send(tally.sound, told::front(packets, PACKET)),
     }
 }
 
@@ -371,48 +369,31 @@ fn plus(a: u64, b: u64) -> u64 {
 
 // Writes to standard output where it took all so far, and answers whether it still did. A failure is told, and nothing
 // goes out after it, though a later write might succeed: what is missing between the two is what nobody could see.
-fn put(is_sound: bool, bytes: &[u8]) -> bool {
+fn send(is_sound: bool, bytes: &[u8]) -> bool {
     if !is_sound {
         return false;
     }
-    if io::write_all(STDOUT_FILENO, bytes) {
-        return true;
-    }
-    tell(b"standard output");
-    false
+    told::put(&PROGRAM, bytes)
 }
 
-// Tells of a call that failed on what is named.
-pub fn tell(name: &[u8]) {
-    io::write_all(STDERR_FILENO, b"unpes: ");
-    os::fail(name);
-}
-
-// Writes the last line. A part that isn't taken ends it.
-pub fn say(tally: Tally, seen: &[u8; 17]) -> bool {
-    if !say_count(b"read=", tally.read) {
+// Says the last line. A part that isn't taken ends it.
+pub fn sum_up(tally: Tally, seen: &[u8; 17]) -> bool {
+    if !told::say_count(b"read=", tally.read) {
         return false;
     }
-    if !say_count(b" refused=", tally.refused) {
+    if !told::say_count(b" refused=", tally.refused) {
         return false;
     }
-    if !io::write_all(STDERR_FILENO, b" numbers=") {
+    if !told::say(b" numbers=") {
         return false;
     }
     if !say_numbers(seen) {
         return false;
     }
-    if !say_count(b" left=", tally.left) {
+    if !told::say_count(b" left=", tally.left) {
         return false;
     }
-    io::write_all(STDERR_FILENO, b"\n")
-}
-
-fn say_count(name: &[u8], count: u64) -> bool {
-    if !io::write_all(STDERR_FILENO, name) {
-        return false;
-    }
-    io::print_decimal(STDERR_FILENO, count)
+    told::say(b"\n")
 }
 
 // The numbers that are marked, with commas between.
@@ -433,7 +414,7 @@ fn say_numbers(seen: &[u8]) -> bool {
 
 fn say_number(number: u64, is_first: bool) -> bool {
     if is_first {
-        return io::print_decimal(STDERR_FILENO, number);
+        return told::say_number(number);
     }
-    say_count(b",", number)
+    told::say_count(b",", number)
 }

@@ -9,76 +9,62 @@
 // A line on standard error that tells of a failure begins `unpes: `. Once standard output has failed, nothing more goes
 // out: a packet that is missing in the middle is what nobody could see.
 mod capture;
+mod help;
 
 use capture::Tally;
-use libc::STDERR_FILENO;
 use libc::STDIN_FILENO;
-use wanted::Stage;
-use wanted::Words;
+use words::Said;
+
+// What the program can be told: no options, and any number of files.
+const OPTIONS: [u32; 0] = [];
+
+const ROWS: [u8; 5] = *b"  *f\n";
 
 // Where the second hearing stands: the words so far, whether one of them was a name, and the counts.
 struct Heard {
-    words: Words,
+    said: Said,
     named: bool,
     tally: Tally,
 }
 
 fn main() {
-    let words = hear_all();
-    if !wanted::is_good(words) {
-        io::write_all(STDERR_FILENO, b"unpes: usage: unpes [--] [FILE ...]\n");
+    if help::is_asked() {
+        return;
+    }
+    if !words::is_good(&ROWS, hear_all()) {
+        told::begin(&help::PROGRAM);
+        told::say(&help::USAGE);
         return;
     }
     let mut seen = [0u8; 17];
     let tally = unpack_all(&mut seen);
     if tally.sound {
-        capture::say(tally, &seen);
+        capture::sum_up(tally, &seen);
     }
 }
 
-// No option is taken, so the words begin where names do.
-fn start() -> Words {
-    let words = wanted::start();
-    let setting = words.setting;
-    Words {
-        setting,
-        verbose: false,
-        stage: Stage::Names,
-    }
-}
-
-fn hear_all() -> Words {
+fn hear_all() -> Said {
     let count = os::arg_count();
-    let mut words = start();
+    let mut said = words::start(&ROWS);
     let mut i = 1;
     while i < count {
-        words = hear(words, i);
+        said = hear(said, i);
         i += 1;
     }
-    words
+    said
 }
 
-fn hear(words: Words, i: usize) -> Words {
+fn hear(said: Said, i: usize) -> Said {
     let mut word = io::buffer();
-    let n = argument(i, &mut word);
-    wanted::next(words, front(&word, n))
-}
-
-// Puts an argument at the start of a buffer. One that is too long for it is its first bytes, which no
-// file's name is.
-fn argument(i: usize, word: &mut [u8]) -> usize {
-    let n = os::arg(i, word);
-    if os::errno() == libc::ENAMETOOLONG {
-        return word.len();
-    }
-    n
+    let n = told::argument(i, &mut word);
+    words::next(&OPTIONS, &ROWS, said, told::front(&word, n))
 }
 
 // Goes through each file that is named, or standard input where none is.
 fn unpack_all(seen: &mut [u8; 17]) -> Tally {
     let count = os::arg_count();
     let mut heard = Heard {
-        words: start(),
+        said: words::start(&ROWS),
         named: false,
         tally: capture::none(),
     };
@@ -97,20 +83,20 @@ fn unpack_all(seen: &mut [u8; 17]) -> Tally {
 // Hears a word again, and goes through the file where it is a name.
 fn visit(heard: Heard, i: usize, seen: &mut [u8; 17]) -> Heard {
     let mut word = io::buffer();
-    let n = argument(i, &mut word);
-    let before = heard.words;
+    let n = told::argument(i, &mut word);
+    let before = heard.said;
     let tally = heard.tally;
-    let words = wanted::next(before, front(&word, n));
-    if !wanted::is_name(before, front(&word, n)) {
+    let said = words::next(&OPTIONS, &ROWS, before, told::front(&word, n));
+    if words::place(&ROWS, before, told::front(&word, n)) == 0 {
         return Heard {
-            words,
+            said,
             named: heard.named,
             tally,
         };
     }
     let tally = unpack_file(&mut word, n, tally, seen);
     Heard {
-        words,
+        said,
         named: true,
         tally,
     }
@@ -121,21 +107,13 @@ fn unpack_file(word: &mut [u8; 4096], n: usize, tally: Tally, seen: &mut [u8; 17
     if !tally.sound {
         return tally;
     }
-    let fd = os::open_read(front(word, n));
-    wanted::plain(word);
+    let fd = os::open_read(told::front(word, n));
+    told::plain(word);
     if fd < 0 {
-        capture::tell(front(word, n));
+        told::tell(&help::PROGRAM, told::front(word, n));
         return tally;
     }
-    let tally = capture::unpack(fd, front(word, n), tally, seen);
+    let tally = capture::unpack(fd, told::front(word, n), tally, seen);
     libc::close(fd);
     tally
-}
-
-// The first n bytes; nothing where there are fewer.
-fn front(s: &[u8], n: usize) -> &[u8] {
-    if s.len() < n {
-        return &s[0..0];
-    }
-    &s[0..n]
 }

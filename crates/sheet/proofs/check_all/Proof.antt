@@ -1,17 +1,20 @@
 -- `sheet::check_all` is safe and ends: it counts the words. Assumes nothing.
-use Prim.Native.Nat.{_-_}
 use borrow.Author.Needs.{needs}
+use Prim.Native.Nat.{_-_}
 use Rattle.sheet.proofs.check_all.Statement.{statement}
 use Rattle.sheet.proofs.check_all.Tie as tie
 
 abbrev Inv-loop : tie.InvT-loop
-Inv-loop count orders₀ is-sound₀ i₀ orders is-sound i = Unit {0}
+Inv-loop count said₀ is-sound₀ i₀ said is-sound i = Unit {0}
 
 abbrev μ-loop : tie.MeasureT-loop
-μ-loop count orders₀ is-sound₀ i₀ orders is-sound i = count - i
+μ-loop count said₀ is-sound₀ i₀ said is-sound i = count - i
 
 arg-count-requires : tie.Need-arg-count-requires Inv-loop μ-loop
 arg-count-requires c κs = search needs
+
+slice-aggregate-start : tie.Need-slice-aggregate-start Inv-loop μ-loop
+slice-aggregate-start c = search needs
 
 start-requires : tie.Need-start-requires Inv-loop μ-loop
 start-requires c κs = search needs
@@ -44,6 +47,7 @@ check-all-spec =
     Inv-loop
     μ-loop
     arg-count-requires
+    slice-aggregate-start
     start-requires
     loop-holds
     check-requires

@@ -1,17 +1,20 @@
 -- `sheet::tell_stamp` is safe and ends: it counts the words. Assumes nothing.
-use Prim.Native.Nat.{_-_}
 use borrow.Author.Needs.{needs}
+use Prim.Native.Nat.{_-_}
 use Rattle.sheet.proofs.tell_stamp.Statement.{statement}
 use Rattle.sheet.proofs.tell_stamp.Tie as tie
 
 abbrev Inv-loop : tie.InvT-loop
-Inv-loop count orders₀ i₀ orders i = Unit {0}
+Inv-loop count said₀ i₀ said i = Unit {0}
 
 abbrev μ-loop : tie.MeasureT-loop
-μ-loop count orders₀ i₀ orders i = count - i
+μ-loop count said₀ i₀ said i = count - i
 
 arg-count-requires : tie.Need-arg-count-requires Inv-loop μ-loop
 arg-count-requires c κs = search needs
+
+slice-aggregate-start : tie.Need-slice-aggregate-start Inv-loop μ-loop
+slice-aggregate-start c = search needs
 
 start-requires : tie.Need-start-requires Inv-loop μ-loop
 start-requires c κs = search needs
@@ -47,6 +50,7 @@ tell-stamp-spec =
     Inv-loop
     μ-loop
     arg-count-requires
+    slice-aggregate-start
     start-requires
     loop-holds
     is-bad-stamp-requires

@@ -5,13 +5,16 @@ use Rattle.unpes.proofs.unpack_all.Statement.{statement}
 use Rattle.unpes.proofs.unpack_all.Tie as tie
 
 abbrev Inv-loop : tie.InvT-loop
-Inv-loop seen₀ count heard₀ i₀ t6 seen heard i = Unit {0}
+Inv-loop seen₀ count heard₀ i₀ t7 seen heard i = Unit {0}
 
 abbrev μ-loop : tie.MeasureT-loop
-μ-loop seen₀ count heard₀ i₀ t6 seen heard i = count - i
+μ-loop seen₀ count heard₀ i₀ t7 seen heard i = count - i
 
 arg-count-requires : tie.Need-arg-count-requires Inv-loop μ-loop
 arg-count-requires c κs = search needs
+
+slice-aggregate-start : tie.Need-slice-aggregate-start Inv-loop μ-loop
+slice-aggregate-start c = search needs
 
 start-requires : tie.Need-start-requires Inv-loop μ-loop
 start-requires c κs = search needs
@@ -53,6 +56,7 @@ unpack-all-spec =
     Inv-loop
     μ-loop
     arg-count-requires
+    slice-aggregate-start
     start-requires
     none-requires
     loop-holds

@@ -6,13 +6,16 @@ use Rattle.sheet.proofs.capture.read.Statement.{statement}
 use Rattle.sheet.proofs.capture.read.Tie as tie
 
 abbrev Inv-loop : tie.InvT-loop
-Inv-loop fd name stamp setting sheet₀ spare₀ known₀ piece₀ records₀ form₀ desk₀ turns₀ sheet spare known piece records form desk turns = (length sheet ≡ length sheet₀) × (length spare ≡ length spare₀) × (length known ≡ length known₀)
+Inv-loop fd name stamp sheet₀ spare₀ known₀ piece₀ records₀ pages₀ form₀ going₀ turns₀ sheet spare known piece records pages form going turns = (length sheet ≡ length sheet₀) × (length spare ≡ length spare₀) × (length known ≡ length known₀)
 
 abbrev μ-loop : tie.MeasureT-loop
-μ-loop fd name stamp setting sheet₀ spare₀ known₀ piece₀ records₀ form₀ desk₀ turns₀ sheet spare known piece records form desk turns = turns
+μ-loop fd name stamp sheet₀ spare₀ known₀ piece₀ records₀ pages₀ form₀ going₀ turns₀ sheet spare known piece records pages form going turns = turns
 
-fresh-requires : tie.Need-fresh-requires Inv-loop μ-loop
-fresh-requires c κs = search needs
+pages-requires : tie.Need-pages-requires Inv-loop μ-loop
+pages-requires c κs = search needs
+
+begin-requires : tie.Need-begin-requires Inv-loop μ-loop
+begin-requires c κs = search needs
 
 loop-holds : tie.Need-loop-holds Inv-loop μ-loop
 loop-holds c = search needs
@@ -20,8 +23,8 @@ loop-holds c = search needs
 sub-turns : tie.Need-sub-turns Inv-loop μ-loop
 sub-turns c = search needs
 
-take-piece-requires : tie.Need-take-piece-requires Inv-loop μ-loop
-take-piece-requires c κs = search needs
+pull-requires : tie.Need-pull-requires Inv-loop μ-loop
+pull-requires c κs = search needs
 
 left-requires : tie.Need-left-requires Inv-loop μ-loop
 left-requires c κs = search needs
@@ -53,10 +56,11 @@ read-spec =
     (tie.spec
     Inv-loop
     μ-loop
-    fresh-requires
+    pages-requires
+    begin-requires
     loop-holds
     sub-turns
-    take-piece-requires
+    pull-requires
     left-requires
     loop-less
     loop-again

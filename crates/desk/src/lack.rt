@@ -1,0 +1,97 @@
+// What is told where no packet 0 of our page came, and what the capture may be (SCOPE 13.9).
+use captures::PACKET;
+use captures::Sight;
+use packet::Setting;
+use survey::seen::NO_PAGE;
+
+// Where bytes came and no packet 0 of our page, a line says so, and what they may be. It begins `desk: `: a night that is empty by mistake
+// is a failure.
+pub fn tell(name: &[u8], setting: Setting, sight: Sight, pages: &[u16], is_short: bool) {
+    if !sight.any {
+        return;
+    }
+    if sight.counts.came {
+        return;
+    }
+    begin(name, setting);
+    guess(sight, pages, is_short);
+    told::say(b"\n");
+}
+
+fn begin(name: &[u8], setting: Setting) {
+    told::begin(b"desk");
+    told::say(name);
+    told::say_count(b": no packet 0 of magazine ", setting.magazine as u64);
+    told::say(b", page ");
+    told::say_hex(setting.page as u64, 2);
+    told::say_count(b", stream ", setting.stream as u64);
+    told::say(b" came");
+}
+
+// What the bytes may be: the surest first.
+fn guess(sight: Sight, pages: &[u16], is_short: bool) {
+    if sight.pes {
+        told::say(b"; it begins with 00 00 01 BD and may be a PES file: unpes reads those");
+        return;
+    }
+    if sight.plain < PACKET {
+        told::say(b"; its packets may be out of step: they fit");
+        say_place(sight.plain);
+        return;
+    }
+    if sight.turned < PACKET {
+        told::say(b"; its bits may be turned about: turned bytes fit");
+        say_place(sight.turned);
+        return;
+    }
+    guess_pages(pages);
+    if is_short {
+        told::say(b"; its packets may be out of step: its length isn't a multiple of 42");
+    }
+}
+
+// From which byte on packets fit, unless it is the first.
+fn say_place(place: usize) {
+    if place > 0 {
+        told::say_count(b" from byte ", place as u64);
+        told::say(b" on");
+    }
+}
+
+// The pages that came, behind our own.
+fn guess_pages(pages: &[u16]) {
+    if is_none(pages) {
+        told::say(b"; nor did one of another page");
+        return;
+    }
+    told::say(b"; it may be another magazine, page or stream: seen");
+    let mut i = 1;
+    while i < pages.len() {
+        if pages[i] != NO_PAGE {
+            say_page(pages[i]);
+        }
+        i += 1;
+    }
+}
+
+fn is_none(pages: &[u16]) -> bool {
+    if pages.len() < 2 {
+        return true;
+    }
+    pages[1] == NO_PAGE
+}
+
+// A page that came, as survey::note has it: magazine, page and stream, as in 1df/2.
+fn say_page(code: u16) {
+    told::say_count(b" ", magazine(code / 4096) as u64);
+    told::say_hex((code / 16 % 256) as u64, 2);
+    told::say_count(b"/", (code % 16) as u64);
+}
+
+// Magazine 8 is sent as 0.
+fn magazine(number: u16) -> u16 {
+    if number == 0 {
+        return 8;
+    }
+    number
+}

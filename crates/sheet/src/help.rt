@@ -1,0 +1,59 @@
+// What `--help` and `--version` print as the first word. The loader prints the same without a build: it takes each line of help from a
+// line of its own here.
+pub const PROGRAM: [u8; 5] = *b"sheet";
+
+// Answers whether the first word asks for one of them, which is then printed.
+pub fn is_asked() -> bool {
+    let mut word = io::buffer();
+    let n = told::argument(1, &mut word);
+    let word = told::front(&word, n);
+    if texts::same(word, b"--help") {
+        print();
+        return true;
+    }
+    if texts::same(word, b"--version") {
+        told::put_version(&PROGRAM);
+        return true;
+    }
+    false
+}
+
+fn print() -> bool {
+    let on = line(
+        true,
+        b"usage: sheet add [-m 1..8] [-p 00..FF] [-s 0..15] [-a 0..31] [--] SHEET STAMP CAPTURE [STAMP CAPTURE ...]\n",
+    );
+    let on = line(on, b"       sheet join [--] SHEET OTHER ...\n");
+    let on = line(on, b"       sheet check [--] SHEET ...\n");
+    let on = line(
+        on,
+        b"  add        add the tables of captures to the sheet; a stamp is the second at which the capture behind it started\n",
+    );
+    let on = line(on, b"  join       join other sheets to the sheet\n");
+    let on = line(
+        on,
+        b"  check      print a line for each sheet, and change none\n",
+    );
+    let on = line(on, b"  -m 1..8    the magazine, usually 1\n");
+    let on = line(on, b"  -p 00..FF  the page, usually DF\n");
+    let on = line(on, b"  -s 0..15   the stream, usually 1\n");
+    let on = line(on, b"  -a 0..31   the application, usually 1\n");
+    let on = line(on, b"  --         the sheet, stamps and files follow\n");
+    let on = line(on, b"  --help     print this; only as the first word\n");
+    let on = line(
+        on,
+        b"  --version  print the version; only as the first word\n",
+    );
+    line(
+        on,
+        b"example: sheet add day.sheet 1794780000 evening.t42 1794812400 morning.t42\n",
+    )
+}
+
+// A line more, where standard output took those before it.
+fn line(on: bool, text: &[u8]) -> bool {
+    if !on {
+        return false;
+    }
+    told::put(&PROGRAM, text)
+}

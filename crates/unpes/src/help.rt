@@ -1,0 +1,45 @@
+// What `--help` and `--version` print as the first word. The loader prints the same without a build: it takes each line of help from a
+// line of its own here.
+pub const PROGRAM: [u8; 5] = *b"unpes";
+
+// A bad word is answered with it too.
+pub const USAGE: [u8; 29] = *b"usage: unpes [--] [FILE ...]\n";
+
+// Answers whether the first word asks for one of them, which is then printed.
+pub fn is_asked() -> bool {
+    let mut word = io::buffer();
+    let n = told::argument(1, &mut word);
+    let word = told::front(&word, n);
+    if texts::same(word, b"--help") {
+        print();
+        return true;
+    }
+    if texts::same(word, b"--version") {
+        told::put_version(&PROGRAM);
+        return true;
+    }
+    false
+}
+
+fn print() -> bool {
+    let on = line(true, &USAGE);
+    let on = line(
+        on,
+        b"the 42-byte packets that PES packets carry go to standard output; they come from each FILE, or from standard input\n",
+    );
+    let on = line(on, b"  --         names of files follow\n");
+    let on = line(on, b"  --help     print this; only as the first word\n");
+    let on = line(
+        on,
+        b"  --version  print the version; only as the first word\n",
+    );
+    line(on, b"example: unpes night.pes >night.t42\n")
+}
+
+// A line more, where standard output took those before it.
+fn line(on: bool, text: &[u8]) -> bool {
+    if !on {
+        return false;
+    }
+    told::put(&PROGRAM, text)
+}
