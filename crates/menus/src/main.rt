@@ -6,130 +6,170 @@
 // A line on standard error that tells of a failure begins `menus: `, and one that tells of none `note: `. Once standard output has failed,
 // nothing more goes out.
 mod capture;
+mod help;
 mod kept;
 mod says;
 
-use asked::Asked;
-use libc::STDERR_FILENO;
 use libc::STDIN_FILENO;
 use packet::Setting;
+use words::Said;
+
+// The options, five numbers each: letter, form, least, greatest and usual value (words::options).
+const OPTIONS: [u32; 30] = [
+    109, // m, the magazine
+    1,
+    1,
+    8,
+    1,
+    112, // p, the page: two hex digits
+    2,
+    0,
+    255,
+    0xDF,
+    115, // s, the stream
+    1,
+    0,
+    15,
+    1,
+    97, // a, the application
+    1,
+    0,
+    31,
+    1,
+    98, // b, the block
+    1,
+    0,
+    65535,
+    0,
+    108, // l, the levels
+    1,
+    1,
+    8,
+    8,
+];
+
+// No task's word, the options, and any number of files.
+const TASKS: [u8; 10] = *b" mpsabl *f";
 
 // Where the second hearing stands: the words so far, whether one of them was a name, and whether
 // standard output still takes what is written.
 struct Heard {
-    asked: Asked,
+    said: Said,
     named: bool,
     sound: bool,
 }
 
-fn main() {
-    let asked = hear_all();
-    let words = asked.words;
-    if asked::is_good(asked) {
-        list_all(words.setting, asked.block, asked.levels);
-    } else {
-        io::write_all(
-            STDERR_FILENO,
-            b"menus: usage: menus [-b 0..65535] [-l 1..8] [-m 1..8] [-p 00..FF] [-s 0..15] [-a 0..31] [--] [FILE ...]\n",
-        );
-    }
+// What is asked for of each capture: the menu of a block, and how many levels of it.
+pub struct Asked {
+    pub setting: Setting,
+    pub block: u16,
+    pub levels: u8,
 }
 
-fn hear_all() -> Asked {
+fn main() {
+    if is_first(b"--help") {
+        help::put();
+        return;
+    }
+    if is_first(b"--version") {
+        told::put_version(b"menus");
+        return;
+    }
+    let said = hear_all();
+    if words::is_good(&TASKS, said) {
+        list_all(asked_by(said));
+        return;
+    }
+    told::begin(b"menus");
+    told::say(&help::USAGE);
+}
+
+// Whether the first word is this one.
+fn is_first(word: &[u8]) -> bool {
+    let mut first = io::buffer();
+    let n = told::argument(1, &mut first);
+    texts::same(told::front(&first, n), word)
+}
+
+fn hear_all() -> Said {
     let count = os::arg_count();
-    let mut asked = asked::start();
+    let mut said = words::start(&TASKS);
     let mut i = 1;
     while i < count {
-        asked = hear(asked, i);
+        said = hear(said, i);
         i += 1;
     }
-    asked
+    said
 }
 
-fn hear(asked: Asked, i: usize) -> Asked {
+fn hear(said: Said, i: usize) -> Said {
     let mut word = io::buffer();
-    let n = argument(i, &mut word);
-    asked::next(asked, front(&word, n))
+    let n = told::argument(i, &mut word);
+    words::next(&OPTIONS, &TASKS, said, told::front(&word, n))
 }
 
-// Puts an argument at the start of a buffer. One that is too long for it is its first bytes, which no
-// option is and no file's name.
-fn argument(i: usize, word: &mut [u8]) -> usize {
-    let n = os::arg(i, word);
-    if os::errno() == libc::ENAMETOOLONG {
-        return word.len();
+fn asked_by(said: Said) -> Asked {
+    Asked {
+        setting: Setting {
+            magazine: byte(said, 0),
+            page: byte(said, 1),
+            stream: byte(said, 2),
+            application: byte(said, 3),
+        },
+        block: (words::value(&OPTIONS, said, 4) % 65536) as u16,
+        levels: byte(said, 5),
     }
-    n
+}
+
+// The value of an option that is a byte.
+fn byte(said: Said, k: usize) -> u8 {
+    (words::value(&OPTIONS, said, k) % 256) as u8
 }
 
 // Lists each file that is named, or standard input where none is.
-fn list_all(setting: Setting, block: u16, levels: u8) {
+fn list_all(asked: Asked) {
     let count = os::arg_count();
     let mut heard = Heard {
-        asked: asked::start(),
+        said: words::start(&TASKS),
         named: false,
         sound: true,
     };
     let mut i = 1;
     while i < count {
-        heard = visit(heard, i, setting, block, levels);
+        heard = visit(heard, i, asked);
         i += 1;
     }
     if !heard.named {
-        capture::list(
-            STDIN_FILENO,
-            b"standard input",
-            false,
-            setting,
-            block,
-            levels,
-        );
+        capture::list(STDIN_FILENO, b"standard input", false, asked);
     }
 }
 
 // Hears a word again, and lists the file where it is a name.
-fn visit(heard: Heard, i: usize, setting: Setting, block: u16, levels: u8) -> Heard {
+fn visit(heard: Heard, i: usize, asked: Asked) -> Heard {
     let mut word = io::buffer();
-    let n = argument(i, &mut word);
-    let asked = asked::next(heard.asked, front(&word, n));
-    if !asked::is_name(heard.asked, front(&word, n)) {
-        return Heard {
-            asked,
-            named: heard.named,
-            sound: heard.sound,
-        };
+    let n = told::argument(i, &mut word);
+    let mut heard = heard;
+    let place = words::place(&TASKS, heard.said, told::front(&word, n));
+    heard.said = words::next(&OPTIONS, &TASKS, heard.said, told::front(&word, n));
+    if place == 0 {
+        return heard;
     }
-    if !heard.sound {
-        return Heard {
-            asked,
-            named: true,
-            sound: false,
-        };
+    heard.named = true;
+    if heard.sound {
+        heard.sound = list_file(&mut word, n, asked);
     }
-    Heard {
-        asked,
-        named: true,
-        sound: list_file(&mut word, n, setting, block, levels),
-    }
+    heard
 }
 
 // Lists the file of a name, which is told with a `?` for each byte that isn't printed. Answers whether standard output took all.
-fn list_file(word: &mut [u8; 4096], n: usize, setting: Setting, block: u16, levels: u8) -> bool {
-    let fd = os::open_read(front(word, n));
-    wanted::plain(word);
+fn list_file(word: &mut [u8; 4096], n: usize, asked: Asked) -> bool {
+    let fd = os::open_read(told::front(word, n));
+    told::plain(word);
     if fd < 0 {
-        says::tell(front(word, n));
+        told::tell(b"menus", told::front(word, n));
         return true;
     }
-    let sound = capture::list(fd, front(word, n), true, setting, block, levels);
+    let sound = capture::list(fd, told::front(word, n), true, asked);
     libc::close(fd);
     sound
-}
-
-// The first n bytes; nothing where there are fewer.
-fn front(s: &[u8], n: usize) -> &[u8] {
-    if s.len() < n {
-        return &s[0..0];
-    }
-    &s[0..n]
 }

@@ -5,13 +5,16 @@ use Rattle.menus.proofs.hear_all.Statement.{statement}
 use Rattle.menus.proofs.hear_all.Tie as tie
 
 abbrev Inv-loop : tie.InvT-loop
-Inv-loop count asked₀ i₀ asked i = Unit {0}
+Inv-loop count said₀ i₀ said i = Unit {0}
 
 abbrev μ-loop : tie.MeasureT-loop
-μ-loop count asked₀ i₀ asked i = count - i
+μ-loop count said₀ i₀ said i = count - i
 
 arg-count-requires : tie.Need-arg-count-requires Inv-loop μ-loop
 arg-count-requires c κs = search needs
+
+slice-aggregate-start : tie.Need-slice-aggregate-start Inv-loop μ-loop
+slice-aggregate-start c = search needs
 
 start-requires : tie.Need-start-requires Inv-loop μ-loop
 start-requires c κs = search needs
@@ -41,6 +44,7 @@ hear-all-spec =
     Inv-loop
     μ-loop
     arg-count-requires
+    slice-aggregate-start
     start-requires
     loop-holds
     hear-requires

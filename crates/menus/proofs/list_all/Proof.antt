@@ -5,13 +5,16 @@ use Rattle.menus.proofs.list_all.Statement.{statement}
 use Rattle.menus.proofs.list_all.Tie as tie
 
 abbrev Inv-loop : tie.InvT-loop
-Inv-loop setting block levels count heard₀ i₀ t6 heard i = Unit {0}
+Inv-loop asked count heard₀ i₀ t heard i = Unit {0}
 
 abbrev μ-loop : tie.MeasureT-loop
-μ-loop setting block levels count heard₀ i₀ t6 heard i = count - i
+μ-loop asked count heard₀ i₀ t heard i = count - i
 
 arg-count-requires : tie.Need-arg-count-requires Inv-loop μ-loop
 arg-count-requires c κs = search needs
+
+slice-aggregate-start : tie.Need-slice-aggregate-start Inv-loop μ-loop
+slice-aggregate-start c = search needs
 
 start-requires : tie.Need-start-requires Inv-loop μ-loop
 start-requires c κs = search needs
@@ -50,6 +53,7 @@ list-all-spec =
     Inv-loop
     μ-loop
     arg-count-requires
+    slice-aggregate-start
     start-requires
     loop-holds
     visit-requires

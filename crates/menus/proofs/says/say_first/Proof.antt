@@ -5,22 +5,16 @@ use Rattle.menus.proofs.says.say_first.Statement.{statement}
 use Rattle.menus.proofs.says.say_first.Tie as tie
 
 abbrev Inv-loop : tie.InvT-loop
-Inv-loop count first i₀ t4 i = Unit {0}
+Inv-loop count first i₀ i = Unit {0}
 
 abbrev μ-loop : tie.MeasureT-loop
-μ-loop count first i₀ t4 i = count - i
+μ-loop count first i₀ i = count - i
 
 loop-holds : tie.Need-loop-holds Inv-loop μ-loop
 loop-holds c = search needs
 
 returns : tie.Need-returns Inv-loop μ-loop
 returns c = search needs
-
-slice-aggregate-say : tie.Need-slice-aggregate-say Inv-loop μ-loop
-slice-aggregate-say c = search needs
-
-say-requires : tie.Need-say-requires Inv-loop μ-loop
-say-requires c κs = search needs
 
 mul-say-word : tie.Need-mul-say-word Inv-loop μ-loop
 mul-say-word c = search needs
@@ -51,8 +45,6 @@ say-first-spec =
     μ-loop
     loop-holds
     returns
-    slice-aggregate-say
-    say-requires
     mul-say-word
     shared-slice-read-say-word
     say-word-requires
