@@ -66,6 +66,8 @@ use Rattle.survey.proofs.turn_all.Reads as survey·turn-all
 use Rattle.survey.proofs.seen.note.Reads as survey·note
 use Rattle.told.proofs.front.Reads as told·front
 use Rattle.told.proofs.names.plain.Reads as told·plain
+use Rattle.command_line.proofs.setting.Reads as command-line·setting
+use Rattle.command_line.proofs.byte.Reads as command-line·byte
 use Rattle.captures.proofs.start.Reads as captures·start
 use Rattle.captures.proofs.sight.pages.Reads as captures·pages
 use Rattle.packet.proofs.address.Reads as packet·address
@@ -397,6 +399,12 @@ told·front-settled κs a x y s t p q = same p q
 
 pub told·plain-settled : (κs : _) (a : _) (x y : _) (s t : _) → told·plain.Post κs a x s → told·plain.Post κs a y t → now (s .0) ≡ now (t .0)
 told·plain-settled κs a x y s t p q = same p q
+
+pub command-line·setting-settled : (κs : _) (a : _) (x y : _) (s t : _) → command-line·setting.Post κs a x s → command-line·setting.Post κs a y t → x ≡ y
+command-line·setting-settled κs a x y s t p q = same p q
+
+pub command-line·byte-settled : (κs : _) (a : _) (x y : _) (s t : _) → command-line·byte.Post κs a x s → command-line·byte.Post κs a y t → x ≡ y
+command-line·byte-settled κs a x y s t p q = same p q
 
 pub captures·start-settled : (κs : _) (a : _) (x y : _) (s t : _) → captures·start.Post κs a x s → captures·start.Post κs a y t → x ≡ y
 captures·start-settled κs a x y s t p q = same p q

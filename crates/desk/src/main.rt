@@ -48,101 +48,64 @@ const TASKS: [u8; 9] = *b" mpsav *f";
 
 // Where the second hearing stands: the words so far, whether one of them was a name, and whether
 // standard output still takes what is written.
-struct Heard {
+struct Listed {
     said: Said,
     named: bool,
     sound: bool,
 }
 
 fn main() {
-    if is_first(b"--help") {
+    if command_line::is_first(b"--help") {
         help::put();
         return;
     }
-    if is_first(b"--version") {
+    if command_line::is_first(b"--version") {
         told::put_version(b"desk");
         return;
     }
-    let said = hear_all();
+    let said = command_line::hear_all(&OPTIONS, &TASKS);
     if words::is_good(&TASKS, said) {
-        list_all(setting(said), value(said, 4) == 1);
+        let setting = command_line::setting(&OPTIONS, said);
+        list_all(setting, command_line::byte(&OPTIONS, said, 4) == 1);
         return;
     }
     told::begin(b"desk");
     told::say(&help::USAGE);
 }
 
-// Whether the first word is this one.
-fn is_first(word: &[u8]) -> bool {
-    let mut first = io::buffer();
-    let n = told::argument(1, &mut first);
-    texts::same(told::front(&first, n), word)
-}
-
-fn hear_all() -> Said {
-    let count = os::arg_count();
-    let mut said = words::start(&TASKS);
-    let mut i = 1;
-    while i < count {
-        said = hear(said, i);
-        i += 1;
-    }
-    said
-}
-
-fn hear(said: Said, i: usize) -> Said {
-    let mut word = io::buffer();
-    let n = told::argument(i, &mut word);
-    words::next(&OPTIONS, &TASKS, said, told::front(&word, n))
-}
-
-fn setting(said: Said) -> Setting {
-    Setting {
-        magazine: value(said, 0),
-        page: value(said, 1),
-        stream: value(said, 2),
-        application: value(said, 3),
-    }
-}
-
-// The value of an option.
-fn value(said: Said, k: usize) -> u8 {
-    (words::value(&OPTIONS, said, k) % 256) as u8
-}
-
 // Lists each file that is named, or standard input where none is.
 fn list_all(setting: Setting, is_verbose: bool) {
     let count = os::arg_count();
-    let mut heard = Heard {
+    let mut listed = Listed {
         said: words::start(&TASKS),
         named: false,
         sound: true,
     };
     let mut i = 1;
     while i < count {
-        heard = visit(heard, i, setting, is_verbose);
+        listed = visit(listed, i, setting, is_verbose);
         i += 1;
     }
-    if !heard.named {
+    if !listed.named {
         capture::list(STDIN_FILENO, b"standard input", false, setting, is_verbose);
     }
 }
 
 // Hears a word again, and lists the file where it is a name.
-fn visit(heard: Heard, i: usize, setting: Setting, is_verbose: bool) -> Heard {
+fn visit(listed: Listed, i: usize, setting: Setting, is_verbose: bool) -> Listed {
     let mut word = io::buffer();
-    let n = told::argument(i, &mut word);
-    let mut heard = heard;
-    let place = words::place(&TASKS, heard.said, told::front(&word, n));
-    heard.said = words::next(&OPTIONS, &TASKS, heard.said, told::front(&word, n));
-    if place == 0 {
-        return heard;
+    let mut listed = listed;
+    let heard = command_line::hear(&OPTIONS, &TASKS, listed.said, i, &mut word);
+    let said = heard.said;
+    listed.said = said;
+    if heard.place == 0 {
+        return listed;
     }
-    heard.named = true;
-    if heard.sound {
-        heard.sound = list_file(&mut word, n, setting, is_verbose);
+    listed.named = true;
+    if listed.sound {
+        listed.sound = list_file(&mut word, heard.long, setting, is_verbose);
     }
-    heard
+    listed
 }
 
 // Lists the file of a name, which is told with a `?` for each byte that isn't printed. Answers whether standard output took all.

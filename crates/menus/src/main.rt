@@ -53,7 +53,7 @@ const TASKS: [u8; 10] = *b" mpsabl *f";
 
 // Where the second hearing stands: the words so far, whether one of them was a name, and whether
 // standard output still takes what is written.
-struct Heard {
+struct Listed {
     said: Said,
     named: bool,
     sound: bool,
@@ -67,15 +67,15 @@ pub struct Asked {
 }
 
 fn main() {
-    if is_first(b"--help") {
+    if command_line::is_first(b"--help") {
         help::put();
         return;
     }
-    if is_first(b"--version") {
+    if command_line::is_first(b"--version") {
         told::put_version(b"menus");
         return;
     }
-    let said = hear_all();
+    let said = command_line::hear_all(&OPTIONS, &TASKS);
     if words::is_good(&TASKS, said) {
         list_all(asked_by(said));
         return;
@@ -84,81 +84,47 @@ fn main() {
     told::say(&help::USAGE);
 }
 
-// Whether the first word is this one.
-fn is_first(word: &[u8]) -> bool {
-    let mut first = io::buffer();
-    let n = told::argument(1, &mut first);
-    texts::same(told::front(&first, n), word)
-}
-
-fn hear_all() -> Said {
-    let count = os::arg_count();
-    let mut said = words::start(&TASKS);
-    let mut i = 1;
-    while i < count {
-        said = hear(said, i);
-        i += 1;
-    }
-    said
-}
-
-fn hear(said: Said, i: usize) -> Said {
-    let mut word = io::buffer();
-    let n = told::argument(i, &mut word);
-    words::next(&OPTIONS, &TASKS, said, told::front(&word, n))
-}
-
 fn asked_by(said: Said) -> Asked {
     Asked {
-        setting: Setting {
-            magazine: byte(said, 0),
-            page: byte(said, 1),
-            stream: byte(said, 2),
-            application: byte(said, 3),
-        },
+        setting: command_line::setting(&OPTIONS, said),
         block: (words::value(&OPTIONS, said, 4) % 65536) as u16,
-        levels: byte(said, 5),
+        levels: command_line::byte(&OPTIONS, said, 5),
     }
-}
-
-// The value of an option that is a byte.
-fn byte(said: Said, k: usize) -> u8 {
-    (words::value(&OPTIONS, said, k) % 256) as u8
 }
 
 // Lists each file that is named, or standard input where none is.
 fn list_all(asked: Asked) {
     let count = os::arg_count();
-    let mut heard = Heard {
+    let mut listed = Listed {
         said: words::start(&TASKS),
         named: false,
         sound: true,
     };
     let mut i = 1;
     while i < count {
-        heard = visit(heard, i, asked);
+        listed = visit(listed, i, asked);
         i += 1;
     }
-    if !heard.named {
+    if !listed.named {
         capture::list(STDIN_FILENO, b"standard input", false, asked);
     }
 }
 
 // Hears a word again, and lists the file where it is a name.
-fn visit(heard: Heard, i: usize, asked: Asked) -> Heard {
+fn visit(listed: Listed, i: usize, asked: Asked) -> Listed {
     let mut word = io::buffer();
-    let n = told::argument(i, &mut word);
-    let mut heard = heard;
-    let place = words::place(&TASKS, heard.said, told::front(&word, n));
-    heard.said = words::next(&OPTIONS, &TASKS, heard.said, told::front(&word, n));
-    if place == 0 {
-        return heard;
+    let mut listed = listed;
+    let heard = command_line::hear(&OPTIONS, &TASKS, listed.said, i, &mut word);
+    let said = heard.said;
+    listed.said = said;
+    if heard.place == 0 {
+        return listed;
     }
-    heard.named = true;
-    if heard.sound {
-        heard.sound = list_file(&mut word, n, asked);
+    listed.named = true;
+    if listed.sound {
+        listed.sound = list_file(&mut word, heard.long, asked);
     }
-    heard
+    listed
 }
 
 // Lists the file of a name, which is told with a `?` for each byte that isn't printed. Answers whether standard output took all.

@@ -21,17 +21,22 @@ const OPTIONS: [u32; 0] = [];
 const ROWS: [u8; 5] = *b"  *f\n";
 
 // Where the second hearing stands: the words so far, whether one of them was a name, and the counts.
-struct Heard {
+struct Unpacked {
     said: Said,
     named: bool,
     tally: Tally,
 }
 
 fn main() {
-    if help::is_asked() {
+    if command_line::is_first(b"--help") {
+        help::put();
         return;
     }
-    if !words::is_good(&ROWS, hear_all()) {
+    if command_line::is_first(b"--version") {
+        told::put_version(&help::PROGRAM);
+        return;
+    }
+    if !words::is_good(&ROWS, command_line::hear_all(&OPTIONS, &ROWS)) {
         told::begin(&help::PROGRAM);
         told::say(&help::USAGE);
         return;
@@ -43,59 +48,41 @@ fn main() {
     }
 }
 
-fn hear_all() -> Said {
-    let count = os::arg_count();
-    let mut said = words::start(&ROWS);
-    let mut i = 1;
-    while i < count {
-        said = hear(said, i);
-        i += 1;
-    }
-    said
-}
-
-fn hear(said: Said, i: usize) -> Said {
-    let mut word = io::buffer();
-    let n = told::argument(i, &mut word);
-    words::next(&OPTIONS, &ROWS, said, told::front(&word, n))
-}
-
 // Goes through each file that is named, or standard input where none is.
 fn unpack_all(seen: &mut [u8; 17]) -> Tally {
     let count = os::arg_count();
-    let mut heard = Heard {
+    let mut unpacked = Unpacked {
         said: words::start(&ROWS),
         named: false,
         tally: capture::none(),
     };
     let mut i = 1;
     while i < count {
-        heard = visit(heard, i, seen);
+        unpacked = visit(unpacked, i, seen);
         i += 1;
     }
-    let tally = heard.tally;
-    if heard.named {
+    let tally = unpacked.tally;
+    if unpacked.named {
         return tally;
     }
     capture::unpack(STDIN_FILENO, b"standard input", tally, seen)
 }
 
 // Hears a word again, and goes through the file where it is a name.
-fn visit(heard: Heard, i: usize, seen: &mut [u8; 17]) -> Heard {
+fn visit(unpacked: Unpacked, i: usize, seen: &mut [u8; 17]) -> Unpacked {
     let mut word = io::buffer();
-    let n = told::argument(i, &mut word);
-    let before = heard.said;
-    let tally = heard.tally;
-    let said = words::next(&OPTIONS, &ROWS, before, told::front(&word, n));
-    if words::place(&ROWS, before, told::front(&word, n)) == 0 {
-        return Heard {
+    let tally = unpacked.tally;
+    let heard = command_line::hear(&OPTIONS, &ROWS, unpacked.said, i, &mut word);
+    let said = heard.said;
+    if heard.place == 0 {
+        return Unpacked {
             said,
-            named: heard.named,
+            named: unpacked.named,
             tally,
         };
     }
-    let tally = unpack_file(&mut word, n, tally, seen);
-    Heard {
+    let tally = unpack_file(&mut word, heard.long, tally, seen);
+    Unpacked {
         said,
         named: true,
         tally,

@@ -5,10 +5,10 @@ use Rattle.menus.proofs.list_all.Statement.{statement}
 use Rattle.menus.proofs.list_all.Tie as tie
 
 abbrev Inv-loop : tie.InvT-loop
-Inv-loop asked count heard₀ i₀ t heard i = Unit {0}
+Inv-loop asked count listed₀ i₀ t listed i = Unit {0}
 
 abbrev μ-loop : tie.MeasureT-loop
-μ-loop asked count heard₀ i₀ t heard i = count - i
+μ-loop asked count listed₀ i₀ t listed i = count - i
 
 arg-count-requires : tie.Need-arg-count-requires Inv-loop μ-loop
 arg-count-requires c κs = search needs

@@ -5,10 +5,10 @@ use Rattle.unpes.proofs.unpack_all.Statement.{statement}
 use Rattle.unpes.proofs.unpack_all.Tie as tie
 
 abbrev Inv-loop : tie.InvT-loop
-Inv-loop seen₀ count heard₀ i₀ t7 seen heard i = Unit {0}
+Inv-loop seen₀ count unpacked₀ i₀ t7 seen unpacked i = Unit {0}
 
 abbrev μ-loop : tie.MeasureT-loop
-μ-loop seen₀ count heard₀ i₀ t7 seen heard i = count - i
+μ-loop seen₀ count unpacked₀ i₀ t7 seen unpacked i = count - i
 
 arg-count-requires : tie.Need-arg-count-requires Inv-loop μ-loop
 arg-count-requires c κs = search needs
