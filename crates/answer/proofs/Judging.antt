@@ -13,7 +13,7 @@ use Rattle.laws.proofs.Tests.{both-first, both-second, both-true, both-holds}
 use Rattle.answer.specs.declared.Answer.{Answer}
 use Rattle.answer.specs.declared.Answer.the-variants.{Done}
 use Rattle.answer.specs.Values.{numberOf, offsetOf, writtenOf, refused}
-use Rattle.answer.specs.Writing.{room, answered, after, left}
+use Rattle.answer.specs.Writing.{room, allRules, answered, after, left}
 use Rattle.answer.specs.Rules.{Rule, judged, lastNumber, refusing, allRefusing, Every, none, more, First, here, later}
 
 pub passes {ℓ} : {A : Type ℓ} (f : ℕ → ℕ → A) {rs : List Rule} (a : A) → Every rs → judged f rs a ≡ a
@@ -66,61 +66,55 @@ refusing-append (r ∷ rs) qs a b =
     both-holds (refusing (r .number)) _ (p .0) (refusing-append rs qs (p .1) b)
 
 module _ (rules : List Rule) (bytes old : List ℕ) where
-  abbrev all-rules : List Rule
-  all-rules = rules ++ room bytes old ∷ []
-
-  abbrev answer : Answer
-  answer = answered rules bytes old
-
-  all-refuse : allRefusing rules ≡ true → allRefusing all-rules ≡ true
+  all-refuse : allRefusing rules ≡ true → allRefusing (allRules rules bytes old) ≡ true
   unfolding allRefusing
   all-refuse n = refusing-append rules (room bytes old ∷ []) n refl
 
   -- accepted, which is number 0, exactly when every rule holds, the room's among them; what it reports is how many bytes were written
   pub accepted-exactly :
       allRefusing rules ≡ true → (n : ℕ)
-      → ((numberOf answer ≡ 0) × (writtenOf answer ≡ n)) ↔ (Every all-rules × (length bytes ≡ n))
+      → ((numberOf (answered rules bytes old) ≡ 0) × (writtenOf (answered rules bytes old) ≡ n)) ↔ (Every (allRules rules bytes old) × (length bytes ≡ n))
   accepted-exactly k n = (to, from)
     where
-      to : (numberOf answer ≡ 0) × (writtenOf answer ≡ n) → Every all-rules × (length bytes ≡ n)
-      to e = go (decided all-rules)
+      to : (numberOf (answered rules bytes old) ≡ 0) × (writtenOf (answered rules bytes old) ≡ n) → Every (allRules rules bytes old) × (length bytes ≡ n)
+      to e = go (decided (allRules rules bytes old))
         where
-          go : Every all-rules ⊎ ((q : Rule) × First q all-rules) → Every all-rules × (length bytes ≡ n)
+          go : Every (allRules rules bytes old) ⊎ ((q : Rule) × First q (allRules rules bytes old)) → Every (allRules rules bytes old) × (length bytes ≡ n)
           go (inl d) = let f = ap writtenOf (passes refused (Done (length bytes)) d) in (d, cc)
           go (inr f) =
               let g = ap numberOf (refuses refused (Done (length bytes)) (f .1)) in
               absurd (omega (arith, first-number (all-refuse k) (f .1)))
 
-      from : Every all-rules × (length bytes ≡ n) → (numberOf answer ≡ 0) × (writtenOf answer ≡ n)
+      from : Every (allRules rules bytes old) × (length bytes ≡ n) → (numberOf (answered rules bytes old) ≡ 0) × (writtenOf (answered rules bytes old) ≡ n)
       from d = let f = passes refused (Done (length bytes)) (d .0) in (ap numberOf f, ap writtenOf f ∙ d .1)
 
   -- a refusal's number and offset are those of the first rule that doesn't hold
   pub refused-exactly :
       (number offset : ℕ) → 0 < number
-      → ((numberOf answer ≡ number) × (offsetOf answer ≡ offset))
-      ↔ ((q : Rule) × First q all-rules × (q .number ≡ number) × (q .offset ≡ offset))
+      → ((numberOf (answered rules bytes old) ≡ number) × (offsetOf (answered rules bytes old) ≡ offset))
+      ↔ ((q : Rule) × First q (allRules rules bytes old) × (q .number ≡ number) × (q .offset ≡ offset))
   refused-exactly number offset p = (to, from)
     where
-      to : (numberOf answer ≡ number) × (offsetOf answer ≡ offset) → (q : Rule) × First q all-rules × (q .number ≡ number) × (q .offset ≡ offset)
-      to e = go (decided all-rules)
+      to : (numberOf (answered rules bytes old) ≡ number) × (offsetOf (answered rules bytes old) ≡ offset) → (q : Rule) × First q (allRules rules bytes old) × (q .number ≡ number) × (q .offset ≡ offset)
+      to e = go (decided (allRules rules bytes old))
         where
-          go : Every all-rules ⊎ ((q : Rule) × First q all-rules) → (q : Rule) × First q all-rules × (q .number ≡ number) × (q .offset ≡ offset)
+          go : Every (allRules rules bytes old) ⊎ ((q : Rule) × First q (allRules rules bytes old)) → (q : Rule) × First q (allRules rules bytes old) × (q .number ≡ number) × (q .offset ≡ offset)
           go (inl d) = let f = ap numberOf (passes refused (Done (length bytes)) d) in absurd (omega arith)
           go (inr f) = let g = refuses refused (Done (length bytes)) (f .1) in (f .0, f .1, sym (ap numberOf g) ∙ e .0, sym (ap offsetOf g) ∙ e .1)
 
-      from : (q : Rule) × First q all-rules × (q .number ≡ number) × (q .offset ≡ offset) → (numberOf answer ≡ number) × (offsetOf answer ≡ offset)
+      from : (q : Rule) × First q (allRules rules bytes old) × (q .number ≡ number) × (q .offset ≡ offset) → (numberOf (answered rules bytes old) ≡ number) × (offsetOf (answered rules bytes old) ≡ offset)
       from f = let g = refuses refused (Done (length bytes)) (f .1) in (ap numberOf g ∙ f .2, ap offsetOf g ∙ f .3)
 
   -- a refusal leaves every lent byte
-  pub refusal-leaves : 0 < numberOf answer → left rules bytes old ≡ old
-  refusal-leaves p = go (decided all-rules)
+  pub refusal-leaves : 0 < numberOf (answered rules bytes old) → left rules bytes old ≡ old
+  refusal-leaves p = go (decided (allRules rules bytes old))
     where
-      go : Every all-rules ⊎ ((q : Rule) × First q all-rules) → left rules bytes old ≡ old
+      go : Every (allRules rules bytes old) ⊎ ((q : Rule) × First q (allRules rules bytes old)) → left rules bytes old ≡ old
       go (inl d) = let f = ap numberOf (passes refused (Done (length bytes)) d) in absurd (omega arith)
       go (inr f) = ap (λ (a : Answer). after a bytes old) (refuses refused (Done (length bytes)) (f .1))
 
   -- an accepted call writes its bytes to the front and leaves the rest
-  pub accepted-writes : allRefusing rules ≡ true → numberOf answer ≡ 0 → left rules bytes old ≡ bytes ++ drop (length bytes) old
+  pub accepted-writes : allRefusing rules ≡ true → numberOf (answered rules bytes old) ≡ 0 → left rules bytes old ≡ bytes ++ drop (length bytes) old
   accepted-writes k e =
-      let d = (accepted-exactly k (writtenOf answer) .0 (e, refl)) .0 in
+      let d = (accepted-exactly k (writtenOf (answered rules bytes old)) .0 (e, refl)) .0 in
       ap (λ (a : Answer). after a bytes old) (passes refused (Done (length bytes)) d)

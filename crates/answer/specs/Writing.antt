@@ -12,9 +12,13 @@ use Rattle.answer.specs.Values.{refused}
 abbrev pub room : List ℕ → List ℕ → Rule
 room bytes old = rule (leb (length bytes) (length old)) 1 0
 
+-- the rules of a call, the room's among them
+abbrev pub allRules : List Rule → List ℕ → List ℕ → List Rule
+allRules rules bytes old = rules ++ room bytes old ∷ []
+
 -- the call's answer
 abbrev pub answered : List Rule → List ℕ → List ℕ → Answer
-answered rules bytes old = judged refused (rules ++ room bytes old ∷ []) (Done (length bytes))
+answered rules bytes old = judged refused (allRules rules bytes old) (Done (length bytes))
 
 -- the output after an answer: only the bytes that are reported as written change (SCOPE 3.3), and at a refusal none (SCOPE 3.2)
 abbrev pub after : Answer → List ℕ → List ℕ → List ℕ

@@ -11,7 +11,7 @@ use lib.Dec.{ltb}
 use lib.ListN.{length, drop, drop-of-length-le}
 use lib.Seq.{drop-cons}
 use borrow.Author.Tests.{ltb-true, ltb-false}
-use Rattle.pes.specs.Finding.{beginsPacket, firstIn}
+use Rattle.pes.specs.Finding.{beginsPacket, firstIn, Tells}
 use Rattle.pes.specs.declared.Start.{Start}
 
 -- ---- one place
@@ -30,17 +30,6 @@ module _ (s : List ℕ) (at : ℕ) where
   first-none h = rw (drop-of-length-le s h)
 
 -- ---- it is the first
-
--- a packet begins at `at`, and at no place before it from `from` on
-pub record First (s : List ℕ) (from at : ℕ) : Type 0 where
-  pub ahead : from ≤ at
-  pub here : beginsPacket (drop at s) ≡ true
-  pub none : (k : ℕ) → from ≤ k → k < at → beginsPacket (drop k s) ≡ false
-
--- what the search answers tells this
-abbrev pub Tells : List ℕ → ℕ → Start → Type 0
-Tells s from (Start.At at) = First s from at
-Tells s from Start.Nowhere = (k : ℕ) → from ≤ k → beginsPacket (drop k s) ≡ false
 
 -- no packet begins at the first place, nor at a later one
 none-from :

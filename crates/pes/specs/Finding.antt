@@ -1,9 +1,10 @@
 -- Where a PES packet begins among bytes that may be anything (SCOPE 6.13).
-use mathlib.Core.Bool.{Bool}
+use mathlib.Core.Path.{_≡_}
+use mathlib.Core.Bool.{Bool, true, false}
 use mathlib.Core.List.{List, [], _∷_}
-use Prim.Native.Nat.{ℕ, suc}
+use Prim.Native.Nat.{ℕ, suc, _<_, _≤_}
 use lib.Dec.{leb}
-use lib.ListN.{length}
+use lib.ListN.{length, drop}
 use Rattle.laws.specs.Pick.{pick, both}
 use Rattle.pes.specs.Header.{startsRight, pesLength, lengthFits}
 use Rattle.pes.specs.declared.Start.{Start}
@@ -16,3 +17,14 @@ beginsPacket bytes = both (leb 6 (length bytes)) (both (startsRight bytes) (leng
 unfoldable pub firstIn : List ℕ → ℕ → Start
 firstIn [] at = Start.Nowhere
 firstIn (b ∷ bs) at = pick (beginsPacket (b ∷ bs)) (Start.At at) (firstIn bs (suc at))
+
+-- a packet begins at `at`, and at no place before it from `from` on
+pub record First (s : List ℕ) (from at : ℕ) : Type 0 where
+  pub ahead : from ≤ at
+  pub here : beginsPacket (drop at s) ≡ true
+  pub none : (k : ℕ) → from ≤ k → k < at → beginsPacket (drop k s) ≡ false
+
+-- what the search answers tells this
+abbrev pub Tells : List ℕ → ℕ → Start → Type 0
+Tells s from (Start.At at) = First s from at
+Tells s from Start.Nowhere = (k : ℕ) → from ≤ k → beginsPacket (drop k s) ≡ false

@@ -20,6 +20,7 @@ use Rattle.answer.proofs.Steps.{first-holds, others-hold}
 use Rattle.units.specs.Units.{byteAt}
 use Rattle.pes.specs.Header.{pesLength, lengthFits, headerRules}
 use Rattle.pes.specs.Reading.{firstUnit, places, unitsRules, readRules, recordsOf}
+use Rattle.pes_writer.specs.Owed.{WritesBack, Shaped}
 use Rattle.pes_writer.specs.Writing.{unitCount, packetSize, recordsFit, writeRules, headerOf, unitsOf, stuffingUnits, packetOf}
 use Rattle.pes.proofs.Heading.{sized, sized-holds}
 use Rattle.pes_writer.proofs.Making.{header-length, packet-length, fits-packet}
@@ -67,11 +68,6 @@ walked d rs e b =
     subst₂ (λ (m : ℕ) (g : List ℕ). Walked (packetOf d rs) 46 m g) c whole
     (back-units u (4 * n - 1 - u) rs b 0 (omega arith) fit (packetOf d rs) 46 (after-header d rs))
 
--- the records that a packet is written from are those that it reads back as (SCOPE 15.2)
-pub record WritesBack (d : ℕ) (rs : List ℕ) : Type 0 where
-  pub accepted : Every (readRules (packetOf d rs))
-  pub same : recordsOf (packetOf d rs) ≡ rs
-
 pub writes-back : (d : ℕ) (rs : List ℕ) → Every (writeRules d rs) → Bytes rs → WritesBack d rs
 unfolding readRules unitsRules recordsOf places
 writes-back d rs e b =
@@ -86,14 +82,6 @@ pub reads-back :
 reads-back d rs old e b h =
     let w = writes-back d rs e b in
     rw (w .same) (lent-accepted (readRules (packetOf d rs)) rs old (w .accepted) h)
-
--- N × 184 bytes with 4 × N − 1 units (SCOPE 6.8), for the smallest N that has room, 1 for none (SCOPE 6.10)
-pub record Shaped (d : ℕ) (rs : List ℕ) : Type 0 where
-  pub bytes : length (packetOf d rs) ≡ packetSize (unitCount rs) * 184
-  pub field : pesLength (packetOf d rs) ≡ packetSize (unitCount rs) * 184 - 6
-  pub units : length (places (packetOf d rs)) ≡ 4 * packetSize (unitCount rs) - 1
-  pub holds : unitCount rs ≤ 4 * packetSize (unitCount rs) - 1
-  pub least : (n : ℕ) → 1 ≤ n → unitCount rs ≤ 4 * n - 1 → packetSize (unitCount rs) ≤ n
 
 pub shaped : (d : ℕ) (rs : List ℕ) → Every (writeRules d rs) → Bytes rs → Shaped d rs
 unfolding places
