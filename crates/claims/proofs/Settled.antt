@@ -21,6 +21,7 @@ use Rattle.fields.proofs.field_of.Reads as fields·field-of
 use Rattle.fields.proofs.opening_of.Reads as fields·opening-of
 use Rattle.forms.proofs.items.words_of.Reads as forms·words-of
 use Rattle.texts.proofs.same.Reads as texts·same
+use Rattle.texts.proofs.begins.Reads as texts·begins
 use Rattle.texts.proofs.holds.Reads as texts·holds
 use Rattle.texts.proofs.entries.Reads as texts·entries
 use Rattle.words.proofs.start.Reads as words·start
@@ -104,6 +105,11 @@ use Rattle.menu_listing.proofs.list_menu.Reads as menu-listing·list-menu
 use Rattle.menu_listing.proofs.list_kept.Reads as menu-listing·list-kept
 use Rattle.shelf.proofs.find.Reads as shelf·find
 use Rattle.shelf.proofs.put.Reads as shelf·put
+use Rattle.listing_reader.proofs.lines.number_at.Reads as listing-reader·number-at
+use Rattle.listing_reader.proofs.lines.kind_at.Reads as listing-reader·kind-at
+use Rattle.listing_reader.proofs.table_at.Reads as listing-reader·table-at
+use Rattle.sheet_entry.proofs.entry_at.Reads as sheet-entry·entry-at
+use Rattle.sheet_entry.proofs.writing.write_entry.Reads as sheet-entry·write-entry
 use Rattle.day_sheet.proofs.rewrite.Reads as day-sheet·rewrite
 use Rattle.day_sheet.proofs.joining.join.Reads as day-sheet·join
 use Rattle.day_sheet.proofs.adding.add.Reads as day-sheet·add
@@ -412,6 +418,9 @@ captures·start-settled κs a x y s t p q = same p q
 pub captures·pages-settled : (κs : _) (a : _) (x y : _) (s t : _) → captures·pages.Post κs a x s → captures·pages.Post κs a y t → x ≡ y
 captures·pages-settled κs a x y s t p q = same p q
 
+pub texts·begins-settled : (κs : _) (a : _) (x y : _) (s t : _) → texts·begins.Post κs a x s → texts·begins.Post κs a y t → x ≡ y
+texts·begins-settled κs a x y s t p q = same p q
+
 pub texts·same-settled : (κs : _) (a : _) (x y : _) (s t : _) → texts·same.Post κs a x s → texts·same.Post κs a y t → x ≡ y
 texts·same-settled κs a x y s t p q = same p q
 
@@ -462,6 +471,27 @@ vectors·lend-settled κs a x y s t p q = let e = same (p .1 .1) (q .1 .1) in (p
 pub vectors·payload-settled :
     (κs : _) (a : _) (x y : _) (s t : _) → vectors·payload.Post κs a x s → vectors·payload.Post κs a y t → now x ≡ now y
 vectors·payload-settled κs a x y s t p q = same p q
+
+pub listing-reader·number-at-settled :
+    (κs : _) (a : _) (x y : _) (s t : _) → listing-reader·number-at.Post κs a x s → listing-reader·number-at.Post κs a y t → x ≡ y
+listing-reader·number-at-settled κs a x y s t p q = same p q
+
+pub listing-reader·kind-at-settled :
+    (κs : _) (a : _) (x y : _) (s t : _) → listing-reader·kind-at.Post κs a x s → listing-reader·kind-at.Post κs a y t → x ≡ y
+listing-reader·kind-at-settled κs a x y s t p q = same p q
+
+pub listing-reader·table-at-settled :
+    (κs : _) (a : _) (x y : _) (s t : _) → listing-reader·table-at.Post κs a x s → listing-reader·table-at.Post κs a y t → x ≡ y
+listing-reader·table-at-settled κs a x y s t p q = same p q
+
+pub sheet-entry·entry-at-settled :
+    (κs : _) (a : _) (x y : _) (s t : _) → sheet-entry·entry-at.Post κs a x s → sheet-entry·entry-at.Post κs a y t → x ≡ y
+sheet-entry·entry-at-settled κs a x y s t p q = same p q
+
+pub sheet-entry·write-entry-settled :
+    (κs : _) (a : _) (x y : _) (s t : _) → sheet-entry·write-entry.Post κs a x s → sheet-entry·write-entry.Post κs a y t
+    → (x ≡ y) × (now (s .1 .1 .0) ≡ now (t .1 .1 .0))
+sheet-entry·write-entry-settled κs a x y s t p q = (same (p .0) (q .0), same (p .1) (q .1))
 
 pub day-sheet·rewrite-settled :
     (κs : _) (a : _) (x y : _) (s t : _) → day-sheet·rewrite.Post κs a x s → day-sheet·rewrite.Post κs a y t

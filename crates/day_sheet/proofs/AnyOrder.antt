@@ -24,7 +24,8 @@ use Rattle.answer.specs.declared.Answer.the-variants.{Done}
 use Rattle.answer.specs.Rules.{Every, none as all-hold, more}
 use Rattle.answer.specs.Writing.{after}
 use Rattle.answer.proofs.Lent.{lent-accepted}
-use Rattle.day_sheet.specs.Entries.{Entry, keyOf, headLines, tableLines, entryText, sheetText, written, allWritten, entryLimit, byteLimit}
+use Rattle.sheet_entry.specs.Entries.{Entry, keyOf, headLines, tableLines, entryText, written}
+use Rattle.day_sheet.specs.Entries.{sheetText, allWritten, entryLimit, byteLimit}
 use Rattle.day_sheet.specs.Reading.{sheetOf}
 use Rattle.day_sheet.specs.Joining.{byStamp, byLines, atMost, joined}
 use Rattle.day_sheet.specs.Calls.{entriesOf, limited, joinRules, joinResult}

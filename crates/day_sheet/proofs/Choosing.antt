@@ -10,7 +10,7 @@ use Rattle.laws.specs.Pick.{pick, either}
 use Rattle.laws.proofs.Tests.{both-true}
 use Rattle.forms.specs.Tables.{TI, LI, known}
 use Rattle.forms.proofs.Sendable.{Sendable, sendable}
-use Rattle.day_sheet.specs.Entries.{Entry, keyOf, stampMost, written}
+use Rattle.sheet_entry.specs.Entries.{Entry, keyOf, stampMost, written}
 
 -- ---- an entry that can be written
 

@@ -12,11 +12,13 @@ use lib.ListN.{length, drop, length-drop}
 use lib.Seq.{drop-length}
 use Rattle.laws.specs.Keyed.{rising, risingFrom}
 use Rattle.laws.proofs.Tests.{both-true, both-holds}
-use Rattle.day_sheet.specs.Entries.{Entry, keyOf, entryText, sheetText, written, allWritten}
-use Rattle.day_sheet.specs.Many.{Step, item, stop, Many, many, further}
-use Rattle.day_sheet.specs.Reading.{entryAt, above, sheetFrom, sheetOf}
-use Rattle.day_sheet.proofs.Rows.{Each, none, more, texts, row-sound, row-back, seen-item}
-use Rattle.day_sheet.proofs.Entered.{Standing, textOf, entry-seen, entry-stepping, entry-back, ends-at-end}
+use Rattle.sheet_entry.specs.Entries.{Entry, keyOf, entryText, written}
+use Rattle.day_sheet.specs.Entries.{sheetText, allWritten}
+use Rattle.listing_reader.specs.Many.{Step, item, stop, Many, many, further}
+use Rattle.sheet_entry.specs.Reading.{entryAt, above}
+use Rattle.day_sheet.specs.Reading.{sheetFrom, sheetOf}
+use Rattle.listing_reader.proofs.Rows.{Each, none, more, texts, row-sound, row-back, seen-item}
+use Rattle.sheet_entry.proofs.Entered.{Standing, textOf, entry-seen, entry-stepping, entry-back, ends-at-end}
 
 sheet-texts : (least : ℕ) (es : List Entry) → texts above entryAt textOf least es ≡ sheetText es
 unfolding texts sheetText

@@ -21,7 +21,8 @@ use Rattle.answer.specs.declared.Answer.the-variants.{Done, Refused}
 use Rattle.answer.specs.Values.{writtenOf}
 use Rattle.answer.specs.Writing.{answered, after}
 use Rattle.answer.proofs.Lent.{lent-all}
-use Rattle.day_sheet.specs.Entries.{Entry, keyOf, tableLines, sheetText, entryLimit, byteLimit}
+use Rattle.sheet_entry.specs.Entries.{Entry, keyOf, tableLines}
+use Rattle.day_sheet.specs.Entries.{sheetText, entryLimit, byteLimit}
 use Rattle.day_sheet.specs.Joining.{atMost, joined}
 use Rattle.day_sheet.specs.Calls.{entriesOf, joinRules, joinResult}
 use Rattle.day_sheet.specs.AnyOrder.{joinAnswer, joinLeft, InForm, sizeOf, Room}

@@ -5,31 +5,24 @@ use mathlib.Core.List.{List, [], _∷_, _++_, map, append-nil, append-assoc}
 use Prim.Native.Nat.{ℕ, _≤_}
 use native.Mathlib.Omega.{arith}
 use lib.ListN.{length, replicate, length-replicate}
-use borrow.Author.Tests.{leb-true, eqb-true}
+use borrow.Author.Tests.{leb-true}
 use Rattle.laws.specs.Each.{Each, nil, and}
 use Rattle.laws.specs.Together.{Reordered, keep, Tree, one, two, leaves}
 use Rattle.laws.proofs.Eaches.{each-map}
 use Rattle.laws.proofs.Trees.{each-reordered, reordered-map}
 use Rattle.answer.specs.declared.Answer.the-variants.{Done}
-use Rattle.answer.specs.Rules.{Every}
 use Rattle.answer.specs.Values.{refused}
 use Rattle.answer.proofs.Judging.{passes}
 use Rattle.answer.proofs.Lent.{lent-all}
 use Rattle.answer.proofs.Steps.{first-holds, others-hold}
-use Rattle.forms.specs.Form.{form, tableIn}
-use Rattle.forms.specs.Writing.{formRules}
+use Rattle.forms.specs.Form.{form}
 use Rattle.day_sheet.specs.Entries.{sheetText, byteLimit}
-use Rattle.day_sheet.specs.Calls.{stamped, joinRules, joinResult}
+use Rattle.sheet_entry.specs.Writing.{stamped}
+use Rattle.day_sheet.specs.Calls.{joinRules, joinResult}
 use Rattle.day_sheet.specs.AnyOrder.{InForm, Joins, Run, lent, call, Room, Captured, sheetOfOne, Adds, Added, all, next, Takes}
-use Rattle.day_sheet.specs.Internal.{Judged}
 use Rattle.day_sheet.proofs.AnyOrder.{any-order, one-read}
-use Rattle.day_sheet.proofs.Added.{stamped-written, add-answers, add-leaves, add-goes-on}
-
-judged-by : (f : List ℕ) → Every (formRules f) → Judged f
-unfolding formRules
-judged-by f e =
-    let c = others-hold (others-hold (others-hold e)) in
-    record { whole = eqb-true (length f) (length (form (tableIn f))) (first-holds c); fit = first-holds (others-hold c) }
+use Rattle.sheet_entry.proofs.Spelling.{judged-by, stamped-written}
+use Rattle.day_sheet.proofs.Added.{add-answers, add-leaves, add-goes-on}
 
 -- an accepted joining has two sheets that aren't too long
 second-short : (first second sheet : List ℕ) → Joins first second sheet → length second ≤ byteLimit

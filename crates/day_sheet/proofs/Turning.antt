@@ -17,17 +17,20 @@ use Rattle.laws.specs.Orders.{before, greater}
 use Rattle.laws.proofs.Lists.{sets-append}
 use Rattle.laws.proofs.Merging.{merge-less, merge-same, merge-more, rising-rest, rising-lower}
 use Rattle.laws.proofs.Trees.{Good}
-use Rattle.day_sheet.specs.declared.entries.Found.{Found}
+use Rattle.sheet_entry.specs.declared.Found.{Found}
 use Rattle.day_sheet.specs.declared.joining.Turn.{Turn}
-use Rattle.day_sheet.specs.Entries.{Entry, keyOf, headLines, tableLines, emptyLine, entryText, sheetText}
-use Rattle.day_sheet.specs.Reading.{entryAt, sheetFrom}
-use Rattle.day_sheet.specs.Many.{many}
+use Rattle.sheet_entry.specs.Entries.{Entry, keyOf, headLines, tableLines, emptyLine, entryText}
+use Rattle.day_sheet.specs.Entries.{sheetText}
+use Rattle.sheet_entry.specs.Reading.{entryAt}
+use Rattle.day_sheet.specs.Reading.{sheetFrom}
+use Rattle.listing_reader.specs.Many.{many}
 use Rattle.day_sheet.specs.Joining.{atMost, joined}
 use Rattle.day_sheet.specs.Calls.{entriesOf, joinResult}
 use Rattle.day_sheet.specs.AnyOrder.{InForm}
-use Rattle.day_sheet.specs.Internal.{foundOf, Halfway, Lies, foundLines, secondStays, turn, turnBy, turnOf, turnText}
+use Rattle.sheet_entry.specs.Reading.{foundOf}
+use Rattle.day_sheet.specs.Internal.{Halfway, Lies, foundLines, secondStays, turn, turnBy, turnOf, turnText}
 use Rattle.day_sheet.proofs.AnyOrder.{Fit, decides, sheet-of, text-of}
-use Rattle.day_sheet.proofs.Entered.{entry-back}
+use Rattle.sheet_entry.proofs.Entered.{entry-back}
 use Rattle.day_sheet.proofs.Exact.{read-written}
 
 abbrev Sheet : List Entry → Type 0

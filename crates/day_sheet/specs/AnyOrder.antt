@@ -10,9 +10,11 @@ use Rattle.answer.specs.Rules.{Every}
 use Rattle.answer.specs.Writing.{answered, left}
 use Rattle.forms.specs.Writing.{formRules}
 use Rattle.laws.specs.Together.{Tree, one, two, Within}
-use Rattle.day_sheet.specs.Entries.{Entry, keyOf, entryText, sheetText, stampMost, entryLimit, byteLimit}
+use Rattle.sheet_entry.specs.Entries.{Entry, keyOf, entryText, stampMost}
+use Rattle.sheet_entry.specs.Writing.{stamped}
+use Rattle.day_sheet.specs.Entries.{sheetText, entryLimit, byteLimit}
 use Rattle.day_sheet.specs.Reading.{sheetOf}
-use Rattle.day_sheet.specs.Calls.{entriesOf, stamped, addRules, addResult, joinRules, joinResult}
+use Rattle.day_sheet.specs.Calls.{entriesOf, addRules, addResult, joinRules, joinResult}
 
 -- what a call of `join` answers, and what it leaves in the lent output
 abbrev pub joinAnswer : List ℕ → List ℕ → List ℕ → Answer

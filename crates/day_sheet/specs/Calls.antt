@@ -4,9 +4,10 @@ use Prim.Native.Nat.{ℕ}
 use lib.Dec.{leb}
 use lib.ListN.{length}
 use Rattle.answer.specs.Rules.{Rule, rule}
-use Rattle.forms.specs.Form.{tableIn}
 use Rattle.forms.specs.Writing.{formRules}
-use Rattle.day_sheet.specs.Entries.{Entry, sheetText, entryLimit, byteLimit}
+use Rattle.sheet_entry.specs.Entries.{Entry}
+use Rattle.sheet_entry.specs.Writing.{stamped}
+use Rattle.day_sheet.specs.Entries.{sheetText, entryLimit, byteLimit}
 use Rattle.day_sheet.specs.Reading.{sheetOf}
 use Rattle.day_sheet.specs.Joining.{joined}
 
@@ -35,16 +36,6 @@ unfoldable pub rewritten : List ℕ → List ℕ
 rewritten sheet = sheetText (entriesOf sheet)
 
 -- ---- add
-
--- the entry of a table form, whose copyright bit is dropped
-unfoldable pub stamped : ℕ → List ℕ → Entry
-stamped at form =
-    let t = tableIn form in
-    record {
-      stamp = at;
-      table =
-          record { kind = t .kind; copyright = 0; block = t .block; network = t .network; descriptors = t .descriptors };
-    }
 
 unfoldable pub addResult : ℕ → List ℕ → List ℕ → List Entry
 addResult at sheet form = joined (entriesOf sheet) (stamped at form ∷ [])

@@ -4,7 +4,7 @@ use mathlib.Core.List.{List}
 use lib.Dec.{leb}
 use Rattle.laws.specs.Keyed.{merge}
 use Rattle.laws.specs.Orders.{before, inTurn, greater}
-use Rattle.day_sheet.specs.Entries.{Entry, keyOf, tableLines}
+use Rattle.sheet_entry.specs.Entries.{Entry, keyOf, tableLines}
 
 -- by the stamp
 abbrev pub byStamp : Entry → Entry → Bool

@@ -1,7 +1,5 @@
 -- The day sheet: SCOPE 20. Its entries and their text, the sheet that bytes say, joining, and what the calls owe.
 pub mod Entries
-pub mod Lines
-pub mod Many
 pub mod Reading
 pub mod Joining
 pub mod Calls

@@ -1,20 +1,11 @@
 // A sheet with one entry more: the text of the entry is held, and joined with the sheet (SCOPE 20.8).
 ghost use mathlib.Core.Path.{_≡_};
-ghost use mathlib.Core.List.{_∷_};
-ghost use Prim.Native.Nat.{_+_, _≤_};
-ghost use lib.ListN.{length};
 ghost use Rattle.answer.specs.Writing.{answered, left};
-ghost use Rattle.forms.specs.Form.{tableIn};
-ghost use Rattle.text_lines.specs.Putting.{Put};
-ghost use Rattle.listing.specs.Lines.{kindLine, descriptorLinesOf};
-ghost use Rattle.day_sheet.specs.Entries.{headLines, entryText, sheetText};
-ghost use Rattle.day_sheet.specs.Calls.{short, formed, limited, stamped, addResult, addRules};
-ghost use Rattle.day_sheet.specs.Internal.{Judged, entryMost, headMost};
+ghost use Rattle.day_sheet.specs.Entries.{sheetText};
+ghost use Rattle.day_sheet.specs.Calls.{addResult, addRules};
 use crate::joining;
 use answer::Answer;
-
-// The longest entry.
-const ENTRY: usize = 5924;
+use sheet_entry::writing::ENTRY;
 
 // The sheet joined with the entry of a table form and its stamp, to the front of `out`.
 pub fn add(stamp: u32, sheet: &[u8], table: &[u8], out: &mut [u8]) -> Answer
@@ -27,71 +18,9 @@ pub fn add(stamp: u32, sheet: &[u8], table: &[u8], out: &mut [u8]) -> Answer
         ≡ left (addRules stamp (now (sheet .entry)) (now (table .entry)))
         (sheetText (addResult stamp (now (sheet .entry)) (now (table .entry)))) (now (out .entry)) ⌝ }
 {
-    match forms::judge_form(table) {
-        Answer::Refused(why) => Answer::Refused(why),
-        Answer::Done(_) => add_judged(stamp, sheet, table, out),
-    }
-}
-
-// The same, of a form that was judged.
-fn add_judged(stamp: u32, sheet: &[u8], table: &[u8], out: &mut [u8]) -> Answer
-    requires { ⌜ Judged (now table) ⌝ }
-    ensures answer { λ r.
-        ⌜ r
-        ≡ answered
-        (short (now (sheet .entry)) ∷ formed (now (sheet .entry)) ∷ limited (addResult stamp (now (sheet .entry)) (now (table .entry))))
-        (sheetText (addResult stamp (now (sheet .entry)) (now (table .entry)))) (now (out .entry)) ⌝ }
-    ensures output { λ _.
-        ⌜ now (out .exit)
-        ≡ left
-        (short (now (sheet .entry)) ∷ formed (now (sheet .entry)) ∷ limited (addResult stamp (now (sheet .entry)) (now (table .entry))))
-        (sheetText (addResult stamp (now (sheet .entry)) (now (table .entry)))) (now (out .entry)) ⌝ }
-{
     let mut text = [0u8; ENTRY];
-    let n = put_entry(stamp, table, &mut text);
-    joining::join(sheet, &text[..n], out)
-}
-
-// Puts the text of an entry, and answers how long it is.
-fn put_entry(stamp: u32, table: &[u8], out: &mut [u8]) -> usize
-    requires { ⌜ Judged (now table) × (length (now out) ≡ entryMost) ⌝ }
-    ensures { λ r. ⌜ Put (now (out .entry)) 0 (entryText (stamped stamp (now (table .entry)))) (now (out .exit)) r × (r ≤ entryMost) ⌝ }
-{
-    let at = put_head(stamp, table, out);
-    let end = put_table(table, out, at);
-    text_lines::put(b"\n", out, end)
-}
-
-// The lines of stamp, kind, network and block.
-fn put_head(stamp: u32, table: &[u8], out: &mut [u8]) -> usize
-    ensures { λ r. ⌜ Put (now (out .entry)) 0 (headLines (stamped stamp (now (table .entry)))) (now (out .exit)) r × (r ≤ headMost) ⌝ }
-{
-    let kind = forms::byte_at(table, 0);
-    let block = forms::byte_at(table, 2) + 256 * forms::byte_at(table, 3);
-    let network = forms::byte_at(table, 4);
-    let a = text_lines::put_number(b"stamp=", stamp as usize, out, 0);
-    let b = put_kind(kind, out, a);
-    let c = text_lines::put_number(b"network=", network, out, b);
-    text_lines::put_number(b"block=", block, out, c)
-}
-
-fn put_kind(kind: usize, out: &mut [u8], q: usize) -> usize
-    requires { ⌜ q ≤ headMost ⌝ }
-    ensures { λ r. ⌜ Put (now (out .entry)) q (kindLine kind) (now (out .exit)) r × (r ≤ q + 8) ⌝ }
-{
-    if kind == forms::TI {
-        return text_lines::put(b"kind=TI\n", out, q);
-    }
-    text_lines::put(b"kind=LI\n", out, q)
-}
-
-// The table's lines from a place on, where there is room for them.
-fn put_table(table: &[u8], out: &mut [u8], at: usize) -> usize
-    requires { ⌜ Judged (now table) × (length (now out) ≡ entryMost) × (at ≤ headMost) ⌝ }
-    ensures { λ r. ⌜ Put (now (out .entry)) at (descriptorLinesOf (tableIn (now (table .entry)))) (now (out .exit)) r × (r + 1 ≤ entryMost) ⌝ }
-{
-    match listing::list_descriptors(table, &mut out[at..]) {
-        Answer::Done(n) => at + n,
-        Answer::Refused(_) => at,
+    match sheet_entry::write_entry(stamp, table, &mut text) {
+        Answer::Refused(why) => Answer::Refused(why),
+        Answer::Done(n) => joining::join(sheet, &text[..n], out),
     }
 }

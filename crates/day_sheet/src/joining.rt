@@ -15,8 +15,8 @@ ghost use Rattle.day_sheet.specs.Internal.{Halfway, Lies, secondStays, t
 use crate::BYTES;
 use crate::ENTRIES;
 use crate::entries;
-use crate::entries::Found;
 use answer::Answer;
+use sheet_entry::Found;
 
 // How many entries, and how long they are in all.
 pub struct Size {
@@ -162,8 +162,8 @@ fn next_turn(first: &[u8], i: usize, second: &[u8], j: usize) -> Turn
     requires { ⌜ Halfway (now first) i × Halfway (now second) j ⌝ }
     ensures { λ r. ⌜ r ≡ turnOf (drop i (now (first .entry))) (drop j (now (second .entry))) ⌝ }
 {
-    let a = entries::entry_at(first, i, 0);
-    let b = entries::entry_at(second, j, 0);
+    let a = sheet_entry::entry_at(first, i, 0);
+    let b = sheet_entry::entry_at(second, j, 0);
     if !b.more {
         return Turn {
             first: a.long,

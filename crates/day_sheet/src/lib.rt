@@ -2,7 +2,6 @@
 pub mod adding;
 mod entries;
 pub mod joining;
-mod lines;
 
 pub use adding::add;
 pub use joining::join;

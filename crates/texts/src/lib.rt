@@ -56,7 +56,7 @@ fn one_if(ends: bool, after: bool) -> usize
 }
 
 // Whether the text begins with the part.
-fn begins(text: &[u8], part: &[u8]) -> bool
+pub fn begins(text: &[u8], part: &[u8]) -> bool
     ensures { λ r. ⌜ r ≡ beginsWith (now (part .entry)) (now (text .entry)) ⌝ }
 {
     let mut i = 0;

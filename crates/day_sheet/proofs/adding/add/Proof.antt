@@ -1,58 +1,95 @@
--- `day_sheet::adding::add` meets its contract: the form's rules first, then those of joining. Assumes nothing.
+-- `day_sheet::adding::add` meets its contract: the form's rules first, then those of joining with the entry's text. Assumes nothing.
 use borrow.Author.Needs.{needs}
-use mathlib.Core.Path.{_∙_, sym}
+use mathlib.Core.Path.{_∙_, ap}
 use mathlib.Core.List.{List}
-use Prim.Native.Nat.{ℕ}
+use Prim.Native.Nat.{ℕ, _≤_}
+use native.Mathlib.Omega.{arith}
+use lib.ListN.{length, replicate, length-replicate}
 use denote.Ref.{now}
-use Rattle.listing.proofs.Room.{judged-form}
-use Rattle.day_sheet.proofs.Added.{add-refused, add-goes-on}
+use Rattle.answer.specs.Writing.{answered, left}
+use Rattle.sheet_entry.specs.Entries.{stampMost, entryText}
+use Rattle.sheet_entry.specs.Writing.{stamped}
+use Rattle.sheet_entry.specs.Internal.{entryMost}
+use Rattle.sheet_entry.proofs.Spelling.{entry-most, entry-answers}
+use Rattle.day_sheet.specs.Entries.{sheetText, byteLimit}
+use Rattle.day_sheet.specs.Calls.{joinRules, joinResult}
+use Rattle.day_sheet.proofs.Added.{all-held, add-answers, add-leaves, add-refused, add-goes-on}
 use Rattle.day_sheet.proofs.adding.add.Statement.{statement}
 use Rattle.day_sheet.proofs.adding.add.Tie as tie
 
-judge-form-requires : tie.Need-judge-form-requires
-judge-form-requires c κs = search needs
+slice-aggregate-write-entry : tie.Need-slice-aggregate-write-entry
+slice-aggregate-write-entry c = search needs
+
+write-entry-requires : tie.Need-write-entry-requires
+write-entry-requires c κs = search needs
 
 enum-known-why : tie.Need-enum-known-why
 enum-known-why c = search needs
 
-enum-told : tie.Need-enum-told
-enum-told c = search needs
+enum-known-n : tie.Need-enum-known-n
+enum-known-n c = search needs
 
-add-judged-requires : tie.Need-add-judged-requires
-add-judged-requires c κs =
-    let f : List ℕ = now (c .before .before .before .before .before .before .before .args .table) in
-    let j = judged-form f _ _ (sym (c .before .before .before .judge-form .ensures) ∙ c .before .enum-told .given .1) in
-    record { whole = j .0; fit = j .1 }
+array-share-prefix-text : tie.Need-array-share-prefix-text
+array-share-prefix-text c =
+    let s = c .before .before .before .before .before .before .before .before .before in
+    let w = c .before .before .before .before .write-entry in
+    all-held (now (s .args .table)) (entryText (stamped (s .args .stamp) (now (s .args .table)))) (replicate entryMost 0) (w .ensures .0) (c .before .n .given .1) (w .ensures .1) .3
+
+slice-aggregate-join : tie.Need-slice-aggregate-join
+slice-aggregate-join c =
+    let s = c .before .before .before .before .before .before .before .before .before .before in
+    let w = c .before .before .before .before .before .write-entry in
+    all-held (now (s .args .table)) (entryText (stamped (s .args .stamp) (now (s .args .table)))) (replicate entryMost 0) (w .ensures .0) (c .before .before .n .given .1) (w .ensures .1) .2
+
+join-requires : tie.Need-join-requires
+join-requires c κs = search needs
 
 returns : tie.Need-returns
 returns c =
-    let s = c .before .before .before .before .before .before .before in
-    let sheet : List ℕ = now (s .args .sheet) in
-    let f : List ℕ = now (s .args .table) in
-    let old : List ℕ = now (s .args .out) in
-    add-refused (s .args .stamp) sheet f old _ (c .before .before .before .judge-form .ensures) (c .before .why .given .1)
+    let s = c .before .before .before .before .before .before .before .before .before in
+    let h : s .args .stamp ≤ stampMost = search needs in
+    let l = length-replicate {A = ℕ} entryMost 0 in
+    let w = c .before .before .before .before .write-entry in
+    add-refused (s .args .stamp) (now (s .args .sheet)) (now (s .args .table)) (now (s .args .out)) _
+    (w .ensures .0 ∙ entry-answers (s .args .stamp) (now (s .args .table)) (replicate entryMost 0) h (omega arith)) (c .before .why .given .1)
 
 same-length : tie.Need-same-length
 same-length c = search needs
 
 returns-2 : tie.Need-returns-2
 returns-2 c =
-    let s = c .before .before .before .before .before .before .before .before .before .before in
+    let s = c .before .before .before .before .before .before .before .before .before .before .before .before .before .before in
     let sheet : List ℕ = now (s .args .sheet) in
     let f : List ℕ = now (s .args .table) in
     let old : List ℕ = now (s .args .out) in
-    let p = add-goes-on (s .args .stamp) sheet f old _ (c .before .before .before .before .before .before .judge-form .ensures) (c .before .before .before .before .enum-told .given .1) in
-    let e = c .before .before .add-judged .ensures in
-    (e .0 ∙ p .0, e .1 ∙ p .1)
+    let h : s .args .stamp ≤ stampMost = search needs in
+    let w = c .before .before .before .before .before .before .before .before .before .write-entry in
+    let n = c .before .before .before .before .before .before .n in
+    let k = all-held (now (s .args .table)) (entryText (stamped (s .args .stamp) (now (s .args .table)))) (replicate entryMost 0) (w .ensures .0) (n .given .1) (w .ensures .1) in
+    let l = length-replicate {A = ℕ} entryMost 0 in
+    let long : length (entryText (stamped (s .args .stamp) f)) ≤ byteLimit = omega (arith, entry-most (s .args .stamp) f h (k .0)) in
+    let p =
+    add-goes-on (s .args .stamp) sheet f old _ (w .ensures .0 ∙ entry-answers (s .args .stamp) f (replicate entryMost 0) h (omega arith)) (n .given .1) in
+    let e = c .before .before .join .ensures in (
+      e .0
+          ∙ ap (λ (x : List ℕ). answered (joinRules sheet x) (sheetText (joinResult sheet x)) old) (k .1)
+          ∙ add-answers (s .args .stamp) sheet f h (k .0) long old ∙ p .0,
+      e .1
+          ∙ ap (λ (x : List ℕ). left (joinRules sheet x) (sheetText (joinResult sheet x)) old) (k .1)
+          ∙ add-leaves (s .args .stamp) sheet f h (k .0) long old ∙ p .1,
+    )
 
 pub add-spec : {M : Type 1} → statement M
 add-spec =
     tie.close
     (tie.spec
-    judge-form-requires
+    slice-aggregate-write-entry
+    write-entry-requires
     enum-known-why
-    enum-told
-    add-judged-requires
+    enum-known-n
+    array-share-prefix-text
+    slice-aggregate-join
+    join-requires
     returns
     same-length
     returns-2)

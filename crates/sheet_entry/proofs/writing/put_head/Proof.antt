@@ -1,0 +1,94 @@
+-- `sheet_entry::writing::put_head` meets its contract: four lines, one after the other. Assumes nothing.
+use borrow.Author.Needs.{needs}
+use mathlib.Core.Path.{ap}
+use mathlib.Core.List.{List}
+use Prim.Native.Nat.{ℕ}
+use native.Mathlib.Omega.{arith}
+use lib.ListN.{length}
+use denote.Ref.{now}
+use Rattle.text_lines.proofs.Printed.{then, put-as, put-there}
+use Rattle.sheet_entry.proofs.Spelling.{head-of, head-most}
+use Rattle.sheet_entry.proofs.writing.put_head.Statement.{statement}
+use Rattle.sheet_entry.proofs.writing.put_head.Tie as tie
+
+byte-at-requires : tie.Need-byte-at-requires
+byte-at-requires c κs = search needs
+
+byte-at-requires-2 : tie.Need-byte-at-requires-2
+byte-at-requires-2 c κs = search needs
+
+byte-at-requires-3 : tie.Need-byte-at-requires-3
+byte-at-requires-3 c κs = search needs
+
+mul-block : tie.Need-mul-block
+mul-block c = search needs
+
+add-block : tie.Need-add-block
+add-block c = search needs
+
+byte-at-requires-4 : tie.Need-byte-at-requires-4
+byte-at-requires-4 c κs = search needs
+
+slice-aggregate-put-number : tie.Need-slice-aggregate-put-number
+slice-aggregate-put-number c = search needs
+
+put-number-requires : tie.Need-put-number-requires
+put-number-requires c κs = search needs
+
+put-kind-requires : tie.Need-put-kind-requires
+put-kind-requires c κs = search needs
+
+slice-aggregate-put-number-2 : tie.Need-slice-aggregate-put-number-2
+slice-aggregate-put-number-2 c = search needs
+
+put-number-requires-2 : tie.Need-put-number-requires-2
+put-number-requires-2 c κs = search needs
+
+slice-aggregate-put-number-3 : tie.Need-slice-aggregate-put-number-3
+slice-aggregate-put-number-3 c = search needs
+
+put-number-requires-3 : tie.Need-put-number-requires-3
+put-number-requires-3 c κs = search needs
+
+same-length : tie.Need-same-length
+same-length c = search needs
+
+returns : tie.Need-returns
+returns c =
+    let kinded = c .before .before .before .before .before .before .before .before .before .before .before .before in
+    let s = kinded .before .before .before .before .before .before .before .before .before .before .before .before .before in
+    let f : List ℕ = now (s .args .table) in
+    let k = kinded .before .before .before .before .before .before .before .before .before .before .byte-at in
+    let a = kinded .before .before .before .before .before .before .before .before .before .byte-at2 in
+    let b = kinded .before .before .before .before .before .before .before .before .byte-at3 in
+    let n = kinded .before .before .before .before .before .before .before .byte-at4 in
+    let w = kinded .before .before .before .before .put-number in
+    let x = kinded .put-kind in
+    let y = c .before .before .before .before .before .before .before .put-number2 in
+    let z = c .before .before .put-number3 in
+    let h = head-of (s .args .stamp) f (k .result) (a .result) (b .result) (n .result) (k .ensures .0) (a .ensures .0) (b .ensures .0) (n .ensures .0) (a .ensures .1) (b .ensures .1) in
+    let p =
+    put-as h
+    (then (put-there (search needs) (w .ensures .0)) (then (x .ensures .0) (then (put-there (search needs) (y .ensures .0)) (put-there (search needs) (z .ensures .0))))) in
+    let m = head-most (s .args .stamp) (k .result) (n .result) (a .result) (b .result) (search needs) (n .ensures .1) (a .ensures .1) (b .ensures .1) in
+    (p, omega (arith, p .moved, m, ap length h))
+
+pub put-head-spec : {M : Type 1} → statement M
+put-head-spec =
+    tie.close
+    (tie.spec
+    byte-at-requires
+    byte-at-requires-2
+    byte-at-requires-3
+    mul-block
+    add-block
+    byte-at-requires-4
+    slice-aggregate-put-number
+    put-number-requires
+    put-kind-requires
+    slice-aggregate-put-number-2
+    put-number-requires-2
+    slice-aggregate-put-number-3
+    put-number-requires-3
+    same-length
+    returns)

@@ -1,0 +1,45 @@
+-- What only private calls cite; nothing here needs to be believed.
+use mathlib.Core.Bool.{Bool, true, false}
+use mathlib.Core.List.{List}
+use mathlib.Core.Path.{_≡_}
+use Prim.Native.Nat.{ℕ, _+_, _*_}
+use lib.Dec.{leb}
+use lib.ListN.{length, getD}
+use Rattle.laws.specs.Pick.{pick, both}
+use Rattle.forms.specs.Tables.{numbered, per, fits}
+use Rattle.forms.specs.Form.{form, tableIn}
+use Rattle.listing_reader.specs.declared.Summary.{Summary}
+use Rattle.listing_reader.specs.Many.{Many}
+use Rattle.sheet_entry.specs.declared.Head.{Head}
+
+-- whether a table with this number and these counts can be written
+abbrev pub countsFit : ℕ → ℕ → Summary → Bool
+countsFit kind block t =
+    both (numbered block)
+    (both (leb (t .count) 63) (pick (t .over) false (leb (58 + 10 * t .count + 24 * (per kind * t .entries)) 8184)))
+
+abbrev pub headOf : Many ℕ → Head
+headOf m =
+    record {
+      stamp = getD (m .items) 0 0;
+      kind = getD (m .items) 1 0;
+      network = getD (m .items) 2 0;
+      block = getD (m .items) 3 0;
+      fine = m .fine;
+      long = m .long;
+    }
+
+-- ---- the text of one entry
+
+-- a form that can be written
+pub record Judged (f : List ℕ) : Type 0 where
+  pub whole : length f ≡ length (form (tableIn f))
+  pub fit : fits (tableIn f) ≡ true
+
+-- no entry is longer: a head, 63 descriptors of 14 bytes and 312 languages of 16, which are 8,176 bits of 8,184, and an empty line
+abbrev pub entryMost : ℕ
+entryMost = 5924
+
+-- no head is longer: lines of 17, 8, 12 and 12 bytes
+abbrev pub headMost : ℕ
+headMost = 49

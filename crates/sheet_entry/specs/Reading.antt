@@ -1,0 +1,68 @@
+-- The entry that bytes say, or the line at fault (SCOPE 20.6, 20.7).
+use mathlib.Core.Bool.{Bool, true, false}
+use mathlib.Core.List.{List, [], _∷_}
+use Prim.Native.Nat.{ℕ, suc, _+_}
+use lib.Dec.{eqb, leb}
+use lib.ListN.{length, getD, drop}
+use Rattle.laws.specs.Pick.{pick, both}
+use Rattle.texts.specs.Texts.{beginsWith}
+use Rattle.forms.specs.Tables.{Descriptor, fits}
+use Rattle.listing.specs.Lines.{networkName, blockName}
+use Rattle.listing_reader.specs.declared.lines.Line.{Line}
+use Rattle.listing_reader.specs.Lines.{numberAt, kindAt}
+use Rattle.listing_reader.specs.Many.{Step, item, stop, Many, none, behind}
+use Rattle.listing_reader.specs.Reading.{descriptorsOf}
+use Rattle.sheet_entry.specs.declared.Found.{Found}
+use Rattle.sheet_entry.specs.Entries.{Entry, keyOf, headLines, stampName, stampMost, emptyLine}
+
+-- lines that must all stand there, one after the other: their values, or where the one stands that isn't in form
+unfoldable pub linesAt : List (List ℕ → Line) → List ℕ → Many ℕ
+linesAt [] bytes = none true 0
+linesAt (read ∷ reads) bytes =
+    let l = read bytes in
+    pick (eqb (l .long) 0) (none false 0) (behind (l .value) (l .long) (linesAt reads (drop (l .long) bytes)))
+
+-- stamp, kind, network, block
+abbrev pub headReads : List (List ℕ → Line)
+headReads = numberAt stampName stampMost ∷ kindAt ∷ numberAt networkName 255 ∷ numberAt blockName 65535 ∷ []
+
+-- the entry of their values and of its descriptors
+abbrev pub entryFrom : List ℕ → List Descriptor → Entry
+entryFrom head ds =
+    record {
+      stamp = getD head 0 0;
+      table = record { kind = getD head 1 0; copyright = 0; block = getD head 3 0; network = getD head 2 0; descriptors = ds };
+    }
+
+-- keys rise as numbers: an entry's key isn't below `least`
+abbrev pub rises : ℕ → Entry → Bool
+rises least e = leb least (keyOf e)
+
+-- the entry's empty line is at fault, too, where its key doesn't rise or its table can't be written
+unfoldable pub ended : ℕ → List ℕ → Entry → ℕ → Step Entry
+ended least bytes e at =
+    pick (both (beginsWith emptyLine (drop at bytes)) (both (fits (e .table)) (rises least e))) (item e (at + 1)) (stop false at)
+
+unfoldable pub withTable : ℕ → List ℕ → Many ℕ → Many Descriptor → Step Entry
+withTable least bytes head ds =
+    pick (ds .fine) (ended least bytes (entryFrom (head .items) (ds .items)) (head .long + ds .long))
+    (stop false (head .long + ds .long))
+
+unfoldable pub withHead : ℕ → List ℕ → Many ℕ → Step Entry
+withHead least bytes head =
+    pick (head .fine) (withTable least bytes head (descriptorsOf (getD (head .items) 1 0) (drop (head .long) bytes)))
+    (stop false (head .long))
+
+-- no entry begins where the sheet ends
+unfoldable pub entryAt : ℕ → List ℕ → Step Entry
+entryAt least [] = stop true 0
+entryAt least (b ∷ bytes) = withHead least (b ∷ bytes) (linesAt headReads (b ∷ bytes))
+
+-- the least key that may follow an entry
+abbrev pub above : ℕ → Entry → ℕ
+above least e = suc (keyOf e)
+
+-- what is told of it: how long it is, its key, its stamp, and how long its head is
+unfoldable pub foundOf : Step Entry → Found
+foundOf (item e n) = record { more = true; fine = true; long = n; key = keyOf e; stamp = e .stamp; head = length (headLines e) }
+foundOf (stop b n) = record { more = false; fine = b; long = n; key = 0; stamp = 0; head = 0 }
