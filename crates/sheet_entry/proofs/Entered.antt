@@ -2,10 +2,10 @@
 use mathlib.Core.Path.{_≡_, _∙_, refl, sym, ap, subst}
 use mathlib.Core.Bool.{Bool, true, false}
 use mathlib.Core.List.{List, [], _∷_, _++_, append-assoc}
-use Prim.Native.Nat.{ℕ, zero, suc, _+_, _*_, _^_, _≤_}
-use native.Mathlib.Nat.{add-zero, add-assoc}
+use Prim.Native.Nat.{ℕ, zero, suc, _+_, _*_, _^_, _≤_, _<_}
+use native.Mathlib.Nat.{add-assoc}
 use native.Mathlib.Omega.{arith}
-use borrow.Author.Tests.{ne-eqb, eqb-true, eqb-false, le-leb, leb-true, ltb-true}
+use borrow.Author.Tests.{eqb-true, le-leb, leb-true, ltb-true}
 use lib.Dec.{eqb, leb, ltb}
 use lib.ListN.{length, getD, drop, length-append, length-drop}
 use lib.Seq.{drop-drop, drop-append-seam, drop-append-add}
@@ -15,134 +15,18 @@ use Rattle.fields.specs.Fields.{alike, fitting}
 use Rattle.texts.specs.Texts.{beginsWith}
 use Rattle.forms.specs.Tables.{Descriptor, TI, LI, known, per, entries, loops, entire, fits}
 use Rattle.forms.proofs.Sendable.{sendable, Sound, parted}
-use Rattle.text_lines.specs.Lines.{numberLine}
 use Rattle.listing.specs.Lines.{kindTI, kindLI, kindLine, networkName, blockName, descriptorLines, descriptorLinesOf}
-use Rattle.listing_reader.specs.declared.lines.Line.{Line}
-use Rattle.sheet_entry.specs.Entries.{Entry, keyOf, stampName, headLines, tableLines, emptyLine, entryText, stampMost, written}
+use Rattle.sheet_entry.specs.Entries.{Entry, keyOf, stampName, numberHead, kindHead, keyLines, heading, headValues, spelledBy, headLines, tableLines, emptyLine, entryText, stampMost, written}
 use Rattle.listing_reader.specs.Lines.{lineOf, numberAt, kindAt}
-use Rattle.listing_reader.specs.Many.{Step, item, stop, Many, none as row-none, behind}
+use Rattle.listing_reader.specs.Many.{Step, item, stop, Many, behind}
 use Rattle.listing_reader.specs.Reading.{same, flat, wordsAt, descriptorAt, descriptorsOf}
-use Rattle.sheet_entry.specs.Reading.{linesAt, headReads, entryFrom, rises, ended, withTable, withHead, entryAt, above}
+use Rattle.sheet_entry.specs.Reading.{linesAt, kindIn, networkIn, blockIn, entryFrom, rises, ended, withTable, withHead, entryAt, above}
 use Rattle.listing_reader.proofs.Spells.{begins-with, number-sound, number-back, kind-sound, kind-back-ti, kind-back-li}
 use Rattle.listing_reader.proofs.Rows.{Stepping, Each, none, more, Seen, nothing, fault, read, stepping}
-use Rattle.listing_reader.proofs.Walks.{number-within, kind-within}
+use Rattle.sheet_entry.proofs.Heading.{Faithful, Faithfuls, no-lines, and-line, Fit, no-values, and-value, Told, lines-within, lines-told, lines-read}
 use Rattle.listing_reader.proofs.Rowed.{number-some, text-within, spelled-then, Words, language, subtitle, Described, descriptor-lines, table-row, table-within, table-read}
 
--- ---- lines that must all stand there
-
-data Kept : List (List ℕ → Line) → Type 0 where
-  no-lines : Kept []
-  and-line : {r : List ℕ → Line} {rs : List (List ℕ → Line)} → ((bytes : List ℕ) → r bytes .long ≤ length bytes) → Kept rs → Kept (r ∷ rs)
-
-lines-kept : {rs : List (List ℕ → Line)} → Kept rs → (bytes : List ℕ) → linesAt rs bytes .long ≤ length bytes
-unfolding linesAt
-lines-kept no-lines bytes = omega arith
-lines-kept (and-line {r} {rs} k ks) bytes =
-    go (eqb (r bytes .long) 0) (k bytes) (lines-kept ks (drop (r bytes .long) bytes))
-  where
-    go :
-        (z : Bool) → r bytes .long ≤ length bytes → linesAt rs (drop (r bytes .long) bytes) .long ≤ length (drop (r bytes .long) bytes)
-        → pick z (row-none false 0) (behind (r bytes .value) (r bytes .long) (linesAt rs (drop (r bytes .long) bytes))) .long ≤ length bytes
-    go true a b = omega arith
-    go false a b = omega (arith, simp length-drop at b)
-
-pub head-within : (bytes : List ℕ) → linesAt headReads bytes .long ≤ length bytes
-head-within =
-    lines-kept
-    (and-line (number-within stampName stampMost) (and-line kind-within (and-line (number-within networkName 255) (and-line (number-within blockName 65535) no-lines))))
-
--- the first of them is in form, and the others follow it
-lines-on :
-    (r : List ℕ → Line) (rs : List (List ℕ → Line)) (bytes : List ℕ) → linesAt (r ∷ rs) bytes .fine ≡ true
-    → (r bytes .long ≡ 0 → ⊥)
-    × (linesAt (r ∷ rs) bytes ≡ behind (r bytes .value) (r bytes .long) (linesAt rs (drop (r bytes .long) bytes)))
-    × (linesAt rs (drop (r bytes .long) bytes) .fine ≡ true)
-unfolding linesAt
-lines-on r rs bytes h = go (eqb (r bytes .long) 0) refl h
-  where
-    m : Many ℕ
-    m = behind (r bytes .value) (r bytes .long) (linesAt rs (drop (r bytes .long) bytes))
-
-    go :
-        (z : Bool) → eqb (r bytes .long) 0 ≡ z → pick z (row-none false 0) m .fine ≡ true
-        → (r bytes .long ≡ 0 → ⊥) × (pick z (row-none false 0) m ≡ m) × (linesAt rs (drop (r bytes .long) bytes) .fine ≡ true)
-    go true e f = let z : _≡_ {A = ℕ} 0 1 = cc in absurd (omega arith)
-    go false e f = (eqb-false (r bytes .long) 0 e, refl, f)
-
-lines-back :
-    (r : List ℕ → Line) (rs : List (List ℕ → Line)) (v : ℕ) (text rest : List ℕ) → r (text ++ rest) ≡ lineOf true v text → 1 ≤ length text
-    → linesAt (r ∷ rs) (text ++ rest) ≡ behind v (length text) (linesAt rs rest)
-unfolding linesAt
-lines-back r rs v text rest e h = rw (e, ne-eqb (length text) 0 (λ z. omega arith), drop-append-seam text rest)
-
-pub no-more : (bytes : List ℕ) → linesAt [] bytes ≡ row-none true 0
-unfolding linesAt
-no-more bytes = refl
-
 -- ---- the head of an entry
-
-abbrev headText : ℕ → ℕ → ℕ → ℕ → List ℕ
-headText stamp kind network block =
-    numberLine stampName stamp ++ (kindLine kind ++ (numberLine networkName network ++ numberLine blockName block))
-
-pub record Headed (bytes : List ℕ) (h : Many ℕ) : Type 0 where
-  pub stamp : ℕ
-  pub kind : ℕ
-  pub network : ℕ
-  pub block : ℕ
-  pub values : h .items ≡ stamp ∷ kind ∷ network ∷ block ∷ []
-  pub stamp-fits : stamp ≤ stampMost
-  pub kind-known : known kind ≡ true
-  pub network-fits : network ≤ 255
-  pub block-fits : block ≤ 65535
-  pub there : bytes ≡ headText stamp kind network block ++ drop (h .long) bytes
-  pub size : h .long ≡ length (headText stamp kind network block)
-
-pub headed : (bytes : List ℕ) → linesAt headReads bytes .fine ≡ true → Headed bytes (linesAt headReads bytes)
-headed bytes f =
-    let r₁ = numberAt stampName stampMost in
-    let r₃ = numberAt networkName 255 in
-    let r₄ = numberAt blockName 65535 in
-    let l₁ = r₁ bytes in
-    let o₁ = lines-on r₁ (kindAt ∷ r₃ ∷ r₄ ∷ []) bytes f in
-    let b₁ = drop (l₁ .long) bytes in
-    let l₂ = kindAt b₁ in
-    let o₂ = lines-on kindAt (r₃ ∷ r₄ ∷ []) b₁ (o₁ .2) in
-    let b₂ = drop (l₂ .long) b₁ in
-    let l₃ = r₃ b₂ in
-    let o₃ = lines-on r₃ (r₄ ∷ []) b₂ (o₂ .2) in
-    let b₃ = drop (l₃ .long) b₂ in
-    let l₄ = r₄ b₃ in
-    let o₄ = lines-on r₄ [] b₃ (o₃ .2) in
-    let s₁ = number-sound stampName stampMost bytes (o₁ .0) in
-    let s₂ = kind-sound b₁ (o₂ .0) in
-    let s₃ = number-sound networkName 255 b₂ (o₃ .0) in
-    let s₄ = number-sound blockName 65535 b₃ (o₄ .0) in
-    let t₁ = numberLine stampName (l₁ .value) in
-    let t₂ = kindLine (l₂ .value) in
-    let t₃ = numberLine networkName (l₃ .value) in
-    let t₄ = numberLine blockName (l₄ .value) in
-    let m₃ = spelled-then t₃ t₄ b₂ (l₃ .long) (l₄ .long) (s₃ .1 .there) (s₄ .1 .there) in
-    let m₂ = spelled-then t₂ (t₃ ++ t₄) b₁ (l₂ .long) (l₃ .long + l₄ .long) (s₂ .1 .there) m₃ in
-    let m₁ = spelled-then t₁ (t₂ ++ (t₃ ++ t₄)) bytes (l₁ .long) (l₂ .long + (l₃ .long + l₄ .long)) (s₁ .1 .there) m₂ in
-    let e : linesAt headReads bytes
-    ≡ record { items = l₁ .value ∷ l₂ .value ∷ l₃ .value ∷ l₄ .value ∷ []; fine = true; long = l₁ .long + (l₂ .long + (l₃ .long + (l₄ .long + 0))) } =
-    o₁ .1 ∙ ap (behind (l₁ .value) (l₁ .long)) (o₂ .1 ∙ ap (behind (l₂ .value) (l₂ .long)) (o₃ .1 ∙ ap (behind (l₃ .value) (l₃ .long)) (o₄ .1 ∙ (unfold linesAt in refl)))) in
-    let long : linesAt headReads bytes .long ≡ l₁ .long + (l₂ .long + (l₃ .long + l₄ .long)) =
-    ap (λ (m : Many ℕ). m .long) e ∙ (rw add-zero) in
-    record {
-      stamp = l₁ .value;
-      kind = l₂ .value;
-      network = l₃ .value;
-      block = l₄ .value;
-      values = ap (λ (m : Many ℕ). m .items) e;
-      stamp-fits = s₁ .0;
-      kind-known = s₂ .0;
-      network-fits = s₃ .0;
-      block-fits = s₄ .0;
-      there = rw long m₁;
-      size = rw (long, length-append, length-append, length-append) (omega (arith, s₁ .1 .size, s₂ .1 .size, s₃ .1 .size, s₄ .1 .size));
-    }
 
 kind-back : (kind : ℕ) (rest : List ℕ) → known kind ≡ true → kindAt (kindLine kind ++ rest) ≡ lineOf true kind (kindLine kind)
 kind-back kind rest k = go (eqb kind TI) refl
@@ -159,29 +43,56 @@ kind-some kind = go (eqb kind TI)
     go true = omega arith
     go false = omega arith
 
-pub head-back :
-    (stamp kind network block : ℕ) (rest : List ℕ) → stamp ≤ stampMost → known kind ≡ true → network ≤ 255 → block ≤ 65535
-    → linesAt headReads (headText stamp kind network block ++ rest)
-    ≡ record { items = stamp ∷ kind ∷ network ∷ block ∷ []; fine = true; long = length (headText stamp kind network block) }
-head-back stamp kind network block rest a b c d =
-    let r₁ = numberAt stampName stampMost in
-    let r₃ = numberAt networkName 255 in
-    let r₄ = numberAt blockName 65535 in
-    let t₁ = numberLine stampName stamp in
-    let t₂ = kindLine kind in
-    let t₃ = numberLine networkName network in
-    let t₄ = numberLine blockName block in
-    let split : headText stamp kind network block ++ rest ≡ t₁ ++ (t₂ ++ (t₃ ++ (t₄ ++ rest))) = simp append-assoc in
-    let back = number-back stampName stampMost stamp (t₂ ++ (t₃ ++ (t₄ ++ rest))) a (omega arith) in
-    let e₁ = lines-back r₁ (kindAt ∷ r₃ ∷ r₄ ∷ []) stamp t₁ (t₂ ++ (t₃ ++ (t₄ ++ rest))) back (number-some stampName stamp) in
-    let e₂ = lines-back kindAt (r₃ ∷ r₄ ∷ []) kind t₂ (t₃ ++ (t₄ ++ rest)) (kind-back kind (t₃ ++ (t₄ ++ rest)) b) (kind-some kind) in
-    let e₃ = lines-back r₃ (r₄ ∷ []) network t₃ (t₄ ++ rest) (number-back networkName 255 network (t₄ ++ rest) c (omega arith)) (number-some networkName network) in
-    let e₄ = lines-back r₄ [] block t₄ rest (number-back blockName 65535 block rest d (omega arith)) (number-some blockName block) in
-    let long : length t₁ + (length t₂ + (length t₃ + (length t₄ + 0))) ≡ length (headText stamp kind network block) =
-    rw (length-append, length-append, length-append, add-zero) in
-    ap (linesAt headReads) split ∙ e₁
-    ∙ ap (behind stamp (length t₁)) (e₂ ∙ ap (behind kind (length t₂)) (e₃ ∙ ap (behind network (length t₃)) (e₄ ∙ ap (behind block (length t₄)) (no-more rest))))
-    ∙ ap (λ (n : ℕ). record { items = stamp ∷ kind ∷ network ∷ block ∷ []; fine = true; long = n }) long
+number-faithful : (name : List ℕ) (most : ℕ) → most < 10 ^ 10 → Faithful (numberHead name most) (λ v. leb v most)
+number-faithful name most m =
+    record {
+      sound = λ bytes h. let s = number-sound name most bytes h in (le-leb (numberAt name most bytes .value) most (s .0), s .1);
+      back = λ v rest f. number-back name most v rest (leb-true v most f) m;
+      some = number-some name;
+    }
+
+kind-faithful : Faithful kindHead known
+kind-faithful = record { sound = kind-sound; back = kind-back; some = kind-some }
+
+abbrev pub headFits : List (ℕ → Bool)
+headFits = (λ v. leb v stampMost) ∷ known ∷ (λ v. leb v 255) ∷ (λ v. leb v 65535) ∷ []
+
+key-faithful : Faithfuls keyLines (drop 1 headFits)
+key-faithful =
+    and-line kind-faithful (and-line (number-faithful networkName 255 (omega arith)) (and-line (number-faithful blockName 65535 (omega arith)) no-lines))
+
+head-faithful : Faithfuls heading headFits
+head-faithful = and-line (number-faithful stampName stampMost (omega arith)) key-faithful
+
+pub key-within : (bytes : List ℕ) → linesAt keyLines bytes .long ≤ length bytes
+key-within = lines-within key-faithful
+
+pub head-within : (bytes : List ℕ) → linesAt heading bytes .long ≤ length bytes
+head-within = lines-within head-faithful
+
+abbrev pub Headed : List ℕ → Many ℕ → Type 0
+Headed = Told heading headFits
+
+pub headed : (bytes : List ℕ) → linesAt heading bytes .fine ≡ true → Headed bytes (linesAt heading bytes)
+headed = lines-told head-faithful
+
+-- the values that fit are those of an entry
+pub record Values (vs : List ℕ) : Type 0 where
+  pub stamp-fits : getD vs 0 0 ≤ stampMost
+  pub kind-known : known (kindIn vs) ≡ true
+  pub network-fits : networkIn vs ≤ 255
+  pub block-fits : blockIn vs ≤ 65535
+  pub all : (ds : List Descriptor) → headValues (entryFrom vs ds) ≡ vs
+
+pub values-of : {vs : List ℕ} → Fit headFits vs → Values vs
+values-of (and-value {v = s} a (and-value {v = k} b (and-value {v = n} c (and-value {v = m} d no-values)))) =
+    record {
+      stamp-fits = leb-true s stampMost a;
+      kind-known = b;
+      network-fits = leb-true n 255 c;
+      block-fits = leb-true m 65535 d;
+      all = λ ds. refl;
+    }
 
 -- ---- the words of a descriptor that can be sent, entry by entry
 
@@ -239,21 +150,25 @@ pub record Standing (least : ℕ) (e : Entry) : Type 0 where
 abbrev pub textOf : ℕ → Entry → List ℕ
 textOf least e = entryText e
 
+head-some : (e : Entry) → 1 ≤ length (spelledBy heading (headValues e))
+unfolding spelledBy
+head-some e = rw length-append (omega (arith, number-some stampName (e .stamp)))
+
 entry-some : (least : ℕ) (e : Entry) → Standing least e → 1 ≤ length (textOf least e)
 unfolding entryText headLines
-entry-some least e p = rw (length-append, length-append (numberLine stampName (e .stamp))) (omega (arith, number-some stampName (e .stamp)))
+entry-some least e p = rw length-append (omega (arith, head-some e))
 
 -- the head lines are those of the entry
 pub head-lines :
     (h : Many ℕ) (ds : List Descriptor) {bytes : List ℕ} (r : Headed bytes h)
-    → headLines (entryFrom (h .items) ds) ≡ headText (r .stamp) (r .kind) (r .network) (r .block)
+    → headLines (entryFrom (h .items) ds) ≡ spelledBy heading (h .items)
 unfolding headLines
-head-lines h ds r = rw (r .values)
+head-lines h ds r = ap (spelledBy heading) (values-of (r .fit) .all ds)
 
 ended-seen :
     (least : ℕ) (bytes : List ℕ) (h : Many ℕ) (ds : Many Descriptor) → Headed bytes h
-    → drop (h .long) bytes ≡ descriptorLines (getD (h .items) 1 0) (ds .items) ++ drop (ds .long) (drop (h .long) bytes)
-    → ds .long ≡ length (descriptorLines (getD (h .items) 1 0) (ds .items)) → h .long + ds .long ≤ length bytes
+    → drop (h .long) bytes ≡ descriptorLines (kindIn (h .items)) (ds .items) ++ drop (ds .long) (drop (h .long) bytes)
+    → ds .long ≡ length (descriptorLines (kindIn (h .items)) (ds .items)) → h .long + ds .long ≤ length bytes
     → Seen (Standing least) (textOf least) bytes (ended least bytes (entryFrom (h .items) (ds .items)) (h .long + ds .long))
 unfolding ended entryText descriptorLinesOf written
 ended-seen least bytes h ds head lines size inside =
@@ -280,25 +195,25 @@ ended-seen least bytes h ds head lines size inside =
         (rw (add-assoc (h .long) (ds .long) 1) (spelled-then (headLines e) (tableLines e ++ emptyLine) bytes (h .long) (ds .long + 1) first both-lines)) in
         let long : at + 1 ≡ length (entryText e) =
         rw (length-append, length-append, head-lines h (ds .items) head) (omega (arith, head .size, size)) in
-        let stamped : getD (h .items) 0 0 ≤ stampMost = rw (head .values) (head .stamp-fits) in
+        let stamped = values-of (head .fit) .stamp-fits in
         read (record { rises = leb-true least (keyOf e) (b .1); can = rw (le-leb (getD (h .items) 0 0) stampMost stamped) (b .0) }) there long
 
 table-seen :
     (least : ℕ) (bytes : List ℕ) (h : Many ℕ) → Headed bytes h
-    → Seen (Standing least) (textOf least) bytes (withTable least bytes h (descriptorsOf (getD (h .items) 1 0) (drop (h .long) bytes)))
+    → Seen (Standing least) (textOf least) bytes (withTable least bytes h (descriptorsOf (kindIn (h .items)) (drop (h .long) bytes)))
 unfolding withTable
 table-seen least bytes h head = go (ds .fine) refl
   where
     kind : ℕ
-    kind = getD (h .items) 1 0
+    kind = kindIn (h .items)
 
     ds : Many Descriptor
-    ds = descriptorsOf (getD (h .items) 1 0) (drop (h .long) bytes)
+    ds = descriptorsOf (kindIn (h .items)) (drop (h .long) bytes)
 
     inside : h .long + ds .long ≤ length bytes
     inside =
         let a = table-within kind (drop (h .long) bytes) in
-        let b = text-within (headText (head .stamp) (head .kind) (head .network) (head .block)) bytes (h .long) (head .there) (head .size) in
+        let b = text-within (spelledBy heading (h .items)) bytes (h .long) (head .there) (head .size) in
         omega (arith, simp length-drop at a)
 
     go :
@@ -311,17 +226,17 @@ table-seen least bytes h head = go (ds .fine) refl
         let t = descriptor-lines kind (ds .items) in
         ended-seen least bytes h ds head (rw t at (r .there)) (rw t at (r .size)) inside
 
-head-seen : (least : ℕ) (bytes : List ℕ) → Seen (Standing least) (textOf least) bytes (withHead least bytes (linesAt headReads bytes))
+head-seen : (least : ℕ) (bytes : List ℕ) → Seen (Standing least) (textOf least) bytes (withHead least bytes (linesAt heading bytes))
 unfolding withHead
 head-seen least bytes = go (h .fine) refl
   where
     h : Many ℕ
-    h = linesAt headReads bytes
+    h = linesAt heading bytes
 
     go :
         (z : Bool) → h .fine ≡ z
         → Seen (Standing least) (textOf least) bytes
-        (pick z (withTable least bytes h (descriptorsOf (getD (h .items) 1 0) (drop (h .long) bytes))) (stop false (h .long)))
+        (pick z (withTable least bytes h (descriptorsOf (kindIn (h .items)) (drop (h .long) bytes))) (stop false (h .long)))
     go false e = fault (head-within bytes)
     go true e = table-seen least bytes h (headed bytes e)
 
@@ -339,33 +254,30 @@ entry-stepping = stepping above entryAt Standing textOf entry-seen entry-none en
 
 -- bytes that begin with a head aren't the end of the sheet
 pub entry-begins :
-    (least : ℕ) (bytes : List ℕ) → 1 ≤ length bytes → entryAt least bytes ≡ withHead least bytes (linesAt headReads bytes)
+    (least : ℕ) (bytes : List ℕ) → 1 ≤ length bytes → entryAt least bytes ≡ withHead least bytes (linesAt heading bytes)
 unfolding entryAt
 entry-begins least [] h = absurd (omega arith)
 entry-begins least (b ∷ bs) h = refl
 
 -- an entry of its values and its descriptors, behind its head
 made-back :
-    (least stamp kind network block : ℕ) (ds : List Descriptor) (rest : List ℕ) → stamp ≤ stampMost → known kind ≡ true → network ≤ 255
-    → block ≤ 65535 → Each same descriptorAt Described kind ds
-    → fits (entryFrom (stamp ∷ kind ∷ network ∷ block ∷ []) ds .table) ≡ true
-    → least ≤ keyOf (entryFrom (stamp ∷ kind ∷ network ∷ block ∷ []) ds)
-    → withHead least (headText stamp kind network block ++ (descriptorLines kind ds ++ (10 ∷ rest)))
-    (linesAt headReads (headText stamp kind network block ++ (descriptorLines kind ds ++ (10 ∷ rest))))
-    ≡ item (entryFrom (stamp ∷ kind ∷ network ∷ block ∷ []) ds)
-    (length (headText stamp kind network block) + length (descriptorLines kind ds) + 1)
+    (least : ℕ) (vs : List ℕ) (ds : List Descriptor) (rest : List ℕ) → Fit headFits vs → Each same descriptorAt Described (kindIn vs) ds
+    → fits (entryFrom vs ds .table) ≡ true → least ≤ keyOf (entryFrom vs ds)
+    → withHead least (spelledBy heading vs ++ (descriptorLines (kindIn vs) ds ++ (10 ∷ rest)))
+    (linesAt heading (spelledBy heading vs ++ (descriptorLines (kindIn vs) ds ++ (10 ∷ rest))))
+    ≡ item (entryFrom vs ds) (length (spelledBy heading vs) + length (descriptorLines (kindIn vs) ds) + 1)
 unfolding withHead withTable ended beginsWith
-made-back least stamp kind network block ds rest a b c d each f r =
-    let head = headText stamp kind network block in
-    let lines = descriptorLines kind ds in
+made-back least vs ds rest fit each f r =
+    let head = spelledBy heading vs in
+    let lines = descriptorLines (kindIn vs) ds in
     rw (
-      head-back stamp kind network block (lines ++ (10 ∷ rest)) a b c d,
+      lines-read head-faithful vs (lines ++ (10 ∷ rest)) fit,
       drop-append-seam head (lines ++ (10 ∷ rest)),
-      table-read kind ds rest each,
+      table-read (kindIn vs) ds rest each,
       drop-append-add head (lines ++ (10 ∷ rest)) (length lines),
       drop-append-seam lines (10 ∷ rest),
       f,
-      le-leb least (keyOf (entryFrom (stamp ∷ kind ∷ network ∷ block ∷ []) ds)) r,
+      le-leb least (keyOf (entryFrom vs ds)) r,
     )
 
 pub entry-back :
@@ -376,9 +288,9 @@ entry-back least e rest p =
     let a = both-true (leb (e .stamp) stampMost) _ (p .can) in
     let b = both-true (eqb (t .copyright) 0) _ (a .1) in
     let s = sendable t (b .1) in
-    let head = headText (e .stamp) (t .kind) (t .network) (t .block) in
+    let head = spelledBy heading (headValues e) in
     let lines = descriptorLines (t .kind) (t .descriptors) in
-    let same-entry : entryFrom (e .stamp ∷ t .kind ∷ t .network ∷ t .block ∷ []) (t .descriptors) ≡ e =
+    let same-entry : entryFrom (headValues e) (t .descriptors) ≡ e =
     ap
     (λ (c : ℕ). record {
       stamp = e .stamp;
@@ -387,12 +299,13 @@ entry-back least e rest p =
     (sym (eqb-true (t .copyright) 0 (b .0))) in
     let split : entryText e ++ rest ≡ head ++ (lines ++ (10 ∷ rest)) =
     append-assoc head (lines ++ emptyLine) rest ∙ ap (λ (x : List ℕ). head ++ x) (append-assoc lines emptyLine rest) in
-    let some : 1 ≤ length (head ++ (lines ++ (10 ∷ rest))) = rw (length-append, length-append) (omega (arith, number-some stampName (e .stamp))) in
+    let some : 1 ≤ length (head ++ (lines ++ (10 ∷ rest))) = rw (length-append, length-append) (omega (arith, head-some e)) in
     let long : length head + length lines + 1 ≡ length (entryText e) =
     rw (length-append head (lines ++ emptyLine), length-append lines emptyLine) (add-assoc (length head) (length lines) 1) in
+    let fit =
+    and-value (a .0) (and-value (s .kind-known) (and-value (le-leb (t .network) 255 (omega (arith, s .network-fits))) (and-value (le-leb (t .block) 65535 (omega (arith, s .block-fits))) no-values))) in
     let made =
-    made-back least (e .stamp) (t .kind) (t .network) (t .block) (t .descriptors) rest (leb-true (e .stamp) stampMost (a .0)) (s .kind-known)
-    (omega (arith, s .network-fits)) (omega (arith, s .block-fits)) (all-described (t .kind) (t .descriptors) (s .entire-all) (s .loops-fit))
+    made-back least (headValues e) (t .descriptors) rest fit (all-described (t .kind) (t .descriptors) (s .entire-all) (s .loops-fit))
     (ap (λ (x : Entry). fits (x .table)) same-entry ∙ b .1) (subst (λ (x : Entry). least ≤ keyOf x) (sym same-entry) (p .rises)) in
     rw split (entry-begins least (head ++ (lines ++ (10 ∷ rest))) some ∙ made ∙ ap (λ (x : Entry). item x (length head + length lines + 1)) same-entry ∙ ap (item e) long)
 
@@ -418,13 +331,13 @@ table-well least bytes h ds =
 head-well : (least : ℕ) (bytes : List ℕ) (h : Many ℕ) → well (withHead least bytes h) ≡ false
 unfolding withHead well
 head-well least bytes h =
-    let ds = descriptorsOf (getD (h .items) 1 0) (drop (h .long) bytes) in
+    let ds = descriptorsOf (kindIn (h .items)) (drop (h .long) bytes) in
     pick-well (h .fine) (withTable least bytes h ds) (stop false (h .long)) (table-well least bytes h ds) refl
 
 pub ends-at-end : (least n : ℕ) (bytes : List ℕ) → entryAt least bytes ≡ stop true n → bytes ≡ []
 unfolding entryAt well
 ends-at-end least n [] e = refl
 ends-at-end least n (b ∷ bs) e =
-    let z : true ≡ false = sym (ap well e) ∙ head-well least (b ∷ bs) (linesAt headReads (b ∷ bs)) in
+    let z : true ≡ false = sym (ap well e) ∙ head-well least (b ∷ bs) (linesAt heading (b ∷ bs)) in
     let y : _≡_ {A = ℕ} 0 1 = cc in
     absurd (omega arith)

@@ -16,17 +16,17 @@ use Rattle.forms.proofs.Sendable.{Sendable, sendable}
 use Rattle.sheet_entry.specs.declared.Head.{Head}
 use Rattle.listing_reader.specs.declared.Summary.{Summary}
 use Rattle.sheet_entry.specs.declared.Found.{Found}
-use Rattle.sheet_entry.specs.Entries.{Entry, keyIn, keyOf, headLines, emptyLine, stampMost, written}
+use Rattle.sheet_entry.specs.Entries.{Entry, keyIn, keyOf, heading, headLines, emptyLine, stampMost, written}
 use Rattle.texts.specs.Texts.{beginsWith}
 use Rattle.listing_reader.specs.Many.{Step, item, stop, Many, behind}
 use Rattle.listing_reader.specs.Reading.{same, descriptorAt, descriptorsOf}
-use Rattle.sheet_entry.specs.Reading.{linesAt, headReads, entryFrom, ended, withTable, withHead, entryAt}
+use Rattle.sheet_entry.specs.Reading.{linesAt, kindIn, networkIn, blockIn, entryFrom, ended, withTable, withHead, entryAt}
 use Rattle.listing_reader.specs.Reading.{summaryOf}
 use Rattle.sheet_entry.specs.Internal.{countsFit, headOf}
 use Rattle.sheet_entry.specs.Reading.{foundOf}
 use Rattle.listing_reader.proofs.Rows.{Each}
 use Rattle.listing_reader.proofs.Rowed.{Described, table-row, table-within}
-use Rattle.sheet_entry.proofs.Entered.{Headed, headed, head-lines, head-within, entry-begins}
+use Rattle.sheet_entry.proofs.Entered.{Headed, headed, values-of, head-lines, head-within, entry-begins}
 use Rattle.sheet_entry.proofs.Counting.{fits-counts}
 
 abbrev pub nowhere : Bool → ℕ → Found
@@ -60,14 +60,14 @@ module _ (least : ℕ) (bytes : List ℕ) (h : Many ℕ) (ds : Many Descriptor) 
   table-broken e = rw e
 
   table-found :
-      Headed bytes h → ds .fine ≡ true → Each same descriptorAt Described (getD (h .items) 1 0) (ds .items)
+      Headed bytes h → ds .fine ≡ true → Each same descriptorAt Described (kindIn (h .items)) (ds .items)
       → byTests least bytes (headOf h) (summaryOf (headOf h .kind) ds) ≡ foundOf (withTable least bytes h ds)
   unfolding withTable ended foundOf keyOf
   table-found r e each =
-      let known-kind : known (getD (h .items) 1 0) ≡ true = rw (r .values) (r .kind-known) in
-      let small-network : getD (h .items) 2 0 ≤ 255 = rw (r .values) (r .network-fits) in
-      let small-block : getD (h .items) 3 0 ≤ 65535 = rw (r .values) (r .block-fits) in
-      let f = fits-counts (getD (h .items) 1 0) (getD (h .items) 3 0) (getD (h .items) 2 0) (ds .items) known-kind small-network small-block each in
+      let known-kind : known (kindIn (h .items)) ≡ true = values-of (r .fit) .kind-known in
+      let small-network : networkIn (h .items) ≤ 255 = values-of (r .fit) .network-fits in
+      let small-block : blockIn (h .items) ≤ 65535 = values-of (r .fit) .block-fits in
+      let f = fits-counts (kindIn (h .items)) (blockIn (h .items)) (networkIn (h .items)) (ds .items) known-kind small-network small-block each in
       let l : length (headLines (entryFrom (h .items) (ds .items))) ≡ h .long = ap length (head-lines h (ds .items) r) ∙ sym (r .size) in
       let t = both (beginsWith emptyLine (drop (h .long + ds .long) bytes)) (both (fits (entryFrom (h .items) (ds .items) .table)) (leb least (keyOf (entryFrom (h .items) (ds .items))))) in
       rw (e, f) (go t l)
@@ -83,28 +83,28 @@ module _
     (sheet : List ℕ)
     (at least : ℕ)
     (head : Head)
-    (reads-h : head ≡ headOf (linesAt headReads (drop at sheet)))
+    (reads-h : head ≡ headOf (linesAt heading (drop at sheet)))
     (whole-h : head .fine ≡ true)
   where
     h : Many ℕ
-    h = linesAt headReads (drop at sheet)
+    h = linesAt heading (drop at sheet)
 
-    long-h : head .long ≡ linesAt headReads (drop at sheet) .long
+    long-h : head .long ≡ linesAt heading (drop at sheet) .long
     long-h = ap (λ (x : Head). x .long) reads-h
 
     pub head-room : head .long ≤ length (drop at sheet)
     head-room = rw long-h (head-within (drop at sheet))
 
-    head-is : Headed (drop at sheet) (linesAt headReads (drop at sheet))
+    head-is : Headed (drop at sheet) (linesAt heading (drop at sheet))
     head-is = headed (drop at sheet) (sym (ap (λ (x : Head). x .fine) reads-h) ∙ whole-h)
 
     -- the fields that make the key
     pub head-fits : (head .network ≤ 255) × (head .block ≤ 65535)
     head-fits =
-        let r = head-is in
-        let a : head .network ≡ r .network = ap (λ (x : Head). x .network) reads-h ∙ ap (λ (l : List ℕ). getD l 2 0) (r .values) in
-        let b : head .block ≡ r .block = ap (λ (x : Head). x .block) reads-h ∙ ap (λ (l : List ℕ). getD l 3 0) (r .values) in
-        (rw a (r .network-fits), rw b (r .block-fits))
+        let v = values-of (head-is .fit) in
+        let a : head .network ≡ networkIn (linesAt heading (drop at sheet) .items) = ap (λ (x : Head). x .network) reads-h in
+        let b : head .block ≡ blockIn (linesAt heading (drop at sheet) .items) = ap (λ (x : Head). x .block) reads-h in
+        (rw a (v .network-fits), rw b (v .block-fits))
 
     module _ (t : Summary) (reads-t : t ≡ summaryOf (head .kind) (descriptorsOf (head .kind) (drop (at + head .long) sheet))) where
       ds : Many Descriptor
@@ -118,7 +118,7 @@ module _
           omega (arith, simp length-drop at a, simp length-drop at b, length-drop at sheet)
 
       abbrev pub foundHere : Found
-      foundHere = foundOf (withTable least (drop at sheet) (linesAt headReads (drop at sheet)) (descriptorsOf (head .kind) (drop (head .long) (drop at sheet))))
+      foundHere = foundOf (withTable least (drop at sheet) (linesAt heading (drop at sheet)) (descriptorsOf (head .kind) (drop (head .long) (drop at sheet))))
 
       same-ds : descriptorsOf (head .kind) (drop (at + head .long) sheet) ≡ descriptorsOf (head .kind) (drop (head .long) (drop at sheet))
       same-ds = ap (descriptorsOf (head .kind)) (sym (drop-drop (head .long) at sheet))
@@ -130,7 +130,7 @@ module _
           let f : d .fine ≡ false = sym (ap (λ (x : Summary). x .fine) r) ∙ e in
           let l : t .long ≡ d .long = ap (λ (x : Summary). x .long) r in
           ap (nowhere false) (rw (l, long-h))
-          ∙ table-broken least (drop at sheet) (linesAt headReads (drop at sheet)) d f
+          ∙ table-broken least (drop at sheet) (linesAt heading (drop at sheet)) d f
 
       pub found-is : t .fine ≡ true → byTests least (drop at sheet) head t ≡ foundHere
       found-is e =
@@ -141,19 +141,19 @@ module _
           ap (byTests least bytes head) r ∙ go head reads-h f
         where
           go :
-              (x : Head) → x ≡ headOf (linesAt headReads (drop at sheet)) → descriptorsOf (x .kind) (drop (x .long) (drop at sheet)) .fine ≡ true
+              (x : Head) → x ≡ headOf (linesAt heading (drop at sheet)) → descriptorsOf (x .kind) (drop (x .long) (drop at sheet)) .fine ≡ true
               → byTests least (drop at sheet) x (summaryOf (x .kind) (descriptorsOf (x .kind) (drop (x .long) (drop at sheet))))
-              ≡ foundOf (withTable least (drop at sheet) (linesAt headReads (drop at sheet)) (descriptorsOf (x .kind) (drop (x .long) (drop at sheet))))
+              ≡ foundOf (withTable least (drop at sheet) (linesAt heading (drop at sheet)) (descriptorsOf (x .kind) (drop (x .long) (drop at sheet))))
           go x q f =
-              let y = headOf (linesAt headReads (drop at sheet)) in
+              let y = headOf (linesAt heading (drop at sheet)) in
               let g : descriptorsOf (y .kind) (drop (y .long) (drop at sheet)) .fine ≡ true =
               subst (λ (z : Head). descriptorsOf (z .kind) (drop (z .long) (drop at sheet)) .fine ≡ true) q f in
               subst
               (λ (z : Head).
               byTests least (drop at sheet) z (summaryOf (z .kind) (descriptorsOf (z .kind) (drop (z .long) (drop at sheet))))
-              ≡ foundOf (withTable least (drop at sheet) (linesAt headReads (drop at sheet)) (descriptorsOf (z .kind) (drop (z .long) (drop at sheet)))))
+              ≡ foundOf (withTable least (drop at sheet) (linesAt heading (drop at sheet)) (descriptorsOf (z .kind) (drop (z .long) (drop at sheet)))))
               (sym q)
-              (table-found least (drop at sheet) (linesAt headReads (drop at sheet)) (descriptorsOf (y .kind) (drop (y .long) (drop at sheet))) head-is g
+              (table-found least (drop at sheet) (linesAt heading (drop at sheet)) (descriptorsOf (y .kind) (drop (y .long) (drop at sheet))) head-is g
               (table-row (y .kind) (drop (y .long) (drop at sheet)) g .each))
 
       -- each test that fails, and all that hold
@@ -192,26 +192,26 @@ module _ (sheet : List ℕ) (at least : ℕ) where
   unfolding entryAt foundOf
   entry-end h = rw (drop-of-length-le sheet h)
 
-  module _ (there : at < length sheet) (head : Head) (reads : head ≡ headOf (linesAt headReads (drop at sheet))) where
-    begins : entryAt least (drop at sheet) ≡ withHead least (drop at sheet) (linesAt headReads (drop at sheet))
+  module _ (there : at < length sheet) (head : Head) (reads : head ≡ headOf (linesAt heading (drop at sheet))) where
+    begins : entryAt least (drop at sheet) ≡ withHead least (drop at sheet) (linesAt heading (drop at sheet))
     begins = entry-begins least (drop at sheet) (rw length-drop (omega arith))
 
     pub entry-headless : head .fine ≡ false → nowhere false (head .long) ≡ foundOf (entryAt least (drop at sheet))
     unfolding withHead foundOf
     entry-headless e =
-        let f : linesAt headReads (drop at sheet) .fine ≡ false = sym (ap (λ (x : Head). x .fine) reads) ∙ e in
-        let l : head .long ≡ linesAt headReads (drop at sheet) .long = ap (λ (x : Head). x .long) reads in
+        let f : linesAt heading (drop at sheet) .fine ≡ false = sym (ap (λ (x : Head). x .fine) reads) ∙ e in
+        let l : head .long ≡ linesAt heading (drop at sheet) .long = ap (λ (x : Head). x .long) reads in
         rw (begins, f, l)
 
     pub entry-headed :
         head .fine ≡ true
-        → foundOf (withTable least (drop at sheet) (linesAt headReads (drop at sheet)) (descriptorsOf (head .kind) (drop (head .long) (drop at sheet))))
+        → foundOf (withTable least (drop at sheet) (linesAt heading (drop at sheet)) (descriptorsOf (head .kind) (drop (head .long) (drop at sheet))))
         ≡ foundOf (entryAt least (drop at sheet))
     unfolding withHead
     entry-headed e =
-        let f : linesAt headReads (drop at sheet) .fine ≡ true = sym (ap (λ (x : Head). x .fine) reads) ∙ e in
-        let l : head .long ≡ linesAt headReads (drop at sheet) .long = ap (λ (x : Head). x .long) reads in
-        let k : head .kind ≡ getD (linesAt headReads (drop at sheet) .items) 1 0 = ap (λ (x : Head). x .kind) reads in
+        let f : linesAt heading (drop at sheet) .fine ≡ true = sym (ap (λ (x : Head). x .fine) reads) ∙ e in
+        let l : head .long ≡ linesAt heading (drop at sheet) .long = ap (λ (x : Head). x .long) reads in
+        let k : head .kind ≡ kindIn (linesAt heading (drop at sheet) .items) = ap (λ (x : Head). x .kind) reads in
         rw (begins, f, l, k)
 
 -- ---- what was found

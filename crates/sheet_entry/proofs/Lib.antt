@@ -1,5 +1,6 @@
 pub mod Counting
 pub mod Entered
 pub mod Finding
+pub mod Heading
 pub mod Heads
 pub mod Spelling

@@ -27,13 +27,12 @@ use Rattle.forms.proofs.Measures.{length-form, bits-of, eights}
 use Rattle.forms.proofs.Forms.{two-bytes}
 use Rattle.forms.proofs.Judging.{form-said}
 use Rattle.forms.proofs.Sendable.{Sendable, sendable, sends}
-use Rattle.text_lines.specs.Lines.{numberLine}
 use Rattle.text_lines.specs.Putting.{Put}
-use Rattle.listing.specs.Lines.{kindLine, networkName, blockName, descriptorLinesOf}
+use Rattle.listing.specs.Lines.{networkName, blockName, descriptorLinesOf}
 use Rattle.listing.proofs.Room.{number-room, kind-room, wordsOf, descriptors-room, listed-words, judged-form}
 use Rattle.text_lines.proofs.Printed.{put-within}
 use Rattle.listing_reader.proofs.Matching.{spelled-in}
-use Rattle.sheet_entry.specs.Entries.{stampName, stampMost, headLines, entryText, written}
+use Rattle.sheet_entry.specs.Entries.{stampName, stampMost, heading, spelledBy, headLines, entryText, written}
 use Rattle.sheet_entry.specs.Writing.{stamped}
 use Rattle.sheet_entry.specs.Internal.{Judged, entryMost, headMost}
 
@@ -73,12 +72,12 @@ lines-most f j =
 
 -- and so are those of its head
 pub head-most :
-    (stamp k n a b : ℕ) → stamp ≤ stampMost → n < 256 → a < 256 → b < 256
-    → length (numberLine stampName stamp ++ (kindLine k ++ (numberLine networkName n ++ numberLine blockName (a + 256 * b)))) ≤ headMost
-head-most stamp k n a b h hn ha hb =
+    (stamp k n m : ℕ) → stamp ≤ stampMost → n ≤ 255 → m ≤ 65535 → length (spelledBy heading (stamp ∷ k ∷ n ∷ m ∷ [])) ≤ headMost
+unfolding spelledBy
+head-most stamp k n m h hn hm =
     let w = number-room stampName 9 stamp (omega arith) in
     let y = number-room networkName 2 n (omega arith) in
-    let z = number-room blockName 4 (a + 256 * b) (omega arith) in
+    let z = number-room blockName 4 m (omega arith) in
     simp length-append (omega (arith, kind-room k, w, y, z))
 
 -- ---- the entry
@@ -111,8 +110,7 @@ stamped-written stamp f h j =
 
 pub head-of :
     (stamp : ℕ) (f : List ℕ) (k a b n : ℕ) → k ≡ getD f 0 0 → a ≡ getD f 2 0 → b ≡ getD f 3 0 → n ≡ getD f 4 0 → a < 256 → b < 256
-    → numberLine stampName stamp ++ (kindLine k ++ (numberLine networkName n ++ numberLine blockName (a + 256 * b)))
-    ≡ headLines (stamped stamp f)
+    → spelledBy heading (stamp ∷ k ∷ n ∷ (a + 256 * b) ∷ []) ≡ headLines (stamped stamp f)
 unfolding headLines stamped tableIn
 head-of stamp f k a b n ek ea eb en ha hb = rw (two-bytes a b ha hb, ek, ea, eb, en)
 
@@ -177,10 +175,8 @@ unfolding entryText headLines stamped descriptorLinesOf
 entry-most stamp f h j =
     let t = tableIn f in
     let s = sendable t (j .fit) in
-    let w = number-room stampName 9 stamp (omega arith) in
-    let y = number-room networkName 2 (t .network) (omega (arith, s .network-fits)) in
-    let z = number-room blockName 4 (t .block) (omega (arith, s .block-fits)) in
-    simp length-append (omega (arith, kind-room (t .kind), w, y, z, lines-most f j))
+    let m = head-most stamp (t .kind) (t .network) (t .block) h (omega (arith, s .network-fits)) (omega (arith, s .block-fits)) in
+    simp length-append (omega (arith, m, lines-most f j))
 
 -- held in an array, and then handed out
 module _ (xs old : List ℕ) {text : List ℕ} {n : ℕ} (put : Put (replicate entryMost 0) 0 xs text n) (few : n ≤ entryMost) where

@@ -8,6 +8,8 @@ use Rattle.forms.specs.Tables.{Table, TI, fits}
 use Rattle.text_lines.specs.Lines.{numberLine}
 use Rattle.listing.specs.Lines.{kindLine, networkName, blockName, descriptorLinesOf}
 use Rattle.text_lines.specs.Codes.{codes}
+use Rattle.listing_reader.specs.declared.lines.Line.{Line}
+use Rattle.listing_reader.specs.Lines.{numberAt, kindAt}
 
 -- a table, and the second at which its capture started
 pub record Entry : Type 0 where
@@ -23,17 +25,55 @@ keyIn network kind block = (network * 2 + pick (eqb kind TI) 1 0) * 65536 + bloc
 unfoldable pub keyOf : Entry → ℕ
 keyOf e = keyIn (e .table .network) (e .table .kind) (e .table .block)
 
--- ---- the text
+-- ---- the head
+
+-- a line of an entry's head: what stands at the front of some bytes, and its text by its value
+pub record HeadLine : Type 0 where
+  pub reads : List ℕ → Line
+  pub text : ℕ → List ℕ
+
+-- a name and a number up to `most`
+abbrev pub numberHead : List ℕ → ℕ → HeadLine
+numberHead name most = record { reads = numberAt name most; text = numberLine name }
+
+-- `kind=TI`, `kind=LI`
+abbrev pub kindHead : HeadLine
+kindHead = record { reads = kindAt; text = kindLine }
 
 -- `stamp=`
 abbrev pub stampName : List ℕ
 stampName = codes "stamp="
 
--- the lines before those of the table: stamp, kind, network, block
+-- seconds: below 2 to the 32nd
+abbrev pub stampMost : ℕ
+stampMost = 4294967295
+
+-- what opens an entry: its stamp
+abbrev pub opening : List HeadLine
+opening = numberHead stampName stampMost ∷ []
+
+-- what says its key: kind, network, block
+abbrev pub keyLines : List HeadLine
+keyLines = kindHead ∷ numberHead networkName 255 ∷ numberHead blockName 65535 ∷ []
+
+-- the lines before those of the table
+abbrev pub heading : List HeadLine
+heading = opening ++ keyLines
+
+-- and their values
+abbrev pub headValues : Entry → List ℕ
+headValues e = (e .stamp ∷ []) ++ (e .table .kind ∷ e .table .network ∷ e .table .block ∷ [])
+
+-- ---- the text
+
+-- lines of these values, one after the other
+unfoldable pub spelledBy : List HeadLine → List ℕ → List ℕ
+spelledBy [] vs = []
+spelledBy (l ∷ ls) [] = []
+spelledBy (l ∷ ls) (v ∷ vs) = l .text v ++ spelledBy ls vs
+
 unfoldable pub headLines : Entry → List ℕ
-headLines e =
-    numberLine stampName (e .stamp)
-    ++ (kindLine (e .table .kind) ++ (numberLine networkName (e .table .network) ++ numberLine blockName (e .table .block)))
+headLines e = spelledBy heading (headValues e)
 
 -- the lines of the table's descriptors (SCOPE 13.2)
 abbrev pub tableLines : Entry → List ℕ
@@ -47,10 +87,6 @@ unfoldable pub entryText : Entry → List ℕ
 entryText e = headLines e ++ (tableLines e ++ emptyLine)
 
 -- ---- what can stand in a sheet
-
--- seconds: below 2 to the 32nd
-abbrev pub stampMost : ℕ
-stampMost = 4294967295
 
 -- an entry that can be written: its stamp within its range, and a table that block writing takes. The copyright bit isn't in the lines, so
 -- an entry's table has none

@@ -10,7 +10,9 @@ use Rattle.forms.specs.Tables.{numbered, per, fits}
 use Rattle.forms.specs.Form.{form, tableIn}
 use Rattle.listing_reader.specs.declared.Summary.{Summary}
 use Rattle.listing_reader.specs.Many.{Many}
+use Rattle.sheet_entry.specs.declared.Named.{Named}
 use Rattle.sheet_entry.specs.declared.Head.{Head}
+use Rattle.sheet_entry.specs.Reading.{kindIn, networkIn, blockIn}
 
 -- whether a table with this number and these counts can be written
 abbrev pub countsFit : ℕ → ℕ → Summary → Bool
@@ -18,13 +20,16 @@ countsFit kind block t =
     both (numbered block)
     (both (leb (t .count) 63) (pick (t .over) false (leb (58 + 10 * t .count + 24 * (per kind * t .entries)) 8184)))
 
+abbrev pub namedOf : Many ℕ → Named
+namedOf m = record { kind = getD (m .items) 0 0; network = getD (m .items) 1 0; block = getD (m .items) 2 0; fine = m .fine; long = m .long }
+
 abbrev pub headOf : Many ℕ → Head
 headOf m =
     record {
       stamp = getD (m .items) 0 0;
-      kind = getD (m .items) 1 0;
-      network = getD (m .items) 2 0;
-      block = getD (m .items) 3 0;
+      kind = kindIn (m .items);
+      network = networkIn (m .items);
+      block = blockIn (m .items);
       fine = m .fine;
       long = m .long;
     }

@@ -7,31 +7,35 @@ use lib.ListN.{length, getD, drop}
 use Rattle.laws.specs.Pick.{pick, both}
 use Rattle.texts.specs.Texts.{beginsWith}
 use Rattle.forms.specs.Tables.{Descriptor, fits}
-use Rattle.listing.specs.Lines.{networkName, blockName}
-use Rattle.listing_reader.specs.declared.lines.Line.{Line}
-use Rattle.listing_reader.specs.Lines.{numberAt, kindAt}
 use Rattle.listing_reader.specs.Many.{Step, item, stop, Many, none, behind}
 use Rattle.listing_reader.specs.Reading.{descriptorsOf}
 use Rattle.sheet_entry.specs.declared.Found.{Found}
-use Rattle.sheet_entry.specs.Entries.{Entry, keyOf, headLines, stampName, stampMost, emptyLine}
+use Rattle.sheet_entry.specs.Entries.{Entry, keyOf, HeadLine, opening, heading, headLines, emptyLine}
 
 -- lines that must all stand there, one after the other: their values, or where the one stands that isn't in form
-unfoldable pub linesAt : List (List ℕ → Line) → List ℕ → Many ℕ
+unfoldable pub linesAt : List HeadLine → List ℕ → Many ℕ
 linesAt [] bytes = none true 0
-linesAt (read ∷ reads) bytes =
-    let l = read bytes in
-    pick (eqb (l .long) 0) (none false 0) (behind (l .value) (l .long) (linesAt reads (drop (l .long) bytes)))
+linesAt (line ∷ lines) bytes =
+    let l = line .reads bytes in
+    pick (eqb (l .long) 0) (none false 0) (behind (l .value) (l .long) (linesAt lines (drop (l .long) bytes)))
 
--- stamp, kind, network, block
-abbrev pub headReads : List (List ℕ → Line)
-headReads = numberAt stampName stampMost ∷ kindAt ∷ numberAt networkName 255 ∷ numberAt blockName 65535 ∷ []
+-- of a head's values those of the key
+abbrev pub kindIn : List ℕ → ℕ
+kindIn values = getD (drop (length opening) values) 0 0
 
--- the entry of their values and of its descriptors
+abbrev pub networkIn : List ℕ → ℕ
+networkIn values = getD (drop (length opening) values) 1 0
+
+abbrev pub blockIn : List ℕ → ℕ
+blockIn values = getD (drop (length opening) values) 2 0
+
+-- the entry of a head's values and of its descriptors
 abbrev pub entryFrom : List ℕ → List Descriptor → Entry
-entryFrom head ds =
+entryFrom values ds =
     record {
-      stamp = getD head 0 0;
-      table = record { kind = getD head 1 0; copyright = 0; block = getD head 3 0; network = getD head 2 0; descriptors = ds };
+      stamp = getD values 0 0;
+      table =
+          record { kind = kindIn values; copyright = 0; block = blockIn values; network = networkIn values; descriptors = ds };
     }
 
 -- keys rise as numbers: an entry's key isn't below `least`
@@ -50,13 +54,13 @@ withTable least bytes head ds =
 
 unfoldable pub withHead : ℕ → List ℕ → Many ℕ → Step Entry
 withHead least bytes head =
-    pick (head .fine) (withTable least bytes head (descriptorsOf (getD (head .items) 1 0) (drop (head .long) bytes)))
+    pick (head .fine) (withTable least bytes head (descriptorsOf (kindIn (head .items)) (drop (head .long) bytes)))
     (stop false (head .long))
 
 -- no entry begins where the sheet ends
 unfoldable pub entryAt : ℕ → List ℕ → Step Entry
 entryAt least [] = stop true 0
-entryAt least (b ∷ bytes) = withHead least (b ∷ bytes) (linesAt headReads (b ∷ bytes))
+entryAt least (b ∷ bytes) = withHead least (b ∷ bytes) (linesAt heading (b ∷ bytes))
 
 -- the least key that may follow an entry
 abbrev pub above : ℕ → Entry → ℕ

@@ -9,9 +9,9 @@ ghost use Prim.Native.Nat.{_≤_};
 ghost use lib.ListN.{drop};
 ghost use Rattle.listing_reader.specs.Reading.{descriptorsOf};
 ghost use Rattle.listing_reader.specs.Internal.{Inside};
-ghost use Rattle.sheet_entry.specs.Entries.{keyIn};
-ghost use Rattle.sheet_entry.specs.Reading.{linesAt, headReads, withTable, entryAt, foundOf};
-ghost use Rattle.sheet_entry.specs.Internal.{countsFit, headOf};
+ghost use Rattle.sheet_entry.specs.Entries.{keyIn, keyLines, heading};
+ghost use Rattle.sheet_entry.specs.Reading.{linesAt, withTable, entryAt, foundOf};
+ghost use Rattle.sheet_entry.specs.Internal.{countsFit, namedOf, headOf};
 use listing_reader::Summary;
 
 // The most that the fields count: descriptors, bits of a table.
@@ -20,6 +20,15 @@ const DESCRIPTORS: usize = 63;
 const BITS: usize = 8184;
 
 const LINE_END: usize = 10;
+
+// The values of a key's lines as far as they are in form, whether all are, and where the line stands after them.
+pub struct Named {
+    pub kind: usize,
+    pub network: usize,
+    pub block: usize,
+    pub fine: bool,
+    pub long: usize,
+}
 
 // The values of an entry's head as far as its lines are in form, whether all are, and where the line stands after them.
 pub struct Head {
@@ -72,9 +81,9 @@ fn stopped(fine: bool, long: usize) -> Found
 
 // The rest of an entry whose head was read.
 fn with_table(sheet: &[u8], at: usize, least: usize, head: Head) -> Found
-    requires { ⌜ Inside (now sheet) at × (head ≡ headOf (linesAt headReads (drop at (now sheet)))) × (head .fine ≡ Bool.true) ⌝ }
+    requires { ⌜ Inside (now sheet) at × (head ≡ headOf (linesAt heading (drop at (now sheet)))) × (head .fine ≡ Bool.true) ⌝ }
     ensures { λ r.
-        ⌜ r ≡ foundOf (withTable least (drop at (now (sheet .entry))) (linesAt headReads (drop at (now (sheet .entry))))
+        ⌜ r ≡ foundOf (withTable least (drop at (now (sheet .entry))) (linesAt heading (drop at (now (sheet .entry))))
         (descriptorsOf (head .kind) (drop (head .long) (drop at (now (sheet .entry)))))) ⌝ }
 {
     let long = head.long;
@@ -141,50 +150,71 @@ fn counts_fit(kind: usize, block: usize, table: Summary) -> bool
     forms::LOOPS + forms::HEADING * count + forms::WORD * (1 * entries) <= BITS
 }
 
-// The lines of stamp, kind, network and block.
+// What opens an entry, its stamp; then its key's lines.
 fn head_at(sheet: &[u8], at: usize) -> Head
     requires { ⌜ Inside (now sheet) at ⌝ }
-    ensures { λ r. ⌜ r ≡ headOf (linesAt headReads (drop at (now (sheet .entry)))) ⌝ }
+    ensures { λ r. ⌜ r ≡ headOf (linesAt heading (drop at (now (sheet .entry)))) ⌝ }
 {
     let stamp = listing_reader::number_at(sheet, at, b"stamp=", 4294967295);
-    let a = stamp.long;
-    if a == 0 {
-        return headed(0, 0, 0, 0, 0);
+    let long = stamp.long;
+    if long == 0 {
+        return Head {
+            stamp: 0,
+            kind: 0,
+            network: 0,
+            block: 0,
+            fine: false,
+            long: 0,
+        };
     }
-    let kind = listing_reader::kind_at(sheet, at + a);
-    let b = kind.long;
-    if b == 0 {
-        return headed(stamp.value, 0, 0, 0, a);
-    }
-    let network = listing_reader::number_at(sheet, at + a + b, b"network=", 255);
-    let c = network.long;
-    if c == 0 {
-        return headed(stamp.value, kind.value, 0, 0, a + b);
-    }
-    let block = listing_reader::number_at(sheet, at + a + b + c, b"block=", 65535);
-    let d = block.long;
-    if d == 0 {
-        return headed(stamp.value, kind.value, network.value, 0, a + b + c);
-    }
+    let key = key_at(sheet, at + long);
     Head {
         stamp: stamp.value,
+        kind: key.kind,
+        network: key.network,
+        block: key.block,
+        fine: key.fine,
+        long: long + key.long,
+    }
+}
+
+// The lines of kind, network and block.
+fn key_at(sheet: &[u8], at: usize) -> Named
+    requires { ⌜ Inside (now sheet) at ⌝ }
+    ensures { λ r. ⌜ r ≡ namedOf (linesAt keyLines (drop at (now (sheet .entry)))) ⌝ }
+{
+    let kind = listing_reader::kind_at(sheet, at);
+    let a = kind.long;
+    if a == 0 {
+        return unnamed(0, 0, 0);
+    }
+    let network = listing_reader::number_at(sheet, at + a, b"network=", 255);
+    let b = network.long;
+    if b == 0 {
+        return unnamed(kind.value, 0, a);
+    }
+    let block = listing_reader::number_at(sheet, at + a + b, b"block=", 65535);
+    let c = block.long;
+    if c == 0 {
+        return unnamed(kind.value, network.value, a + b);
+    }
+    Named {
         kind: kind.value,
         network: network.value,
         block: block.value,
         fine: true,
-        long: a + b + c + d,
+        long: a + b + c,
     }
 }
 
-// A head with a line at fault.
-fn headed(stamp: usize, kind: usize, network: usize, block: usize, long: usize) -> Head
-    ensures { λ r. ⌜ r ≡ record { stamp = stamp; kind = kind; network = network; block = block; fine = Bool.false; long = long } ⌝ }
+// A key with a line at fault.
+fn unnamed(kind: usize, network: usize, long: usize) -> Named
+    ensures { λ r. ⌜ r ≡ record { kind = kind; network = network; block = 0; fine = Bool.false; long = long } ⌝ }
 {
-    Head {
-        stamp,
+    Named {
         kind,
         network,
-        block,
+        block: 0,
         fine: false,
         long,
     }

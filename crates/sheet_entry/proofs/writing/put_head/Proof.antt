@@ -1,12 +1,13 @@
 -- `sheet_entry::writing::put_head` meets its contract: four lines, one after the other. Assumes nothing.
 use borrow.Author.Needs.{needs}
-use mathlib.Core.Path.{ap}
-use mathlib.Core.List.{List}
-use Prim.Native.Nat.{ℕ}
+use mathlib.Core.Path.{ap, sym}
+use mathlib.Core.List.{List, append-nil}
+use Prim.Native.Nat.{ℕ, _+_, _*_}
 use native.Mathlib.Omega.{arith}
 use lib.ListN.{length}
 use denote.Ref.{now}
 use Rattle.text_lines.proofs.Printed.{then, put-as, put-there}
+use Rattle.sheet_entry.specs.Entries.{spelledBy}
 use Rattle.sheet_entry.proofs.Spelling.{head-of, head-most}
 use Rattle.sheet_entry.proofs.writing.put_head.Statement.{statement}
 use Rattle.sheet_entry.proofs.writing.put_head.Tie as tie
@@ -54,6 +55,7 @@ same-length : tie.Need-same-length
 same-length c = search needs
 
 returns : tie.Need-returns
+unfolding spelledBy
 returns c =
     let kinded = c .before .before .before .before .before .before .before .before .before .before .before .before in
     let s = kinded .before .before .before .before .before .before .before .before .before .before .before .before .before in
@@ -69,8 +71,8 @@ returns c =
     let h = head-of (s .args .stamp) f (k .result) (a .result) (b .result) (n .result) (k .ensures .0) (a .ensures .0) (b .ensures .0) (n .ensures .0) (a .ensures .1) (b .ensures .1) in
     let p =
     put-as h
-    (then (put-there (search needs) (w .ensures .0)) (then (x .ensures .0) (then (put-there (search needs) (y .ensures .0)) (put-there (search needs) (z .ensures .0))))) in
-    let m = head-most (s .args .stamp) (k .result) (n .result) (a .result) (b .result) (search needs) (n .ensures .1) (a .ensures .1) (b .ensures .1) in
+    (then (put-there (search needs) (w .ensures .0)) (then (x .ensures .0) (then (put-there (search needs) (y .ensures .0)) (put-as (sym (append-nil _)) (put-there (search needs) (z .ensures .0)))))) in
+    let m = head-most (s .args .stamp) (k .result) (n .result) (a .result + 256 * b .result) (search needs) (omega (arith, n .ensures .1)) (omega (arith, a .ensures .1, b .ensures .1)) in
     (p, omega (arith, p .moved, m, ap length h))
 
 pub put-head-spec : {M : Type 1} → statement M
