@@ -33,7 +33,7 @@ use Rattle.menu_reader.specs.Reading.{frontRules as Menu·frontRules, wholeRule
 use Rattle.menu_listing.specs.Listing.{listRules, levelsRules}
 use Rattle.menu_listing.specs.Kept.{keptRules}
 use Rattle.shelf.specs.Putting.{putRules}
-use Rattle.day_sheet.specs.Calls.{rewriteRules, joinRules, addRules}
+use Rattle.day_sheet.specs.Calls.{rewriteRules, joinRules, addRules, dropRules}
 use Rattle.claims.specs.Calls.{Feeds, feed, FeedsAll, feed-all}
 use Rattle.claims.specs.Judges.{Judges}
 
@@ -76,6 +76,10 @@ joins-sheets first second = refl
 pub adds-table : (stamp : ℕ) (sheet form : List ℕ) → allRefusing (addRules stamp sheet form) ≡ true
 unfolding allRefusing addRules formRules
 adds-table stamp sheet form = refl
+
+pub drops-entry : (network kind block : ℕ) (sheet : List ℕ) → allRefusing (dropRules network kind block sheet) ≡ true
+unfolding allRefusing dropRules
+drops-entry network kind block sheet = refl
 
 module _ (pes : List ℕ) where
   unit : (at : ℕ) → allRefusing (rulesAt pes at) ≡ true

@@ -113,6 +113,7 @@ use Rattle.sheet_entry.proofs.writing.write_entry.Reads as sheet-entry·write-e
 use Rattle.day_sheet.proofs.rewrite.Reads as day-sheet·rewrite
 use Rattle.day_sheet.proofs.joining.join.Reads as day-sheet·join
 use Rattle.day_sheet.proofs.adding.add.Reads as day-sheet·add
+use Rattle.day_sheet.proofs.dropping.drop.Reads as day-sheet·drop
 use Rattle.listing.proofs.list_table.Reads as listing·list-table
 use Rattle.listing.proofs.list_descriptors.Reads as listing·list-descriptors
 use Rattle.table_writer.proofs.write_block.Reads as table-writer·write-block
@@ -507,6 +508,11 @@ pub day-sheet·add-settled :
     (κs : _) (a : _) (x y : _) (s t : _) → day-sheet·add.Post κs a x s → day-sheet·add.Post κs a y t
     → (x ≡ y) × (now (s .1 .1 .1 .0) ≡ now (t .1 .1 .1 .0))
 day-sheet·add-settled κs a x y s t p q = (same (p .0) (q .0), same (p .1) (q .1))
+
+pub day-sheet·drop-settled :
+    (κs : _) (a : _) (x y : _) (s t : _) → day-sheet·drop.Post κs a x s → day-sheet·drop.Post κs a y t
+    → (x ≡ y) × (now (s .1 .1 .1 .1 .0) ≡ now (t .1 .1 .1 .1 .0))
+day-sheet·drop-settled κs a x y s t p q = (same (p .0) (q .0), same (p .1) (q .1))
 
 pub parity·letter-settled : (κs : _) (a : _) (x y : _) (s t : _) → parity·letter.Post κs a x s → parity·letter.Post κs a y t → x ≡ y
 parity·letter-settled κs a x y s t p q = same p q

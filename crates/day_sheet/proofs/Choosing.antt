@@ -23,22 +23,22 @@ written-sendable e w =
 -- ---- the key
 
 -- a test's value as a bit
-bit : Bool → ℕ
+unfoldable pub bit : Bool → ℕ
 bit t = pick t 1 0
 
-bits-only : (s t : Bool) → bit s ≡ bit t → s ≡ t
+pub bits-only : (s t : Bool) → bit s ≡ bit t → s ≡ t
 unfolding bit
 bits-only true true e = refl
 bits-only true false e = absurd (omega arith)
 bits-only false true e = absurd (omega arith)
 bits-only false false e = refl
 
-bit-small : (t : Bool) → bit t ≤ 1
+pub bit-small : (t : Bool) → bit t ≤ 1
 unfolding bit
 bit-small true = omega arith
 bit-small false = omega arith
 
-kinds-only : (k m : ℕ) → known k ≡ true → known m ≡ true → eqb k TI ≡ eqb m TI → k ≡ m
+pub kinds-only : (k m : ℕ) → known k ≡ true → known m ≡ true → eqb k TI ≡ eqb m TI → k ≡ m
 kinds-only k m p q e = go (eqb k TI) refl (eqb m TI) refl p q e
   where
     go :

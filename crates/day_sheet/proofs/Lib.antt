@@ -2,6 +2,9 @@ pub mod Added
 pub mod AnyOrder
 pub mod Choosing
 pub mod Comparing
+pub mod Around
+pub mod Asked
+pub mod Dropped
 pub mod Exact
 pub mod Judged
 pub mod Late

@@ -33,12 +33,12 @@ use Rattle.day_sheet.proofs.AnyOrder.{Fit, decides, sheet-of, text-of}
 use Rattle.sheet_entry.proofs.Entered.{entry-back}
 use Rattle.day_sheet.proofs.Exact.{read-written}
 
-abbrev Sheet : List Entry → Type 0
+abbrev pub Sheet : List Entry → Type 0
 Sheet = Good keyOf Fit atMost decides
 
 -- ---- what is found at the front
 
-abbrev found : Entry → Found
+abbrev pub found : Entry → Found
 found x =
     record {
       more = true;
@@ -49,12 +49,12 @@ found x =
       head = length (headLines x);
     }
 
-found-text : (x : Entry) (rest : List ℕ) → Fit x → foundOf (entryAt 0 (entryText x ++ rest)) ≡ found x
+pub found-text : (x : Entry) (rest : List ℕ) → Fit x → foundOf (entryAt 0 (entryText x ++ rest)) ≡ found x
 unfolding foundOf
 found-text x rest w = ap foundOf (entry-back 0 x rest (record { rises = omega arith; can = w }))
 
 -- head, table lines, and the LF of the empty line
-spans : (x : Entry) → length (entryText x) ≡ length (headLines x) + (length (tableLines x) + 1)
+pub spans : (x : Entry) → length (entryText x) ≡ length (headLines x) + (length (tableLines x) + 1)
 unfolding entryText
 spans x = length-append (headLines x) (tableLines x ++ emptyLine) ∙ ap (λ (n : ℕ). length (headLines x) + n) (length-append (tableLines x) emptyLine)
 
@@ -118,11 +118,11 @@ turned-by {xs} {ys} xs′ ys′ z t f g f′ g′ l m o p q r j =
     }
 
 -- a sheet without its first entry
-sheet-rest : {x : Entry} {xs : List Entry} → Sheet (x ∷ xs) → Fit x × Sheet xs
+pub sheet-rest : {x : Entry} {xs : List Entry} → Sheet (x ∷ xs) → Fit x × Sheet xs
 sheet-rest {x} {xs} g =
     (each-first (g .fit), record { rises = rising-lower keyOf (suc (keyOf x)) 0 xs (omega arith) (rising-rest keyOf 0 x xs (g .rises)); fit = each-rest (g .fit) })
 
-front-fits : (x : Entry) (rest : List ℕ) → length (entryText x) ≤ length (entryText x ++ rest)
+pub front-fits : (x : Entry) (rest : List ℕ) → length (entryText x) ≤ length (entryText x ++ rest)
 front-fits x rest = let e = length-append (entryText x) rest in omega arith
 
 -- only the first has an entry, or its key is smaller

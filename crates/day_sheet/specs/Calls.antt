@@ -10,6 +10,7 @@ use Rattle.sheet_entry.specs.Writing.{stamped}
 use Rattle.day_sheet.specs.Entries.{sheetText, entryLimit, byteLimit}
 use Rattle.day_sheet.specs.Reading.{sheetOf}
 use Rattle.day_sheet.specs.Joining.{joined}
+use Rattle.day_sheet.specs.Dropping.{without}
 
 -- 21: a lent sheet that is too long to be one
 abbrev pub short : List ℕ → Rule
@@ -51,3 +52,11 @@ joinResult first second = joined (entriesOf first) (entriesOf second)
 unfoldable pub joinRules : List ℕ → List ℕ → List Rule
 joinRules first second =
     short first ∷ short second ∷ formed first ∷ formed second ∷ limited (joinResult first second)
+
+-- ---- drop
+
+unfoldable pub dropResult : ℕ → ℕ → ℕ → List ℕ → List Entry
+dropResult network kind block sheet = without network kind block (entriesOf sheet)
+
+unfoldable pub dropRules : ℕ → ℕ → ℕ → List ℕ → List Rule
+dropRules network kind block sheet = short sheet ∷ formed sheet ∷ limited (dropResult network kind block sheet)

@@ -1,18 +1,21 @@
 -- What only private calls cite; nothing here needs to be believed.
 use mathlib.Core.Bool.{Bool, true, false}
-use mathlib.Core.List.{List}
+use mathlib.Core.List.{List, [], _∷_}
 use mathlib.Core.Path.{_≡_}
 use Prim.Native.Nat.{ℕ, _+_, _≤_, _-_}
-use lib.Dec.{ltb}
+use lib.Dec.{eqb, ltb}
 use lib.ListN.{length, take, drop}
 use Rattle.laws.specs.Pick.{pick}
 use Rattle.laws.specs.Orders.{before}
 use Rattle.listing_reader.specs.Many.{Many}
 use Rattle.sheet_entry.specs.declared.Found.{Found}
-use Rattle.sheet_entry.specs.Entries.{Entry}
+use Rattle.forms.specs.Tables.{TI, LI}
+use Rattle.sheet_entry.specs.Entries.{Entry, keyIn, keyOf, entryText}
 use Rattle.sheet_entry.specs.Reading.{entryAt, foundOf}
 use Rattle.day_sheet.specs.declared.entries.Sheet.{Sheet}
 use Rattle.day_sheet.specs.declared.joining.Turn.{Turn}
+use Rattle.day_sheet.specs.declared.dropping.Spot.{Spot}
+use Rattle.day_sheet.specs.Entries.{entryLimit}
 use Rattle.day_sheet.specs.Reading.{sheetOf}
 
 -- a place in a sheet that is judged, or its end: sheets that are longer are refused first
@@ -65,3 +68,29 @@ pub record Lies (sheet : List ℕ) (at : ℕ) (f : Found) : Type 0 where
   pub head-first : f .head + 1 ≤ f .long
   pub inside : at + f .long ≤ length sheet
   pub small : length sheet ≤ 65000
+
+-- ---- one entry dropped
+
+-- the number of a key that is asked for; one that no entry has where the kind is none
+abbrev pub asked : ℕ → ℕ → ℕ → ℕ
+asked network kind block = pick (eqb kind TI) (keyIn network TI block) (pick (eqb kind LI) (keyIn network LI block) 33554432)
+
+-- the entries but that of a key
+unfoldable pub withoutKey : ℕ → List Entry → List Entry
+withoutKey key [] = []
+withoutKey key (e ∷ es) = pick (eqb (keyOf e) key) (withoutKey key es) (e ∷ withoutKey key es)
+
+-- where the entry of a key stands in the text, and how long it is; where there is none, the end, and 0
+unfoldable pub spotOf : ℕ → List Entry → Spot
+spotOf key [] = record { from = 0; long = 0 }
+spotOf key (e ∷ es) =
+    pick (eqb (keyOf e) key) (record { from = 0; long = length (entryText e) })
+    (record { from = length (entryText e) + spotOf key es .from; long = spotOf key es .long })
+
+-- the same, behind so many bytes
+abbrev pub spotFrom : ℕ → ℕ → List Entry → Spot
+spotFrom key at es = record { from = at + spotOf key es .from; long = spotOf key es .long }
+
+-- so many entries may there be, of which one goes where it is long
+abbrev pub mostWith : ℕ → ℕ
+mostWith long = pick (eqb long 0) entryLimit 65

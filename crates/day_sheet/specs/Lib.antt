@@ -1,7 +1,9 @@
--- The day sheet: SCOPE 20. Its entries and their text, the sheet that bytes say, joining, and what the calls owe.
+-- The day sheet: SCOPE 20. Its entries and their text, the sheet that bytes say, joining, dropping, and what the calls owe.
 pub mod Entries
 pub mod Reading
 pub mod Joining
+pub mod Dropping
 pub mod Calls
 pub mod AnyOrder
+pub mod Dropped
 pub mod Internal

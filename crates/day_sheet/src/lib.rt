@@ -1,9 +1,11 @@
-// The day sheet (SCOPE 20): text of all tables, an entry for each key, read, written again, added to and joined.
+// The day sheet (SCOPE 20): text of all tables, an entry for each key, read, written again, added to, joined and dropped from.
 pub mod adding;
+pub mod dropping;
 mod entries;
 pub mod joining;
 
 pub use adding::add;
+pub use dropping::drop;
 pub use joining::join;
 ghost use mathlib.Core.Path.{_≡_};
 ghost use mathlib.Core.List.{_∷_, []};

@@ -1,4 +1,4 @@
-// Runs cases of day sheets: op 50 writes one again, op 51 adds a table to one, op 52 joins two.
+// Runs cases of day sheets: op 50 writes one again, op 51 adds a table to one, op 52 joins two, op 56 drops an entry.
 ghost use Prim.Native.Nat.{_≤_, _<_};
 use vectors::Case;
 use vectors::Line;
@@ -44,6 +44,7 @@ fn call(op: u8, payload: &[u8], out: &mut [u8]) -> Line {
         },
         51 => add(op, payload, out),
         52 => join(op, payload, out),
+        56 => drop(op, payload, out),
         _ => Line::Unknown(op),
     }
 }
@@ -78,6 +79,20 @@ fn join(op: u8, payload: &[u8], out: &mut [u8]) -> Line {
     Line::Answered {
         op: op,
         answer: day_sheet::join(&payload[4..end], &payload[end..], out),
+    }
+}
+
+// A network, a kind, the number of a block, and a sheet.
+fn drop(op: u8, payload: &[u8], out: &mut [u8]) -> Line {
+    if payload.len() < 4 {
+        return Line::Unknown(op);
+    }
+    let network = payload[0];
+    let kind = payload[1];
+    let block = (forms::byte_at(payload, 2) + 256 * forms::byte_at(payload, 3)) as u16;
+    Line::Answered {
+        op: op,
+        answer: day_sheet::drop(network, kind, block, &payload[4..], out),
     }
 }
 

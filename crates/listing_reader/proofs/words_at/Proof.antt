@@ -25,7 +25,7 @@ met-requires-2 c κs = search needs
 returns-2 : tie.Need-returns-2
 returns-2 c =
     let a = c .before .before .before .before .before .args in
-    c .met2 .ensures ∙ words-language (now (a .sheet)) (a .at) (a .kind) _ (c .before .before .before .language-at .ensures) (c .before .before .if1 .left) (c .before .if2 .taken)
+    c .met2 .ensures ∙ words-language (now (a .sheet)) (a .at) (a .kind) _ (c .before .before .before .language-at .ensures) (c .before .before .if1 .left) (λ e. omega arith)
 
 add-page-at : tie.Need-add-page-at
 add-page-at c =

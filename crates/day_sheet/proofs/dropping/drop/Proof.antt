@@ -1,0 +1,78 @@
+-- `day_sheet::dropping::drop` meets its contract: the sheet's rules first, then those of what is left. Assumes nothing.
+use borrow.Author.Needs.{needs}
+use mathlib.Core.Path.{_∙_, ap}
+use Prim.Native.Nat.{ℕ}
+use denote.Ref.{now}
+use Rattle.answer.specs.Writing.{answered, left}
+use Rattle.day_sheet.specs.Entries.{sheetText}
+use Rattle.day_sheet.specs.Calls.{limited, entriesOf}
+use Rattle.day_sheet.specs.Internal.{withoutKey}
+use Rattle.day_sheet.proofs.Judged.{halfway}
+use Rattle.day_sheet.proofs.Asked.{drop-long, drop-bad, drop-fine, drop-counted, drop-goes-on}
+use Rattle.day_sheet.proofs.dropping.drop.Statement.{statement}
+use Rattle.day_sheet.proofs.dropping.drop.Tie as tie
+
+refuse-requires : tie.Need-refuse-requires
+refuse-requires c κs = search needs
+
+returns : tie.Need-returns
+returns c =
+    let s = c .before .before .before .before in
+    let d = drop-long (s .args .network) (s .args .kind) (s .args .block) (search needs) (now (s .args .sheet)) (now (s .args .out)) (search needs) in
+    (c .refuse .ensures ∙ d .0, d .1)
+
+judge-lines-requires : tie.Need-judge-lines-requires
+judge-lines-requires c κs = search needs
+
+enum-known-why : tie.Need-enum-known-why
+enum-known-why c = search needs
+
+enum-known-count : tie.Need-enum-known-count
+enum-known-count c = search needs
+
+key-asked-requires : tie.Need-key-asked-requires
+key-asked-requires c κs = search needs
+
+drop-key-requires : tie.Need-drop-key-requires
+drop-key-requires c κs =
+    let s = c .before .before .before .before .before .before .before .before .before in
+    let judges = c .before .before .before .before .before .judge-lines .ensures in
+    let done = c .before .before .before .count .given .1 in (
+      halfway (now (s .args .sheet)) (search needs) (drop-fine (s .args .network) (s .args .kind) (s .args .block) (search needs) (now (s .args .sheet)) (now (s .args .out)) (search needs) judges done),
+      search needs,
+      drop-counted (s .args .network) (s .args .kind) (s .args .block) (search needs) (now (s .args .sheet)) (now (s .args .out)) (search needs) judges done,
+    )
+
+returns-2 : tie.Need-returns-2
+returns-2 c =
+    let s = c .before .before .before .before .before .before .before in
+    drop-bad (s .args .network) (s .args .kind) (s .args .block) (search needs) (now (s .args .sheet)) (now (s .args .out)) (search needs) (c .before .before .before .judge-lines .ensures) (c .before .why .given .1)
+
+same-length : tie.Need-same-length
+same-length c = search needs
+
+returns-3 : tie.Need-returns-3
+returns-3 c =
+    let s = c .before .before .before .before .before .before .before .before .before .before .before .before in
+    let p = drop-goes-on (s .args .network) (s .args .kind) (s .args .block) (search needs) (now (s .args .sheet)) (now (s .args .out)) (search needs) (c .before .before .before .before .before .before .before .before .judge-lines .ensures) (c .before .before .before .before .before .before .count .given .1) in
+    let es = entriesOf (now (s .args .sheet)) in
+    let key = c .before .before .before .before .key-asked .ensures in
+    let e = c .before .before .drop-key .ensures in (
+      e .0 ∙ ap (λ (k : ℕ). answered (limited (withoutKey k es)) (sheetText (withoutKey k es)) (now (s .args .out))) key ∙ p .0,
+      e .1 ∙ ap (λ (k : ℕ). left (limited (withoutKey k es)) (sheetText (withoutKey k es)) (now (s .args .out))) key ∙ p .1,
+    )
+
+pub drop-spec : {M : Type 1} → statement M
+drop-spec =
+    tie.close
+    (tie.spec
+    refuse-requires
+    returns
+    judge-lines-requires
+    enum-known-why
+    enum-known-count
+    key-asked-requires
+    drop-key-requires
+    returns-2
+    same-length
+    returns-3)

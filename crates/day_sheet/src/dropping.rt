@@ -1,0 +1,119 @@
+// A sheet without the entry of one key: what stands before it, and what stands behind it (SCOPE 20.8).
+ghost use mathlib.Core.Path.{_≡_};
+ghost use Prim.Native.Nat.{_≤_};
+ghost use lib.ListN.{length};
+ghost use Rattle.answer.specs.Writing.{answered, left};
+ghost use Rattle.day_sheet.specs.Entries.{sheetText, byteLimit};
+ghost use Rattle.day_sheet.specs.Calls.{limited, entriesOf, dropRules, dropResult};
+ghost use Rattle.day_sheet.specs.Internal.{Halfway, asked, withoutKey, spotOf, mostWith};
+use crate::BYTES;
+use crate::ENTRIES;
+use answer::Answer;
+
+// 11.12.3: the datatype_id of a Language table.
+const LI: usize = 7;
+
+// More than any key.
+const NO_KEY: usize = 33554432;
+
+// Where an entry stands, and how long it is.
+pub struct Spot {
+    pub from: usize,
+    pub long: usize,
+}
+
+// The sheet without the entry of a network, kind and block, to the front of `out`; as it was, where it has none.
+pub fn drop(network: u8, kind: u8, block: u16, sheet: &[u8], out: &mut [u8]) -> Answer
+    ensures answer { λ r.
+        ⌜ r
+        ≡ answered (dropRules network kind block (now (sheet .entry))) (sheetText (dropResult network kind block (now (sheet .entry))))
+        (now (out .entry)) ⌝ }
+    ensures output { λ _.
+        ⌜ now (out .exit)
+        ≡ left (dropRules network kind block (now (sheet .entry))) (sheetText (dropResult network kind block (now (sheet .entry))))
+        (now (out .entry)) ⌝ }
+{
+    if BYTES < sheet.len() {
+        return answer::refuse(21, 0);
+    }
+    match crate::judge_lines(sheet) {
+        Answer::Refused(why) => Answer::Refused(why),
+        Answer::Done(count) => {
+            let key = key_asked(network as usize, kind as usize, block as usize);
+            drop_key(key, count, sheet, out)
+        }
+    }
+}
+
+// The number of a key.
+fn key_asked(network: usize, kind: usize, block: usize) -> usize
+    requires { ⌜ (network ≤ 255) × (block ≤ 65535) ⌝ }
+    ensures { λ r. ⌜ r ≡ asked network kind block ⌝ }
+{
+    if kind == forms::TI {
+        return (network * 2 + 1) * 65536 + block;
+    }
+    if kind == LI {
+        return (network * 2) * 65536 + block;
+    }
+    NO_KEY
+}
+
+// The same, of a sheet in form with so many entries.
+fn drop_key(key: usize, count: usize, sheet: &[u8], out: &mut [u8]) -> Answer
+    requires { ⌜ Halfway (now sheet) 0 × (length (now sheet) ≤ byteLimit) × (count ≡ length (entriesOf (now sheet))) ⌝ }
+    ensures answer { λ r.
+        ⌜ r
+        ≡ answered (limited (withoutKey key (entriesOf (now (sheet .entry))))) (sheetText (withoutKey key (entriesOf (now (sheet .entry)))))
+        (now (out .entry)) ⌝ }
+    ensures output { λ _.
+        ⌜ now (out .exit)
+        ≡ left (limited (withoutKey key (entriesOf (now (sheet .entry))))) (sheetText (withoutKey key (entriesOf (now (sheet .entry)))))
+        (now (out .entry)) ⌝ }
+{
+    let spot = find(sheet, key);
+    let from = spot.from;
+    let long = spot.long;
+    if most_with(long) < count {
+        return answer::refuse(21, 0);
+    }
+    let n = sheet.len() - long;
+    if out.len() < n {
+        return answer::refuse(1, 0);
+    }
+    lent_bytes::copy(sheet, 0, from, out, 0);
+    lent_bytes::copy(sheet, from + long, n - from, out, from);
+    Answer::Done(n)
+}
+
+// So many entries may there be, of which one goes where it is long.
+fn most_with(long: usize) -> usize
+    ensures { λ r. ⌜ r ≡ mostWith long ⌝ }
+{
+    if long == 0 {
+        return ENTRIES;
+    }
+    ENTRIES + 1
+}
+
+// Where the entry of a key stands.
+fn find(sheet: &[u8], key: usize) -> Spot
+    requires { ⌜ Halfway (now sheet) 0 ⌝ }
+    ensures { λ r. ⌜ r ≡ spotOf key (entriesOf (now (sheet .entry))) ⌝ }
+{
+    let mut at = 0;
+    loop {
+        let e = sheet_entry::entry_at(sheet, at, 0);
+        let more = e.more;
+        if !more {
+            return Spot { from: at, long: 0 };
+        }
+        if e.key == key {
+            return Spot {
+                from: at,
+                long: e.long,
+            };
+        }
+        at += e.long;
+    }
+}
