@@ -28,7 +28,7 @@ use Rattle.day_sheet.specs.Joining.{atMost, joined}
 use Rattle.day_sheet.specs.Calls.{entriesOf, joinResult}
 use Rattle.day_sheet.specs.AnyOrder.{InForm}
 use Rattle.sheet_entry.specs.Reading.{foundOf}
-use Rattle.day_sheet.specs.Internal.{Halfway, Lies, foundLines, secondStays, turn, turnBy, turnOf, turnText}
+use Rattle.day_sheet.specs.Internal.{Halfway, Lies, Met, foundLines, secondStays, absent, turn, turnBy, turnOf, secondPut, turnText}
 use Rattle.day_sheet.proofs.AnyOrder.{Fit, decides, sheet-of, text-of}
 use Rattle.sheet_entry.proofs.Entered.{entry-back}
 use Rattle.day_sheet.proofs.Exact.{read-written}
@@ -86,30 +86,46 @@ stays-text x y rest more =
 
 -- ---- what is taken, and what is left
 
--- what one turn does: it goes on in at least one sheet, what it takes is the first of the joined entries, and what it leaves are sheets in
+-- what one turn does: it goes on in at least one sheet, what it puts is the first of the joined entries, and what it leaves are sheets in
 -- form that give the rest
 pub record Turned (a b : List ℕ) (t : Turn) : Type 0 where
-  pub first-in : t .first ≤ length a
-  pub second-in : t .second ≤ length b
-  pub goes-on : 0 < t .first + t .second
-  pub first-fine : InForm (drop (t .first) a)
-  pub second-fine : InForm (drop (t .second) b)
-  pub text-on : sheetText (joinResult a b) ≡ turnText t a b ++ sheetText (joinResult (drop (t .first) a) (drop (t .second) b))
-  pub count-on : length (joinResult a b) ≡ suc (length (joinResult (drop (t .first) a) (drop (t .second) b)))
+  pub first-in : t .first .long ≤ length a
+  pub second-in : t .second .long ≤ length b
+  pub first-span : t .first .more ≡ true → t .first .head + 1 ≤ t .first .long
+  pub second-span : t .second .more ≡ true → t .second .head + 1 ≤ t .second .long
+  pub goes-on : 0 < t .first .long + t .second .long
+  pub first-fine : InForm (drop (t .first .long) a)
+  pub second-fine : InForm (drop (t .second .long) b)
+  pub text-on : sheetText (joinResult a b) ≡ turnText t a b ++ sheetText (joinResult (drop (t .first .long) a) (drop (t .second .long) b))
+  pub count-on : length (joinResult a b) ≡ suc (length (joinResult (drop (t .first .long) a) (drop (t .second .long) b)))
+
+-- an entry that was found, or none
+data Had : Found → Type 0 where
+  had : (x : Entry) → Had (found x)
+  had-none : Had absent
+
+never : false ≡ true → ⊥
+never p = let z : _≡_ {A = ℕ} 0 1 = ap (λ (b : Bool). pick b 1 0) p in omega arith
+
+had-span : {f : Found} → Had f → f .more ≡ true → f .head + 1 ≤ f .long
+had-span (had x) m = let s = spans x in omega arith
+had-span had-none m = absurd (never m)
 
 turned-by :
-    {xs ys : List Entry} (xs′ ys′ : List Entry) (z : Entry) (t : Turn) → Sheet xs → Sheet ys → Sheet xs′ → Sheet ys′
-    → t .first ≤ length (sheetText xs) → t .second ≤ length (sheetText ys) → 0 < t .first + t .second
-    → drop (t .first) (sheetText xs) ≡ sheetText xs′ → drop (t .second) (sheetText ys) ≡ sheetText ys′
+    {xs ys : List Entry} (xs′ ys′ : List Entry) (z : Entry) (t : Turn) → Had (t .first) → Had (t .second) → Sheet xs → Sheet ys → Sheet xs′ → Sheet ys′
+    → t .first .long ≤ length (sheetText xs) → t .second .long ≤ length (sheetText ys) → 0 < t .first .long + t .second .long
+    → drop (t .first .long) (sheetText xs) ≡ sheetText xs′ → drop (t .second .long) (sheetText ys) ≡ sheetText ys′
     → turnText t (sheetText xs) (sheetText ys) ≡ entryText z → joined xs ys ≡ z ∷ joined xs′ ys′
     → Turned (sheetText xs) (sheetText ys) t
 unfolding joinResult sheetText
-turned-by {xs} {ys} xs′ ys′ z t f g f′ g′ l m o p q r j =
+turned-by {xs} {ys} xs′ ys′ z t v w f g f′ g′ l m o p q r j =
     let c = text-of f′ in
     let d = text-of g′ in
     record {
       first-in = l;
       second-in = m;
+      first-span = had-span v;
+      second-span = had-span w;
       goes-on = o;
       first-fine = rw p (c .0);
       second-fine = rw q (d .0);
@@ -128,32 +144,32 @@ front-fits x rest = let e = length-append (entryText x) rest in omega arith
 -- only the first has an entry, or its key is smaller
 takes-first :
     (x : Entry) (xs ys : List Entry) → Sheet (x ∷ xs) → Sheet ys → joined (x ∷ xs) ys ≡ x ∷ joined xs ys
-    → Turned (sheetText (x ∷ xs)) (sheetText ys) (turn (length (entryText x)) 0 false)
-unfolding sheetText turnText
+    → Turned (sheetText (x ∷ xs)) (sheetText ys) (turn (found x) absent)
+unfolding sheetText turnText secondPut
 takes-first x xs ys f g j =
     let s = spans x in
-    turned-by xs ys x (turn (length (entryText x)) 0 false) f g (sheet-rest f .1) g (front-fits x (sheetText xs)) (omega arith) (omega arith)
+    turned-by xs ys x (turn (found x) absent) (had x) had-none f g (sheet-rest f .1) g (front-fits x (sheetText xs)) (omega arith) (omega arith)
     (drop-append-seam (entryText x) (sheetText xs)) refl (take-append-seam (entryText x) (sheetText xs)) j
 
 takes-second :
     (xs : List Entry) (y : Entry) (ys : List Entry) → Sheet xs → Sheet (y ∷ ys) → joined xs (y ∷ ys) ≡ y ∷ joined xs ys
-    → Turned (sheetText xs) (sheetText (y ∷ ys)) (turn 0 (length (entryText y)) true)
-unfolding sheetText turnText
+    → Turned (sheetText xs) (sheetText (y ∷ ys)) (turn absent (found y))
+unfolding sheetText turnText secondPut
 takes-second xs y ys f g j =
     let s = spans y in
-    turned-by xs ys y (turn 0 (length (entryText y)) true) f g f (sheet-rest g .1) (omega arith) (front-fits y (sheetText ys)) (omega arith)
+    turned-by xs ys y (turn absent (found y)) had-none (had y) f g f (sheet-rest g .1) (omega arith) (front-fits y (sheetText ys)) (omega arith)
     refl (drop-append-seam (entryText y) (sheetText ys)) (take-append-seam (entryText y) (sheetText ys)) j
 
 takes-greater :
     (x : Entry) (xs : List Entry) (y : Entry) (ys : List Entry) → Sheet (x ∷ xs) → Sheet (y ∷ ys)
     → joined (x ∷ xs) (y ∷ ys) ≡ greater atMost x y ∷ joined xs ys
-    → Turned (sheetText (x ∷ xs)) (sheetText (y ∷ ys)) (turn (length (entryText x)) (length (entryText y)) (atMost x y))
-unfolding sheetText turnText
+    → Turned (sheetText (x ∷ xs)) (sheetText (y ∷ ys)) (turn (found x) (found y))
+unfolding sheetText turnText secondPut
 takes-greater x xs y ys f g j =
     let s = spans x in
-    turned-by xs ys (greater atMost x y) (turn (length (entryText x)) (length (entryText y)) (atMost x y)) f g (sheet-rest f .1) (sheet-rest g .1)
+    turned-by xs ys (greater atMost x y) (turn (found x) (found y)) (had x) (had y) f g (sheet-rest f .1) (sheet-rest g .1)
     (front-fits x (sheetText xs)) (front-fits y (sheetText ys)) (omega arith) (drop-append-seam (entryText x) (sheetText xs))
-    (drop-append-seam (entryText y) (sheetText ys)) (chosen (atMost x y)) j
+    (drop-append-seam (entryText y) (sheetText ys)) (rw (stays-text x y (sheetText xs) (sheetText ys)) (chosen (atMost x y))) j
   where
     chosen :
         (t : Bool)
@@ -168,19 +184,15 @@ turned-texts :
     → Turned (sheetText xs) (sheetText ys) (turnOf (sheetText xs) (sheetText ys))
 unfolding sheetText turnOf turnBy foundOf entryAt joined merge into
 turned-texts [] [] f g h = absurd (omega arith)
-turned-texts (x ∷ xs) [] f g h =
-    rw (found-text x (sheetText xs) (sheet-rest f .0))
-    (takes-first x xs [] f g refl)
+turned-texts (x ∷ xs) [] f g h = rw (found-text x (sheetText xs) (sheet-rest f .0)) (takes-first x xs [] f g refl)
 turned-texts [] (y ∷ ys) f g h = rw (found-text y (sheetText ys) (sheet-rest g .0)) (takes-second [] y ys f g refl)
 turned-texts (x ∷ xs) (y ∷ ys) f g h =
-    rw (found-text x (sheetText xs) (sheet-rest f .0), found-text y (sheetText ys) (sheet-rest g .0), stays-text x y (sheetText xs) (sheetText ys))
+    rw (found-text x (sheetText xs) (sheet-rest f .0), found-text y (sheetText ys) (sheet-rest g .0))
     (go (ltb (keyOf x) (keyOf y)) refl (ltb (keyOf y) (keyOf x)) refl)
   where
     go :
         (p : Bool) → ltb (keyOf x) (keyOf y) ≡ p → (q : Bool) → ltb (keyOf y) (keyOf x) ≡ q
-        → Turned (sheetText (x ∷ xs)) (sheetText (y ∷ ys))
-        (pick p (turn (length (entryText x)) 0 false)
-        (pick q (turn 0 (length (entryText y)) true) (turn (length (entryText x)) (length (entryText y)) (atMost x y))))
+        → Turned (sheetText (x ∷ xs)) (sheetText (y ∷ ys)) (pick p (turn (found x) absent) (pick q (turn absent (found y)) (turn (found x) (found y))))
     go true p q₀ q = takes-first x xs (y ∷ ys) f g (merge-less keyOf (greater atMost) x xs y ys (ltb-true (keyOf x) (keyOf y) p))
     go false p true q = takes-second (x ∷ xs) y ys f g (merge-more keyOf (greater atMost) x xs y ys (ltb-true (keyOf y) (keyOf x) q))
     go false p false q =
@@ -202,56 +214,47 @@ turned-out [] [] h = refl
 turned-out [] (y ∷ b) h = absurd (omega arith)
 turned-out (x ∷ a) b h = absurd (omega arith)
 
--- an entry that is found lies within the sheet, its head before its empty line
-Spanned : List ℕ → Found → Type 0
-Spanned a f = (f .head + 1 ≤ f .long) × (f .long ≤ length a)
-
-spanned-texts : (xs : List Entry) → Sheet xs → foundOf (entryAt 0 (sheetText xs)) .more ≡ true → Spanned (sheetText xs) (foundOf (entryAt 0 (sheetText xs)))
-unfolding sheetText foundOf entryAt Spanned
-spanned-texts [] g m = absurd (never m)
-  where
-    never : false ≡ true → ⊥
-    never p = let z : _≡_ {A = ℕ} 0 1 = ap (λ (b : Bool). pick b 1 0) p in omega arith
-spanned-texts (x ∷ xs) g m =
-    let s = spans x in
-    rw (found-text x (sheetText xs) (sheet-rest g .0)) (omega arith, front-fits x (sheetText xs))
-
-pub spanned :
-    (a : List ℕ) → InForm a → foundOf (entryAt 0 a) .more ≡ true
-    → (foundOf (entryAt 0 a) .head + 1 ≤ foundOf (entryAt 0 a) .long) × (foundOf (entryAt 0 a) .long ≤ length a)
-unfolding Spanned
-spanned a f m =
-    let p = sym (read-written a 0 f .0) in
-    subst (λ (x : List ℕ). foundOf (entryAt 0 x) .more ≡ true → Spanned x (foundOf (entryAt 0 x))) p (spanned-texts (entriesOf a) (sheet-of a f)) m
-
 -- ---- as the code goes
 
-module _ (a : List ℕ) (f : Found) (b : List ℕ) (g : Found) where
-  pub by-first : g .more ≡ false → turn (f .long) 0 false ≡ turnBy a f b g
+module _ (f g : Found) where
+  pub by-second : f .more ≡ false → turn f g ≡ turnBy f g
   unfolding turnBy
-  by-first h = rw h
+  by-second h = rw h
 
-  pub by-second : g .more ≡ true → f .more ≡ false → turn 0 (g .long) true ≡ turnBy a f b g
+  pub by-first : f .more ≡ true → g .more ≡ false → turn f g ≡ turnBy f g
   unfolding turnBy
-  by-second h l = rw (h, l)
+  by-first h l = rw (h, l)
 
-  pub by-less : g .more ≡ true → f .more ≡ true → f .key < g .key → turn (f .long) 0 false ≡ turnBy a f b g
+  pub by-less : f .more ≡ true → g .more ≡ true → f .key < g .key → turn f absent ≡ turnBy f g
   unfolding turnBy
   by-less h l k = rw (h, l, lt-ltb (f .key) (g .key) k)
 
-  pub by-more : g .more ≡ true → f .more ≡ true → g .key < f .key → turn 0 (g .long) true ≡ turnBy a f b g
+  pub by-more : f .more ≡ true → g .more ≡ true → g .key < f .key → turn absent g ≡ turnBy f g
   unfolding turnBy
   by-more h l k = rw (h, l, le-ltb (f .key) (g .key) (omega arith), lt-ltb (g .key) (f .key) k)
 
-  pub by-same :
-      g .more ≡ true → f .more ≡ true → f .key ≡ g .key → turn (f .long) (g .long) (secondStays a f b g) ≡ turnBy a f b g
+  pub by-same : f .more ≡ true → g .more ≡ true → f .key ≡ g .key → turn f g ≡ turnBy f g
   unfolding turnBy
   by-same h l k = rw (h, l, le-ltb (f .key) (g .key) (omega arith), le-ltb (g .key) (f .key) (omega arith))
 
-  pub turn-found : f ≡ foundOf (entryAt 0 a) → g ≡ foundOf (entryAt 0 b) → turnBy a f b g ≡ turnOf a b
-  unfolding turnOf
-  turn-found p q = rw (p, q)
+pub turn-found : (a b : List ℕ) {f g : Found} → f ≡ foundOf (entryAt 0 a) → g ≡ foundOf (entryAt 0 b) → turnBy f g ≡ turnOf a b
+unfolding turnOf
+turn-found a b p q = rw (p, q)
 
+module _ (t : Turn) (a b : List ℕ) where
+  pub put-first : t .second .more ≡ false → false ≡ secondPut t a b
+  unfolding secondPut
+  put-first h = rw h
+
+  pub put-second : t .second .more ≡ true → t .first .more ≡ false → true ≡ secondPut t a b
+  unfolding secondPut
+  put-second h l = rw (h, l)
+
+  pub put-both : t .second .more ≡ true → t .first .more ≡ true → secondStays a (t .first) b (t .second) ≡ secondPut t a b
+  unfolding secondPut
+  put-both h l = rw (h, l)
+
+module _ (a : List ℕ) (f : Found) (b : List ℕ) (g : Found) where
   pub stays-less : f .stamp < g .stamp → true ≡ secondStays a f b g
   unfolding secondStays
   stays-less h = rw (lt-ltb (f .stamp) (g .stamp) h)
@@ -274,33 +277,28 @@ lines-part sheet at f l =
     let e : at + (f .long - 1) - (at + f .head) ≡ f .long - 1 - f .head = omega arith in
     rw (e, drop-drop (f .head) at sheet)
 
-pub lies-found :
-    (sheet : List ℕ) (at : ℕ) (f : Found) → Halfway sheet at → f ≡ foundOf (entryAt 0 (drop at sheet)) → f .more ≡ true → Lies sheet at f
-lies-found sheet at f h e m =
-    let s = spanned (drop at sheet) (h .fine) (rw e at m) in
-    let w = h .within .inside in
-    let d = length-drop at sheet in
-    record { head-first = rw e (s .0); inside = rw e (omega (arith, s .1)); small = h .within .short }
+pub lies-met : (sheet : List ℕ) (at : ℕ) (f : Found) → Met sheet at f → f .more ≡ true → Lies sheet at f
+lies-met sheet at f m h = record { head-first = m .span h; inside = m .inside; small = m .small }
 
 -- the text of a turn
-pub later-text : (t : Turn) (a b : List ℕ) → t .later ≡ true → take (t .second) b ≡ turnText t a b
+pub later-text : (t : Turn) (a b : List ℕ) → secondPut t a b ≡ true → take (t .second .long) b ≡ turnText t a b
 unfolding turnText
 later-text t a b h = rw h
 
-pub first-text : (t : Turn) (a b : List ℕ) → t .later ≡ false → take (t .first) a ≡ turnText t a b
+pub first-text : (t : Turn) (a b : List ℕ) → secondPut t a b ≡ false → take (t .first .long) a ≡ turnText t a b
 unfolding turnText
 first-text t a b h = rw h
 
 pub part-length : (n i : ℕ) (l : List ℕ) → i + n ≤ length l → length (take n (drop i l)) ≡ n
 part-length n i l h = length-take-le n (drop i l) (rw (length-drop i l) (omega arith))
 
-turn-length : (t : Turn) (a b : List ℕ) → length (turnText t a b) ≤ t .first + t .second
+turn-length : (t : Turn) (a b : List ℕ) → length (turnText t a b) ≤ t .first .long + t .second .long
 unfolding turnText
-turn-length t a b = go (t .later)
+turn-length t a b = go (secondPut t a b)
   where
-    go : (l : Bool) → length (pick l (take (t .second) b) (take (t .first) a)) ≤ t .first + t .second
-    go true = let e = length-take (t .second) b in omega arith
-    go false = let e = length-take (t .first) a in omega arith
+    go : (l : Bool) → length (pick l (take (t .second .long) b) (take (t .first .long) a)) ≤ t .first .long + t .second .long
+    go true = let e = length-take (t .second .long) b in omega arith
+    go false = let e = length-take (t .first .long) a in omega arith
 
 -- ---- along both sheets
 
@@ -341,13 +339,13 @@ module _ (first second out₀ out : List ℕ) (i j n q : ℕ) (v : Along first s
   pub along-on :
       {t : Turn} {out′ : List ℕ} {q′ : ℕ} → Turned (drop i first) (drop j second) t
       → out′ ≡ sets out q (turnText t (drop i first) (drop j second)) → q′ ≡ q + length (turnText t (drop i first) (drop j second))
-      → Along first second out₀ out′ (i + t .first) (j + t .second) (n + 1) q′
+      → Along first second out₀ out′ (i + t .first .long) (j + t .second .long) (n + 1) q′
   along-on {t} {out′} {q′} u e k =
       let a = drop i first in
       let b = drop j second in
-      let f = drop-drop (t .first) i first in
-      let g = drop-drop (t .second) j second in
-      let r : joinResult (drop (i + t .first) first) (drop (j + t .second) second) ≡ joinResult (drop (t .first) a) (drop (t .second) b) = rw (f, g) in
+      let f = drop-drop (t .first .long) i first in
+      let g = drop-drop (t .second .long) j second in
+      let r : joinResult (drop (i + t .first .long) first) (drop (j + t .second .long) second) ≡ joinResult (drop (t .first .long) a) (drop (t .second .long) b) = rw (f, g) in
       let x = u .first-in in
       let y = u .second-in in
       let z = u .goes-on in
@@ -355,14 +353,14 @@ module _ (first second out₀ out : List ℕ) (i j n q : ℕ) (v : Along first s
       let l = length-drop i first in
       let m = length-drop j second in
       let o = turn-length t a b in
-      let w = length-append (turnText t a b) (sheetText (joinResult (drop (t .first) a) (drop (t .second) b))) in
-      let d : length (sheetText (joinResult a b)) ≡ length (turnText t a b) + length (sheetText (joinResult (drop (t .first) a) (drop (t .second) b))) = ap length (u .text-on) ∙ w in
+      let w = length-append (turnText t a b) (sheetText (joinResult (drop (t .first .long) a) (drop (t .second .long) b))) in
+      let d : length (sheetText (joinResult a b)) ≡ length (turnText t a b) + length (sheetText (joinResult (drop (t .first .long) a) (drop (t .second .long) b))) = ap length (u .text-on) ∙ w in
       record {
         in-first = record { within = record { inside = let h = v .in-first .within .inside in omega arith; short = v .in-first .within .short }; fine = rw (sym f) (u .first-fine) };
         in-second = record { within = record { inside = let h = v .in-second .within .inside in omega arith; short = v .in-second .within .short }; fine = rw (sym g) (u .second-fine) };
         to-put =
             rw (r, e, k)
-            (sym (sets-append out q (turnText t a b) (sheetText (joinResult (drop (t .first) a) (drop (t .second) b))))
+            (sym (sets-append out q (turnText t a b) (sheetText (joinResult (drop (t .first .long) a) (drop (t .second .long) b))))
             ∙ ap (sets out q) (sym (u .text-on))
             ∙ v .to-put);
         to-go = rw r (let h = v .to-go in omega arith);
@@ -387,10 +385,10 @@ module _ (first second out₀ out : List ℕ) (i j n q : ℕ) (v : Along first s
       let c : q + 0 ≡ length (sheetText (joinResult first second)) = rw r at (v .to-go) in
       (a, omega arith, omega arith)
 
-  -- no place is far on
+  -- no place is far on, and what was met lies within the sheets
   pub along-fits :
       {t : Turn} → Turned (drop i first) (drop j second) t
-      → (i + t .first ≤ length first) × (j + t .second ≤ length second) × (q + t .first + t .second ≤ 200000)
+      → Met first i (t .first) × Met second j (t .second) × (q + t .first .long + t .second .long ≤ 200000)
   along-fits {t} u =
       let x = u .first-in in
       let y = u .second-in in
@@ -398,5 +396,8 @@ module _ (first second out₀ out : List ℕ) (i j n q : ℕ) (v : Along first s
       let m = length-drop j second in
       let f = v .in-first .within in
       let g = v .in-second .within in
-      let s = v .place-small in
-      (omega arith, omega arith, omega arith)
+      let s = v .place-small in (
+        record { span = u .first-span; inside = omega arith; small = f .short },
+        record { span = u .second-span; inside = omega arith; small = g .short },
+        omega arith,
+      )

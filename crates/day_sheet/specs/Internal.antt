@@ -38,25 +38,32 @@ secondStays a f b g =
     pick (ltb (f .stamp) (g .stamp)) true
     (pick (ltb (g .stamp) (f .stamp)) false (before (foundLines a f) (foundLines b g)))
 
-abbrev pub turn : ℕ → ℕ → Bool → Turn
-turn n m t = record { first = n; second = m; later = t }
+-- no entry, as at the end of a sheet
+abbrev pub absent : Found
+absent = record { more = false; fine = true; long = 0; key = 0; stamp = 0; head = 0 }
 
--- by the smaller key; at equal keys both are passed and one is taken
-unfoldable pub turnBy : List ℕ → Found → List ℕ → Found → Turn
-turnBy a f b g =
-    pick (g .more)
-    (pick (f .more)
-    (pick (ltb (f .key) (g .key)) (turn (f .long) 0 false)
-    (pick (ltb (g .key) (f .key)) (turn 0 (g .long) true) (turn (f .long) (g .long) (secondStays a f b g))))
-    (turn 0 (g .long) true))
-    (turn (f .long) 0 false)
+abbrev pub turn : Found → Found → Turn
+turn f g = record { first = f; second = g }
+
+-- which of two entries has the next key, or both
+unfoldable pub turnBy : Found → Found → Turn
+turnBy f g =
+    pick (f .more)
+    (pick (g .more)
+    (pick (ltb (f .key) (g .key)) (turn f absent) (pick (ltb (g .key) (f .key)) (turn absent g) (turn f g)))
+    (turn f g))
+    (turn f g)
 
 unfoldable pub turnOf : List ℕ → List ℕ → Turn
-turnOf a b = turnBy a (foundOf (entryAt 0 a)) b (foundOf (entryAt 0 b))
+turnOf a b = turnBy (foundOf (entryAt 0 a)) (foundOf (entryAt 0 b))
 
--- the text that is taken
+-- whether it is the second's entry that stays
+unfoldable pub secondPut : Turn → List ℕ → List ℕ → Bool
+secondPut t a b = pick (t .second .more) (pick (t .first .more) (secondStays a (t .first) b (t .second)) true) false
+
+-- the text that stays
 unfoldable pub turnText : Turn → List ℕ → List ℕ → List ℕ
-turnText t a b = pick (t .later) (take (t .second) b) (take (t .first) a)
+turnText t a b = pick (secondPut t a b) (take (t .second .long) b) (take (t .first .long) a)
 
 -- a place in a sheet from which on it is in form
 pub record Halfway (sheet : List ℕ) (at : ℕ) : Type 0 where
@@ -66,6 +73,12 @@ pub record Halfway (sheet : List ℕ) (at : ℕ) : Type 0 where
 -- an entry that was found there lies within the sheet, with its head before its empty line
 pub record Lies (sheet : List ℕ) (at : ℕ) (f : Found) : Type 0 where
   pub head-first : f .head + 1 ≤ f .long
+  pub inside : at + f .long ≤ length sheet
+  pub small : length sheet ≤ 65000
+
+-- the same of what a turn has of a sheet, where it has an entry of it
+pub record Met (sheet : List ℕ) (at : ℕ) (f : Found) : Type 0 where
+  pub span : f .more ≡ true → f .head + 1 ≤ f .long
   pub inside : at + f .long ≤ length sheet
   pub small : length sheet ≤ 65000
 

@@ -11,7 +11,7 @@ ghost use Rattle.answer.specs.Values.{refused};
 ghost use Rattle.answer.specs.Writing.{answered, left};
 ghost use Rattle.day_sheet.specs.Entries.{sheetText, entryLimit, byteLimit};
 ghost use Rattle.day_sheet.specs.Calls.{joinRules, joinResult};
-ghost use Rattle.day_sheet.specs.Internal.{Halfway, Lies, secondStays, turnOf, turnText};
+ghost use Rattle.day_sheet.specs.Internal.{Halfway, Lies, Met, absent, secondStays, secondPut, turnOf, turnText};
 use crate::BYTES;
 use crate::ENTRIES;
 use crate::entries;
@@ -24,11 +24,10 @@ pub struct Size {
     pub long: usize,
 }
 
-// How far the merge goes on in each of the two sheets, and whether the entry that it takes is the second's.
+// What has the next key: an entry of the first sheet, of the second, or one of each; where a sheet has none, none was found.
 pub struct Turn {
-    pub first: usize,
-    pub second: usize,
-    pub later: bool,
+    pub first: Found,
+    pub second: Found,
 }
 
 // The two sheets joined, to the front of `out`: for each key the greater entry (SCOPE 20.8).
@@ -122,8 +121,8 @@ pub(crate) fn put_joined(first: &[u8], second: &[u8], out: &mut [u8]) -> Size
     while i + j < whole {
         let t = next_turn(first, i, second, j);
         q = put_turn(first, i, second, j, t, out, q);
-        i += t.first;
-        j += t.second;
+        i += t.first.long;
+        j += t.second.long;
         n += 1;
     }
     Size {
@@ -132,7 +131,7 @@ pub(crate) fn put_joined(first: &[u8], second: &[u8], out: &mut [u8]) -> Size
     }
 }
 
-// Puts the entry that a turn takes, and answers the place after it.
+// Puts the entry that stays of a turn, and answers the place after it.
 fn put_turn(
     first: &[u8],
     i: usize,
@@ -142,14 +141,14 @@ fn put_turn(
     out: &mut [u8],
     q: usize,
 ) -> usize
-    requires { ⌜ (i + t .first ≤ length (now first)) × (j + t .second ≤ length (now second)) × (q + t .first + t .second ≤ 200000) ⌝ }
+    requires { ⌜ Met (now first) i (t .first) × Met (now second) j (t .second) × (q + t .first .long + t .second .long ≤ 200000) ⌝ }
     ensures { λ r.
         ⌜ (now (out .exit) ≡ sets (now (out .entry)) q (turnText t (drop i (now (first .entry))) (drop j (now (second .entry)))))
         × (r ≡ q + length (turnText t (drop i (now (first .entry))) (drop j (now (second .entry))))) ⌝ }
 {
-    let a = t.first;
-    let b = t.second;
-    if t.later {
+    let a = t.first.long;
+    let b = t.second.long;
+    if second_put(first, i, second, j, t) {
         lent_bytes::copy(second, j, b, out, q);
         return q + b;
     }
@@ -157,46 +156,69 @@ fn put_turn(
     q + a
 }
 
-// The next entry, by the smaller key; of two with one key both are passed, and the greater is taken.
+// Whether it is the second's entry that stays.
+fn second_put(first: &[u8], i: usize, second: &[u8], j: usize, t: Turn) -> bool
+    requires { ⌜ Met (now first) i (t .first) × Met (now second) j (t .second) ⌝ }
+    ensures { λ r. ⌜ r ≡ secondPut t (drop i (now (first .entry))) (drop j (now (second .entry))) ⌝ }
+{
+    let a = t.first;
+    let b = t.second;
+    if !b.more {
+        return false;
+    }
+    if !a.more {
+        return true;
+    }
+    second_stays(first, i, a, second, j, b)
+}
+
+// Which of the two sheets, or both, has the next key, and the entry of it.
 fn next_turn(first: &[u8], i: usize, second: &[u8], j: usize) -> Turn
-    requires { ⌜ Halfway (now first) i × Halfway (now second) j ⌝ }
     ensures { λ r. ⌜ r ≡ turnOf (drop i (now (first .entry))) (drop j (now (second .entry))) ⌝ }
 {
     let a = sheet_entry::entry_at(first, i, 0);
     let b = sheet_entry::entry_at(second, j, 0);
-    if !b.more {
-        return Turn {
-            first: a.long,
-            second: 0,
-            later: false,
-        };
-    }
     if !a.more {
         return Turn {
-            first: 0,
-            second: b.long,
-            later: true,
+            first: a,
+            second: b,
+        };
+    }
+    if !b.more {
+        return Turn {
+            first: a,
+            second: b,
         };
     }
     if a.key < b.key {
         return Turn {
-            first: a.long,
-            second: 0,
-            later: false,
+            first: a,
+            second: nothing(),
         };
     }
     if b.key < a.key {
         return Turn {
-            first: 0,
-            second: b.long,
-            later: true,
+            first: nothing(),
+            second: b,
         };
     }
-    let later = second_stays(first, i, a, second, j, b);
     Turn {
-        first: a.long,
-        second: b.long,
-        later,
+        first: a,
+        second: b,
+    }
+}
+
+// No entry, as at a sheet's end.
+fn nothing() -> Found
+    ensures { λ r. ⌜ r ≡ absent ⌝ }
+{
+    Found {
+        more: false,
+        fine: true,
+        long: 0,
+        key: 0,
+        stamp: 0,
+        head: 0,
     }
 }
 

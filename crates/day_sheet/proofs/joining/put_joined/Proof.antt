@@ -34,7 +34,7 @@ add-loop c =
     omega arith
 
 next-turn-requires : tie.Need-next-turn-requires Inv-loop μ-loop
-next-turn-requires c κs = let v = c .before .loop .inv .0 in (v .in-first, v .in-second)
+next-turn-requires c κs = search needs
 
 put-turn-requires : tie.Need-put-turn-requires Inv-loop μ-loop
 put-turn-requires c κs =

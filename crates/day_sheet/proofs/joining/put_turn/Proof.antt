@@ -9,6 +9,9 @@ use Rattle.day_sheet.proofs.Turning.{later-text, first-text, part-lengt
 use Rattle.day_sheet.proofs.joining.put_turn.Statement.{statement}
 use Rattle.day_sheet.proofs.joining.put_turn.Tie as tie
 
+second-put-requires : tie.Need-second-put-requires
+second-put-requires c κs = search needs
+
 copy-requires : tie.Need-copy-requires
 copy-requires c κs = search needs
 
@@ -20,10 +23,10 @@ same-length c = search needs
 
 returns : tie.Need-returns
 returns c =
-    let a = c .before .before .before .before .before .before .before .before .args in
-    let e = later-text (a .t) (drop (a .i) (now (a .first))) (drop (a .j) (now (a .second))) (c .before .before .before .before .if1 .taken) in (
+    let a = c .before .before .before .before .before .before .before .before .before .args in
+    let e = later-text (a .t) (drop (a .i) (now (a .first))) (drop (a .j) (now (a .second))) (sym (c .before .before .before .before .before .second-put .ensures) ∙ c .before .before .before .before .if1 .taken) in (
       c .before .before .copy .ensures ∙ ap (sets (now (a .out)) (a .q)) e,
-      ap (λ (n : ℕ). a .q + n) (sym (part-length (a .t .second) (a .j) (now (a .second)) (search needs)) ∙ ap length e),
+      ap (λ (n : ℕ). a .q + n) (sym (part-length (a .t .second .long) (a .j) (now (a .second)) (search needs)) ∙ ap length e),
     )
 
 copy-requires-2 : tie.Need-copy-requires-2
@@ -37,16 +40,17 @@ same-length-2 c = search needs
 
 returns-2 : tie.Need-returns-2
 returns-2 c =
-    let a = c .before .before .before .before .before .before .before .before .args in
-    let e = first-text (a .t) (drop (a .i) (now (a .first))) (drop (a .j) (now (a .second))) (c .before .before .before .before .if1 .left) in (
+    let a = c .before .before .before .before .before .before .before .before .before .args in
+    let e = first-text (a .t) (drop (a .i) (now (a .first))) (drop (a .j) (now (a .second))) (sym (c .before .before .before .before .before .second-put .ensures) ∙ c .before .before .before .before .if1 .left) in (
       c .before .before .copy2 .ensures ∙ ap (sets (now (a .out)) (a .q)) e,
-      ap (λ (n : ℕ). a .q + n) (sym (part-length (a .t .first) (a .i) (now (a .first)) (search needs)) ∙ ap length e),
+      ap (λ (n : ℕ). a .q + n) (sym (part-length (a .t .first .long) (a .i) (now (a .first)) (search needs)) ∙ ap length e),
     )
 
 pub put-turn-spec : {M : Type 1} → statement M
 put-turn-spec =
     tie.close
     (tie.spec
+    second-put-requires
     copy-requires
     add-result
     same-length
