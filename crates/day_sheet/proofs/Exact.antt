@@ -20,7 +20,7 @@ use Rattle.day_sheet.specs.Reading.{sheetFrom, sheetOf}
 use Rattle.listing_reader.proofs.Rows.{Each, none, more, texts, row-sound, row-back, seen-item}
 use Rattle.sheet_entry.proofs.Entered.{Standing, textOf, entry-seen, entry-stepping, entry-back, ends-at-end}
 
-sheet-texts : (least : ℕ) (es : List Entry) → texts above entryAt textOf least es ≡ sheetText es
+pub sheet-texts : (least : ℕ) (es : List Entry) → texts above entryAt textOf least es ≡ sheetText es
 unfolding texts sheetText
 sheet-texts least [] = refl
 sheet-texts least (e ∷ es) = ap (λ (x : List ℕ). entryText e ++ x) (sheet-texts (above least e) es)

@@ -5,7 +5,7 @@ use mathlib.Core.Bool.{true}
 use mathlib.Core.List.{List, [], _∷_, map}
 use mathlib.Core.Option.{some}
 use mathlib.Core.Logic.{_⊎_, inl, inr}
-use Prim.Native.Nat.{ℕ, _+_, _≤_}
+use Prim.Native.Nat.{ℕ, _≤_}
 use native.Mathlib.Omega.{arith}
 use lib.ListN.{length, take, drop}
 use lib.Seq.{take-append-le}
@@ -26,13 +26,14 @@ use Rattle.day_sheet.specs.Entries.{sheetText, entryLimit, byteLimit}
 use Rattle.day_sheet.specs.Joining.{atMost, joined}
 use Rattle.day_sheet.specs.Calls.{entriesOf, joinRules, joinResult}
 use Rattle.day_sheet.specs.AnyOrder.{joinAnswer, joinLeft, InForm, sizeOf, Room}
+use Rattle.day_sheet.specs.Work.{bytesOf}
 use Rattle.day_sheet.proofs.Exact.{read-written}
 use Rattle.day_sheet.proofs.AnyOrder.{Fit, decides, join-either-order, sheet-of, sheets-of, text-of, text-length, sheet-joined}
 
 -- ---- never back
 
 -- the stamp of an entry that stands at or above another is at least its stamp
-later-stamp : (x z : Entry) → atMost x z ≡ true → x .stamp ≤ z .stamp
+pub later-stamp : (x z : Entry) → atMost x z ≡ true → x .stamp ≤ z .stamp
 later-stamp x z h =
     leb-true (x .stamp) (z .stamp)
     (in-turn (ordered-on ordered-numbers (λ (e : Entry). e .stamp)) (ordered-on ordered-before tableLines) x z h .0)
@@ -99,24 +100,20 @@ room-joined first second others f g e r =
     let t = text-of (sheet-joined (sheet-of first f) (sheet-of second g)) in
     rw (t .1) (within-joined keyOf sizeOf Fit atMost decides (sheet-of first f) (sheet-of second g) (sheets-of e) r)
 
--- in the customer's words: the sheets have at most 64 keys, and all their bytes are at most 16,384
-unfoldable pub lengths : List (List ℕ) → ℕ
-lengths [] = 0
-lengths (sheet ∷ sheets) = length sheet + lengths sheets
-
-lengths-total : {sheets : List (List ℕ)} → Each InForm sheets → totals sizeOf (map entriesOf sheets) ≡ lengths sheets
-unfolding lengths totals
-lengths-total nil = refl
-lengths-total (and {a = x} h e) =
+-- the sheets have at most 64 keys, and all their bytes are at most 16,384
+bytes-total : {sheets : List (List ℕ)} → Each InForm sheets → totals sizeOf (map entriesOf sheets) ≡ bytesOf sheets
+unfolding bytesOf totals
+bytes-total nil = refl
+bytes-total (and {a = x} h e) =
     let l = text-length (entriesOf x) in
     let m = ap length (read-written x 0 h .0) in
-    let n = lengths-total e in
+    let n = bytes-total e in
     omega arith
 
 pub room-sum :
     (sheets : List (List ℕ)) → Each InForm sheets → length (together keyOf sizeOf (map entriesOf sheets)) ≤ entryLimit
-    → lengths sheets ≤ byteLimit → Room sheets
-room-sum sheets e k l = let t = lengths-total e in within-sum keyOf sizeOf (map entriesOf sheets) k (omega arith)
+    → bytesOf sheets ≤ byteLimit → Room sheets
+room-sum sheets e k l = let t = bytes-total e in within-sum keyOf sizeOf (map entriesOf sheets) k (omega arith)
 
 -- a sheet within the limits, with itself
 pub room-itself :

@@ -5,5 +5,9 @@ pub mod Joining
 pub mod Dropping
 pub mod Calls
 pub mod AnyOrder
+pub mod Work
+pub mod Late
+pub mod Saying
+pub mod Faults
 pub mod Dropped
 pub mod Internal

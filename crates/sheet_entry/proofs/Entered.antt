@@ -61,7 +61,7 @@ key-faithful : Faithfuls keyLines (drop 1 headFits)
 key-faithful =
     and-line kind-faithful (and-line (number-faithful networkName 255 (omega arith)) (and-line (number-faithful blockName 65535 (omega arith)) no-lines))
 
-head-faithful : Faithfuls heading headFits
+pub head-faithful : Faithfuls heading headFits
 head-faithful = and-line (number-faithful stampName stampMost (omega arith)) key-faithful
 
 pub key-within : (bytes : List ℕ) → linesAt keyLines bytes .long ≤ length bytes

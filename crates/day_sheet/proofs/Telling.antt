@@ -1,0 +1,108 @@
+-- A call that answers 20 names the first line at fault of the sheet that it judged: no other rule has that number. Assumes nothing.
+use mathlib.Core.Path.{_≡_, ap, subst}
+use mathlib.Core.Logic.{_⊎_, inl, inr}
+use mathlib.Core.List.{List, [], _∷_, _++_}
+use Prim.Native.Nat.{ℕ}
+use native.Mathlib.Omega.{arith}
+use Rattle.answer.specs.Rules.{Rule, none, First, here, later}
+use Rattle.answer.specs.Values.{refused, numberOf, offsetOf}
+use Rattle.answer.specs.Writing.{room, answered}
+use Rattle.answer.proofs.Judging.{refused-exactly}
+use Rattle.answer.proofs.Steps.{every-first}
+use Rattle.forms.specs.Writing.{formRules}
+use Rattle.sheet_entry.specs.Entries.{Entry}
+use Rattle.day_sheet.specs.Entries.{sheetText}
+use Rattle.day_sheet.specs.Calls.{entriesOf, formed, limited, rewriteRules, rewritten, addRules, addResult, joinRules, joinResult, dropRules, dropResult}
+use Rattle.day_sheet.specs.AnyOrder.{joinAnswer, InForm}
+use Rattle.day_sheet.specs.Saying.{rewriteAnswer}
+use Rattle.day_sheet.specs.Faults.{FirstFault}
+use Rattle.day_sheet.proofs.Faulting.{first-fault}
+
+-- the rule that answers 20 at this offset, among these and behind those that are judged before
+record At (n : ℕ) (rs : List Rule) : Type 0 where
+  by : Rule
+  first : First by rs
+  number-is : by .number ≡ 20
+  offset-is : by .offset ≡ n
+
+at-first : (rules : List Rule) (bytes old : List ℕ) (n : ℕ) → answered rules bytes old ≡ refused 20 n → At n (rules ++ room bytes old ∷ [])
+at-first rules bytes old n e =
+    let r = refused-exactly rules bytes old 20 n (omega arith) .0 (ap numberOf e, ap offsetOf e) in
+    record { by = r .0; first = r .1; number-is = r .2; offset-is = r .3 }
+
+-- a rule of another number is passed
+passed : {n : ℕ} {r : Rule} {rs : List Rule} → (r .number ≡ 20 → ⊥) → At n (r ∷ rs) → At n rs
+passed {n} {r} {rs} other a = go (a .first) (a .number-is) (a .offset-is)
+  where
+    go : {q : Rule} → First q (r ∷ rs) → q .number ≡ 20 → q .offset ≡ n → At n rs
+    go (here h) e o = absurd (other e)
+    go {q} (later h f) e o = record { by = q; first = f; number-is = e; offset-is = o }
+
+-- none is left
+nowhere : {P : Type 0} {n : ℕ} → At n [] → P
+nowhere a = absurd (every-first none (a .first))
+
+-- the result's size and the room
+sized : {P : Type 0} {n : ℕ} (es : List Entry) (bytes old : List ℕ) → At n (limited es ++ room bytes old ∷ []) → P
+sized es bytes old a = nowhere (passed (λ e. omega arith) (passed (λ e. omega arith) (passed (λ e. omega arith) a)))
+
+-- the sheet's own rule
+judged-form : {n : ℕ} (sheet : List ℕ) {rs : List Rule} → At n (formed sheet ∷ rs) → FirstFault sheet n ⊎ (InForm sheet × At n rs)
+judged-form {n} sheet {rs} a = go (a .first) (a .number-is) (a .offset-is)
+  where
+    go : {q : Rule} → First q (formed sheet ∷ rs) → q .number ≡ 20 → q .offset ≡ n → FirstFault sheet n ⊎ (InForm sheet × At n rs)
+    go (here h) e o = inl (subst (FirstFault sheet) o (first-fault sheet h))
+    go {q} (later h f) e o = inr (h, record { by = q; first = f; number-is = e; offset-is = o })
+
+-- ---- the calls
+
+-- where the form decides, and then only sizes and the room
+last-form :
+    {n : ℕ} (sheet : List ℕ) (es : List Entry) (bytes old : List ℕ) → At n (formed sheet ∷ (limited es ++ room bytes old ∷ [])) → FirstFault sheet n
+last-form {n} sheet es bytes old a = go (judged-form sheet a)
+  where
+    go : FirstFault sheet n ⊎ (InForm sheet × At n (limited es ++ room bytes old ∷ [])) → FirstFault sheet n
+    go (inl f) = f
+    go (inr r) = sized es bytes old (r .1)
+
+pub rewrite-told : (sheet old : List ℕ) (n : ℕ) → rewriteAnswer sheet old ≡ refused 20 n → FirstFault sheet n
+unfolding rewriteRules
+rewrite-told sheet old n e =
+    last-form sheet (entriesOf sheet) (rewritten sheet) old (passed (λ e. omega arith) (at-first (rewriteRules sheet) (rewritten sheet) old n e))
+
+-- of the first sheet, or of the second where the first is in form
+pub join-told :
+    (first second old : List ℕ) (n : ℕ) → joinAnswer first second old ≡ refused 20 n → FirstFault first n ⊎ (InForm first × FirstFault second n)
+unfolding joinRules
+join-told first second old n e =
+    go
+    (judged-form first
+    (passed (λ e. omega arith) (passed (λ e. omega arith) (at-first (joinRules first second) (sheetText (joinResult first second)) old n e))))
+  where
+    go :
+        FirstFault first n
+        ⊎ (InForm first × At n (formed second ∷ (limited (joinResult first second) ++ room (sheetText (joinResult first second)) old ∷ [])))
+        → FirstFault first n ⊎ (InForm first × FirstFault second n)
+    go (inl f) = inl f
+    go (inr r) = inr (r .0, last-form second (joinResult first second) (sheetText (joinResult first second)) old (r .1))
+
+pub add-told :
+    (stamp : ℕ) (sheet form old : List ℕ) (n : ℕ)
+    → answered (addRules stamp sheet form) (sheetText (addResult stamp sheet form)) old ≡ refused 20 n → FirstFault sheet n
+unfolding addRules formRules
+add-told stamp sheet form old n e =
+    last-form sheet (addResult stamp sheet form) (sheetText (addResult stamp sheet form)) old
+    (passed (λ e. omega arith)
+    (passed (λ e. omega arith)
+    (passed (λ e. omega arith)
+    (passed (λ e. omega arith)
+    (passed (λ e. omega arith)
+    (passed (λ e. omega arith) (at-first (addRules stamp sheet form) (sheetText (addResult stamp sheet form)) old n e)))))))
+
+pub drop-told :
+    (network kind block : ℕ) (sheet old : List ℕ) (n : ℕ)
+    → answered (dropRules network kind block sheet) (sheetText (dropResult network kind block sheet)) old ≡ refused 20 n → FirstFault sheet n
+unfolding dropRules
+drop-told network kind block sheet old n e =
+    let es = dropResult network kind block sheet in
+    last-form sheet es (sheetText es) old (passed (λ e. omega arith) (at-first (dropRules network kind block sheet) (sheetText es) old n e))
