@@ -37,7 +37,7 @@ use Rattle.claims.proofs.Calls.{its-bytes, tables-written, all-whole, c
 -- ---- each call
 
 -- a lent slice, somewhere
-abbrev lend : List ℕ → RefT (List ℕ)
+abbrev pub lend : List ℕ → RefT (List ℕ)
 lend l = record { ptr = (0, 0); name = 0; now = l }
 
 module _ (application : ℕ) (l old : List ℕ) where

@@ -22,6 +22,7 @@ pub mod Wrong
 pub mod Many
 pub mod Handing
 pub mod Calls
+pub mod Sheets
 pub mod Again
 pub mod Usual
 pub mod Happening

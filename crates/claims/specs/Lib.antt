@@ -8,5 +8,6 @@ pub mod Carries
 pub mod March
 pub mod Tells
 pub mod Calls
+pub mod Sheets
 pub mod Judges
 pub mod Twice

@@ -1,0 +1,65 @@
+-- The day sheet's calls as their contracts have them (claims/specs/Calls says how), and sheets joined and tables added by such calls.
+use mathlib.Core.Path.{_≡_}
+use mathlib.Core.List.{List, [], _∷_, _++_}
+use Prim.Native.Nat.{ℕ, _≤_}
+use lib.ListN.{length}
+use denote.Ref.{now}
+use Rattle.answer.specs.declared.Answer.{Answer}
+use Rattle.answer.specs.declared.Answer.the-variants.{Done}
+use Rattle.sheet_entry.specs.Entries.{stampMost}
+use Rattle.day_sheet.specs.AnyOrder.{Captured}
+use Rattle.day_sheet.specs.Work.{Work, stands, join, add}
+use Rattle.day_sheet.proofs.rewrite.Reads as day-sheet·rewrite
+use Rattle.day_sheet.proofs.joining.join.Reads as day-sheet·join
+use Rattle.day_sheet.proofs.adding.add.Reads as day-sheet·add
+use Rattle.day_sheet.proofs.dropping.drop.Reads as day-sheet·drop
+use Rattle.texts.proofs.entries.Reads as texts·entries
+use Rattle.claims.specs.Calls.{reported}
+
+-- ---- each call
+
+-- sheet and lent output; the answer, and the output afterwards
+pub data Rewrites : List ℕ → List ℕ → Answer → List ℕ → Type 0 where
+  rewrite-sheet : (κs : _) (a : _) (x : _) (t : _) → day-sheet·rewrite.Post κs a x t → Rewrites (now (a .0)) (now (a .1 .0)) x (now (t .1 .0))
+
+-- two sheets and lent output; the answer, and the output afterwards
+pub data JoinsSheets : List ℕ → List ℕ → List ℕ → Answer → List ℕ → Type 0 where
+  join-sheets :
+      (κs : _) (a : _) (x : _) (t : _) → day-sheet·join.Post κs a x t
+      → JoinsSheets (now (a .0)) (now (a .1 .0)) (now (a .1 .1 .0)) x (now (t .1 .1 .0))
+
+-- stamp, sheet, table form and lent output; the answer, and the output afterwards
+pub data AddsTable : ℕ → List ℕ → List ℕ → List ℕ → Answer → List ℕ → Type 0 where
+  add-table :
+      (κs : _) (a : _) (x : _) (t : _) → day-sheet·add.Post κs a x t
+      → AddsTable (a .0) (now (a .1 .0)) (now (a .1 .1 .0)) (now (a .1 .1 .1 .0)) x (now (t .1 .1 .1 .0))
+
+-- network, kind, block, sheet and lent output; the answer, and the output afterwards
+pub data DropsEntry : ℕ → ℕ → ℕ → List ℕ → List ℕ → Answer → List ℕ → Type 0 where
+  drop-entry :
+      (κs : _) (a : _) (x : _) (t : _) → day-sheet·drop.Post κs a x t
+      → DropsEntry (a .0) (a .1 .0) (a .1 .1 .0) (now (a .1 .1 .1 .0)) (now (a .1 .1 .1 .1 .0)) x (now (t .1 .1 .1 .1 .0))
+
+-- a text, and the number that comes back
+pub data Counts : List ℕ → ℕ → Type 0 where
+  count-entries : (κs : _) (a : _) (x : _) (t : _) → texts·entries.Post κs a x t → Counts (now (a .0)) x
+
+-- the call was accepted
+abbrev pub Accepted : Answer → Type 0
+Accepted x = (n : ℕ) × (x ≡ Done n)
+
+-- ---- calls one on what others wrote
+
+-- sheets joined and tables added, each call with a lent output of at least so many bytes, and what it reports as written handed on: the
+-- answers in the order of the calls, and what the last one reports
+pub data Called (least : ℕ) : Work → List Answer → List ℕ → Type 0 where
+  none : (sheet : List ℕ) → Called least (stands sheet) [] sheet
+  joins :
+      {v w : Work} {xs ys : List Answer} {a b old out : List ℕ} {x : Answer}
+      → Called least v xs a → Called least w ys b → least ≤ length old → JoinsSheets a b old x out
+      → Called least (join v w) (xs ++ (ys ++ (x ∷ []))) (reported x out)
+  -- a stamp has 32 bits
+  adds :
+      {w : Work} {c : Captured} {xs : List Answer} {a old out : List ℕ} {x : Answer}
+      → Called least w xs a → c .stamp ≤ stampMost → least ≤ length old → AddsTable (c .stamp) a (c .form) old x out
+      → Called least (add w c) (xs ++ (x ∷ [])) (reported x out)
