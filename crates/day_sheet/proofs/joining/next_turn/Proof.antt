@@ -45,7 +45,7 @@ returns-3 c =
     let y = drop (s .args .j) (now (s .args .second)) in
     let f = c .before .before .before .before .before .before .before .before .before .entry-at in
     let g = c .before .before .before .before .before .before .before .before .entry-at2 in
-    ap (turn (f .result)) (c .nothing .ensures) ∙ by-less (f .result) (g .result) (not-false (f .result .more) (c .before .before .before .before .before .before .if1 .left)) (not-false (g .result .more) (c .before .before .before .before .if2 .left)) (c .before .if3 .taken) ∙ turn-found x y (f .ensures) (g .ensures)
+    ap (turn (f .result)) (c .nothing .ensures) ∙ by-less (f .result) (g .result) (not-false (f .result .more) (c .before .before .before .before .before .before .if1 .left)) (not-false (g .result .more) (c .before .before .before .before .if2 .left)) (omega (arith, c .before .if3 .taken)) ∙ turn-found x y (f .ensures) (g .ensures)
 
 nothing-requires-2 : tie.Need-nothing-requires-2
 nothing-requires-2 c κs = search needs
@@ -57,7 +57,7 @@ returns-4 c =
     let y = drop (s .args .j) (now (s .args .second)) in
     let f = c .before .before .before .before .before .before .before .before .before .before .before .before .entry-at in
     let g = c .before .before .before .before .before .before .before .before .before .before .before .entry-at2 in
-    ap (λ (h : Found). turn h (g .result)) (c .nothing2 .ensures) ∙ by-more (f .result) (g .result) (not-false (f .result .more) (c .before .before .before .before .before .before .before .before .before .if1 .left)) (not-false (g .result .more) (c .before .before .before .before .before .before .before .if2 .left)) (c .before .if4 .taken) ∙ turn-found x y (f .ensures) (g .ensures)
+    ap (λ (h : Found). turn h (g .result)) (c .nothing2 .ensures) ∙ by-more (f .result) (g .result) (not-false (f .result .more) (c .before .before .before .before .before .before .before .before .before .if1 .left)) (not-false (g .result .more) (c .before .before .before .before .before .before .before .if2 .left)) (omega (arith, c .before .if4 .taken)) ∙ turn-found x y (f .ensures) (g .ensures)
 
 returns-5 : tie.Need-returns-5
 returns-5 c =

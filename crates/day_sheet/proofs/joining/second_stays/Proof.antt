@@ -11,12 +11,12 @@ use Rattle.day_sheet.proofs.joining.second_stays.Tie as tie
 returns : tie.Need-returns
 returns c =
     let a = c .before .before .before .before .before .args in
-    stays-less (drop (a .i) (now (a .first))) (a .a) (drop (a .j) (now (a .second))) (a .b) (c .if1 .taken)
+    stays-less (drop (a .i) (now (a .first))) (a .a) (drop (a .j) (now (a .second))) (a .b) (omega (arith, c .if1 .taken))
 
 returns-2 : tie.Need-returns-2
 returns-2 c =
     let a = c .before .before .before .before .before .before .before .before .args in
-    stays-more (drop (a .i) (now (a .first))) (a .a) (drop (a .j) (now (a .second))) (a .b) (c .if2 .taken)
+    stays-more (drop (a .i) (now (a .first))) (a .a) (drop (a .j) (now (a .second))) (a .b) (omega (arith, c .if2 .taken))
 
 add-from : tie.Need-add-from
 add-from c = search needs
