@@ -41,6 +41,8 @@ isn't known, or a payload that is too short for it: op=N unknown. A case that th
                      length (4, low first), it, a table form
     52  try_sheet    the first sheet's length (4, low first), the two joined
                      it, the second
+    56  try_sheet    network, kind, block number (2, low      the sheet without the entry of that key
+                     first), a sheet
 """
 
 from cases import guide, listing, menu, octet, pes, sheet, table, unpes

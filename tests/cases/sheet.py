@@ -1,4 +1,4 @@
-"""The day sheet: read and written again, a table added, two joined; every line's faults, and the limits."""
+"""The day sheet: read and written again, a table added, two joined, an entry dropped; every line's faults, and the limits."""
 
 from model import sheet, table
 from model.sheet import MOST_BYTES, MOST_ENTRIES, MOST_STAMP, Entry
@@ -68,6 +68,11 @@ def form_of(entry, copyright=0):
     return table.form_of(entry.table._replace(copyright=copyright))
 
 
+def named(entry):
+    """An entry's key as it is given to be dropped."""
+    return entry.table.network, entry.table.kind, entry.table.block_no
+
+
 # --- the ops --------------------------------------------------------------------
 
 def lent(payload, at):
@@ -84,6 +89,10 @@ def join_call(payload, room=65536):
     return sheet.join(payload[4:lent(payload, 0)], payload[lent(payload, 0):], room)
 
 
+def drop_call(payload, room=65536):
+    return sheet.drop(payload[0], payload[1], int.from_bytes(payload[2:4], "little"), payload[4:], room)
+
+
 def add_payload(stamp, text, form):
     return stamp.to_bytes(4, "little") + len(text).to_bytes(4, "little") + text + form
 
@@ -92,14 +101,20 @@ def join_payload(first, second):
     return len(first).to_bytes(4, "little") + first + second
 
 
+def drop_payload(key, text):
+    network, kind, block_no = key
+    return bytes([network, kind]) + block_no.to_bytes(2, "little") + text
+
+
 class Sheets:
-    """The three ops as cases."""
+    """The four ops as cases."""
 
     def __init__(self):
         self.script = Script({
             50: (0, lambda payload, room: line(sheet.rewrite, payload, room)),
             51: (8, lambda payload, room: line(add_call, payload, room) if lent(payload, 4) else "unknown"),
             52: (4, lambda payload, room: line(join_call, payload, room) if lent(payload, 0) else "unknown"),
+            56: (4, lambda payload, room: line(drop_call, payload, room)),
         })
 
     def rewrite(self, text, room=MOST_BYTES):
@@ -114,9 +129,13 @@ class Sheets:
     def both(self, first, second, room=MOST_BYTES):
         self.join(first, second, room), self.join(second, first, room)
 
+    def drop(self, key, text, room=MOST_BYTES):
+        self.script.case(56, room, drop_payload(key, text))
+
     def everywhere(self, text):
         """A sheet in each place where one is lent."""
         self.rewrite(text), self.add(1, text, form_of(SAMPLE[1])), self.both(text, sheet.written(SAMPLE[1:2]))
+        self.drop(named(SAMPLE[1]), text)
 
 
 # --- reading --------------------------------------------------------------------
@@ -127,17 +146,20 @@ SAMPLE = [Entry(7, Table(LI, 0, 0, 9, [(5, [0x647574, 0x00FFFF]), (0, [])])),
 
 
 def line_faults(sheets, dice):
-    """Every line of a small sheet, with everything that can befall it."""
-    lines = sheet.written(SAMPLE).split(b"\n")[:-1]
+    """Every line of a small sheet, with everything that can befall it: the sheet ends with that line's entry, and what was shown of a
+    line in an earlier entry is shown again by a few faults."""
+    lines, shown = sheet.written(SAMPLE).split(b"\n")[:-1], set()
 
     def with_line(at, *instead):
-        return b"".join(one + b"\n" for one in [*lines[:at], *instead, *lines[at + 1:]])
+        return b"".join(one + b"\n" for one in [*lines[:at], *instead, *lines[at + 1:lines.index(b"", at) + 1]])
 
     for at, text in enumerate(lines):
         name, _, value = text.partition(b"=")
-        for fault in (text + b"\r", text + b" ", b" " + text, text + b"\x00", b"\x00" + text, b"\xef\xbb\xbf" + text, text.upper() + b"A",
-                      name + value, name + b" =" + value, name + b"= " + value, text + b"0" * 10, name[:-1] + b"=" + value, name + b"="):
+        faults = (text + b"\r", name + value, name + b"=", text + b" ", b" " + text, text + b"\x00", b"\x00" + text, b"\xef\xbb\xbf" + text,
+                  text.upper() + b"A", name + b" =" + value, name + b"= " + value, text + b"0" * 10, name[:-1] + b"=" + value)
+        for fault in faults[:3] if name in shown and lines[:at].count(b"") else faults:
             sheets.rewrite(with_line(at, fault))
+        shown.add(name)
         sheets.rewrite(with_line(at)), sheets.rewrite(with_line(at, text, text)), sheets.rewrite(with_line(at, b"", text))
         sheets.rewrite(with_line(at, text, b"mended=0")), sheets.rewrite(with_line(at, *lines[at + 1:at + 2], text))
         sheets.rewrite(b"\n".join(lines[:at] + [text])), sheets.rewrite(b"\n".join(lines[:at] + [text]) + b"\n")
@@ -161,10 +183,9 @@ def value_faults(sheets, dice):
         for value in (b"", b"00", b"01", b"+1", b"-0", b"-1", b"1 ", b" 1", b"0x1", b"1.0", b"1e1", b"1_0", b"a", b"\xb2", b"\xd9\xa1", b"0" * 30):
             given(old, name + value)
     for digits in (b"9" * 3000, b"1" + b"0" * 4999, b"0" * 2000, b"18446744073709551616" * 100):
-        for old in (b"stamp=1", b"descriptor=3"):
-            given(old, old.partition(b"=")[0] + b"=" + digits)
-    for old in (b"network=2", b"block=0", b"language=dut", b"page=000888"):
-        given(old, old.partition(b"=")[0] + b"=1" + b"0" * 1999)
+        given(b"stamp=1", b"stamp=" + digits)
+    for old in (b"network=2", b"block=0", b"descriptor=3", b"language=dut", b"page=000888"):
+        given(old, old.partition(b"=")[0] + b"=1" + b"0" * 999)
     for value in (b"du", b"dutc", b"Dut", b"DUT", b"du1", b"d t", b"647574", b"64757A", b"64757a", b"64757b", b"647560", b"607574", b"617574",
                   b"7a7a7a", b"616161", b"606161", b"7b7a7a", b"61607a", b"aaaaaa", b"abcdef", b"000000", b"ffffff", b"FFFFFF", b"12345", b"1234567",
                   b"12345g", b"", b"`aa", b"{aa", b"aaz", b"zza", b"64757", b"zzzzzz"):
@@ -182,7 +203,7 @@ def key_faults(sheets, dice):
     keys = [(network, kind, block) for network in (0, 9, 10, 99, 100) for kind in (LI, TI) for block in BLOCKS]
     for one in keys:
         for other in keys:
-            if dice.chance(4):
+            if dice.chance(6):
                 pair = [Entry(1, Table(kind, 0, block, network, [])) for network, kind, block in (one, other)]
                 sheets.rewrite(sheet.written(pair))
     for pair in (((1, TI, 0), (1, LI, 0x8000)), ((1, LI, 0x8000), (1, TI, 0)), ((1, TI, 0x8000), (2, LI, 0)), ((2, LI, 0), (1, TI, 0x8000)),
@@ -219,7 +240,7 @@ def lent_faults(sheets):
         sheets.everywhere(text), sheets.everywhere(text[:-2]), sheets.rewrite(text[:-1]), sheets.rewrite(text[:-1] + b"x\n\n")
     within, (_, over_ti), (_, over_li) = list(limits())[2][0], *list(limits())[4:]         # 8,184 bits; 8,186
     sheets.rewrite(sheet.written([Entry(0, within)]), 0), sheets.rewrite(sheet.written([Entry(0, over_ti)]))
-    sheets.everywhere(sheet.written([before, Entry(0, over_li._replace(network=7))]))
+    sheets.rewrite(sheet.written([before, Entry(0, over_li._replace(network=7))]))
 
 
 # --- limits ---------------------------------------------------------------------
@@ -236,22 +257,17 @@ def limit_cases(sheets, dice):
     one = Entry(5, Table(LI, 0, 0, 200, []))
     for count in (63, 64):
         text = sheet.written(small(count))
-        sheets.add(5, text, form_of(one)), sheets.add(5, text, form_of(one), 0), sheets.both(text, sheet.written([one]))
-    sheets.add(5, text, form_of(small(1)[0])), sheets.join(text, sheet.written(small(64, 1)))
+        sheets.add(5, text, form_of(one)), sheets.add(5, text, form_of(one), 0), sheets.join(sheet.written([one]), text)
+    sheets.add(5, text, form_of(small(1)[0])), sheets.join(text, sheet.written(small(64, 1)), 0)
     text = sheet.written(sized(MOST_BYTES + 1 - len(sheet.text_of(one))))
-    sheets.add(5, text, form_of(one)), sheets.join(sheet.written([one]), text)
-    # one entry is put for another that is a byte shorter
-    entries = sized(MOST_BYTES - 1)
-    other = entries[-1]._replace(stamp=entries[-1].stamp * 10 + 1)
-    sheets.add(other.stamp, sheet.written(entries), form_of(other), 0)
+    sheets.join(sheet.written([one]), text)
     sheets.add(MOST_STAMP, b"", form_of(largest())), sheets.add(MOST_STAMP, b"", form_of(largest()), 5923)
     # a lent sheet that is too long comes before one out of form, be it that sheet, the first or the second
     for first, second in ((b"x" + full, b"x"), (b"x", b"x" + full), (b"x", b""), (b"", b"x"), (b"y", b"\nx"), (sheet.written(SAMPLE)[:-1], b"\n"),
                           (b"\n", sheet.written(SAMPLE)[:-1])):
         sheets.join(first, second, 0)
-    sheets.add(0, b"x" + full, form_of(one), 0), sheets.add(0, over, form_of(one)[:-1]), sheets.add(0, b"x", form_of(one), 0)
-    for wrong in (CASE_G._replace(block_no=3), CASE_G._replace(descriptors=[(64, [])])):        # and behind the form's own, 22 and 15
-        sheets.add(0, over, table.form_of(wrong))
+    sheets.add(0, b"x" + full, form_of(one), 0), sheets.add(0, b"x", form_of(one), 0)
+    sheets.add(0, over, table.form_of(CASE_G._replace(descriptors=[(64, [])])))                 # and behind the form's own
 
 
 def full_cases(sheets):
@@ -269,7 +285,6 @@ def many_cases(sheets):
     text, other = sheet.written(many), sheet.written([one])
     sheets.add(5, text, form_of(many[30])), sheets.add(5, text, form_of(one), 0), sheets.both(text, other)
     sheets.add(5, text[:-1], form_of(one)), sheets.both(text[:-1], other)
-    sheets.add(5, sheet.written(most), form_of(one)), sheets.add(5, sheet.written(most)[:-1], form_of(one))     # over both limits
     sheets.join(sheet.written(most[::2]), sheet.written(most[1::2] + [one]))
 
 
@@ -288,7 +303,7 @@ def choice_cases(sheets, dice):
     """Two entries of one key: the greater stamp stays; at equal stamps the lines that come later, a prefix first."""
     for one in RIVALS:
         for other in RIVALS:
-            for stamps in ((3, 3), (9, 10)) if dice.chance(3) else ((3, 3),):
+            for stamps in ((3, 3), (9, 10)) if dice.chance(8) else ((3, 3),):
                 sheets.join(sheet.written([Entry(stamps[0], one)]), sheet.written([Entry(stamps[1], other)]))
     for one, other in ((0, 0), (0, 1), (9, 10), (99, 100), (MOST_STAMP, 0), (MOST_STAMP, MOST_STAMP), (1 << 31, (1 << 31) - 1), (256, 255)):
         for tables in (RIVALS[4:6], RIVALS[5:3:-1], RIVALS[4:5] * 2):
@@ -310,7 +325,7 @@ def add_cases(sheets, dice, size):
         for kind in (LI, TI):
             entry = some_entry(dice, network)
             entry = entry._replace(table=entry.table._replace(kind=kind, descriptors=[(1, [0x647574, 0x656E67])]))
-            for stamp in (0, entry.stamp, MOST_STAMP):
+            for stamp in (0, MOST_STAMP):
                 sheets.add(stamp, text, form_of(entry, dice.below(2)))
     room_tried(sheets.script, 51, add_payload(8, text, form_of(SAMPLE[0])), add_call)
     room_tried(sheets.script, 51, add_payload(8, b"", form_of(SAMPLE[1])), add_call)
@@ -356,6 +371,77 @@ def join_cases(sheets, dice, size):
         sheets.script.case(52, 99, payload)
 
 
+def grouping_cases(sheets):
+    """Three of the longest entries, of three keys, and a late empty table of the third key: joined from the left it is 21 at the third,
+    and as two pairs it isn't."""
+    one, two, three = (largest()._replace(table=largest().table._replace(network=network)) for network in (253, 254, 255))
+    three = three._replace(stamp=MOST_STAMP - 1)
+    late = Entry(MOST_STAMP, three.table._replace(descriptors=[]))
+    pair = sheet.written([one, two])
+    sheets.join(pair, sheet.written([three]))
+    sheets.join(sheet.written([three]), sheet.written([late])), sheets.join(pair, sheet.written([late]))
+
+
+# --- dropping -------------------------------------------------------------------
+
+FIVE = [Entry(stamp, Table(kind, 0, block_no, network, [(stamp, [0x647574] * table.WORDS[kind])])) for stamp, (network, kind, block_no) in enumerate(
+    ((2, LI, 0), (2, LI, 0x8000), (2, TI, 0), (2, TI, 0x8000), (3, TI, 0)), 1)]
+
+
+def drop_cases(sheets, dice, size):
+    """A key that is there, in each place, and keys next to it that aren't."""
+    text = sheet.written(FIVE)
+    for key in map(named, FIVE):
+        sheets.drop(key, text)
+    for key in ((0, LI, 0), (1, TI, 0x8000), (3, LI, 0), (3, TI, 0x8000), (4, TI, 0), (130, TI, 0), (255, TI, 0)):
+        sheets.drop(key, text)
+    for kind in (0, 1, 3, 6, 9, 15, 71, 72, 135, 136, 255):             # no kind that an entry has
+        sheets.drop((2, kind, 0), text)
+    for block_no in (*LATER[::3], 0x0080, 0x8001):
+        sheets.drop((2, TI, block_no), text)
+    for few in (b"", sheet.written(FIVE[:1])):                          # nothing comes out, and then no room is needed
+        for key in map(named, FIVE[:2]):
+            sheets.drop(key, few), sheets.drop(key, few, 0)
+    for key in (named(FIVE[1]), named(FIVE[4]), (9, LI, 0)):
+        room_tried(sheets.script, 56, drop_payload(key, text), drop_call)
+    for room in (MOST_BYTES + 1, 65536, 65537):
+        sheets.drop(named(FIVE[0]), sheet.written(FIVE[:2]), room)
+    for length in range(5):                                             # a payload with no sheet, or not even a key
+        sheets.script.case(56, 99, drop_payload((2, LI, 0), b"")[:length])
+    for _ in range(12 * size):
+        entries = some_sheet(dice, 1 + dice.below(6), 4)
+        sheets.drop(named(dice.pick(entries)), sheet.written(entries)), sheets.drop(named(some_entry(dice, dice.below(4))), sheet.written(entries))
+
+
+def drop_faults(sheets):
+    """A sheet out of form is 20, be it before, in or behind the entry that is to go, and whatever the room."""
+    text, key = sheet.written(FIVE), named(FIVE[2])
+    start = len(sheet.written(FIVE[:2]))
+    for at in (0, start - 1, start, start + 20, len(sheet.written(FIVE[:3])) - 1, len(sheet.written(FIVE[:3])), len(text) - 1):
+        sheets.drop(key, text[:at] + b"?" + text[at + 1:], 0), sheets.drop(key, text[:at])
+    for whole in (text + b"\n", b"\n" + text, text + b"x", b"x"):
+        sheets.drop(key, whole), sheets.drop((9, LI, 0), whole, 0)
+    for entries in (FIVE[:3] + FIVE[2:], FIVE[:3] + FIVE[1:], [FIVE[2], FIVE[1]], [FIVE[3], FIVE[2], FIVE[4]]):        # keys that don't rise
+        sheets.drop(key, sheet.written(entries)), sheets.drop((9, LI, 0), sheet.written(entries), 0)
+    for t in (shaped(TI, [16]), shaped(LI, [0] * 64), CASE_G._replace(block_no=3)):         # tables that can't be written
+        bad = Entry(1, t._replace(network=9))
+        sheets.drop(named(bad), sheet.written([bad])), sheets.drop(key, sheet.written(FIVE + [bad]))
+
+
+def drop_limits(sheets):
+    """A lent sheet over 16,384 bytes is 21 also where less would come out; of entries those that are left are counted."""
+    long = largest()
+    for length, room in ((MOST_BYTES, MOST_BYTES - 5924), (MOST_BYTES + 1, MOST_BYTES)):
+        sheets.drop(named(long), sheet.written(sized(length - 5924) + [long]), room)
+    sheets.drop(named(FIVE[2]), b"x" + sheet.written(sized(MOST_BYTES)), 0)
+    first, middle, last, none = named(small(1)[0]), named(small(33)[-1]), named(small(64)[-1]), (255, LI, 0)
+    full, more, most = (sheet.written(small(count)) for count in (64, 65, 66))
+    sheets.drop(none, full, len(full) - 1), sheets.drop(last, full)
+    sheets.drop(middle, more), sheets.drop(first, more, len(more) - len(sheet.written(small(1))) - 1), sheets.drop(named(small(65)[-1]), more, 0)
+    sheets.drop(none, more), sheets.drop(none, more, 0), sheets.drop((0, 9, 0), more), sheets.drop(none, more[:-1])
+    sheets.drop(first, most), sheets.drop(last, most, 0), sheets.drop(none, most), sheets.drop(middle, most[:-1])
+
+
 def spoilt(dice, text):
     at = dice.below(len(text))
     end = text.find(b"\n", at) + 1
@@ -376,8 +462,9 @@ def script_of(dice, size):
     sheets = Sheets()
     line_faults(sheets, dice), value_faults(sheets, dice), key_faults(sheets, dice), limit_cases(sheets, dice), choice_cases(sheets, dice)
     lent_faults(sheets), full_cases(sheets), many_cases(sheets)
-    add_cases(sheets, dice, size), join_cases(sheets, dice, size)
-    for op in (0, 49, 53, 255):
+    add_cases(sheets, dice, size), join_cases(sheets, dice, size), grouping_cases(sheets)
+    drop_cases(sheets, dice, size), drop_faults(sheets), drop_limits(sheets)
+    for op in (0, 49, 53, 55, 57, 255):
         sheets.script.case(op, 99, sheet.written(SAMPLE))
     sheets.script.cut_short(b"\x32\x40\x00\x00\x00\x08\x00\x00\x00stamp=1")
     return sheets.script

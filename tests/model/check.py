@@ -11,7 +11,7 @@ sys.path.insert(0, str(pathlib.Path(__file__).resolve().parent.parent))
 from cases.form import Dice, with_bytes
 from cases.reader import Air
 from cases.menu import EMPTY, SAMPLE, filled, linked, listed, some_menu, worded
-from cases.sheet import largest, sized, some_sheet
+from cases.sheet import largest, named, sized, small, some_entry, some_sheet
 from cases.table import CASE_G, L1_PRINTED, L1_SUM, l1_records, later, shaped, some_table
 from model import Refused, guide, listing, menu, octet, pes, sheet, table, unpes
 from model.listing import DESK
@@ -141,6 +141,28 @@ def day_sheet():
     assert number(sheet.join, wide, thin) == (21, 0) and len(sheet.join(wide, sheet.join(thin, late))) < 16384
 
 
+def dropping():
+    """A key's entry goes and the others stay; what goes comes back by adding it or joining with what was. Of 65 entries one may go."""
+    dice = Dice(5)
+    for entries in (sized(16384), small(64), *(some_sheet(dice, dice.below(9), 3) for _ in range(100))):
+        text = sheet.written(entries)
+        for entry in entries:
+            rest = sheet.drop(*named(entry), text)
+            assert sheet.read(rest) == [other for other in entries if other is not entry]
+            assert len(rest) + len(sheet.text_of(entry)) == len(text) and sheet.drop(*named(entry), rest) == rest
+            assert sheet.add(entry.stamp, rest, table.form_of(entry.table)) == text == sheet.join(rest, text)
+        for other in (named(some_entry(dice, dice.below(3))), (0, 9, 0), (1, 0, 0), (2, table.TI, 3)):
+            assert other in map(named, entries) or sheet.drop(*other, text) == text
+    more = sheet.written(small(65))
+    assert number(sheet.rewrite, more) == (21, 0) and number(sheet.drop, 255, table.TI, 0, more) == (21, 0)
+    for entry in small(65):
+        assert len(sheet.read(sheet.rewrite(sheet.drop(*named(entry), more)))) == 64
+    assert number(sheet.drop, *named(small(1)[0]), sheet.written(small(66))) == (21, 0)
+    over = sheet.written(sized(16385))
+    assert [number(sheet.drop, 0, table.TI, 0, lent, 0) for lent in (over, b"x" + over, b"x" + more, b"x", over[:-1], more)] == \
+        [(21, 0), (21, 0), (20, 0), (20, 0), (20, 16384), (1, 0)]
+
+
 def menus():
     """What is written reads back, nothing is ever left to fill, the listing is the one printed, and a menu that links to itself is bounded."""
     dice = Dice(4)
@@ -229,7 +251,7 @@ def noise(rounds, most):
 
 
 def main():
-    for check in (images, cases_a_to_f, case_g, cases_h_to_k, annex_l1, editions, lost_pes, pages, day_sheet, menus, menu_levels):
+    for check in (images, cases_a_to_f, case_g, cases_h_to_k, annex_l1, editions, lost_pes, pages, day_sheet, dropping, menus, menu_levels):
         check()
         print(f"{check.__name__}: ok")
     for most in (1, 2):

@@ -161,6 +161,12 @@ def join(first, second, room=MOST_BYTES):
     return settled(joined(read(first), read(second)), room)
 
 
+def drop(network, kind, block_no, data, room=MOST_BYTES):
+    """The sheet without the entry of a key, or as it was where no entry has it. The entries that are left are judged, so one of 65 may go."""
+    need(len(data) <= MOST_BYTES, 21)
+    return settled([e for e in read(data) if (e.table.network, e.table.kind, e.table.block_no) != (network, kind, block_no)], room)
+
+
 # --- the program ----------------------------------------------------------------
 
 def fed(data, captures, setting=DESK):
