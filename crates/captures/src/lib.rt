@@ -6,6 +6,7 @@
 // What can't come, a reader that takes nothing, ends a capture as a failure: nothing goes on from it. That it can't come is `never-stuck`
 // (proofs/Moving).
 mod feeding;
+pub mod lack;
 pub mod reading;
 pub mod sight;
 

@@ -1,6 +1,5 @@
 // One capture: its records are pulled, and the blocks that come are listed. Counts that a room hands back are held against the space that
 // they count in, so that no proof here has to know the room's definitions; a count that doesn't fit never comes.
-use crate::lack;
 use crate::says;
 use answer::Answer;
 use captures::Came;
@@ -204,7 +203,7 @@ fn end(
             if !put_end(tally, text, course, short) {
                 return false;
             }
-            lack::tell(name, course.setting, course.sight, pages, short > 0);
+            says::lacking(name, course, pages, short > 0);
             true
         }
         Came::Unread => {

@@ -7,7 +7,6 @@
 // lacks something in its middle is what nobody could see.
 mod capture;
 mod help;
-mod lack;
 mod says;
 
 use libc::STDIN_FILENO;

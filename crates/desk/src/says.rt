@@ -1,4 +1,6 @@
 // What the desk writes: the lines around a list. The first write that standard output doesn't take is told, and the caller stops.
+use captures::Course;
+use captures::lack;
 
 // The last line of a list (SCOPE 13.5).
 pub fn put_last(accepted: u64, refused: u64, short: u64) -> bool {
@@ -29,4 +31,16 @@ pub fn put_counts(packets: u64, ours: u64, unreadable: u64, dropped: u64) -> boo
         return false;
     }
     told::put(b"desk", b"\n")
+}
+
+// Where bytes came and no packet 0 of our page, a line says so, and what they may be. It begins `desk: `: a night that is empty by mistake
+// is a failure (SCOPE 13.9).
+pub fn lacking(name: &[u8], course: Course, pages: &[u16], is_short: bool) {
+    if !lack::is_lacking(course.sight) {
+        return;
+    }
+    told::begin(b"desk");
+    told::say(name);
+    lack::say(course.setting, course.sight, pages, is_short);
+    told::say(b"\n");
 }

@@ -1,31 +1,25 @@
-// What is told where no packet 0 of our page came, and what the capture may be (SCOPE 13.9).
-use captures::PACKET;
-use captures::Sight;
+// What is said of a capture of which no packet 0 of our page came: that, and what it may be (SCOPE 13.9).
+use crate::PACKET;
+use crate::Sight;
 use packet::Setting;
 use survey::seen::NO_PAGE;
 
-// Where bytes came and no packet 0 of our page, a line says so, and what they may be. It begins `desk: `: a night that is empty by mistake
-// is a failure.
-pub fn tell(name: &[u8], setting: Setting, sight: Sight, pages: &[u16], is_short: bool) {
+// Whether bytes came and no packet 0 of our page.
+pub fn is_lacking(sight: Sight) -> bool {
     if !sight.any {
-        return;
+        return false;
     }
-    if sight.counts.came {
-        return;
-    }
-    begin(name, setting);
-    guess(sight, pages, is_short);
-    told::say(b"\n");
+    !sight.counts.came
 }
 
-fn begin(name: &[u8], setting: Setting) {
-    told::begin(b"desk");
-    told::say(name);
+// Goes on behind a name in a line on standard error: what didn't come, and what the bytes may be.
+pub fn say(setting: Setting, sight: Sight, pages: &[u16], is_short: bool) {
     told::say_count(b": no packet 0 of magazine ", setting.magazine as u64);
     told::say(b", page ");
     told::say_hex(setting.page as u64, 2);
     told::say_count(b", stream ", setting.stream as u64);
     told::say(b" came");
+    guess(sight, pages, is_short);
 }
 
 // What the bytes may be: the surest first.
