@@ -1,7 +1,7 @@
 #!/usr/bin/env python3
 """Captures for the day sheet, and what the model makes of them: tests/sheet/captures.py DIR writes, for each NAME of a run of
 `sheet add`, NAME.words (options, then a stamp and a capture in turn, one word to a line), NAME.before (the sheet that stands, where there
-is one), NAME.after (the sheet afterwards) and NAME.line (what is printed). And for late files: orders (every order of four captures, a
+is one), NAME.after (the sheet afterwards), NAME.line (what is printed) and NAME.said (what is said of captures that gave nothing). And for late files: orders (every order of four captures, a
 line each), four.after; twenty (a stamp and a capture, a line each), twenty.after, groupings (pairs of sheets to be joined, the second
 into the first, a grouping after each empty line)."""
 
@@ -17,7 +17,7 @@ from cases.form import Dice
 from cases.reader import Air
 from cases.sheet import SAMPLE, small
 from cases.table import CASE_G, some_table
-from model import guide, pes, sheet, table
+from model import guide, pes, sheet, survey, table
 from model.guide import Setting
 from model.listing import DESK
 from samples import EVENING, MORNING, aired, packets_in
@@ -54,8 +54,19 @@ def runs(dice):
     yield "elsewhere", "-m 8 -p fE -s 2 -a 31", other, sheet.written(SAMPLE), [(7, "other.t42", sent(other, [CASE_G, some_table(dice)]))]
     others = b"".join(Air(dice, DESK).stream(3, [20, 40], 0)) + b"\x15" * 5          # blocks that are no tables, and bytes left over
     yield "none", "", DESK, entries(dice, 9), [(DAY, "others.t42", others)]
+    elsewhere = sent(other, [CASE_G])
+    some = [(DAY, "g.t42", sent(DESK, [CASE_G])), (DAY, "elsewhere.t42", elsewhere), (DAY, "empty.t42", b""), (DAY, "others.t42", others), (DAY, "short.t42", sent(DESK, [CASE_G]) + b"\x15" * 41)]
+    yield "some", "", DESK, entries(dice, 9), some
     yield "full", "", DESK, sheet.written(small(63)), [(1, "last.t42", sent(DESK, [CASE_G._replace(network=255)]))]
     yield "long", "", DESK, entries(dice, 30), [(DAY + i, f"long{i}.t42", night(dice, 9, 25)) for i in range(3)]
+
+
+def said(name, data, setting):
+    """What is said of a capture that gives no table, and of bytes at its end that make no packet."""
+    if " tables=0 " in sheet.fed(b"", [(0, data)], setting)[1]:
+        yield f"sheet: {name}: it gave no table{survey.lack(data, setting)}\n"
+    if len(data) % 42:
+        yield f"note: {name}: {len(data) % 42} bytes at its end make no packet\n"
 
 
 def main(folder):
@@ -71,9 +82,11 @@ def main(folder):
         (folder / f"{name}.words").write_text("".join(word + "\n" for word in words))
         (folder / f"{name}.after").write_bytes(after)
         (folder / f"{name}.line").write_text(line)
+        (folder / f"{name}.said").write_text("".join(line for _, capture, data in captures for line in said(folder / capture, data, setting)))
     evening = packets_in(samples.day()["evening.t42"])
     (folder / "evening.pes").write_bytes(b"".join(pes.write(0x10, b"\x02\xe7" + packet) for packet in evening))
     (folder / "many.t42").write_bytes(sent(DESK, [CASE_G._replace(network=n) for n in range(65)]))      # more than a sheet holds
+    (folder / "crowd").write_bytes(sheet.written([sheet.Entry(1, CASE_G._replace(network=100 + n, copyright=0)) for n in range(64)]))    # no other network has room in it
     late(folder, dice)
 
 

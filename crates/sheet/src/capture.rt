@@ -1,12 +1,13 @@
-// One capture: the room `captures` reads it, and each table that comes is added to the sheet. Counts that a room hands back are held
+// One capture: the room `captures` reads it, and each table that comes is kept and added to the sheet. Counts that a room hands back are held
 // against the space that they count in, so that no proof here has to know the room's definitions; a count that doesn't fit never comes.
-use crate::known;
+use crate::kept;
 use crate::says;
 use crate::work;
 use crate::work::Work;
 use answer::Answer;
 use captures::Came;
 use captures::Capture;
+use captures::Course;
 use captures::PAGES;
 use captures::PIECE;
 use captures::RECORDS;
@@ -17,18 +18,26 @@ ghost use Prim.Native.Nat.{_≤_};
 // More than the longest table form.
 const FORM: usize = 2048;
 
-// Where a capture stands, what was done, and whether more may come.
+// What a capture's tables are added under: its stamp, and the word that names it.
+pub struct Source {
+    pub stamp: u32,
+    pub word: usize,
+}
+
+// Where a capture stands, what was done, how many tables there were before it, and whether more may come.
 struct Going {
     capture: Capture,
     work: Work,
+    before: u64,
     on: bool,
 }
 
-// What was done, and a refusal's number (0 for none) and offset.
+// What was done, and a refusal's number (0 for none), offset, and the word that names its capture.
 struct Added {
     work: Work,
     no: u8,
     at: usize,
+    word: usize,
 }
 
 // What was done, and whether more may come.
@@ -37,17 +46,23 @@ struct Step {
     on: bool,
 }
 
+// What was done, and in which slot a form is kept: one that there isn't where it isn't.
+struct Kept {
+    work: Work,
+    at: usize,
+}
+
 // Adds the tables of the capture of a name, unless something failed before. The name is told with a `?` for each byte that isn't
 // printed.
 pub fn open(
     word: &mut [u8; 4096],
     n: usize,
-    stamp: u32,
+    source: Source,
     setting: Setting,
     work: Work,
     sheet: &mut [u8],
     spare: &mut [u8],
-    known: &mut [u8],
+    kept: &mut [u8],
 ) -> Work {
     if !work.sound {
         return work;
@@ -64,12 +79,12 @@ pub fn open(
     let work = read(
         fd,
         told::front(word, n),
-        stamp,
+        source,
         setting,
         work,
         sheet,
         spare,
-        known,
+        kept,
     );
     libc::close(fd);
     work
@@ -78,12 +93,12 @@ pub fn open(
 fn read(
     fd: i32,
     name: &[u8],
-    stamp: u32,
+    source: Source,
     setting: Setting,
     work: Work,
     sheet: &mut [u8],
     spare: &mut [u8],
-    known: &mut [u8],
+    kept: &mut [u8],
 ) -> Work {
     let mut piece = [0u8; PIECE];
     let mut records = [0u8; RECORDS];
@@ -96,7 +111,7 @@ fn read(
         going = pull(
             fd,
             name,
-            stamp,
+            source,
             going,
             &mut piece,
             &mut records,
@@ -104,7 +119,7 @@ fn read(
             &mut form,
             sheet,
             spare,
-            known,
+            kept,
         );
         turns = left(going.on, turns);
     }
@@ -115,6 +130,7 @@ fn begin(setting: Setting, work: Work) -> Going {
     Going {
         capture: captures::start(setting, false),
         work: work::capture(work),
+        before: work.tables,
         on: true,
     }
 }
@@ -142,7 +158,7 @@ fn end(going: Going) -> Work {
 fn pull(
     fd: i32,
     name: &[u8],
-    stamp: u32,
+    source: Source,
     going: Going,
     piece: &mut [u8; PIECE],
     records: &mut [u8; RECORDS],
@@ -150,29 +166,33 @@ fn pull(
     form: &mut [u8; FORM],
     sheet: &mut [u8],
     spare: &mut [u8],
-    known: &mut [u8],
+    kept: &mut [u8],
 ) -> Going {
     let work = going.work;
+    let before = going.before;
     let turn = captures::next(fd, going.capture, piece, records, pages);
     let capture = turn.capture;
     let came = turn.came;
-    let application = capture.course.setting.application;
+    let course = capture.course;
     let step = heed(
         name,
-        stamp,
-        application,
+        source,
+        course,
+        before,
         work,
         came,
         records,
+        pages,
         form,
         sheet,
         spare,
-        known,
+        kept,
     );
     let work = step.work;
     Going {
         capture,
         work,
+        before,
         on: step.on,
     }
 }
@@ -180,33 +200,37 @@ fn pull(
 // What came of the capture. Whatever fails is told, and ends it.
 fn heed(
     name: &[u8],
-    stamp: u32,
-    application: u8,
+    source: Source,
+    course: Course,
+    before: u64,
     work: Work,
     came: Came,
     records: &[u8; RECORDS],
+    pages: &[u16; PAGES],
     form: &mut [u8; FORM],
     sheet: &mut [u8],
     spare: &mut [u8],
-    known: &mut [u8],
+    kept: &mut [u8],
 ) -> Step {
     match came {
         Came::Records(n) => {
             let finished = told::front(records, n);
-            let added = Added { work, no: 0, at: 0 };
             let added = add_records(
-                added,
-                stamp,
-                application,
+                done(work),
+                source,
+                course.setting.application,
                 finished,
                 form,
                 sheet,
                 spare,
-                known,
+                kept,
             );
             judge(name, added)
         }
-        Came::Ended(_) => Step { work, on: false },
+        Came::Ended(short) => {
+            tell_end(name, course, pages, work.tables > before, short);
+            Step { work, on: false }
+        }
         Came::Unread => {
             says::fail(name, b"it can't be read, and the sheet stays as it was");
             stop(work)
@@ -215,6 +239,16 @@ fn heed(
             says::stuck(name);
             stop(work)
         }
+    }
+}
+
+// A capture that gave no table is told, and bytes at its end that make no packet are noted.
+fn tell_end(name: &[u8], course: Course, pages: &[u16; PAGES], has_tables: bool, short: usize) {
+    if !has_tables {
+        says::no_table(name, course, pages, short > 0);
+    }
+    if short > 0 {
+        says::note_left(name, short as u64);
     }
 }
 
@@ -237,13 +271,13 @@ fn stop(work: Work) -> Step {
 
 fn add_records(
     added: Added,
-    stamp: u32,
+    source: Source,
     application: u8,
     records: &[u8],
     form: &mut [u8],
     sheet: &mut [u8],
     spare: &mut [u8],
-    known: &mut [u8],
+    kept: &mut [u8],
 ) -> Added {
     let mut added = added;
     let mut at = 0;
@@ -251,87 +285,225 @@ fn add_records(
         let next = blocks::after(records, at);
         added = add_record(
             added,
-            stamp,
+            source,
             application,
             &records[at..next],
             form,
             sheet,
             spare,
-            known,
+            kept,
         );
-        if added.no > 0 {
-            return added;
-        }
         at = next;
     }
     added
 }
 
-// Adds the table of a record where block reading accepts it. A block that isn't a table of ours is passed over.
+// Adds the table of a record where block reading accepts it, unless one was refused before. A block that isn't a table of ours is passed over.
 fn add_record(
     added: Added,
-    stamp: u32,
+    source: Source,
     application: u8,
     record: &[u8],
     form: &mut [u8],
     sheet: &mut [u8],
     spare: &mut [u8],
-    known: &mut [u8],
+    kept: &mut [u8],
 ) -> Added {
+    if added.no > 0 {
+        return added;
+    }
     let answer = table::read_block(application, record, form);
     match answer {
         Read::Taken { written, mended: _ } => {
-            add_form(
+            take(
                 added,
-                stamp,
+                source,
                 told::front(form, written),
                 sheet,
                 spare,
-                known,
+                kept,
             )
         }
         Read::Refused(_) => added,
     }
 }
 
-// A table that was accepted. One that is known changes nothing.
-fn add_form(
+// A table that was accepted is kept and added.
+fn take(
     added: Added,
-    stamp: u32,
+    source: Source,
     form: &[u8],
     sheet: &mut [u8],
     spare: &mut [u8],
-    known: &mut [u8],
+    kept: &mut [u8],
 ) -> Added {
-    let work = added.work;
-    let mut work = work::table(work);
-    let at = known::find(known, work.known, work.next, form);
-    if at < work.known {
-        work.next = known::after(at, work.known);
-        return done(work::stays(work, known::is_same(known, at)));
+    let one = keep(added.work, source, form, kept);
+    add_form(one.work, one.at, source, form, sheet, spare, kept)
+}
+
+// Keeps a table: its form, unless that was kept before, and which it is.
+fn keep(work: Work, source: Source, form: &[u8], kept: &mut [u8]) -> Kept {
+    let at = kept::find(kept, work.since, work.kept, work.next, form);
+    let one = keep_form(work, at, source, form, kept);
+    note(one.work, one.at, kept)
+}
+
+fn note(work: Work, at: usize, kept: &mut [u8]) -> Kept {
+    let is_noted = kept::note(kept, work.came, at);
+    let mut work = work;
+    work.next = kept::after(at);
+    if is_noted {
+        work.came = kept::after(work.came);
+        return Kept { work, at };
     }
-    add_other(work, stamp, form, sheet, spare, known)
+    work.whole = false;
+    Kept { work, at }
+}
+
+// A form that isn't kept yet gets the next slot.
+fn keep_form(work: Work, at: usize, source: Source, form: &[u8], kept: &mut [u8]) -> Kept {
+    if at < work.kept {
+        return Kept { work, at };
+    }
+    if kept::keep(kept, work.kept, source.stamp, source.word, form) {
+        return in_slot(work);
+    }
+    keep_first(work::forget(work), source, form, kept)
+}
+
+// Where there is no more room, a form gets the first slot, in the place of all others.
+fn keep_first(work: Work, source: Source, form: &[u8], kept: &mut [u8]) -> Kept {
+    if kept::keep(kept, 0, source.stamp, source.word, form) {
+        return in_slot(work);
+    }
+    Kept {
+        work,
+        at: usize::MAX,
+    }
+}
+
+// The next slot is taken.
+fn in_slot(work: Work) -> Kept {
+    let mut work = work;
+    let at = work.kept;
+    work.kept = kept::after(at);
+    Kept { work, at }
+}
+
+// Adds what was kept to another sheet. A refusal is told with the capture's name.
+pub fn add_again(work: Work, sheet: &mut [u8], spare: &mut [u8], kept: &mut [u8]) -> Work {
+    let mut form = [0u8; FORM];
+    let mut added = done(work);
+    let mut left = work.came;
+    while left > 0 {
+        let i = passed(work.came, left);
+        left -= 1;
+        added = add_kept(added, i, &mut form, sheet, spare, kept);
+    }
+    end_again(added)
+}
+
+// How many of so many were passed, where so many are left.
+fn passed(count: usize, left: usize) -> usize {
+    if count < left {
+        return 0;
+    }
+    count - left
+}
+
+// One of the tables that were kept, unless one was refused before.
+fn add_kept(
+    added: Added,
+    i: usize,
+    form: &mut [u8; FORM],
+    sheet: &mut [u8],
+    spare: &mut [u8],
+    kept: &mut [u8],
+) -> Added {
+    if added.no > 0 {
+        return added;
+    }
+    let at = kept::noted(kept, i);
+    let long = copy_form(kept, at, form);
+    let source = Source {
+        stamp: kept::stamp_at(kept, at),
+        word: kept::word_at(kept, at),
+    };
+    add_form(
+        added.work,
+        at,
+        source,
+        told::front(form, long),
+        sheet,
+        spare,
+        kept,
+    )
+}
+
+fn end_again(added: Added) -> Work {
+    let work = added.work;
+    if added.no == 0 {
+        return work;
+    }
+    let mut name = io::buffer();
+    let n = told::argument(added.word, &mut name);
+    told::plain(&mut name);
+    says::refuse_table(told::front(&name, n), added.no, added.at);
+    work::broken(work)
+}
+
+// Takes a form out of its slot, and answers how long it is.
+fn copy_form(kept: &[u8], at: usize, form: &mut [u8]) -> usize {
+    let from = kept::form_at(kept, at);
+    lent_bytes::copy(from, 0, from.len(), form, 0);
+    from.len()
+}
+
+// A table that was accepted. One of which it is known how it stands changes nothing.
+fn add_form(
+    work: Work,
+    at: usize,
+    source: Source,
+    form: &[u8],
+    sheet: &mut [u8],
+    spare: &mut [u8],
+    kept: &mut [u8],
+) -> Added {
+    let work = work::table(work);
+    let stands = kept::stands(kept, at, work.changes);
+    if stands != kept::UNKNOWN {
+        return done(work::stays(work, stands == kept::SAME));
+    }
+    add_other(work, at, source, form, sheet, spare, kept)
 }
 
 fn done(work: Work) -> Added {
-    Added { work, no: 0, at: 0 }
+    Added {
+        work,
+        no: 0,
+        at: 0,
+        word: 0,
+    }
 }
 
 fn add_other(
     work: Work,
-    stamp: u32,
+    at: usize,
+    source: Source,
     form: &[u8],
     sheet: &mut [u8],
     spare: &mut [u8],
-    known: &mut [u8],
+    kept: &mut [u8],
 ) -> Added {
+    let stamp = source.stamp;
     let answer = day_sheet::add(stamp, told::front(sheet, work.length), form, spare);
     match answer {
-        Answer::Done(n) => done(settle(work, stamp, form, n, sheet, spare, known)),
+        Answer::Done(n) => done(settle(work, at, stamp, form, n, sheet, spare, kept)),
         Answer::Refused(r) => Added {
             work,
             no: r.no,
             at: r.at,
+            word: source.word,
         },
     }
 }
@@ -339,21 +511,23 @@ fn add_other(
 // The sheet with the table is in the first n bytes of the spare space.
 fn settle(
     work: Work,
+    at: usize,
     stamp: u32,
     form: &[u8],
     n: usize,
     sheet: &mut [u8],
     spare: &mut [u8],
-    known: &mut [u8],
+    kept: &mut [u8],
 ) -> Work {
     if texts::same(told::front(spare, n), told::front(sheet, work.length)) {
         let is_same = is_there(stamp, form, told::front(sheet, work.length), spare);
-        let work = keep(work, form, is_same, known);
+        kept::judge(kept, at, is_same, work.changes);
         return work::stays(work, is_same);
     }
     lent_bytes::copy(spare, 0, n, sheet, 0);
     let work = work::changed(work, n, texts::entries(told::front(spare, n)) as u64);
-    keep(work, form, true, known)
+    kept::judge(kept, at, true, work.changes);
+    work
 }
 
 // Whether the table's entry stands in the sheet: its text is that of a sheet with no other.
@@ -363,14 +537,4 @@ fn is_there(stamp: u32, form: &[u8], sheet: &[u8], spare: &mut [u8]) -> bool {
         Answer::Done(n) => texts::holds(sheet, told::front(spare, n)),
         Answer::Refused(_) => false,
     }
-}
-
-// Keeps a form that is known from now on; where there is no more room, in the place of all others.
-fn keep(work: Work, form: &[u8], is_same: bool, known: &mut [u8]) -> Work {
-    let mut work = work;
-    if known::keep(known, work.known, form, is_same) {
-        work.known = known::after(work.known, usize::MAX);
-        return work;
-    }
-    work::forget(work)
 }

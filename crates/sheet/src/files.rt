@@ -1,4 +1,6 @@
-// The sheet's files: one is read and judged, another joined to it, and the new one put in its place.
+// The sheet's files: one is read and judged, another joined to it, and each is looked at.
+use crate::kinds;
+use crate::kinds::NOT_PLAIN;
 use crate::says;
 use crate::work;
 use crate::work::Work;
@@ -8,70 +10,78 @@ use captures::Got;
 // One more than the most that a sheet has, so that a longer one is seen.
 pub const SHEET: usize = 16385;
 
-// Who may read the new sheet, and who may change it: a temporary file is its owner's alone.
-const MODE: u32 = 0o644;
+// What stands in the sheet's place: whether it could be read, whether there is a file, its mode, and how many bytes were read of it.
+pub struct Stand {
+    pub sound: bool,
+    pub there: bool,
+    pub mode: u32,
+    pub length: usize,
+}
 
-// Opens the sheet and judges it. Where tables are added, a missing one is empty.
-pub fn open_sheet(
-    word: &mut [u8; 4096],
-    n: usize,
-    is_add: bool,
-    work: Work,
-    sheet: &mut [u8],
-    spare: &mut [u8],
-) -> Work {
-    let fd = os::open_read(told::front(word, n));
-    let is_missing = is_none(fd);
-    told::plain(word);
-    if fd < 0 {
-        if is_add {
-            if is_missing {
-                return work;
-            }
-        }
-        says::fail(
-            told::front(word, n),
-            b"it can't be opened, and stays as it was",
-        );
-        return work::broken(work);
+// Reads what stands at the sheet's path. What can't be read, or is no plain file, is told.
+pub fn read(path: &[u8], shown: &[u8], sheet: &mut [u8]) -> Stand {
+    let fd = kinds::open_plain(path);
+    if fd == NOT_PLAIN {
+        says::tell(shown, b"it is no plain file, and stays as it was");
+        return unread();
     }
-    let work = read_sheet(fd, told::front(word, n), work, sheet, spare);
+    if fd < 0 {
+        return missing(path, shown);
+    }
+    let stand = fill(fd, shown, sheet);
     libc::close(fd);
-    work
+    stand
 }
 
-// Whether an open failed because there is no such file.
-fn is_none(fd: i32) -> bool {
-    if fd < 0 {
-        return os::errno() == libc::ENOENT;
+fn unread() -> Stand {
+    Stand {
+        sound: false,
+        there: false,
+        mode: 0,
+        length: 0,
     }
-    false
 }
 
-// Reads the sheet and judges it. A device or a pipe can't be synced: what is no plain file is not replaced.
-fn read_sheet(fd: i32, name: &[u8], work: Work, sheet: &mut [u8], spare: &mut [u8]) -> Work {
+// What can't be opened: there is no such file, or it is told.
+fn missing(path: &[u8], shown: &[u8]) -> Stand {
+    let mut stand = unread();
+    stand.sound = is_none(path);
+    if !stand.sound {
+        says::fail(shown, b"it can't be opened, and stays as it was");
+    }
+    stand
+}
+
+// Whether an open failed because there is no such file. An empty name is none's.
+fn is_none(path: &[u8]) -> bool {
+    if path.len() == 0 {
+        return false;
+    }
+    os::errno() == libc::ENOENT
+}
+
+fn fill(fd: i32, shown: &[u8], sheet: &mut [u8]) -> Stand {
+    let mode = kinds::of(fd);
     let got = captures::fill(fd, sheet);
-    let Got::Bytes(n) = got else {
-        says::fail(name, b"it can't be read, and stays as it was");
-        return work::broken(work);
+    let Got::Bytes(length) = got else {
+        says::fail(shown, b"it can't be read, and stays as it was");
+        return unread();
     };
-    if libc::fsync(fd) < 0 {
-        says::fail(name, b"it is no plain file, and stays as it was");
-        return work::broken(work);
+    Stand {
+        sound: true,
+        there: true,
+        mode,
+        length,
     }
-    if !judge(name, told::front(sheet, n), spare) {
-        return work::broken(work);
-    }
-    work::resized(work, n, texts::entries(told::front(sheet, n)) as u64)
 }
 
 // Whether the sheet is in form, in order and within its limits; what it isn't is told.
-fn judge(name: &[u8], sheet: &[u8], spare: &mut [u8]) -> bool {
+pub fn is_judged(name: &[u8], sheet: &[u8], spare: &mut [u8]) -> bool {
     let answer = day_sheet::rewrite(sheet, spare);
     match answer {
         Answer::Done(_) => true,
         Answer::Refused(r) => {
-            says::refuse_sheet(name, r.no, r.at);
+            says::refuse_sheet(name, r.no, r.at, sheet);
             false
         }
     }
@@ -88,8 +98,15 @@ pub fn open_other(
     if !work.sound {
         return work;
     }
-    let fd = os::open_read(told::front(word, n));
+    let fd = kinds::open_plain(told::front(word, n));
     told::plain(word);
+    if fd == NOT_PLAIN {
+        says::tell(
+            told::front(word, n),
+            b"it is no plain file, and the first sheet stays as it was",
+        );
+        return work::broken(work);
+    }
     if fd < 0 {
         says::fail(
             told::front(word, n),
@@ -125,7 +142,7 @@ fn join_read(
     spare: &mut [u8],
 ) -> Work {
     let other = told::front(other, n);
-    if !judge(name, other, spare) {
+    if !is_judged(name, other, spare) {
         return work::broken(work);
     }
     join(name, other, work, sheet, spare)
@@ -151,8 +168,12 @@ fn join(name: &[u8], other: &[u8], work: Work, sheet: &mut [u8], spare: &mut [u8
 
 // Looks at the sheet of a name, and prints its line. Answers whether standard output took it.
 pub fn check(word: &mut [u8; 4096], n: usize) -> bool {
-    let fd = os::open_read(told::front(word, n));
+    let fd = kinds::open_plain(told::front(word, n));
     told::plain(word);
+    if fd == NOT_PLAIN {
+        says::tell(told::front(word, n), b"it is no plain file");
+        return true;
+    }
     if fd < 0 {
         says::fail(told::front(word, n), b"it can't be opened");
         return true;
@@ -175,106 +196,8 @@ fn check_read(fd: i32, name: &[u8]) -> bool {
 
 fn check_bytes(name: &[u8], sheet: &[u8; SHEET], n: usize, spare: &mut [u8; SHEET]) -> bool {
     let sheet = told::front(sheet, n);
-    if !judge(name, sheet, spare) {
+    if !is_judged(name, sheet, spare) {
         return true;
     }
     says::put_sheet(name, texts::entries(sheet) as u64, n as u64)
-}
-
-// Puts the new sheet in the place of the file that the word names. The line that says so goes out before the last step, so that where
-// it isn't taken the old sheet stays.
-pub fn replace(i: usize, work: Work, sheet: &[u8]) {
-    let mut name = io::buffer();
-    let n = told::argument(i, &mut name);
-    let mut shown = io::buffer();
-    let m = told::argument(i, &mut shown);
-    told::plain(&mut shown);
-    let mut temp = io::buffer();
-    let long = name_temp(told::front(&name, n), &mut temp);
-    let fd = create(&mut temp, long);
-    if fd < 0 {
-        says::fail(
-            told::front(&shown, m),
-            b"no file can be made beside it, and it stays as it was",
-        );
-        return;
-    }
-    if is_renamed(
-        fd,
-        work,
-        sheet,
-        told::front(&name, n),
-        told::front(&shown, m),
-        told::front(&temp, long),
-    ) {
-        return;
-    }
-    if os::unlink(told::front(&temp, long)) < 0 {
-        says::fail(
-            told::front(&shown, m),
-            b"a temporary file is left beside it",
-        );
-    }
-}
-
-// The name of a temporary file beside a file, and how long it is.
-fn name_temp(name: &[u8], temp: &mut [u8]) -> usize {
-    lent_bytes::copy(name, 0, name.len(), temp, 0);
-    lent_bytes::copy(b".XXXXXX", 0, 7, temp, name.len());
-    says::plus(name.len(), 7)
-}
-
-// Makes a temporary file. Its name is put in the place of the first n bytes.
-fn create(temp: &mut [u8], n: usize) -> i32 {
-    if temp.len() < n {
-        return -1;
-    }
-    os::create_temp(&mut temp[0..n])
-}
-
-// Writes the temporary file, says what was done, and renames the file over the old one. Answers whether all that was done.
-fn is_renamed(fd: i32, work: Work, sheet: &[u8], name: &[u8], shown: &[u8], temp: &[u8]) -> bool {
-    if !is_written(fd, shown, sheet) {
-        return false;
-    }
-    if !says::put_work(work) {
-        return false;
-    }
-    if os::rename(temp, name) < 0 {
-        says::fail(
-            shown,
-            b"the new sheet can't take its place, and it stays as it was",
-        );
-        return false;
-    }
-    true
-}
-
-fn is_written(fd: i32, shown: &[u8], sheet: &[u8]) -> bool {
-    if !is_synced(fd, sheet) {
-        says::fail(
-            shown,
-            b"the new sheet can't be written, and it stays as it was",
-        );
-        libc::close(fd);
-        return false;
-    }
-    if libc::close(fd) < 0 {
-        says::fail(
-            shown,
-            b"the new sheet can't be written, and it stays as it was",
-        );
-        return false;
-    }
-    true
-}
-
-fn is_synced(fd: i32, sheet: &[u8]) -> bool {
-    if !io::write_all(fd, sheet) {
-        return false;
-    }
-    if libc::fchmod(fd, MODE) < 0 {
-        return false;
-    }
-    libc::fsync(fd) == 0
 }

@@ -1,21 +1,29 @@
 // The day sheet, a file with an entry for each table: captures' tables are added to it, other sheets are joined to it, or it is looked
 // at (SCOPE 20.11). What it says is settled by the rooms `day_sheet` and `words`; here are its files.
 //
-// The file is replaced whole or not at all: the new sheet goes to a temporary file beside it, which is written, synced and renamed over
-// it. Whatever fails before that leaves the file as it was.
+// The file is replaced whole or not at all (`placing`). Whatever fails before that leaves the file as it was. Where another has taken its place meanwhile, the work is done
+// anew on that: captures aren't read again, since their tables are kept.
 //
 // A line on standard error that tells of a failure begins `sheet: `. Words that the program is called with are heard twice: first all
 // are judged, then the files are opened.
 mod capture;
 mod files;
 mod help;
-mod known;
+mod kept;
+mod kinds;
+mod lines;
+mod paths;
+mod placing;
 mod says;
 mod work;
 
+use capture::Source;
 use files::SHEET;
-use known::KNOWN;
+use files::Stand;
+use kept::KEPT;
 use packet::Setting;
+use paths::Way;
+use placing::Placed;
 use words::Said;
 use words::numbers::MOST;
 use words::numbers::NO_NUMBER;
@@ -48,11 +56,13 @@ const OPTIONS: [u32; 20] = [
 // The tasks (SCOPE 20.12, 20.13). A name is `f` the sheet, `s` a stamp, `c` a capture or `o` another sheet.
 const TASKS: [u8; 34] = *b"add mpsa f+sc\njoin  f+o\ncheck  +f\n";
 
-// Where the second hearing stands: the words so far, the last stamp, which word names the sheet, and what was done.
+// How often the work is done at most: once, and sixteen times anew where the sheet has changed meanwhile.
+const TURNS: usize = 17;
+
+// Where the second hearing stands: the words so far, the last stamp, and what was done.
 struct Heard {
     said: Said,
     stamp: u32,
-    named: usize,
     work: Work,
 }
 
@@ -134,33 +144,225 @@ fn is_bad_stamp(said: Said, i: usize) -> bool {
     true
 }
 
-// Adds captures to a sheet, or joins sheets to it: all of them, or none.
+// Adds captures to a sheet, or joins sheets to it: all of them, or none. A link leads to the sheet's own place.
 fn change(setting: Setting, is_add: bool) {
-    let mut sheet = [0u8; SHEET];
+    let named = sheet_word();
+    let mut shown = io::buffer();
+    let m = told::argument(named, &mut shown);
+    told::plain(&mut shown);
+    let mut path = io::buffer();
+    let n = told::argument(named, &mut path);
+    let way = paths::follow(&mut path, n);
+    let path = told::front(&path, way.length);
+    let shown = told::front(&shown, m);
+    if !is_place(way, path, shown) {
+        return;
+    }
+    change_at(setting, is_add, way.linked, path, shown);
+}
+
+// Which word names the sheet.
+fn sheet_word() -> usize {
+    let count = os::arg_count();
+    let mut said = words::start(&TASKS);
+    let mut i = 1;
+    while i < count {
+        if place_of(said, i) == b'f' {
+            return i;
+        }
+        said = hear(said, i);
+        i += 1;
+    }
+    i
+}
+
+fn place_of(said: Said, i: usize) -> u8 {
+    let mut word = io::buffer();
+    let n = told::argument(i, &mut word);
+    words::place(&TASKS, said, told::front(&word, n))
+}
+
+// Whether a sheet can stand where a name leads to, with a temporary file beside it. What is wrong is told.
+fn is_place(way: Way, path: &[u8], shown: &[u8]) -> bool {
+    if !way.ends {
+        says::tell(
+            shown,
+            b"it leads through more than 40 links, and stays as it was",
+        );
+        return false;
+    }
+    if !paths::has_room(path) {
+        says::tell(
+            shown,
+            b"its name is too long for a temporary file beside it, and it stays as it was",
+        );
+        return false;
+    }
+    true
+}
+
+// Reads the sheet at its path and judges it. Where tables are added, one that is missing is empty, but for one that a link names.
+fn change_at(setting: Setting, is_add: bool, is_linked: bool, path: &[u8], shown: &[u8]) {
+    let mut base = [0u8; SHEET];
     let mut spare = [0u8; SHEET];
-    let mut known = [0u8; KNOWN];
+    let stand = files::read(path, shown, &mut base);
+    if !stand.sound {
+        return;
+    }
+    if !stand.there {
+        if is_linked {
+            says::fail(
+                shown,
+                b"it is a link that names no file, and stays as it was",
+            );
+            return;
+        }
+        if !is_add {
+            says::fail(shown, b"it can't be opened, and stays as it was");
+            return;
+        }
+    }
+    if !files::is_judged(shown, told::front(&base, stand.length), &mut spare) {
+        return;
+    }
+    change_all(setting, is_add, stand, path, shown, &mut base, &mut spare);
+}
+
+// The work, and the work anew as long as the sheet has changed meanwhile.
+fn change_all(
+    setting: Setting,
+    is_add: bool,
+    stand: Stand,
+    path: &[u8],
+    shown: &[u8],
+    base: &mut [u8; SHEET],
+    spare: &mut [u8; SHEET],
+) {
+    let mut sheet = [0u8; SHEET];
+    let mut again = [0u8; SHEET];
+    let mut kept = [0u8; KEPT];
+    let mut stand = stand;
+    let mut work = visit_all(setting, is_add, stand, base, &mut sheet, spare, &mut kept);
+    let mut left = TURNS;
+    while left > 0 {
+        left -= 1;
+        if is_idle(work, is_add) {
+            return;
+        }
+        let placed = put(stand, work, path, shown, base, &sheet, &mut again);
+        if placed.over {
+            return;
+        }
+        stand = placed.stand;
+        work = redo(
+            setting,
+            is_add,
+            stand,
+            work,
+            shown,
+            &again,
+            base,
+            &mut sheet,
+            spare,
+            &mut kept,
+        );
+    }
+    if work.sound {
+        says::tell(
+            shown,
+            b"it changed sixteen times meanwhile, and stays as it is",
+        );
+    }
+}
+
+// Whether nothing is to be put in the sheet's place: something failed, or no table came. Then the line is all.
+fn is_idle(work: Work, is_add: bool) -> bool {
+    if !work.sound {
+        return true;
+    }
+    if !is_add {
+        return false;
+    }
+    if work.tables > 0 {
+        return false;
+    }
+    says::put_work(work, false);
+    true
+}
+
+fn put(
+    stand: Stand,
+    work: Work,
+    path: &[u8],
+    shown: &[u8],
+    base: &[u8; SHEET],
+    sheet: &[u8; SHEET],
+    again: &mut [u8; SHEET],
+) -> Placed {
+    let sheet = told::front(sheet, work.length);
+    placing::put(stand, work, path, shown, base, sheet, again)
+}
+
+// Does the work anew on what stands in the sheet's place now.
+fn redo(
+    setting: Setting,
+    is_add: bool,
+    stand: Stand,
+    work: Work,
+    shown: &[u8],
+    again: &[u8; SHEET],
+    base: &mut [u8; SHEET],
+    sheet: &mut [u8; SHEET],
+    spare: &mut [u8; SHEET],
+    kept: &mut [u8; KEPT],
+) -> Work {
+    lent_bytes::copy(again, 0, SHEET, base, 0);
+    if !files::is_judged(shown, told::front(again, stand.length), spare) {
+        return work::broken(work);
+    }
+    if !is_add {
+        return visit_all(setting, is_add, stand, base, sheet, spare, kept);
+    }
+    if !work.whole {
+        says::tell(
+            shown,
+            b"it changed meanwhile, and what came is too much to be added anew; it stays as it is",
+        );
+        return work::broken(work);
+    }
+    lent_bytes::copy(again, 0, SHEET, sheet, 0);
+    let entries = texts::entries(told::front(again, stand.length)) as u64;
+    capture::add_again(work::anew(work, stand.length, entries), sheet, spare, kept)
+}
+
+// Hears the words again, and does what each is for, beginning with the sheet that stands.
+fn visit_all(
+    setting: Setting,
+    is_add: bool,
+    stand: Stand,
+    base: &[u8; SHEET],
+    sheet: &mut [u8; SHEET],
+    spare: &mut [u8; SHEET],
+    kept: &mut [u8; KEPT],
+) -> Work {
+    lent_bytes::copy(base, 0, SHEET, sheet, 0);
     let count = os::arg_count();
     let mut heard = Heard {
         said: words::start(&TASKS),
         stamp: 0,
-        named: 0,
-        work: work::none(),
+        work: start(stand, base),
     };
     let mut i = 1;
     while i < count {
-        heard = visit(
-            heard,
-            i,
-            setting,
-            is_add,
-            &mut sheet,
-            &mut spare,
-            &mut known,
-        );
+        heard = visit(heard, i, setting, sheet, spare, kept);
         i += 1;
     }
-    let work = heard.work;
-    finish(heard.named, work, &sheet);
+    heard.work
+}
+
+fn start(stand: Stand, base: &[u8; SHEET]) -> Work {
+    let base = told::front(base, stand.length);
+    work::start(stand.length, texts::entries(base) as u64)
 }
 
 // Hears a word again, and does what it is for, unless something failed before.
@@ -168,10 +370,9 @@ fn visit(
     heard: Heard,
     i: usize,
     setting: Setting,
-    is_add: bool,
     sheet: &mut [u8; SHEET],
     spare: &mut [u8; SHEET],
-    known: &mut [u8; KNOWN],
+    kept: &mut [u8; KEPT],
 ) -> Heard {
     let mut word = io::buffer();
     let n = told::argument(i, &mut word);
@@ -181,18 +382,16 @@ fn visit(
     let mut heard = heard;
     heard.said = words::next(&OPTIONS, &TASKS, before, told::front(&word, n));
     match letter {
-        b'f' => {
-            heard.named = i;
-            heard.work = files::open_sheet(&mut word, n, is_add, work, sheet, spare);
-            heard
-        }
         b's' => {
             heard.stamp = stamp_of(told::front(&word, n));
             heard
         }
         b'c' => {
-            let stamp = heard.stamp;
-            heard.work = capture::open(&mut word, n, stamp, setting, work, sheet, spare, known);
+            let source = Source {
+                stamp: heard.stamp,
+                word: i,
+            };
+            heard.work = capture::open(&mut word, n, source, setting, work, sheet, spare, kept);
             heard
         }
         b'o' => {
@@ -206,13 +405,6 @@ fn visit(
 // The stamp that a word says; the words were judged before.
 fn stamp_of(word: &[u8]) -> u32 {
     (words::number_of(word) % NO_NUMBER) as u32
-}
-
-// Puts the new sheet in the place of the old one, unless something failed.
-fn finish(named: usize, work: Work, sheet: &[u8; SHEET]) {
-    if work.sound {
-        files::replace(named, work, told::front(sheet, work.length));
-    }
 }
 
 // Looks at each sheet that is named, and goes on after one that is refused.

@@ -1,7 +1,11 @@
-// What the sheet writes and says. A line to standard output goes out in one piece, and is looked at. A line on standard error tells of a
-// failure and begins `sheet: `.
+// What the sheet writes and says. A line to standard output goes out in one piece, and is looked at. A line on standard error that tells of a
+// failure begins `sheet: `, and one that doesn't `note: `.
 use crate::help::PROGRAM;
+use crate::lines;
 use crate::work::Work;
+use captures::Course;
+use captures::PAGES;
+use captures::lack;
 use libc::STDOUT_FILENO;
 use told::say;
 use told::say_number;
@@ -33,6 +37,43 @@ pub fn fail(name: &[u8], what: &[u8]) {
     os::fail(what);
 }
 
+// Tells of what is named that it can't be so, where no call failed.
+pub fn tell(name: &[u8], what: &[u8]) {
+    told::begin(&PROGRAM);
+    say(name);
+    say(b": ");
+    say(what);
+    say(b"\n");
+}
+
+// A capture that gave no table, and the desk's cause where it has one (SCOPE 13.9).
+pub fn no_table(name: &[u8], course: Course, pages: &[u16; PAGES], is_short: bool) {
+    told::begin(&PROGRAM);
+    say(name);
+    say(b": it gave no table");
+    if lack::is_lacking(course.sight) {
+        lack::say(course.setting, course.sight, pages, is_short);
+    }
+    say(b"\n");
+}
+
+// Bytes at a capture's end that make no packet.
+pub fn note_left(name: &[u8], count: u64) {
+    say(b"note: ");
+    say(name);
+    say(b": ");
+    say_number(count);
+    say(b" bytes at its end make no packet\n");
+}
+
+// The new sheet stands, and may not after a power cut.
+pub fn note_unsynced(name: &[u8]) {
+    say(b"note: ");
+    say(name);
+    say(b": ");
+    os::fail(b"the new sheet stands, but its folder can't be synced");
+}
+
 // A capture that the reader doesn't go on with, which never comes.
 pub fn stuck(name: &[u8]) {
     told::begin(&PROGRAM);
@@ -40,21 +81,29 @@ pub fn stuck(name: &[u8]) {
     say(b": the reader took nothing, and the sheet stays as it was\n");
 }
 
-// A sheet that was refused by itself.
-pub fn refuse_sheet(name: &[u8], no: u8, at: usize) {
+// A sheet that was refused by itself. Of 20 the line at fault is told too.
+pub fn refuse_sheet(name: &[u8], no: u8, at: usize, sheet: &[u8]) {
     refuse(name, no, at);
+    if no == 20 {
+        lines::say_fault(sheet, at);
+        say(b"; the sheet stays as it was\n");
+        return;
+    }
+    say_cause(no);
     say(b"\n");
 }
 
 // A capture's table that can't be added.
 pub fn refuse_table(name: &[u8], no: u8, at: usize) {
     refuse(name, no, at);
+    say_cause(no);
     say(b"; a table of this capture was to be added\n");
 }
 
 // A sheet that can't be joined to the first.
 pub fn refuse_other(name: &[u8], no: u8, at: usize) {
     refuse(name, no, at);
+    say_cause(no);
     say(b"; it was to be joined to the first\n");
 }
 
@@ -65,15 +114,10 @@ fn refuse(name: &[u8], no: u8, at: usize) {
     say_number(no as u64);
     say(b" at offset ");
     say_number(at as u64);
-    say_cause(no);
 }
 
 // What the number means to whoever keeps the sheet.
 fn say_cause(no: u8) {
-    if no == 20 {
-        say(b": the line that begins there is out of form or order; the sheet stays as it was");
-        return;
-    }
     if no == 21 {
         say(
             b": more than 64 entries or 16384 bytes; the sheet stays as it was, so it is not today's",
@@ -83,11 +127,21 @@ fn say_cause(no: u8) {
     say(b"; the sheet stays as it was");
 }
 
-// The line of what was done. Answers whether standard output took it.
-pub fn put_work(work: Work) -> bool {
+// The line of what was done, where the new sheet stands or the old one stays. A line that isn't taken is told.
+pub fn put_work(work: Work, is_new: bool) {
     let mut line = [0u8; LINE];
     let n = work_line(work, &mut line);
-    put_line(&line, n)
+    if is_put(&line, n) {
+        return;
+    }
+    if is_new {
+        fail(
+            b"standard output",
+            b"it takes no more, and the new sheet stands",
+        );
+        return;
+    }
+    not_put();
 }
 
 fn work_line(work: Work, line: &mut [u8; LINE]) -> usize {
@@ -104,7 +158,11 @@ fn work_line(work: Work, line: &mut [u8; LINE]) -> usize {
 pub fn put_sheet(name: &[u8], entries: u64, bytes: u64) -> bool {
     let mut line = [0u8; LINE];
     let n = sheet_line(name, entries, bytes, &mut line);
-    put_line(&line, n)
+    if is_put(&line, n) {
+        return true;
+    }
+    not_put();
+    false
 }
 
 fn sheet_line(name: &[u8], entries: u64, bytes: u64, line: &mut [u8; LINE]) -> usize {
@@ -141,13 +199,13 @@ pub fn plus(a: usize, b: usize) -> usize {
     a + b
 }
 
-fn put_line(line: &[u8; LINE], n: usize) -> bool {
-    if io::write_all(STDOUT_FILENO, told::front(line, n)) {
-        return true;
-    }
+fn is_put(line: &[u8; LINE], n: usize) -> bool {
+    io::write_all(STDOUT_FILENO, told::front(line, n))
+}
+
+fn not_put() {
     fail(
         b"standard output",
         b"it takes no more, and the sheet stays as it was",
     );
-    false
 }

@@ -1,4 +1,4 @@
-// What was done so far, as its last line counts it.
+// What was done so far, as its last line counts it, and what of the tables is kept.
 
 pub struct Work {
     // Whether nothing failed.
@@ -13,25 +13,48 @@ pub struct Work {
     pub replaced: u64,
     pub older: u64,
     pub same: u64,
-    // How many forms are known, and at which one looks first.
-    pub known: usize,
+    // How many forms are kept, from which on they are this capture's, and at which one looks first; how many tables they came in; and
+    // whether that is all that came.
+    pub kept: usize,
+    pub since: usize,
     pub next: usize,
+    pub came: usize,
+    pub whole: bool,
+    // How often the sheet has changed.
+    pub changes: u32,
 }
 
-pub fn none() -> Work {
+// Nothing was done yet with a sheet of so many bytes and entries.
+pub fn start(length: usize, entries: u64) -> Work {
     Work {
         sound: true,
-        length: 0,
-        entries: 0,
+        length,
+        entries,
         captures: 0,
         tables: 0,
         new: 0,
         replaced: 0,
         older: 0,
         same: 0,
-        known: 0,
+        kept: 0,
+        since: 0,
         next: 0,
+        came: 0,
+        whole: true,
+        changes: 0,
     }
+}
+
+// The same work, to be done anew with a sheet of so many bytes and entries: what came is kept.
+pub fn anew(work: Work, length: usize, entries: u64) -> Work {
+    let mut fresh = start(length, entries);
+    fresh.captures = work.captures;
+    fresh.kept = work.kept;
+    fresh.since = work.since;
+    fresh.came = work.came;
+    fresh.whole = work.whole;
+    fresh.changes = one_change_more(work.changes);
+    fresh
 }
 
 // Something failed.
@@ -45,7 +68,9 @@ pub fn broken(work: Work) -> Work {
 pub fn capture(work: Work) -> Work {
     let mut work = work;
     work.captures = one_more(work.captures);
-    forget(work)
+    work.since = work.kept;
+    work.next = work.kept;
+    work
 }
 
 // One table more that was accepted.
@@ -69,8 +94,8 @@ pub fn stays(work: Work, is_same: bool) -> Work {
 // A table that changed the sheet, which now has so many bytes and entries: it is new where there is one entry more.
 pub fn changed(work: Work, length: usize, entries: u64) -> Work {
     let is_new = work.entries < entries;
-    let work = resized(work, length, entries);
-    let mut work = forget(work);
+    let mut work = resized(work, length, entries);
+    work.changes = one_change_more(work.changes);
     if is_new {
         work.new = one_more(work.new);
         return work;
@@ -87,14 +112,21 @@ pub fn resized(work: Work, length: usize, entries: u64) -> Work {
     work
 }
 
-// No form is known any more.
+// Forms that came can't be kept any more, and those that were are let go.
 pub fn forget(work: Work) -> Work {
     let mut work = work;
-    work.known = 0;
+    work.kept = 0;
+    work.since = 0;
     work.next = 0;
+    work.whole = false;
     work
 }
 
 fn one_more(count: u64) -> u64 {
     if count < u64::MAX { count + 1 } else { count }
+}
+
+// The count of changes tells those apart in which a form was looked at, so it begins anew where it is full.
+fn one_change_more(count: u32) -> u32 {
+    if count < u32::MAX { count + 1 } else { 0 }
 }

@@ -10,10 +10,10 @@ use Rattle.sheet.proofs.capture.add_records.Statement.{statement}
 use Rattle.sheet.proofs.capture.add_records.Tie as tie
 
 abbrev Inv-loop : tie.InvT-loop
-Inv-loop stamp application records form₀ sheet₀ spare₀ known₀ added₀ at₀ form sheet spare known added at = (at ≤ length records) × (length form ≡ length form₀) × (length sheet ≡ length sheet₀) × (length spare ≡ length spare₀) × (length known ≡ length known₀)
+Inv-loop source application records form₀ sheet₀ spare₀ kept₀ added₀ at₀ form sheet spare kept added at = (at ≤ length records) × (length form ≡ length form₀) × (length sheet ≡ length sheet₀) × (length spare ≡ length spare₀) × (length kept ≡ length kept₀)
 
 abbrev μ-loop : tie.MeasureT-loop
-μ-loop stamp application records form₀ sheet₀ spare₀ known₀ added₀ at₀ form sheet spare known added at = length records - at
+μ-loop source application records form₀ sheet₀ spare₀ kept₀ added₀ at₀ form sheet spare kept added at = length records - at
 
 loop-holds : tie.Need-loop-holds Inv-loop μ-loop
 loop-holds c = search needs
@@ -42,6 +42,12 @@ part-add-record-end c = omega (arith, goes-on c)
 add-record-requires : tie.Need-add-record-requires Inv-loop μ-loop
 add-record-requires c κs = search needs
 
+loop-less : tie.Need-loop-less Inv-loop μ-loop
+loop-less c = omega (arith, goes-on (c .before .before .before .before .before .before .before .before .before .before .before .before .before .before))
+
+loop-again : tie.Need-loop-again Inv-loop μ-loop
+loop-again c = let g = goes-on (c .before .before .before .before .before .before .before .before .before .before .before .before .before .before) in search needs
+
 same-length : tie.Need-same-length Inv-loop μ-loop
 same-length c = search needs
 
@@ -57,27 +63,6 @@ same-length-4 c = search needs
 returns : tie.Need-returns Inv-loop μ-loop
 returns c = search needs
 
-loop-less : tie.Need-loop-less Inv-loop μ-loop
-loop-less c = omega (arith, goes-on (c .before .before .before .before .before .before .before .before .before .before .before .before .before .before .before .before))
-
-loop-again : tie.Need-loop-again Inv-loop μ-loop
-loop-again c = let g = goes-on (c .before .before .before .before .before .before .before .before .before .before .before .before .before .before .before .before) in search needs
-
-same-length-5 : tie.Need-same-length-5 Inv-loop μ-loop
-same-length-5 c = search needs
-
-same-length-6 : tie.Need-same-length-6 Inv-loop μ-loop
-same-length-6 c = search needs
-
-same-length-7 : tie.Need-same-length-7 Inv-loop μ-loop
-same-length-7 c = search needs
-
-same-length-8 : tie.Need-same-length-8 Inv-loop μ-loop
-same-length-8 c = search needs
-
-returns-2 : tie.Need-returns-2 Inv-loop μ-loop
-returns-2 c = search needs
-
 pub add-records-spec : {M : Type 1} → statement M
 add-records-spec =
     tie.close
@@ -90,15 +75,10 @@ add-records-spec =
     part-add-record-start
     part-add-record-end
     add-record-requires
+    loop-less
+    loop-again
     same-length
     same-length-2
     same-length-3
     same-length-4
-    returns
-    loop-less
-    loop-again
-    same-length-5
-    same-length-6
-    same-length-7
-    same-length-8
-    returns-2)
+    returns)

@@ -6,10 +6,10 @@ use Rattle.sheet.proofs.capture.read.Statement.{statement}
 use Rattle.sheet.proofs.capture.read.Tie as tie
 
 abbrev Inv-loop : tie.InvT-loop
-Inv-loop fd name stamp sheet₀ spare₀ known₀ piece₀ records₀ pages₀ form₀ going₀ turns₀ sheet spare known piece records pages form going turns = (length sheet ≡ length sheet₀) × (length spare ≡ length spare₀) × (length known ≡ length known₀)
+Inv-loop fd name source sheet₀ spare₀ kept₀ piece₀ records₀ pages₀ form₀ going₀ turns₀ sheet spare kept piece records pages form going turns = (length sheet ≡ length sheet₀) × (length spare ≡ length spare₀) × (length kept ≡ length kept₀)
 
 abbrev μ-loop : tie.MeasureT-loop
-μ-loop fd name stamp sheet₀ spare₀ known₀ piece₀ records₀ pages₀ form₀ going₀ turns₀ sheet spare known piece records pages form going turns = turns
+μ-loop fd name source sheet₀ spare₀ kept₀ piece₀ records₀ pages₀ form₀ going₀ turns₀ sheet spare kept piece records pages form going turns = turns
 
 pages-requires : tie.Need-pages-requires Inv-loop μ-loop
 pages-requires c κs = search needs

@@ -1,14 +1,14 @@
--- `sheet::change` is safe and ends: it counts the words. Assumes nothing.
+-- `sheet::sheet_word` is safe and ends: it counts the words. Assumes nothing.
 use Prim.Native.Nat.{_-_}
 use borrow.Author.Needs.{needs}
-use Rattle.sheet.proofs.change.Statement.{statement}
-use Rattle.sheet.proofs.change.Tie as tie
+use Rattle.sheet.proofs.sheet_word.Statement.{statement}
+use Rattle.sheet.proofs.sheet_word.Tie as tie
 
 abbrev Inv-loop : tie.InvT-loop
-Inv-loop setting is-add sheet₀ spare₀ known₀ count heard₀ i₀ sheet spare known heard i = Unit {0}
+Inv-loop count said₀ i₀ said i = Unit {0}
 
 abbrev μ-loop : tie.MeasureT-loop
-μ-loop setting is-add sheet₀ spare₀ known₀ count heard₀ i₀ sheet spare known heard i = count - i
+μ-loop count said₀ i₀ said i = count - i
 
 arg-count-requires : tie.Need-arg-count-requires Inv-loop μ-loop
 arg-count-requires c κs = search needs
@@ -19,14 +19,17 @@ slice-aggregate-start c = search needs
 start-requires : tie.Need-start-requires Inv-loop μ-loop
 start-requires c κs = search needs
 
-none-requires : tie.Need-none-requires Inv-loop μ-loop
-none-requires c κs = search needs
-
 loop-holds : tie.Need-loop-holds Inv-loop μ-loop
 loop-holds c = search needs
 
-visit-requires : tie.Need-visit-requires Inv-loop μ-loop
-visit-requires c κs = search needs
+place-of-requires : tie.Need-place-of-requires Inv-loop μ-loop
+place-of-requires c κs = search needs
+
+returns : tie.Need-returns Inv-loop μ-loop
+returns c = search needs
+
+hear-requires : tie.Need-hear-requires Inv-loop μ-loop
+hear-requires c κs = search needs
 
 add-i : tie.Need-add-i Inv-loop μ-loop
 add-i c = search needs
@@ -37,14 +40,11 @@ loop-less c = search needs
 loop-again : tie.Need-loop-again Inv-loop μ-loop
 loop-again c = search needs
 
-finish-requires : tie.Need-finish-requires Inv-loop μ-loop
-finish-requires c κs = search needs
+returns-2 : tie.Need-returns-2 Inv-loop μ-loop
+returns-2 c = search needs
 
-returns : tie.Need-returns Inv-loop μ-loop
-returns c = search needs
-
-pub change-spec : {M : Type 1} → statement M
-change-spec =
+pub sheet-word-spec : {M : Type 1} → statement M
+sheet-word-spec =
     tie.close
     (tie.spec
     Inv-loop
@@ -52,11 +52,11 @@ change-spec =
     arg-count-requires
     slice-aggregate-start
     start-requires
-    none-requires
     loop-holds
-    visit-requires
+    place-of-requires
+    returns
+    hear-requires
     add-i
     loop-less
     loop-again
-    finish-requires
-    returns)
+    returns-2)

@@ -1,14 +1,14 @@
--- `sheet::known::find` is safe and ends: it counts down the forms. Assumes nothing.
+-- `sheet::kept::find` is safe and ends: it counts down the forms. Assumes nothing.
 use native.Mathlib.Omega.{arith}
 use borrow.Author.Needs.{needs}
-use Rattle.sheet.proofs.known.find.Statement.{statement}
-use Rattle.sheet.proofs.known.find.Tie as tie
+use Rattle.sheet.proofs.kept.find.Statement.{statement}
+use Rattle.sheet.proofs.kept.find.Tie as tie
 
 abbrev Inv-loop : tie.InvT-loop
-Inv-loop known count from form at₀ left₀ at left = Unit {0}
+Inv-loop kept since count from form at₀ left₀ at left = Unit {0}
 
 abbrev μ-loop : tie.MeasureT-loop
-μ-loop known count from form at₀ left₀ at left = left
+μ-loop kept since count from form at₀ left₀ at left = left
 
 loop-holds : tie.Need-loop-holds Inv-loop μ-loop
 loop-holds c = search needs

@@ -1,0 +1,73 @@
+-- `sheet::change_all` is safe and ends: the number of turns that are left falls. Assumes nothing.
+use borrow.Author.Needs.{needs}
+use Rattle.sheet.proofs.change_all.Statement.{statement}
+use Rattle.sheet.proofs.change_all.Tie as tie
+
+abbrev Inv-loop : tie.InvT-loop
+Inv-loop setting is-add path shown base₀ spare₀ sheet₀ again₀ kept₀ stand₀ work₀ left₀ t15 base spare sheet again kept stand work left = Unit {0}
+
+abbrev μ-loop : tie.MeasureT-loop
+μ-loop setting is-add path shown base₀ spare₀ sheet₀ again₀ kept₀ stand₀ work₀ left₀ t15 base spare sheet again kept stand work left = left
+
+visit-all-requires : tie.Need-visit-all-requires Inv-loop μ-loop
+visit-all-requires c κs = search needs
+
+loop-holds : tie.Need-loop-holds Inv-loop μ-loop
+loop-holds c = search needs
+
+sub-left : tie.Need-sub-left Inv-loop μ-loop
+sub-left c = search needs
+
+is-idle-requires : tie.Need-is-idle-requires Inv-loop μ-loop
+is-idle-requires c κs = search needs
+
+returns : tie.Need-returns Inv-loop μ-loop
+returns c = search needs
+
+put-requires : tie.Need-put-requires Inv-loop μ-loop
+put-requires c κs = search needs
+
+returns-2 : tie.Need-returns-2 Inv-loop μ-loop
+returns-2 c = search needs
+
+redo-requires : tie.Need-redo-requires Inv-loop μ-loop
+redo-requires c κs = search needs
+
+loop-less : tie.Need-loop-less Inv-loop μ-loop
+loop-less c = search needs
+
+loop-again : tie.Need-loop-again Inv-loop μ-loop
+loop-again c = search needs
+
+slice-aggregate-tell : tie.Need-slice-aggregate-tell Inv-loop μ-loop
+slice-aggregate-tell c = search needs
+
+tell-requires : tie.Need-tell-requires Inv-loop μ-loop
+tell-requires c κs = search needs
+
+returns-3 : tie.Need-returns-3 Inv-loop μ-loop
+returns-3 c = search needs
+
+returns-4 : tie.Need-returns-4 Inv-loop μ-loop
+returns-4 c = search needs
+
+pub change-all-spec : {M : Type 1} → statement M
+change-all-spec =
+    tie.close
+    (tie.spec
+    Inv-loop
+    μ-loop
+    visit-all-requires
+    loop-holds
+    sub-left
+    is-idle-requires
+    returns
+    put-requires
+    returns-2
+    redo-requires
+    loop-less
+    loop-again
+    slice-aggregate-tell
+    tell-requires
+    returns-3
+    returns-4)
