@@ -18,18 +18,20 @@ use Rattle.blocks.specs.Block.{Block, blocks}
 use Rattle.packet.specs.declared.Setting.{Setting}
 use Rattle.packet.specs.Setting.{inRange}
 use Rattle.symbols.specs.Stream.{streamOf}
-use Rattle.writer.specs.Cutting.{packets, FortyTwo, more}
+use Rattle.writer.specs.Cutting.{packets, FortyTwo}
 use Rattle.writer.proofs.Counting.{covered}
 use Rattle.writer.proofs.Numbering.{packets-forty}
 use Rattle.state.specs.State.{readerOf, freshState}
 use Rattle.state.proofs.Ranging.{sound-fresh}
-use Rattle.claims.specs.Noise.{Flipped, Hears, Aired, ended, sent, between, Came, Fits}
+use Rattle.claims.specs.Noise.{Flipped, Hears, Aired, Came, Fits}
+use Rattle.claims.specs.Mingled.{Shared}
 use Rattle.claims.specs.Damage.{streamIn, Sending, sendings, landed, unmarked}
 use Rattle.claims.specs.Feeding.{Call, packetsOf, comesOut}
 use Rattle.claims.proofs.Noise.{near}
-use Rattle.claims.proofs.Losing.{near-length, came-exactly}
+use Rattle.claims.proofs.Losing.{came-exactly}
 use Rattle.claims.proofs.Landing.{Heard, stream-near, sendings-near, landed-clean}
-use Rattle.claims.proofs.Carried.{carried-blocks}
+use Rattle.claims.proofs.Carried.{carried-blocks-wider}
+use Rattle.claims.proofs.Mingling.{aired-shared, mingled-paired, mingled-long, rightly-long}
 use Rattle.claims.proofs.Fed.{fed-blocks}
 
 -- ---- a setting in range
@@ -55,9 +57,7 @@ range s e =
 -- ---- every packet that arrives is 42 bytes long
 
 pub aired-long : {R : ℕ → ℕ → Type 0} {s : Setting} {ps ours qs : List (List ℕ)} → FortyTwo ps → Aired R s ps ours qs → FortyTwo qs
-aired-long r ended = r
-aired-long (more h t) (sent n a) = more (sym (near-length n) ∙ h) (aired-long t a)
-aired-long r (between e a) = more (sym (near-length (e .near)) ∙ omega (arith, e .long)) (aired-long r a)
+aired-long {R} {s} r a = mingled-long (rightly-long R s) r (aired-shared {k = 0} a)
 
 -- ---- the blocks
 
@@ -74,22 +74,33 @@ module _ (s : Setting) (within : inRange s ≡ true) (index k : ℕ) (low : inde
   arrived = sendings (blocks records) (streamIn k ours)
 
   -- the blocks of a list of records, cut and fed: each as it landed, or lost where L allows it
+  pub carried-calls-wider :
+      (R : ℕ → ℕ → Type 0) (L : Type 0) → Hears R L → Shared R s k (packets s index k records) ours (packetsOf calls)
+      → Came L _≡_ (map landed arrived) (comesOut s (readerOf freshState) calls)
+  unfolding packets
+  carried-calls-wider R L hears shared =
+      let r = range s within in
+      let long = mingled-long (rightly-long R s) (packets-forty s index k records) shared in
+      rw (fed-blocks s within freshState sound-fresh calls long)
+      (carried-blocks-wider R L hears s (r .page) (r .stream) index k low least most fit shared)
+
+  -- with packets of other magazines alone between
   pub carried-calls :
       (R : ℕ → ℕ → Type 0) (L : Type 0) → Hears R L → Aired R s (packets s index k records) ours (packetsOf calls)
       → Came L _≡_ (map landed arrived) (comesOut s (readerOf freshState) calls)
-  unfolding packets
-  carried-calls R L hears aired =
-      let r = range s within in
-      let long = aired-long (packets-forty s index k records) aired in
-      rw (fed-blocks s within freshState sound-fresh calls long)
-      (carried-blocks R L hears s (r .page) (r .stream) index k low least most fit aired)
+  carried-calls R L hears aired = carried-calls-wider R L hears (aired-shared aired)
 
   -- the bytes of each sending that arrived are near to those that were sent
+  pub carried-near-wider :
+      (R : ℕ → ℕ → Type 0) → Shared R s k (packets s index k records) ours (packetsOf calls) → Each (Heard R) arrived
+  unfolding packets
+  carried-near-wider R shared =
+      sendings-near (blocks records) _ (streamIn k ours) (covered (blocks records) k least)
+      (stream-near k index _ s (streamOf (blocks records)) (mingled-paired shared))
+
   pub carried-near :
       (R : ℕ → ℕ → Type 0) → Aired R s (packets s index k records) ours (packetsOf calls) → Each (Heard R) arrived
-  unfolding packets
-  carried-near R aired =
-      sendings-near (blocks records) _ (streamIn k ours) (covered (blocks records) k least) (stream-near k index _ s (streamOf (blocks records)) aired)
+  carried-near R aired = carried-near-wider R (aired-shared aired)
 
   -- at most one flipped bit in each byte: exactly those blocks as they landed, each with its own 16 bits, its raw bytes as noise left them and
   -- the damage of its start and header as its part

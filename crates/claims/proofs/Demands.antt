@@ -8,21 +8,19 @@ use Prim.Native.Nat.{ℕ, _≤_, _<_}
 use native.Mathlib.Omega.{arith}
 use lib.ListN.{length, length-map}
 use Rattle.laws.specs.Each.{Each}
-use Rattle.blocks.specs.Block.{Block, blocks}
+use Rattle.blocks.specs.Block.{Block}
 use Rattle.packet.specs.declared.Setting.{Setting}
 use Rattle.packet.specs.Setting.{inRange}
-use Rattle.state.specs.State.{readerOf, freshState}
 use Rattle.forms.specs.Tables.{Table, fits}
-use Rattle.claims.specs.Noise.{Flipped, Hears, Aired, Came, Fits}
-use Rattle.claims.specs.Damage.{streamIn, sendings, landed, Counted, damaged}
+use Rattle.claims.specs.Noise.{Flipped, Aired, Came}
+use Rattle.claims.specs.Damage.{streamIn, sendings, Counted, damaged}
 use Rattle.claims.specs.Lists.{Among}
-use Rattle.claims.specs.Feeding.{Call, packetsOf, comesOut}
-use Rattle.claims.specs.Tables.{recordsOf, sent, sentDamaged, received}
-use Rattle.claims.proofs.Noise.{near}
+use Rattle.claims.specs.Feeding.{Call, packetsOf}
+use Rattle.claims.specs.Tables.{sent, sentDamaged, received}
 use Rattle.claims.proofs.Losing.{came-exactly, came-among, among-map}
-use Rattle.claims.proofs.Landing.{Heard}
-use Rattle.claims.proofs.Blocks.{range, carried-calls, carried-near}
-use Rattle.claims.proofs.Tables.{tableBlock, all-fit, blocks-written, tables-came}
+use Rattle.claims.proofs.Mingling.{aired-shared}
+use Rattle.claims.proofs.Tables.{tableBlock, blocks-written}
+use Rattle.claims.proofs.Wider.{carried-wider}
 
 -- where there is a block for each thing, the things with the damage of their blocks are those things, all of them
 pub damaged-what :
@@ -35,30 +33,14 @@ damaged-what {A} (a ∷ l) (b ∷ bs) cs e = ap (λ (m : List A). a ∷ m) (dama
 module _ (d : ℕ) (small : d ≤ 2) (s : Setting) (within : inRange s ≡ true) (index k : ℕ) (low : index < 16) (least : 1 ≤ k) (most : k ≤ 25)
     (ts : List Table) (fit : Each (λ t. fits t ≡ true) ts) (calls : List Call) (ours : List (List ℕ))
     (aired : Aired (Flipped d) s (sent s index k ts) ours (packetsOf calls)) where
-  -- a flip in each byte is mended, and with two a byte is right or can't be decoded
-  hears : Hears (Flipped d) (2 ≤ d)
-  hears n b h f = near d n b small h f
-
-  -- the blocks that are sent are those of the tables
-  made : blocks (recordsOf (s .application) ts) ≡ map (tableBlock (s .application)) ts
-  made = blocks-written (s .application) fit
-
   -- what comes out is tables that were sent, each with the number of bytes of its sending that arrived other than they were sent
   pub carried : Came (2 ≤ d) _≡_ (sentDamaged s k ts ours) (received s calls)
-  carried =
-      let app = s .application in
-      let fitting : Each Fits (blocks (recordsOf app ts)) = subst (Each Fits) (sym made) (all-fit app fit) in
-      let c = carried-calls s within index k low least most (recordsOf app ts) fitting calls ours (Flipped d) (2 ≤ d) hears aired in
-      let n = carried-near s within index k low least most (recordsOf app ts) fitting calls ours (Flipped d) aired in
-      subst (λ (bs : List Block). Came (2 ≤ d) _≡_ (damaged ts (sendings bs (streamIn k ours))) (received s calls)) (sym made)
-      (tables-came (Flipped d) (2 ≤ d) hears app (range s within .application) ts (streamIn k ours) fit
-      (subst (λ (bs : List Block). Each (Heard (Flipped d)) (sendings bs (streamIn k ours))) made n)
-      (subst (λ (bs : List Block). Came (2 ≤ d) _≡_ (map landed (sendings bs (streamIn k ours))) (comesOut s (readerOf freshState) calls)) made c))
+  carried = carried-wider d small s within index k low least most ts fit calls ours (aired-shared aired)
 
   -- those are the tables that were sent, all of them and no other
   pub all-sent : map (λ c. c .what) (sentDamaged s k ts ours) ≡ ts
   all-sent =
-      ap (λ (bs : List Block). map (λ c. c .what) (damaged ts (sendings bs (streamIn k ours)))) made
+      ap (λ (bs : List Block). map (λ c. c .what) (damaged ts (sendings bs (streamIn k ours)))) (blocks-written (s .application) fit)
       ∙ damaged-what ts (map (tableBlock (s .application)) ts) (streamIn k ours) (sym (length-map ts (tableBlock (s .application))))
 
   -- with one flip a byte at the most, the list itself comes out, with exactly those counts

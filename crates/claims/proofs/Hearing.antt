@@ -1,24 +1,27 @@
--- What a packet of our writer, or one of another magazine, is to the reader that hears it: itself, or, where two flips are allowed,
+-- What a packet of our writer, or one that may stand between, is to the reader that hears it: itself, or, where two flips are allowed,
 -- one that can't be read. Assumes nothing.
 use mathlib.Core.Path.{_≡_, _∙_, refl, sym, ap}
-use mathlib.Core.Bool.{true, false}
-use mathlib.Core.Logic.{_⊎_, inl, inr}
+use mathlib.Core.Bool.{Bool, true, false}
+use mathlib.Core.Logic.{_⊎_, inl, inr, ⊎-elim}
 use mathlib.Core.List.{List, [], _∷_, _++_, map}
 use Prim.Native.Nat.{ℕ, zero, suc, _+_, _*_, _/_, _%_, _≤_, _<_}
 use native.Mathlib.Omega.{arith}
+use lib.Dec.{eqb, leb}
 use lib.ListN.{length, getD, drop}
 use lib.Seq.{getD-drop}
-use borrow.Author.Tests.{lt-ltb, eq-eqb, ne-eqb, le-leb}
+use borrow.Author.Tests.{lt-ltb, eq-eqb, ne-eqb, le-leb, eqb-true}
 use Rattle.laws.specs.Each.{Each, nil, and}
+use Rattle.laws.specs.Pick.{pick, both}
 use Rattle.octet.specs.Image.{image}
 use Rattle.octet.specs.Decoding.{nib, undecodable}
 use Rattle.packet.specs.declared.Setting.{Setting}
 use Rattle.packet.specs.Packet.{packetLength, address, packetZero, packetOf}
 use Rattle.packet.specs.Address.{decodes}
-use Rattle.pages.specs.Headers.{junk, other, ours, packetY, seeZero}
+use Rattle.pages.specs.Headers.{Seen, junk, other, foreign, ours, packetY, seeZero}
 use Rattle.pages.specs.Seen.{see, seeY}
 use Rattle.pages.proofs.Judged.{sees, see-junk}
 use Rattle.claims.specs.Noise.{Hears, Near, more, Elsewhere}
+use Rattle.claims.specs.Mingled.{Kind, elsewhere, header, row, OtherPage, OtherRow, Rightly}
 use Rattle.claims.proofs.Losing.{near-length, near-drop}
 
 -- l begins with bytes that decode to these nibbles
@@ -112,6 +115,38 @@ elsewhere-heard R L hears s {q} e = go (address-heard R L hears (e .magazine) (e
 
 -- ---- packet 0
 
+not-both : (a b c d : ℕ) → ((a ≡ b) × (c ≡ d) → ⊥) → both (eqb a b) (eqb c d) ≡ false
+not-both a b c d z = go (eqb a b) (eqb c d) refl refl
+  where
+    go : (t u : Bool) → eqb a b ≡ t → eqb c d ≡ u → both t u ≡ false
+    go true true e f = absurd (z (eqb-true a b e, eqb-true c d f))
+    go true false e f = refl
+    go false u e f = refl
+
+zero-junk : (s : Setting) (l : List ℕ) → decodes 6 l ≡ false → seeZero s l ≡ junk
+unfolding seeZero
+zero-junk s l e = rw e
+
+seeY-zero : (s : Setting) (q : List ℕ) → seeY s 0 q ≡ seeZero s (drop 2 q)
+unfolding seeY
+seeY-zero s q = refl
+
+-- a packet 0 of our magazine is what its six nibbles are seen as
+header-heard :
+    (R : ℕ → ℕ → Type 0) (L : Type 0) → Hears R L → (s : Setting) (x : Seen) (ns rest : List ℕ) {q : List ℕ} → length ns ≡ 6 → Each (λ n. n < 16) ns
+    → ((l : List ℕ) → Reads ns l → seeZero s l ≡ x) → length q ≡ packetLength → Near R (address (s .magazine) 0 ++ (map image ns ++ rest)) q
+    → (see s q ≡ x) ⊎ ((see s q ≡ junk) × L)
+header-heard R L hears s x ns rest {q} six small seen long near =
+    go (address-heard R L hears (s .magazine) 0 _ (omega arith) near) (nibbles-heard R L hears ns rest small (near-drop 2 near))
+  where
+    go :
+        Reads (addressed (s .magazine) 0) q ⊎ ((decodes 2 q ≡ false) × L)
+        → Reads ns (drop 2 q) ⊎ ((decodes (length ns) (drop 2 q) ≡ false) × L)
+        → (see s q ≡ x) ⊎ ((see s q ≡ junk) × L)
+    go (inr w) r = inr (see-junk s q (w .0), w .1)
+    go (inl a) (inl r) = inl (see-ours s 0 (omega arith) long a ∙ seeY-zero s q ∙ seen (drop 2 q) r)
+    go (inl a) (inr w) = inr (see-ours s 0 (omega arith) long a ∙ seeY-zero s q ∙ zero-junk s (drop 2 q) (rw six at (w .0)), w .1)
+
 -- the six nibbles from page units to S4
 abbrev sixOf : Setting → ℕ → ℕ → List ℕ
 sixOf s index n = (s .page % 16) ∷ (s .page / 16) ∷ index ∷ (n % 8) ∷ (s .stream) ∷ (n / 8) ∷ []
@@ -125,9 +160,9 @@ module _ (s : Setting) (page : s .page < 256) (stream : s .stream < 16) (index n
       let high : n / 8 < 16 = omega arith in
       and u (and t (and small-index (and low (and stream (and high nil)))))
 
-  zero-seen : {l : List ℕ} → Reads (sixOf s index n) l → seeZero s l ≡ ours index n
+  zero-seen : (l : List ℕ) → Reads (sixOf s index n) l → seeZero s l ≡ ours index n
   unfolding seeZero
-  zero-seen r =
+  zero-seen l r =
       let p : s .page % 16 + 16 * (s .page / 16) ≡ s .page = omega arith in
       let c : n % 8 % 8 + 8 * (n / 8 % 4) ≡ n = omega arith in
       rw (
@@ -144,31 +179,31 @@ module _ (s : Setting) (page : s .page < 256) (stream : s .stream < 16) (index n
         eq-eqb (s .stream) (s .stream) refl,
       )
 
-  zero-junk : (l : List ℕ) → decodes 6 l ≡ false → seeZero s l ≡ junk
-  unfolding seeZero
-  zero-junk l e = rw e
-
-  seeY-zero : (q : List ℕ) → seeY s 0 q ≡ seeZero s (drop 2 q)
-  unfolding seeY
-  seeY-zero q = refl
-
   pub zero-heard :
       (R : ℕ → ℕ → Type 0) (L : Type 0) → Hears R L → {q : List ℕ} → Near R (packetZero s index n) q → (see s q ≡ ours index n) ⊎ ((see s q ≡ junk) × L)
   unfolding packetZero
-  zero-heard R L hears {q} near =
-      go (address-heard R L hears (s .magazine) 0 _ (omega arith) near)
-      (nibbles-heard R L hears (sixOf s index n) _ six-nibbles (near-drop 2 near))
-    where
-      long : length q ≡ packetLength
-      long = sym (near-length near)
+  zero-heard R L hears near =
+      header-heard R L hears s (ours index n) (sixOf s index n) _ refl six-nibbles zero-seen (sym (near-length near)) near
 
-      go :
-          Reads (addressed (s .magazine) 0) q ⊎ ((decodes 2 q ≡ false) × L)
-          → Reads (sixOf s index n) (drop 2 q) ⊎ ((decodes 6 (drop 2 q) ≡ false) × L)
-          → (see s q ≡ ours index n) ⊎ ((see s q ≡ junk) × L)
-      go (inr w) r = inr (see-junk s q (w .0), w .1)
-      go (inl a) (inl r) = inl (see-ours s 0 (omega arith) long a ∙ seeY-zero q ∙ zero-seen r)
-      go (inl a) (inr w) = inr (see-ours s 0 (omega arith) long a ∙ seeY-zero q ∙ zero-junk (drop 2 q) (w .0), w .1)
+-- one of another page or stream
+module _ (s : Setting) (units tens s1 s2 s3 s4 : ℕ) (small : Each (λ n. n < 16) (units ∷ tens ∷ s1 ∷ s2 ∷ s3 ∷ s4 ∷ []))
+    (differs : (units + 16 * tens ≡ s .page) × (s3 ≡ s .stream) → ⊥) where
+  other-seen : (l : List ℕ) → Reads (units ∷ tens ∷ s1 ∷ s2 ∷ s3 ∷ s4 ∷ []) l → seeZero s l ≡ foreign
+  unfolding seeZero
+  other-seen l r =
+      rw (
+        reads-decodes small r,
+        reads-at r 0 (omega arith),
+        reads-at r 1 (omega arith),
+        reads-at r 4 (omega arith),
+        not-both (units + 16 * tens) (s .page) s3 (s .stream) differs,
+      )
+
+other-page-heard :
+    (R : ℕ → ℕ → Type 0) (L : Type 0) → Hears R L → (s : Setting) {q : List ℕ} → OtherPage R s q → (see s q ≡ foreign) ⊎ ((see s q ≡ junk) × L)
+other-page-heard R L hears s e =
+    header-heard R L hears s foreign _ (e .rest) refl (e .nibbles) (other-seen s _ _ _ _ _ _ (e .nibbles) (e .differs))
+    (omega (arith, near-length (e .near), e .long)) (e .near)
 
 -- ---- packets 1 to 25
 
@@ -208,3 +243,38 @@ packet-heard R L hears s y p bytes {q} least most h size near =
     go (inr w) r = unread (w .1) (see-junk s q (w .0))
     go (inl a) (inl e) = read (seen a ∙ ap (λ (x : ℕ). packetY y x (drop 3 q)) (sym at-two ∙ e))
     go (inl a) (inr w) = skipped (w .1) (seen a ∙ ap (λ (x : ℕ). packetY y x (drop 3 q)) (sym at-two ∙ w .0))
+
+-- ---- what may stand between
+
+-- what becomes of a packet of each kind
+pub data Beside (L : Type 0) : Kind → Seen → Type 0 where
+  passed : Beside L elsewhere other
+  named : Beside L header foreign
+  numbered : {y p : ℕ} {l : List ℕ} → Beside L row (packetY y p l)
+  high : Beside L row other
+  lost : {kind : Kind} → L → Beside L kind junk
+
+pub beside-row : (L : Type 0) (s : Setting) (y : ℕ) (q : List ℕ) → (y ≡ 0 → ⊥) → Beside L row (seeY s y q)
+unfolding seeY
+beside-row L s y q z = rw (ne-eqb y 0 z) (go (leb y 25))
+  where
+    go : (t : Bool) → Beside L row (pick t (packetY y (nib (getD q 2 0)) (drop 3 q)) other)
+    go true = numbered
+    go false = high
+
+module _ (R : ℕ → ℕ → Type 0) (L : Type 0) (hears : Hears R L) (s : Setting) where
+  -- another packet of our magazine
+  row-heard : {q : List ℕ} → OtherRow R s q → Beside L row (see s q)
+  row-heard {q} e = go (address-heard R L hears (s .magazine) (e .y) (e .rest) (e .number) (e .near))
+    where
+      long : length q ≡ packetLength
+      long = omega (arith, near-length (e .near), e .long)
+
+      go : Reads (addressed (s .magazine) (e .y)) q ⊎ ((decodes 2 q ≡ false) × L) → Beside L row (see s q)
+      go (inl a) = rw (see-ours s (e .y) (e .number) long a) (beside-row L s (e .y) q (λ z. omega (arith, e .least)))
+      go (inr w) = rw (see-junk s q (w .0)) (lost (w .1))
+
+  pub rightly-heard : (kind : Kind) (q : List ℕ) → Rightly R s kind q → Beside L kind (see s q)
+  rightly-heard elsewhere q e = ⊎-elim (λ f. rw f passed) (λ w. rw (w .0) (lost (w .1))) (elsewhere-heard R L hears s e)
+  rightly-heard header q e = ⊎-elim (λ f. rw f named) (λ w. rw (w .0) (lost (w .1))) (other-page-heard R L hears s e)
+  rightly-heard row q e = row-heard e

@@ -17,7 +17,7 @@ use Rattle.packet.specs.declared.Setting.{Setting}
 use Rattle.packet.specs.Packet.{packetOf}
 use Rattle.symbols.specs.Stream.{Symbol, fill, raw, byteOf, perPacket, symbols, fillAfter, cellsOf, streamOf, grab}
 use Rattle.writer.specs.Cutting.{dataPacket, dataPackets, afterPackets, pages}
-use Rattle.claims.specs.Noise.{Near, none, more, Aired, ended, sent, between}
+use Rattle.claims.specs.Noise.{Near, none, more}
 use Rattle.claims.specs.Lists.{Paired}
 use Rattle.claims.specs.Lists
 use Rattle.claims.specs.Damage.{unlike, carriedIn, streamIn, Sending, sendings, bytesOf, damage, leadDamage, landed, unmarked}
@@ -31,12 +31,6 @@ pub packet-bytes :
     → Near R (map byteOf (grab perPacket ss)) (drop 3 q)
 unfolding packetOf
 packet-bytes s y ss q n = near-drop 3 n
-
--- ours, one to one with those that were sent
-aired-paired : {R : ℕ → ℕ → Type 0} {s : Setting} {ps ours qs : List (List ℕ)} → Aired R s ps ours qs → Paired (Near R) ps ours
-aired-paired ended = Lists.both-end
-aired-paired (sent n a) = Lists.with n (aired-paired a)
-aired-paired (between e a) = aired-paired a
 
 grab-append : (a b : ℕ) (ss : List Symbol) → grab (a + b) ss ≡ grab a ss ++ grab b (drop a ss)
 unfolding grab
@@ -80,9 +74,9 @@ pages-near R s k (suc p) index ss (q ∷ ours) (Lists.with n r) =
     (near-append (t .near) (pages-near R s k p _ (afterPackets k ss) (t .later) (t .others)))
 
 pub stream-near :
-    {R : ℕ → ℕ → Type 0} (k index p : ℕ) (s : Setting) (ss : List Symbol) {ours qs : List (List ℕ)} → Aired R s (pages s k p index ss) ours qs
+    {R : ℕ → ℕ → Type 0} (k index p : ℕ) (s : Setting) (ss : List Symbol) {ours : List (List ℕ)} → Paired (Near R) (pages s k p index ss) ours
     → Near R (map byteOf (grab (p * (k * perPacket)) ss)) (streamIn k ours)
-stream-near {R} k index p s ss {ours} a = pages-near R s k p index ss ours (aired-paired a)
+stream-near {R} k index p s ss {ours} a = pages-near R s k p index ss ours a
 
 -- ---- each sending
 

@@ -6,6 +6,7 @@ pub mod Walking
 pub mod Carrying
 pub mod Packet
 pub mod Hearing
+pub mod Mingling
 pub mod Sending
 pub mod Carried
 pub mod March
@@ -15,6 +16,7 @@ pub mod Fed
 pub mod Parts
 pub mod Tables
 pub mod Blocks
+pub mod Wider
 pub mod Demands
 pub mod Marked
 pub mod Worked

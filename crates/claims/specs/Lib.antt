@@ -1,4 +1,5 @@
 pub mod Noise
+pub mod Mingled
 pub mod Damage
 pub mod Carrying
 pub mod Feeding
