@@ -9,6 +9,7 @@ pub mod Hearing
 pub mod Mingling
 pub mod Sending
 pub mod Carried
+pub mod Apart
 pub mod March
 pub mod Numbers
 pub mod Settled

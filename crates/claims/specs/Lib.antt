@@ -2,6 +2,7 @@ pub mod Noise
 pub mod Mingled
 pub mod Damage
 pub mod Carrying
+pub mod CutLine
 pub mod Feeding
 pub mod Lists
 pub mod Tables
