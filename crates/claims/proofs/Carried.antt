@@ -46,27 +46,27 @@ use Rattle.claims.proofs.Sending.{Sends, stream-sends, Split, split}
 -- ---- where the reader stands
 
 -- before a packet 0 with this index: no page of ours is incomplete, and the index follows ours, or nothing can be dropped by it
-record Ready (L : Type 0) (m : Mode) (index : ℕ) (st : State) : Type 0 where
-  whole : incomplete (st .page) ≡ false
-  mode : Between L m (st .mode)
-  follows : (st .mode ≡ off) ⊎ ((st .index + 1) % 16 ≡ index)
+pub record Ready (L : Type 0) (m : Mode) (index : ℕ) (st : State) : Type 0 where
+  pub whole : incomplete (st .page) ≡ false
+  pub mode : Between L m (st .mode)
+  pub follows : (st .mode ≡ off) ⊎ ((st .index + 1) % 16 ≡ index)
 
 -- in a page of k packets with this index, after packet `last`; or, where loss is allowed, the page was dropped
-data Inside (L : Type 0) (k : ℕ) (m : Mode) (index last : ℕ) (st : State) : Type 0 where
+pub data Inside (L : Type 0) (k : ℕ) (m : Mode) (index last : ℕ) (st : State) : Type 0 where
   opened : st .page ≡ Open k last → st .index ≡ index → Between L m (st .mode) → Inside L k m index last st
   shut : L → st .page ≡ Shut → st .mode ≡ off → Inside L k m index last st
 
 -- ---- what the packets do
 
-act-junk : (st : State) → act st junk ≡ record { page = Shut; index = st .index; mode = off }
+pub act-junk : (st : State) → act st junk ≡ record { page = Shut; index = st .index; mode = off }
 unfolding act
 act-junk st = refl
 
-act-other : (st : State) → act st other ≡ st
+pub act-other : (st : State) → act st other ≡ st
 unfolding act
 act-other st = refl
 
-act-foreign : (st : State) → act st foreign ≡ record { page = Shut; index = st .index; mode = dropIf (incomplete (st .page)) (st .mode) }
+pub act-foreign : (st : State) → act st foreign ≡ record { page = Shut; index = st .index; mode = dropIf (incomplete (st .page)) (st .mode) }
 unfolding act
 act-foreign st = refl
 
@@ -97,13 +97,13 @@ act-ours {L} k {m} index st small r = opened (rw (le-leb k 25 small)) refl (go (
     go (inr e) = rw (r .whole, le-ltb 25 k small, e, eq-eqb index index refl) (r .mode)
 
 -- packet last + 1 of an open page is read
-act-packet :
+pub act-packet :
     (k last p : ℕ) (cs : List ℕ) (st : State) → st .page ≡ Open k last → suc last ≤ k
     → act st (packetY (suc last) p cs) ≡ record { page = Open k (suc last); index = st .index; mode = readMode (st .mode) p cs }
 unfolding act
 act-packet k last p cs st e h = rw (e, eq-eqb (suc last) (last + 1) (omega arith), le-leb (suc last) k h)
 
-handed-packet :
+pub handed-packet :
     (k last p : ℕ) (cs : List ℕ) (st : State) → st .page ≡ Open k last → suc last ≤ k
     → handed st (packetY (suc last) p cs) ≡ readBlocks (st .mode) p cs
 unfolding handed
@@ -125,21 +125,21 @@ handed-other : (st : State) → handed st other ≡ []
 unfolding handed
 handed-other st = refl
 
-handed-foreign : (st : State) → handed st foreign ≡ []
+pub handed-foreign : (st : State) → handed st foreign ≡ []
 unfolding handed
 handed-foreign st = refl
 
-handed-ours : (st : State) (index n : ℕ) → handed st (ours index n) ≡ []
+pub handed-ours : (st : State) (index n : ℕ) → handed st (ours index n) ≡ []
 unfolding handed
 handed-ours st index n = refl
 
 -- the state after a packet, and what came of the blocks that the walk without loss gives in it
-record Took (L : Type 0) (P : State → Type 0) (a : List Block) (st : State) (x : Seen) : Type 0 where
-  state : P (act st x)
-  blocks : Blocks L a (handed st x)
+pub record Took (L : Type 0) (P : State → Type 0) (a : List Block) (st : State) (x : Seen) : Type 0 where
+  pub state : P (act st x)
+  pub blocks : Blocks L a (handed st x)
 
 -- between two pages of ours; where another page has begun, ours is shut
-abbrev Aside : (State → Type 0) → Bool → State → Type 0
+abbrev pub Aside : (State → Type 0) → Bool → State → Type 0
 Aside P false st = P st
 Aside P true st = P st × (st .page ≡ Shut)
 
@@ -175,7 +175,7 @@ module _ (L : Type 0) (P : State → Type 0) (drops : (st : State) → L → P (
 module _ (R : ℕ → ℕ → Type 0) (L : Type 0) (hears : Hears R L) (s : Setting) (K : Kind → List ℕ → Type 0)
     (seen : (kind : Kind) (q : List ℕ) → K kind q → Beside L kind (see s q)) (k : ℕ) where
   -- what stands before the next of mine, within a page
-  strip :
+  pub strip :
       (P : State → Type 0) → ((st : State) → L → P (act st junk)) → {w : ℕ} {p q : List ℕ} {ps mine qs : List (List ℕ)} (bs : List Block)
       → ((st : State) (qs : List (List ℕ)) → P st → Near R p q → Mingled R K k w false ps mine qs → Blocks L bs (heardBlocks s st (q ∷ qs)))
       → (st : State) → P st → Mingled R K k (suc w) false (p ∷ ps) (q ∷ mine) qs → Blocks L bs (heardBlocks s st qs)
@@ -186,7 +186,7 @@ module _ (R : ℕ → ℕ → Type 0) (L : Type 0) (hears : Hears R L) (s : Sett
       came-append (t .blocks) (strip P drops bs next (act st (see s q)) (t .state) a)
 
   -- and between two pages
-  strip-aside :
+  pub strip-aside :
       (P : State → Type 0) → ((st : State) → L → P (act st junk)) → ((st : State) → P st → P (act st foreign))
       → {begun : Bool} {p q : List ℕ} {ps mine qs : List (List ℕ)} (bs : List Block)
       → ((st : State) (qs : List (List ℕ)) → P st → Near R p q → Mingled R K k k false ps mine qs → Blocks L bs (heardBlocks s st (q ∷ qs)))
@@ -203,11 +203,11 @@ module _ (R : ℕ → ℕ → Type 0) (L : Type 0) (hears : Hears R L) (s : Sett
       let t = row-takes L P drops st (seen row q e) r in
       came-append (t .blocks) (strip-aside P drops shuts bs next (act st (see s q)) (t .state) a)
 
-  abbrev Any : State → Type 0
+  abbrev pub Any : State → Type 0
   Any st = Unit
 
   -- after the last packet of mine
-  quiet : {w : ℕ} {begun : Bool} (st : State) {mine qs : List (List ℕ)} → Aside Any begun st → Mingled R K k w begun [] mine qs → Blocks L [] (heardBlocks s st qs)
+  pub quiet : {w : ℕ} {begun : Bool} (st : State) {mine qs : List (List ℕ)} → Aside Any begun st → Mingled R K k w begun [] mine qs → Blocks L [] (heardBlocks s st qs)
   unfolding heardBlocks
   quiet st r ended = over
   quiet {begun = begun} st r (between {q = q} e a) =
@@ -326,28 +326,28 @@ module _ (R : ℕ → ℕ → Type 0) (L : Type 0) (hears : Hears R L) (s : Sett
         came-append (t .blocks) (next (act st (see s q)) qs (t .state) a))
         st i a)
 
-    after-one : (w : ℕ) (ss : List Symbol) → afterPackets (suc w) ss ≡ afterPackets w (drop perPacket ss)
+    pub after-one : (w : ℕ) (ss : List Symbol) → afterPackets (suc w) ss ≡ afterPackets w (drop perPacket ss)
     after-one w ss = let e : suc w * 39 ≡ 39 + w * 39 = omega arith in rw (e, drop-drop)
 
     -- the first of mine that is to come is near to the first that was sent
-    first-near : {w : ℕ} {t : Bool} {p q : List ℕ} {ps mine qs : List (List ℕ)} → Mingled R K k w t (p ∷ ps) (q ∷ mine) qs → Near R p q
+    pub first-near : {w : ℕ} {t : Bool} {p q : List ℕ} {ps mine qs : List (List ℕ)} → Mingled R K k w t (p ∷ ps) (q ∷ mine) qs → Near R p q
     first-near (sent n a) = n
     first-near (between e a) = first-near a
     first-near (begins e a) = first-near a
     first-near (goes e a) = first-near a
 
-    none-left : {w : ℕ} {t : Bool} {p : List ℕ} {ps qs : List (List ℕ)} → Mingled R K k w t (p ∷ ps) [] qs → ⊥
+    pub none-left : {w : ℕ} {t : Bool} {p : List ℕ} {ps qs : List (List ℕ)} → Mingled R K k w t (p ∷ ps) [] qs → ⊥
     none-left (between e a) = none-left a
     none-left (begins e a) = none-left a
     none-left (goes e a) = none-left a
 
-    none-more : {w : ℕ} {t : Bool} {q : List ℕ} {mine qs : List (List ℕ)} → Mingled R K k w t [] (q ∷ mine) qs → ⊥
+    pub none-more : {w : ℕ} {t : Bool} {q : List ℕ} {mine qs : List (List ℕ)} → Mingled R K k w t [] (q ∷ mine) qs → ⊥
     none-more (between e a) = none-more a
     none-more (begins e a) = none-more a
     none-more (goes e a) = none-more a
 
     -- the w packets after packet `last` of a page, and then the pages after it, of which `next` speaks
-    packets-carried :
+    pub packets-carried :
         (w last index p : ℕ) (m : Mode) (ss : List Symbol) (mine : List (List ℕ)) (bs : List Block) (st : State) (qs : List (List ℕ))
         → last + w ≡ k → Celled ss → Sends m (told ss (carriedIn k w mine)) bs
         → ((m : Mode) (ss : List Symbol) (mine : List (List ℕ)) (bs : List Block) (st : State) (qs : List (List ℕ)) → Celled ss
@@ -380,7 +380,7 @@ module _ (R : ℕ → ℕ → Type 0) (L : Type 0) (hears : Hears R L) (s : Sett
         (after-one w ss) a))
         st inside a
 
-    pages-carried :
+    pub pages-carried :
         (p index : ℕ) → index < 16 → (m : Mode) (ss : List Symbol) (mine : List (List ℕ)) (bs : List Block) (st : State) (qs : List (List ℕ))
         → Celled ss → Sends m (told ss (streamIn k mine)) bs → Ready L m index st
         → Mingled R K k 0 false (pages s k p index ss) mine qs

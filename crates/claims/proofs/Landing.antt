@@ -86,7 +86,7 @@ take-grab [] ts n h = refl
 take-grab (s ∷ ss) ts zero h = absurd (omega arith)
 take-grab (s ∷ ss) ts (suc n) h = ap (λ (l : List ℕ). byteOf s ∷ l) (take-grab ss ts n (omega arith))
 
-drop-grab :
+pub drop-grab :
     (ss ts : List Symbol) (n : ℕ) → length ss ≤ n → drop (length ss) (map byteOf (grab n (ss ++ ts))) ≡ map byteOf (grab (n - length ss) ts)
 unfolding grab
 drop-grab [] ts n h = rw (sub-zero n)

@@ -10,6 +10,8 @@ pub mod Mingling
 pub mod Sending
 pub mod Carried
 pub mod Apart
+pub mod Starting
+pub mod Silent
 pub mod March
 pub mod Numbers
 pub mod Settled

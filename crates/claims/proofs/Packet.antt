@@ -80,7 +80,7 @@ at-start m (heard (bits n) c ∷ zs) t h = at-start _ zs (t .1) (omega arith)
 at-start m (heard (raw b) c ∷ zs) t h = at-start _ zs (t .1) (omega arith)
 
 -- what the flow leaves at the packet's end goes on running
-sim-between : {L : Type 0} {m k : Mode} → Sim L m k → Between L m (unfinished k)
+pub sim-between : {L : Type 0} {m k : Mode} → Sim L m k → Between L m (unfinished k)
 sim-between (same {m} r) = go m r
   where
     go : {L : Type 0} (m : Mode) → Runs m → Between L m (unfinished m)

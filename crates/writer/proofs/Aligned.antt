@@ -75,7 +75,7 @@ grab-cells (suc m) (three b c h) =
     rw e (three b c (grab-cells m h))
 
 -- a symbol that is no start is passed by
-before-plain : {s : Symbol} → Plain s → (ss : List Symbol) → beforeStart (s ∷ ss) ≡ suc (beforeStart ss)
+pub before-plain : {s : Symbol} → Plain s → (ss : List Symbol) → beforeStart (s ∷ ss) ≡ suc (beforeStart ss)
 unfolding beforeStart
 before-plain fills ss = refl
 before-plain bit ss = refl

@@ -19,7 +19,7 @@ use Rattle.writer.proofs.Paging.{zero-length, packet-length}
 
 -- ---- how many there are
 
-data-count : (s : Setting) (w y : ℕ) (ss : List Symbol) → length (dataPackets s w y ss) ≡ w
+pub data-count : (s : Setting) (w y : ℕ) (ss : List Symbol) → length (dataPackets s w y ss) ≡ w
 unfolding dataPackets
 data-count s zero y ss = refl
 data-count s (suc w) y ss = ap suc (data-count s w (suc y) (drop perPacket ss))
