@@ -1,12 +1,12 @@
 -- Block reading, set to an application in range, doesn't answer 16 to a record that the reader hands out: its part is at most 5, and its
--- second byte 0 (SCOPE 19.3). Assumes nothing.
+-- second byte at most 1 (SCOPE 19.3, 26.3). Assumes nothing.
 use mathlib.Core.Path.{_≡_, refl, sym, ap, subst}
 use mathlib.Core.Bool.{Bool, true, false}
 use mathlib.Core.List.{List, [], _∷_}
 use Prim.Native.Nat.{ℕ, _≤_, _<_}
 use native.Mathlib.Omega.{arith}
-use lib.Dec.{leb, eqb}
-use borrow.Author.Tests.{lt-ltb, le-leb, eq-eqb}
+use lib.Dec.{leb}
+use borrow.Author.Tests.{lt-ltb, le-leb}
 use Rattle.laws.specs.Each.{Each, nil, and}
 use Rattle.laws.specs.Pick.{pick, both}
 use Rattle.answer.specs.Rules.{Rule, judged}
@@ -46,11 +46,11 @@ not-sixteen (q ∷ rs) a z (and h r) e = go (q .holds) (λ n. h n) (λ n. not-si
     go false f g n = let w : false ≡ true = f n in let y : _≡_ {A = ℕ} 0 1 = cc in omega arith
 
 pub never-sixteen :
-    (application : ℕ) (b : Block) (offset : ℕ) → application < 32 → b .part ≤ 5 → b .second ≡ 0
+    (application : ℕ) (b : Block) (offset : ℕ) → application < 32 → b .part ≤ 5 → b .second ≤ 1
     → readBlock application (recordOf b) ≡ refused 16 offset → ⊥
 unfolding readBlock frameRules frontRules wholeRules lengthRules
 never-sixteen application b offset a p s e =
-    let ranged : both (leb (b .part) 5) (eqb (b .second) 0) ≡ true = rw (le-leb (b .part) 5 p) (eq-eqb (b .second) 0 s) in
+    let ranged : both (leb (b .part) 5) (leb (b .second) 1) ≡ true = rw (le-leb (b .part) 5 p) (le-leb (b .second) 1 s) in
     not-sixteen (readRules application (recordOf b)) (accepted (tableRead (recordOf b)) (mendedIn (recordOf b))) refl
     (and (λ n. lt-ltb application 32 a)
     (and (λ (n : _≡_ {A = ℕ} 13 16). absurd (omega arith))

@@ -144,7 +144,7 @@ module _ (R : ℕ → ℕ → Type 0) (L : Type 0) (hears : Hears R L) where
         go (right e) =
             itself
             (reads-alike application (Block·recordOf (landed x)) (recordOf application t) t 0
-            (record { part = lead-five x; second = refl }) refl (again e) (writes-back application t a f)
+            (record { part = lead-five x; second = omega arith }) refl (again e) (writes-back application t a f)
             ∙ ap (accepted t) (counts e))
 
   not-taken : (o : Outcome Table) → ((u : Table) (c : ℕ) → o ≡ accepted u c → ⊥) → taken o ≡ []

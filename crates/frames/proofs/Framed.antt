@@ -33,11 +33,11 @@ module _ (application : ℕ) (r : List ℕ) where
       let e₁ = others-hold e₀ in
       let e₂ = others-hold e₁ in
       let e₃ = others-hold e₂ in
-      let o = both-true (leb (partOf r) 5) (eqb (secondOf r) 0) (first-holds e₂) in
+      let o = both-true (leb (partOf r) 5) (leb (secondOf r) 1) (first-holds e₂) in
       record {
         within = ltb-true application 32 (first-holds e₀);
         long = eqb-true (length r) (4 + headOf r / 32) (first-holds e₁);
-        in-range = record { part = leb-true (partOf r) 5 (o .0); second = eqb-true (secondOf r) 0 (o .1) };
+        in-range = record { part = leb-true (partOf r) 5 (o .0); second = leb-true (secondOf r) 1 (o .1) };
         ours = eqb-true (headOf r % 32) application (first-holds e₃);
         eight = leb-true 8 (headOf r / 32) (first-holds (others-hold e₃));
       }
@@ -48,7 +48,7 @@ module _ (application : ℕ) (r : List ℕ) where
       more (lt-ltb application 32 (k .within))
       (more (eq-eqb (length r) (4 + headOf r / 32) (k .long))
       (more
-      (both-holds (leb (partOf r) 5) (eqb (secondOf r) 0) (le-leb (partOf r) 5 (k .in-range .part)) (eq-eqb (secondOf r) 0 (k .in-range .second)))
+      (both-holds (leb (partOf r) 5) (leb (secondOf r) 1) (le-leb (partOf r) 5 (k .in-range .part)) (le-leb (secondOf r) 1 (k .in-range .second)))
       (more (eq-eqb (headOf r % 32) application (k .ours)) (more (le-leb 8 (headOf r / 32) (k .eight)) none))))
 
 -- ---- a block's 16 bits, and what they say

@@ -36,11 +36,11 @@ module _ {A : Type 0} (f : ℕ → ℕ → A) (application len head part second 
       frame-part h = rw (lt-ltb application 32 h₁, eq-eqb len (4 + head / 32) h₂, lt-leb part 5 h)
 
       module _ (h₃ : part ≤ 5) where
-        pub frame-second : (second ≡ 0 → ⊥) → judged f (frameRules application len head part second) a ≡ f 16 0
+        pub frame-second : 1 < second → judged f (frameRules application len head part second) a ≡ f 16 0
         unfolding frameRules
-        frame-second h = rw (lt-ltb application 32 h₁, eq-eqb len (4 + head / 32) h₂, le-leb part 5 h₃, ne-eqb second 0 h)
+        frame-second h = rw (lt-ltb application 32 h₁, eq-eqb len (4 + head / 32) h₂, le-leb part 5 h₃, lt-leb second 1 h)
 
-        module _ (h₄ : second ≡ 0) where
+        module _ (h₄ : second ≤ 1) where
           pub frame-12 : (head % 32 ≡ application → ⊥) → judged f (frameRules application len head part second) a ≡ f 12 0
           unfolding frameRules
           frame-12 h =
@@ -48,7 +48,7 @@ module _ {A : Type 0} (f : ℕ → ℕ → A) (application len head part second 
                 lt-ltb application 32 h₁,
                 eq-eqb len (4 + head / 32) h₂,
                 le-leb part 5 h₃,
-                eq-eqb second 0 h₄,
+                le-leb second 1 h₄,
                 ne-eqb (head % 32) application h,
               )
 
@@ -60,7 +60,7 @@ module _ {A : Type 0} (f : ℕ → ℕ → A) (application len head part second 
                   lt-ltb application 32 h₁,
                   eq-eqb len (4 + head / 32) h₂,
                   le-leb part 5 h₃,
-                  eq-eqb second 0 h₄,
+                  le-leb second 1 h₄,
                   eq-eqb (head % 32) application h₅,
                   lt-leb 8 (head / 32) h,
                 )
@@ -72,7 +72,7 @@ module _ {A : Type 0} (f : ℕ → ℕ → A) (application len head part second 
                   lt-ltb application 32 h₁,
                   eq-eqb len (4 + head / 32) h₂,
                   le-leb part 5 h₃,
-                  eq-eqb second 0 h₄,
+                  le-leb second 1 h₄,
                   eq-eqb (head % 32) application h₅,
                   le-leb 8 (head / 32) h,
                 )

@@ -8,9 +8,9 @@ use Rattle.laws.specs.Pick.{both}
 use Rattle.answer.specs.Rules.{Rule, rule}
 use Rattle.blocks.specs.Block.{headLength, headOf, partOf, secondOf, applicationOf, sizeOf}
 
--- the two bytes behind a record's 16 bits are in range: a part of at most 5, and 0 (SCOPE 19.4)
+-- the two bytes behind a record's 16 bits are in range: a part of at most 5, and 0 or 1 (SCOPE 19.4, 26.3)
 abbrev pub ranged : ℕ → ℕ → Bool
-ranged part second = both (leb part 5) (eqb second 0)
+ranged part second = both (leb part 5) (leb second 1)
 
 -- 16, 13 for the record's length, 16 for its two bytes, 12 for the application, 13 for a size under 8: the record as it is lent, by its
 -- length, its head and those two bytes

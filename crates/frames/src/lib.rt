@@ -36,7 +36,7 @@ pub fn judge(application: u8, rec: &[u8]) -> Frame
     if 5 < rec[2] {
         return refuse(16);
     }
-    if rec[3] != 0 {
+    if 1 < rec[3] {
         return refuse(16);
     }
     if head % 32 != application as usize {

@@ -53,7 +53,7 @@ module _ (application : ℕ) (spare : Spare) (m : Menu) where
         spare = spare;
         within = la;
         sendable = h;
-        ranged = record { part = omega arith; second = refl };
+        ranged = record { part = omega arith; second = omega arith };
         reserved = r;
         first = f;
         second = s;

@@ -3,7 +3,7 @@
 use mathlib.Core.Path.{_≡_, refl}
 use mathlib.Core.Bool.{Bool, true, false}
 use mathlib.Core.List.{List, [], _∷_, _++_}
-use Prim.Native.Nat.{ℕ, suc, _+_, _*_, _≤_, _<_}
+use Prim.Native.Nat.{ℕ, suc, _+_, _*_, _≤_, _<_, zero-le}
 use native.Mathlib.Omega.{arith}
 use lib.Dec.{eqb, leb, ltb}
 use lib.ListN.{length, length-append, take, drop}
@@ -120,6 +120,6 @@ module _ (P : Block → Type 0) (of-whole : (h part : ℕ) (l : List ℕ) → si
 pub handed-sized : (st : State) (x : Seen) → Sound st → Each Sized (handed st x)
 handed-sized = handed-each Sized (λ h part l e p. e)
 
--- and each has a part of at most 5 and a second byte 0
+-- and each has a part of at most 5 and a second byte of at most 1
 pub handed-parted : (st : State) (x : Seen) → Sound st → Each Parted (handed st x)
-handed-parted = handed-each Parted (λ h part l e p. (p, refl))
+handed-parted = handed-each Parted (λ h part l e p. (p, zero-le))

@@ -26,10 +26,10 @@ nibblesOf r = map nib (drop headLength r)
 unfoldable pub mendedIn : List ℕ → ℕ
 mendedIn r = partOf r + harms (drop headLength r)
 
--- the two bytes behind a record's 16 bits are in range: a start and its header are five bytes, and the second byte is 0 (SCOPE 19.3)
+-- the two bytes behind a record's 16 bits are in range: a start and its header are five bytes, and the second byte is 0 or 1 (SCOPE 19.3, 26.3)
 pub record InRange (r : List ℕ) : Type 0 where
   pub part : partOf r ≤ 5
-  pub second : secondOf r ≡ 0
+  pub second : secondOf r ≤ 1
 
 -- the nibbles of a table's block, for any checksum, reserved bit and fill
 unfoldable pub nibbles : ℕ → ℕ → ℕ → Table → List ℕ

@@ -48,7 +48,7 @@ says-with application reserved filling t a f b h =
 -- its two new bytes are in range, and none of its bytes is mended
 with-range : (application reserved filling : ℕ) (t : Table) → InRange (recordWith application reserved filling t)
 unfolding blockWith
-with-range application reserved filling t = record { part = zero-le; second = refl }
+with-range application reserved filling t = record { part = zero-le; second = zero-le }
 
 with-none : (application reserved filling : ℕ) (t : Table) → mendedIn (recordWith application reserved filling t) ≡ 0
 unfolding blockWith mendedIn
