@@ -7,7 +7,7 @@ use lib.ListN.{length, getD, take, drop}
 use Rattle.laws.specs.Pick.{pick, both, either}
 
 -- a block: its 16 bits; how many of its start and header bytes came other than as the image of their nibble (its part, SCOPE 19.3); a
--- second byte, 0; and its raw bytes
+-- second byte, 1 where its bytes span pages (SCOPE 26.1); and its raw bytes
 pub record Block : Type 0 where
   pub head : ℕ
   pub part : ℕ

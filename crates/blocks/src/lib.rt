@@ -1,6 +1,7 @@
 // Blocks as they go between the calls: a record has a block's 16 bits in two bytes, the low one first, its part (SCOPE 19.3),
-// a byte 0, and its raw bytes (SCOPE 10.3). The reader hands out records, one after the other; the writer and block reading take them.
+// a second byte (SCOPE 26.1), and its raw bytes (SCOPE 10.3). The reader hands out records, one after the other; the writer and block reading take them.
 ghost use mathlib.Core.Path.{_≡_};
+ghost use Rattle.blocks.specs.Block.{secondOf};
 ghost use Rattle.blocks.specs.Place.{foundAt, afterAt};
 
 // How many bytes of a record stand before its raw bytes.
@@ -44,6 +45,16 @@ pub fn record_at(records: &[u8], place: usize) -> Found
         raw,
         next: raw + size,
     }
+}
+
+// The second byte of a record: 1 where the block's bytes span pages as the reader met them. 0 where the record hasn't so many bytes.
+pub fn second_of(rec: &[u8]) -> u8
+    ensures { λ r. ⌜ r ≡ secondOf (now (rec .entry)) ⌝ }
+{
+    if rec.len() < HEAD {
+        return 0;
+    }
+    rec[3]
 }
 
 // The place after the record that stands at a place, or the end of the list where none does. To walk a list of anything,

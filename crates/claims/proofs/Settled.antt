@@ -46,6 +46,7 @@ use Rattle.stripped.proofs.loss.blank.Reads as stripped·blank
 use Rattle.pes.proofs.ebu.is_ebu.Reads as pes·is-ebu
 use Rattle.pes.proofs.ebu.turn_run.Reads as pes·turn-run
 use Rattle.blocks.proofs.record_at.Reads as blocks·record-at
+use Rattle.blocks.proofs.second_of.Reads as blocks·second-of
 use Rattle.blocks.proofs.after.Reads as blocks·after
 use Rattle.packet.proofs.is_in_range.Reads as packet·is-in-range
 use Rattle.symbols.proofs.step.Reads as symbols·step
@@ -197,6 +198,9 @@ aerials·better-settled κs a x y s t p q = (same (p .0) (q .0), same (p .1) (q 
 
 pub blocks·record-at-settled : (κs : _) (a : _) (x y : _) (s t : _) → blocks·record-at.Post κs a x s → blocks·record-at.Post κs a y t → x ≡ y
 blocks·record-at-settled κs a x y s t p q = same p q
+
+pub blocks·second-of-settled : (κs : _) (a : _) (x y : _) (s t : _) → blocks·second-of.Post κs a x s → blocks·second-of.Post κs a y t → x ≡ y
+blocks·second-of-settled κs a x y s t p q = same p q
 
 pub blocks·after-settled : (κs : _) (a : _) (x y : _) (s t : _) → blocks·after.Post κs a x s → blocks·after.Post κs a y t → x ≡ y
 blocks·after-settled κs a x y s t p q = same p q
@@ -367,7 +371,7 @@ pub text-lines·put-page-settled :
 text-lines·put-page-settled κs a x y s t p q = (same (p .0 .moved) (q .0 .moved), same (p .0 .stored) (q .0 .stored))
 
 pub listing·list-table-settled :
-    (κs : _) (a : _) (x y : _) (s t : _) → listing·list-table.Post κs a x s → listing·list-table.Post κs a y t → (x ≡ y) × (now (s .1 .1 .0) ≡ now (t .1 .1 .0))
+    (κs : _) (a : _) (x y : _) (s t : _) → listing·list-table.Post κs a x s → listing·list-table.Post κs a y t → (x ≡ y) × (now (s .1 .1 .1 .0) ≡ now (t .1 .1 .1 .0))
 listing·list-table-settled κs a x y s t p q = (same (p .0) (q .0), same (p .1) (q .1))
 
 pub listing·list-descriptors-settled :

@@ -125,16 +125,17 @@ fn list_record(
     let answer = table::read_block(application, record, form);
     match answer {
         Read::Taken { written, mended } => {
-            list_form(tally, told::front(form, written), mended, text)
+            let second = blocks::second_of(record);
+            list_form(tally, told::front(form, written), mended, second, text)
         }
         Read::Refused(_) => refuse(tally),
     }
 }
 
-fn list_form(tally: Tally, form: &[u8], mended: u16, text: &mut [u8]) -> Tally {
+fn list_form(tally: Tally, form: &[u8], mended: u16, second: u8, text: &mut [u8]) -> Tally {
     let tally = make_room(tally, text);
     let used = tally.used;
-    let answer = listing::list_table(form, mended, &mut text[used..]);
+    let answer = listing::list_table(form, mended, second, &mut text[used..]);
     match answer {
         Answer::Done(more) => accept(tally, more, text.len()),
         Answer::Refused(_) => refuse(tally),

@@ -20,7 +20,7 @@ use Rattle.forms.proofs.Measures.{length-spelled, length-listed, length-form}
 use Rattle.forms.proofs.Sendable.{Sendable, parted}
 use Rattle.text_lines.specs.Lines.{digitMost, hexed, numberLine, letters, languageOf, languageLine, pageLine}
 use Rattle.text_lines.proofs.Decimals.{digits-few}
-use Rattle.listing.specs.Lines.{blockName, networkName, mendedName, descriptorName, kindLine, kindTI, kindLI, languageLines, subtitleLines}
+use Rattle.listing.specs.Lines.{blockName, networkName, mendedName, joinedName, joinedLine, descriptorName, kindLine, kindTI, kindLI, languageLines, subtitleLines}
 use Rattle.listing.specs.Lines.{entryLines, descriptorLine, descriptorLines, headLines, descriptorLinesOf, linesOf}
 use Rattle.listing.specs.Internal.{linesFrom}
 
@@ -37,6 +37,14 @@ kind-room kind = go (eqb kind TI)
   where
     go : (t : Bool) → length (pick t kindTI kindLI) ≤ 8
     go true = omega arith
+    go false = omega arith
+
+joined-room : (second : ℕ) → length (joinedLine second) ≤ 9
+unfolding joinedLine
+joined-room second = go (eqb second 1)
+  where
+    go : (t : Bool) → length (pick t (numberLine joinedName 1) []) ≤ 9
+    go true = number-room joinedName 0 1 (omega arith)
     go false = omega arith
 
 length-hexed : (bs : List ℕ) → length (hexed bs) ≡ 2 * length bs
@@ -104,21 +112,22 @@ descriptors-room kind (d ∷ ds) h k =
     let rest = descriptors-room kind ds (p .1) (p .2) in
     simp length-append (omega (arith, own, rest, entries-room kind (d .words)))
 
-pub lines-room : (head : Bool) (mended : ℕ) (t : Table) → mended < 65536 → Sendable t → length (linesFrom head mended t) ≤ 9 * length (form t)
+pub lines-room :
+    (head : Bool) (mended second : ℕ) (t : Table) → mended < 65536 → Sendable t → length (linesFrom head mended second t) ≤ 9 * length (form t)
 unfolding linesOf headLines descriptorLinesOf
-lines-room head mended t m s = go head
+lines-room head mended second t m s = go head
   where
     each : length (descriptorLinesOf t) ≤ 9 * length (listed (t .kind) (t .descriptors))
     each =
         let r = descriptors-room (t .kind) (t .descriptors) (s .entire-all) (s .loops-fit) in
         omega (arith, r, listed-words (t .kind) (t .descriptors))
 
-    go : (h : Bool) → length (pick h (linesOf mended t) (descriptorLinesOf t)) ≤ 9 * length (form t)
+    go : (h : Bool) → length (pick h (linesOf mended second t) (descriptorLinesOf t)) ≤ 9 * length (form t)
     go true =
         let block = number-room blockName 4 (t .block) (omega (arith, s .block-fits)) in
         let network = number-room networkName 2 (t .network) (omega (arith, s .network-fits)) in
         let count = number-room mendedName 4 mended (omega (arith, m)) in
-        simp length-append (omega (arith, kind-room (t .kind), block, network, count, each, length-form t))
+        simp length-append (omega (arith, kind-room (t .kind), block, network, count, joined-room second, each, length-form t))
     go false = omega (arith, each, length-form t)
 
 -- ---- what judging a form says of it

@@ -15,7 +15,7 @@ use Rattle.forms.specs.Tables.{TI, per}
 use Rattle.forms.specs.Form.{wordAt, wordsIn, descriptorsIn, tableIn}
 use Rattle.forms.proofs.Forms.{in-on, two-bytes}
 use Rattle.text_lines.specs.Lines.{numberLine, languageLine, pageLine}
-use Rattle.listing.specs.Lines.{kindLine, blockName, networkName, mendedName, headLines, languageLines, subtitleLines, entryLines, descriptorLine, descriptorLines}
+use Rattle.listing.specs.Lines.{kindLine, blockName, networkName, mendedName, joinedLine, headLines, languageLines, subtitleLines, entryLines, descriptorLine, descriptorLines}
 
 -- ---- entries
 
@@ -95,8 +95,8 @@ descriptors-on kind left i c words f h e₁ e₂ =
 -- ---- the head
 
 pub head-of :
-    (f : List ℕ) (k a b n m : ℕ) → k ≡ getD f 0 0 → a ≡ getD f 2 0 → b ≡ getD f 3 0 → n ≡ getD f 4 0 → a < 256 → b < 256
-    → kindLine k ++ numberLine blockName (a + 256 * b) ++ numberLine networkName n ++ numberLine mendedName m
-    ≡ headLines m (tableIn f)
+    (f : List ℕ) (k a b n m s : ℕ) → k ≡ getD f 0 0 → a ≡ getD f 2 0 → b ≡ getD f 3 0 → n ≡ getD f 4 0 → a < 256 → b < 256
+    → kindLine k ++ numberLine blockName (a + 256 * b) ++ numberLine networkName n ++ numberLine mendedName m ++ joinedLine s
+    ≡ headLines m s (tableIn f)
 unfolding headLines tableIn
-head-of f k a b n m ek ea eb en ha hb = rw (two-bytes a b ha hb, ek, ea, eb, en)
+head-of f k a b n m s ek ea eb en ha hb = rw (two-bytes a b ha hb, ek, ea, eb, en)

@@ -7,14 +7,18 @@ use Rattle.forms.specs.Tables.{Table}
 use Rattle.listing.specs.Lines.{descriptorLinesOf, linesOf}
 
 -- the lines of a table with those of its head, or without
-abbrev pub linesFrom : Bool → ℕ → Table → List ℕ
-linesFrom head mended t = pick head (linesOf mended t) (descriptorLinesOf t)
+abbrev pub linesFrom : Bool → ℕ → ℕ → Table → List ℕ
+linesFrom head mended second t = pick head (linesOf mended second t) (descriptorLinesOf t)
 
 -- ---- how long lines can be
 
+-- that of a second byte of 1
+abbrev pub joinedMost : ℕ
+joinedMost = 28
+
 -- those of a head
 abbrev pub headMost : ℕ
-headMost = 100
+headMost = 128
 
 -- an entry's: a language and a page
 abbrev pub entryMost : ℕ

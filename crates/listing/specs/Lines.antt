@@ -1,4 +1,4 @@
--- The desk's lines of a table: SCOPE 13.2 and 19.7. Characters are their codes, and 10 ends a line.
+-- The desk's lines of a table: SCOPE 13.2, 19.7 and 26.6. Characters are their codes, and 10 ends a line.
 use mathlib.Core.List.{List, [], _∷_, _++_}
 use Prim.Native.Nat.{ℕ}
 use lib.Dec.{eqb}
@@ -31,6 +31,14 @@ networkName = codes "network="
 abbrev pub mendedName : List ℕ
 mendedName = codes "mended="
 
+-- `joined=`
+abbrev pub joinedName : List ℕ
+joinedName = codes "joined="
+
+-- `joined=1` of a second byte of 1, and of any other nothing (SCOPE 26.6)
+unfoldable pub joinedLine : ℕ → List ℕ
+joinedLine second = pick (eqb second 1) (numberLine joinedName 1) []
+
 -- `descriptor=`
 abbrev pub descriptorName : List ℕ
 descriptorName = codes "descriptor="
@@ -59,18 +67,20 @@ unfoldable pub descriptorLines : ℕ → List Descriptor → List ℕ
 descriptorLines kind [] = []
 descriptorLines kind (d ∷ ds) = descriptorLine kind (d .id) (d .words) ++ descriptorLines kind ds
 
--- kind, block, network, and how many bytes of the block were mended, which isn't a part of the table (SCOPE 19.7)
-unfoldable pub headLines : ℕ → Table → List ℕ
-headLines mended t =
+-- kind, block, network, how many bytes of the block were mended, and whether it spans pages; these two aren't parts of the table (SCOPE 19.7,
+-- 26.6)
+unfoldable pub headLines : ℕ → ℕ → Table → List ℕ
+headLines mended second t =
     kindLine (t .kind)
     ++ numberLine blockName (t .block)
     ++ numberLine networkName (t .network)
     ++ numberLine mendedName mended
+    ++ joinedLine second
 
 -- the lines from `descriptor=` on
 unfoldable pub descriptorLinesOf : Table → List ℕ
 descriptorLinesOf t = descriptorLines (t .kind) (t .descriptors)
 
--- the lines of a table, of whose block so many bytes were mended
-unfoldable pub linesOf : ℕ → Table → List ℕ
-linesOf mended t = headLines mended t ++ descriptorLinesOf t
+-- the lines of a table, of whose block so many bytes were mended and whose record has this second byte
+unfoldable pub linesOf : ℕ → ℕ → Table → List ℕ
+linesOf mended second t = headLines mended second t ++ descriptorLinesOf t

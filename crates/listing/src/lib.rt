@@ -1,4 +1,4 @@
-// A table as the desk's lines (SCOPE 13, 19.7).
+// A table as the desk's lines (SCOPE 13, 19.7, 26.6).
 ghost use mathlib.Core.Bool.{true};
 ghost use mathlib.Core.Path.{_≡_};
 ghost use Prim.Native.Nat.{_+_, _*_, _/_, _<_, _≤_};
@@ -9,22 +9,22 @@ ghost use Rattle.forms.specs.Tables.{per, fits};
 ghost use Rattle.forms.specs.Form.{form, wordsIn, tableIn};
 ghost use Rattle.forms.specs.Internal.{descriptorMost, formMost};
 ghost use Rattle.forms.specs.Writing.{formRules};
-ghost use Rattle.listing.specs.Lines.{kindLine, entryLines, descriptorLine, headLines, descriptorLinesOf, linesOf};
-ghost use Rattle.listing.specs.Internal.{linesFrom, headMost, entryMost, descriptorLinesMost};
+ghost use Rattle.listing.specs.Lines.{kindLine, joinedLine, entryLines, descriptorLine, headLines, descriptorLinesOf, linesOf};
+ghost use Rattle.listing.specs.Internal.{linesFrom, headMost, joinedMost, entryMost, descriptorLinesMost};
 ghost use Rattle.text_lines.specs.Putting.{Put, reach};
 use answer::Answer;
 use answer::Refusal;
 use forms::OPENING;
 use forms::TI;
 
-// The lines of the table of this form, of whose block so many bytes were mended, to the front of `out`.
-pub fn list_table(table: &[u8], mended: u16, out: &mut [u8]) -> Answer
+// The lines of the table of this form, of whose block so many bytes were mended and whose record has this second byte, to the front of `out`.
+pub fn list_table(table: &[u8], mended: u16, second: u8, out: &mut [u8]) -> Answer
     ensures answer { λ r.
-        ⌜ r ≡ answered (formRules (now (table .entry))) (linesOf mended (tableIn (now (table .entry)))) (now (out .entry)) ⌝ }
+        ⌜ r ≡ answered (formRules (now (table .entry))) (linesOf mended second (tableIn (now (table .entry)))) (now (out .entry)) ⌝ }
     ensures output { λ _.
-        ⌜ now (out .exit) ≡ left (formRules (now (table .entry))) (linesOf mended (tableIn (now (table .entry)))) (now (out .entry)) ⌝ }
+        ⌜ now (out .exit) ≡ left (formRules (now (table .entry))) (linesOf mended second (tableIn (now (table .entry)))) (now (out .entry)) ⌝ }
 {
-    list(table, true, mended, out)
+    list(table, true, mended, second, out)
 }
 
 // Of these lines those from `descriptor=` on, to the front of `out`.
@@ -35,63 +35,63 @@ pub fn list_descriptors(table: &[u8], out: &mut [u8]) -> Answer
         ⌜ now (out .exit)
         ≡ left (formRules (now (table .entry))) (descriptorLinesOf (tableIn (now (table .entry)))) (now (out .entry)) ⌝ }
 {
-    list(table, false, 0, out)
+    list(table, false, 0, 0, out)
 }
 
 // The lines of a table, with those of its head or without.
-fn list(table: &[u8], head: bool, mended: u16, out: &mut [u8]) -> Answer
+fn list(table: &[u8], head: bool, mended: u16, second: u8, out: &mut [u8]) -> Answer
     ensures answer { λ r.
-        ⌜ r ≡ answered (formRules (now (table .entry))) (linesFrom head mended (tableIn (now (table .entry)))) (now (out .entry)) ⌝ }
+        ⌜ r ≡ answered (formRules (now (table .entry))) (linesFrom head mended second (tableIn (now (table .entry)))) (now (out .entry)) ⌝ }
     ensures output { λ _.
         ⌜ now (out .exit)
-        ≡ left (formRules (now (table .entry))) (linesFrom head mended (tableIn (now (table .entry)))) (now (out .entry)) ⌝ }
+        ≡ left (formRules (now (table .entry))) (linesFrom head mended second (tableIn (now (table .entry)))) (now (out .entry)) ⌝ }
 {
     match forms::judge_form(table) {
         Answer::Refused(why) => Answer::Refused(why),
         Answer::Done(_) => {
-            if is_short(table, head, mended, out.len()) {
+            if is_short(table, head, mended, second, out.len()) {
                 return Answer::Refused(Refusal { no: 1, at: 0 });
             }
-            Answer::Done(put_lines(table, head, mended, out))
+            Answer::Done(put_lines(table, head, mended, second, out))
         }
     }
 }
 
 // Whether the lines are longer than the room. Nine bytes for each of the form are always enough, and the
 // lines are then not measured.
-fn is_short(table: &[u8], head: bool, mended: u16, room: usize) -> bool
+fn is_short(table: &[u8], head: bool, mended: u16, second: u8, room: usize) -> bool
     requires { ⌜ (length (now table) ≡ length (form (tableIn (now table)))) × (fits (tableIn (now table)) ≡ true) ⌝ }
-    ensures { λ r. ⌜ r ≡ ltb room (length (linesFrom head mended (tableIn (now (table .entry))))) ⌝ }
+    ensures { λ r. ⌜ r ≡ ltb room (length (linesFrom head mended second (tableIn (now (table .entry))))) ⌝ }
 {
     if table.len() <= room / 9 {
         return false;
     }
-    room < measure(table, head, mended)
+    room < measure(table, head, mended, second)
 }
 
 // How long the lines are: the walk that writes them, with next to no room.
-fn measure(table: &[u8], head: bool, mended: u16) -> usize
-    ensures { λ r. ⌜ r ≡ length (linesFrom head mended (tableIn (now (table .entry)))) ⌝ }
+fn measure(table: &[u8], head: bool, mended: u16, second: u8) -> usize
+    ensures { λ r. ⌜ r ≡ length (linesFrom head mended second (tableIn (now (table .entry)))) ⌝ }
 {
     let mut scrap = [0u8; 1];
-    put_lines(table, head, mended, &mut scrap)
+    put_lines(table, head, mended, second, &mut scrap)
 }
 
 // Puts the lines as far as there is room, and answers how long they are.
-fn put_lines(table: &[u8], head: bool, mended: u16, out: &mut [u8]) -> usize
-    ensures { λ r. ⌜ Put (now (out .entry)) 0 (linesFrom head mended (tableIn (now (table .entry)))) (now (out .exit)) r ⌝ }
+fn put_lines(table: &[u8], head: bool, mended: u16, second: u8, out: &mut [u8]) -> usize
+    ensures { λ r. ⌜ Put (now (out .entry)) 0 (linesFrom head mended second (tableIn (now (table .entry)))) (now (out .exit)) r ⌝ }
 {
     if head {
-        let at = put_head(table, mended, out);
+        let at = put_head(table, mended, second, out);
         return put_descriptors(table, out, at);
     }
     put_descriptors(table, out, 0)
 }
 
-// The lines of kind, block, network and mended bytes.
-fn put_head(table: &[u8], mended: u16, out: &mut [u8]) -> usize
+// The lines of kind, block, network and mended bytes, and that of the second byte.
+fn put_head(table: &[u8], mended: u16, second: u8, out: &mut [u8]) -> usize
     ensures { λ r.
-        ⌜ Put (now (out .entry)) 0 (headLines mended (tableIn (now (table .entry)))) (now (out .exit)) r × (r ≤ headMost) ⌝ }
+        ⌜ Put (now (out .entry)) 0 (headLines mended second (tableIn (now (table .entry)))) (now (out .exit)) r × (r ≤ headMost) ⌝ }
 {
     let kind = forms::byte_at(table, 0);
     let block = forms::byte_at(table, 2) + 256 * forms::byte_at(table, 3);
@@ -99,7 +99,19 @@ fn put_head(table: &[u8], mended: u16, out: &mut [u8]) -> usize
     let a = put_kind(kind, out, 0);
     let b = text_lines::put_number(b"block=", block, out, a);
     let c = text_lines::put_number(b"network=", network, out, b);
-    text_lines::put_number(b"mended=", mended as usize, out, c)
+    let d = text_lines::put_number(b"mended=", mended as usize, out, c);
+    put_joined(second, out, d)
+}
+
+// The line of a second byte of 1; any other gives none.
+fn put_joined(second: u8, out: &mut [u8], q: usize) -> usize
+    requires { ⌜ q ≤ reach ⌝ }
+    ensures { λ r. ⌜ Put (now (out .entry)) q (joinedLine second) (now (out .exit)) r × (r ≤ q + joinedMost) ⌝ }
+{
+    if second != 1 {
+        return q;
+    }
+    text_lines::put_number(b"joined=", second as usize, out, q)
 }
 
 // The lines from `descriptor=` on.

@@ -1,5 +1,5 @@
-// Runs cases of table forms: op 40 prints one as the desk's lines. Before the form stands the count of mended
-// bytes, in two bytes, the low one first.
+// Runs cases of table forms: op 40 prints one as the desk's lines. Before the form stand the count of mended
+// bytes, in two bytes, the low one first, and the second byte.
 use vectors::Case;
 use vectors::Line;
 use vectors::MOST;
@@ -44,13 +44,13 @@ fn call(op: u8, payload: &[u8], out: &mut [u8]) -> Line {
 }
 
 fn list(op: u8, payload: &[u8], out: &mut [u8]) -> Line {
-    if payload.len() < 2 {
+    if payload.len() < 3 {
         return Line::Unknown(op);
     }
     let mended = word(payload[0], payload[1]);
     Line::Answered {
         op: op,
-        answer: listing::list_table(&payload[2..], mended, out),
+        answer: listing::list_table(&payload[3..], mended, payload[2], out),
     }
 }
 

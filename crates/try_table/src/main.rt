@@ -54,11 +54,13 @@ fn read(op: u8, payload: &[u8], out: &mut [u8]) -> Line {
             op: op,
             answer: Answer::Done(written),
             mended: mended,
+            joined: blocks::second_of(&payload[1..]),
         },
         Read::Refused(why) => Line::Counted {
             op: op,
             answer: Answer::Refused(why),
             mended: 0,
+            joined: 0,
         },
     }
 }

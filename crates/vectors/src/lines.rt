@@ -1,5 +1,5 @@
-// The line that a program try_NAME prints for a case: `op=N no=N at=N out=HEX kept=yes`, with ` blocks=N dropped=yes` or ` mended=N`
-// behind it for some calls, or `op=N unknown`;
+// The line that a program try_NAME prints for a case: `op=N no=N at=N out=HEX kept=yes`, with ` blocks=N dropped=yes` or
+// ` mended=N joined=N` behind it for some calls, or `op=N unknown`;
 // for a case that the end of input cuts short it is `short=N`, with the number of bytes left over.
 //
 // A line is put together in lent space and written to standard output by one call. 131,200 bytes hold the
@@ -24,11 +24,12 @@ pub enum Line {
         blocks: usize,
         dropped: bool,
     },
-    // A block's answer, and how many of its bytes were mended.
+    // A block's answer, how many of its bytes were mended, and its record's second byte.
     Counted {
         op: u8,
         answer: Answer,
         mended: u16,
+        joined: u8,
     },
     // An op that the program doesn't know, or whose payload is too short.
     Unknown(u8),
@@ -64,9 +65,15 @@ fn put_line(line: Line, out: &[u8], text: &mut [u8]) -> usize
             let n = crate::words::put_number(text, n, b" blocks=", blocks as u64);
             crate::words::put_yes(text, n, b" dropped=", dropped)
         }
-        Line::Counted { op, answer, mended } => {
+        Line::Counted {
+            op,
+            answer,
+            mended,
+            joined,
+        } => {
             let n = put_answer(op, answer, out, text);
-            crate::words::put_number(text, n, b" mended=", mended as u64)
+            let n = crate::words::put_number(text, n, b" mended=", mended as u64);
+            crate::words::put_number(text, n, b" joined=", joined as u64)
         }
         Line::Unknown(op) => {
             let n = crate::words::put_number(text, 0, b"op=", op as u64);

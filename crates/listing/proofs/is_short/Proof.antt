@@ -19,10 +19,10 @@ returns : tie.Need-returns
 returns c =
     let a = c .before .before .args in
     let f : List ℕ = now (a .table) in
-    let h : length (linesFrom (a .head) (a .mended) (tableIn f)) ≤ a .room =
+    let h : length (linesFrom (a .head) (a .mended) (a .second) (tableIn f)) ≤ a .room =
     omega (
       arith,
-      lines-room (a .head) (a .mended) (tableIn f) (search needs) (sendable (tableIn f) (c .before .before .pre .1)),
+      lines-room (a .head) (a .mended) (a .second) (tableIn f) (search needs) (sendable (tableIn f) (c .before .before .pre .1)),
       c .before .before .pre .0,
       c .if1 .taken,
     ) in

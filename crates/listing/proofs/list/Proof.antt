@@ -35,7 +35,7 @@ returns c =
     let a = c .before .before .before .before .before .before .before .args in
     let f : List ℕ = now (a .table) in
     let short = ltb-true _ _ (sym (c .before .is-short .ensures) ∙ c .if1 .taken) in
-    lent-short (formRules f) (linesFrom (a .head) (a .mended) (tableIn f)) (now (a .out)) _ (c .before .before .before .before .judge-form .ensures)
+    lent-short (formRules f) (linesFrom (a .head) (a .mended) (a .second) (tableIn f)) (now (a .out)) _ (c .before .before .before .before .judge-form .ensures)
     (c .before .before .enum-told .given .1) short
 
 put-lines-requires : tie.Need-put-lines-requires
@@ -45,7 +45,7 @@ returns-2 : tie.Need-returns-2
 returns-2 c =
     let a = c .before .before .before .before .before .before .args in
     let f : List ℕ = now (a .table) in
-    lent-refused (formRules f) (linesFrom (a .head) (a .mended) (tableIn f)) (now (a .out)) _ (c .before .before .before .judge-form .ensures) (c .before .why .given .1)
+    lent-refused (formRules f) (linesFrom (a .head) (a .mended) (a .second) (tableIn f)) (now (a .out)) _ (c .before .before .before .judge-form .ensures) (c .before .why .given .1)
 
 same-length : tie.Need-same-length
 same-length c = search needs
@@ -58,7 +58,7 @@ returns-3 c =
     let b = c .before .before .before .before in
     let room = ltb-false _ _ (sym (b .before .is-short .ensures) ∙ b .if1 .left) in
     let judged = b .before .before .before .before .judge-form .ensures in
-    let p = lent-done (formRules f) (linesFrom (a .head) (a .mended) (tableIn f)) (now (a .out)) _ judged (b .before .before .enum-told .given .1) room in
+    let p = lent-done (formRules f) (linesFrom (a .head) (a .mended) (a .second) (tableIn f)) (now (a .out)) _ judged (b .before .before .enum-told .given .1) room in
     (ap Done (w .moved ∙ zero-add _) ∙ p .0, w .stored ∙ p .1)
 
 pub list-spec : {M : Type 1} → statement M

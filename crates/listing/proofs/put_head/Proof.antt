@@ -1,4 +1,4 @@
--- `listing::put_head` meets its contract: four lines, one after the other. Assumes nothing.
+-- `listing::put_head` meets its contract: five lines, one after the other, the last where it is asked for. Assumes nothing.
 use borrow.Author.Needs.{needs}
 use mathlib.Core.List.{List}
 use Prim.Native.Nat.{ℕ}
@@ -48,12 +48,16 @@ slice-aggregate-put-number-3 c = search needs
 put-number-requires-3 : tie.Need-put-number-requires-3
 put-number-requires-3 c κs = search needs
 
+put-joined-requires : tie.Need-put-joined-requires
+put-joined-requires c κs = search needs
+
 same-length : tie.Need-same-length
 same-length c = search needs
 
 returns : tie.Need-returns
 returns c =
-    let e = c .before .before .before .before .before .before .before .before .before .before .before .before in
+    let g = c .before .before .before .before in
+    let e = g .before .before .before .before .before .before .before .before .before .before .before .before in
     let d = e .before .before .before .before .before in
     let s = d .before .before .before .before .before .before .before .before in
     let f : List ℕ = now (s .args .table) in
@@ -63,14 +67,16 @@ returns c =
     let n = d .before .before .byte-at4 in
     let x = d .put-kind in
     let y = e .put-number in
-    let z = c .before .before .before .before .before .before .before .put-number2 in
-    let w = c .before .before .put-number3 in
+    let z = g .before .before .before .before .before .before .before .put-number2 in
+    let w = g .before .before .put-number3 in
+    let v = c .before .before .put-joined in
     let whole =
-    head-of f (k .result) (a .result) (b .result) (n .result) (s .args .mended) (k .ensures .0) (a .ensures .0) (b .ensures .0) (n .ensures .0)
+    head-of f (k .result) (a .result) (b .result) (n .result) (s .args .mended) (s .args .second) (k .ensures .0) (a .ensures .0) (b .ensures .0) (n .ensures .0)
     (a .ensures .1) (b .ensures .1) in
     let two = then (x .ensures .0) (put-there (search needs) (y .ensures .0)) in (
-      put-as whole (then (then two (put-there (search needs) (z .ensures .0))) (put-there (search needs) (w .ensures .0))),
-      omega (arith, x .ensures .1, y .ensures .1, z .ensures .1, w .ensures .1),
+      put-as whole
+          (then (then (then two (put-there (search needs) (z .ensures .0))) (put-there (search needs) (w .ensures .0))) (v .ensures .0)),
+      omega (arith, x .ensures .1, y .ensures .1, z .ensures .1, w .ensures .1, v .ensures .1),
     )
 
 pub put-head-spec : {M : Type 1} → statement M
@@ -90,5 +96,6 @@ put-head-spec =
     put-number-requires-2
     slice-aggregate-put-number-3
     put-number-requires-3
+    put-joined-requires
     same-length
     returns)

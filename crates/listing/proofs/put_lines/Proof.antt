@@ -25,7 +25,8 @@ returns c =
     let a = c .before .before .before .before .before .before .before .before .before .before .before .args in
     let t = tableIn (now (a .table)) in
     let m = a .mended in
-    put-as (ap (λ (b : Bool). linesFrom b m t) (sym (c .before .before .before .before .before .before .before .before .if1 .taken)))
+    let s = a .second in
+    put-as (ap (λ (b : Bool). linesFrom b m s t) (sym (c .before .before .before .before .before .before .before .before .if1 .taken)))
     (then (c .before .before .before .before .before .before .put-head .ensures .0) (c .before .before .put-descriptors .ensures))
 
 put-descriptors-requires-2 : tie.Need-put-descriptors-requires-2
@@ -39,7 +40,8 @@ returns-2 c =
     let a = c .before .before .before .before .before .before .before .args in
     let t = tableIn (now (a .table)) in
     let m = a .mended in
-    put-as (ap (λ (b : Bool). linesFrom b m t) (sym (c .before .before .before .before .if1 .left)))
+    let s = a .second in
+    put-as (ap (λ (b : Bool). linesFrom b m s t) (sym (c .before .before .before .before .if1 .left)))
     (c .before .before .put-descriptors2 .ensures)
 
 pub put-lines-spec : {M : Type 1} → statement M
