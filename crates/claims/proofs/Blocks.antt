@@ -25,7 +25,7 @@ use Rattle.state.specs.State.{readerOf, freshState}
 use Rattle.state.proofs.Ranging.{sound-fresh}
 use Rattle.claims.specs.Noise.{Flipped, Hears, Aired, Came, Fits}
 use Rattle.claims.specs.Mingled.{Shared}
-use Rattle.claims.specs.Damage.{streamIn, Sending, sendings, landed, unmarked}
+use Rattle.claims.specs.Damage.{streamIn, Sending, sendings, landed, unharmed}
 use Rattle.claims.specs.Feeding.{Call, packetsOf, comesOut}
 use Rattle.claims.proofs.Noise.{near}
 use Rattle.claims.proofs.Losing.{came-exactly}
@@ -62,10 +62,9 @@ aired-long {R} {s} r a = mingled-long (rightly-long R s) r (aired-shared {k = 0}
 -- ---- the blocks
 
 -- blocks of which no byte was damaged land as they were sent
-all-clean : (bs : List Block) (cs : List ℕ) → Each (Heard (λ a b. a ≡ b)) (sendings bs cs) → map landed (sendings bs cs) ≡ map unmarked bs
-unfolding sendings
-all-clean [] cs nil = refl
-all-clean (b ∷ bs) cs (and n r) = ap₂ (λ (x : Block) (xs : List Block). x ∷ xs) (landed-clean _ n) (all-clean bs _ r)
+all-clean : {xs : List Sending} → Each (Heard (λ a b. a ≡ b)) xs → map landed xs ≡ map unharmed xs
+all-clean nil = refl
+all-clean (and {a = x} n r) = ap₂ (λ (b : Block) (bs : List Block). b ∷ bs) (landed-clean x n) (all-clean r)
 
 module _ (s : Setting) (within : inRange s ≡ true) (index k : ℕ) (low : index < 16) (least : 1 ≤ k) (most : k ≤ 25)
     (records : List ℕ) (fit : Each Fits (blocks records)) (calls : List Call) (ours : List (List ℕ)) where
@@ -114,8 +113,8 @@ module _ (s : Setting) (within : inRange s ≡ true) (index k : ℕ) (low : inde
   -- what is written reads back: with no noise, and packets of other magazines between, the blocks that were cut, nothing mended
   pub blocks-back :
       Aired (λ a b. a ≡ b) s (packets s index k records) ours (packetsOf calls)
-      → comesOut s (readerOf freshState) calls ≡ map unmarked (blocks records)
+      → comesOut s (readerOf freshState) calls ≡ map unharmed arrived
   blocks-back aired =
       came-exactly (λ a b e. e) (λ x. x)
       (carried-calls (λ a b. a ≡ b) ⊥ (λ n b h e. inl (ap nib (sym e) ∙ nib-image n ∙ mod-eq-of-lt h)) aired)
-      ∙ all-clean (blocks records) (streamIn k ours) (carried-near (λ a b. a ≡ b) aired)
+      ∙ all-clean (carried-near (λ a b. a ≡ b) aired)

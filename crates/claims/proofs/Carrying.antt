@@ -126,14 +126,14 @@ module _ (R : ℕ → ℕ → Type 0) (L : Type 0) (hears : Hears R L) (pointed 
   carry-follows :
       {m k : Mode} {a : List Block} (z : Told) → Fit m (symbolOf z) → (symbolOf z ≡ start → ⊥) → Noisy R z → Carried L m a k
       → Carried L (step m (stood z)) (a ++ emitted m (stood z)) (goesOn pointed k (cameOf z))
-  carry-follows (heard fill c) skips z f idle = idle-fill c
-  carry-follows (heard fill c) skips z f (waits {h} {part} e) = wait-fill h part c e f
-  carry-follows (heard fill c) skips z f (gone x) = gone-on _ _ c x
+  carry-follows (heard fill c) skips z f idle = idle-fill (c .byte)
+  carry-follows (heard fill c) skips z f (waits {h} {part} e) = wait-fill h part (c .byte) e f
+  carry-follows (heard fill c) skips z f (gone x) = gone-on _ _ (c .byte) x
   carry-follows (heard start c) opens z f r = absurd (z refl)
-  carry-follows (heard (bits n) c) (nibble {g} {v} {part} h) z f heads = head-nibble g v part n c h f
-  carry-follows (heard (bits n) c) (nibble h) z f (gone x) = gone-on _ _ c x
-  carry-follows (heard (raw b) c) (byte {h} {part} {held = l}) z f (bodies e) = body-byte h part b c l e
-  carry-follows (heard (raw b) c) byte z f (gone x) = gone-on _ _ c x
+  carry-follows (heard (bits n) c) (nibble {g} {v} {part} h) z f heads = head-nibble g v part n (c .byte) h f
+  carry-follows (heard (bits n) c) (nibble h) z f (gone x) = gone-on _ _ (c .byte) x
+  carry-follows (heard (raw b) c) (byte {h} {part} {held = l}) z f (bodies e) = body-byte h part b (c .byte) l e
+  carry-follows (heard (raw b) c) byte z f (gone x) = gone-on _ _ (c .byte) x
 
   -- along bytes with no start among them
   continues-from :

@@ -13,7 +13,7 @@ use Rattle.packet.specs.declared.Setting.{Setting}
 use Rattle.packet.specs.Setting.{inRange}
 use Rattle.forms.specs.Tables.{Table, fits}
 use Rattle.claims.specs.Noise.{Flipped, Aired, Came}
-use Rattle.claims.specs.Damage.{streamIn, sendings, Counted, damaged}
+use Rattle.claims.specs.Damage.{Placed, streamIn, sendings, Counted, damaged}
 use Rattle.claims.specs.Lists.{Among}
 use Rattle.claims.specs.Feeding.{Call, packetsOf}
 use Rattle.claims.specs.Tables.{sent, sentDamaged, received}
@@ -24,7 +24,7 @@ use Rattle.claims.proofs.Wider.{carried-wider}
 
 -- where there is a block for each thing, the things with the damage of their blocks are those things, all of them
 pub damaged-what :
-    {A : Type 0} (l : List A) (bs : List Block) (cs : List ℕ) → length l ≡ length bs → map (λ c. c .what) (damaged l (sendings bs cs)) ≡ l
+    {A : Type 0} (l : List A) (bs : List Block) (cs : List Placed) → length l ≡ length bs → map (λ c. c .what) (damaged l (sendings bs cs)) ≡ l
 unfolding damaged sendings
 damaged-what [] bs cs e = refl
 damaged-what (a ∷ l) [] cs e = absurd (omega arith)

@@ -4,6 +4,7 @@ pub mod Telling
 pub mod Landing
 pub mod Walking
 pub mod Carrying
+pub mod Marking
 pub mod Packet
 pub mod Hearing
 pub mod Mingling

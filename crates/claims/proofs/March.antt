@@ -2,12 +2,13 @@
 -- decoded, the reader hands out what a fresh reader would, whatever it held and whatever comes. So no block that it hands out holds
 -- a byte from before. Assumes nothing.
 use mathlib.Core.Path.{_≡_, _∙_, refl, sym, ap₂}
-use mathlib.Core.Bool.{true}
+use mathlib.Core.Bool.{true, false}
 use mathlib.Core.List.{List, [], _∷_, _++_}
 use Prim.Native.Nat.{ℕ, _%_}
 use lib.ListN.{length, getD}
 use borrow.Author.Tests.{eq-eqb}
 use Rattle.laws.proofs.Picks.{same}
+use Rattle.laws.proofs.Tests.{both-false}
 use Rattle.octet.specs.Decoding.{nib}
 use Rattle.blocks.specs.Block.{Block}
 use Rattle.packet.specs.declared.Setting.{Setting}
@@ -30,7 +31,7 @@ use Rattle.claims.proofs.Fed.{fed-blocks}
 
 -- a reader with no page open and nothing running; of any index
 abbrev idleAt : ℕ → State
-idleAt index = record { page = Shut; index = index; mode = off }
+idleAt index = record { page = Shut; index = index; mode = off; joined = false }
 
 -- of two such readers a packet makes two such again, or makes them the same
 data Meets : State → State → Type 0 where
@@ -42,7 +43,15 @@ unfolding act
 meets-after i j junk = both-idle
 meets-after i j other = both-idle
 meets-after i j foreign = both-idle
-meets-after i j (ours k n) = rw (same (breaks Shut i k n) {a = off} refl refl, same (breaks Shut j k n) {a = off} refl refl) one
+meets-after i j (ours k n) =
+    rw (
+      same (breaks Shut i k n) {a = off} refl refl,
+      same (breaks Shut j k n) {a = off} refl refl,
+      both-false,
+      same (breaks Shut i k n) {a = false} refl refl,
+      same (breaks Shut j k n) {a = false} refl refl,
+    )
+    one
 meets-after i j (packetY y p l) = both-idle
 
 idle-hands : (i j : ℕ) (x : Seen) → handed (idleAt i) x ≡ handed (idleAt j) x

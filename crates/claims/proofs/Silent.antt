@@ -8,9 +8,11 @@ use Prim.Native.Nat.{ℕ, zero, suc, _+_, _-_, _*_, _%_, _≤_, _<_}
 use native.Mathlib.Omega.{arith}
 use lib.ListN.{length, take, drop, length-map, length-append, length-drop}
 use lib.Seq.{drop-append-le, drop-at, drop-drop}
-use borrow.Author.Tests.{le-leb}
+use borrow.Author.Tests.{le-leb, ne-eqb}
 use Rattle.laws.specs.Each.{Each}
 use Rattle.laws.proofs.Picks.{same}
+use Rattle.laws.proofs.Tests.{both-false}
+use Rattle.laws.proofs.Maps.{map-drop}
 use Rattle.blocks.specs.Block.{Block}
 use Rattle.packet.specs.declared.Setting.{Setting}
 use Rattle.packet.specs.Packet.{packetZero}
@@ -22,23 +24,25 @@ use Rattle.pages.specs.declared.headers.Page.the-variants.{Open}
 use Rattle.pages.specs.Headers.{junk, foreign, ours, packetY}
 use Rattle.pages.specs.Seen.{see}
 use Rattle.pages.specs.Judging.{incomplete, breaks}
-use Rattle.walk.specs.Mode.{Mode, off, scan, ends, gives, continues, finished, unfinished}
-use Rattle.walk.specs.Reading.{readMode, readBlocks}
+use Rattle.walk.specs.Mode.{off, scan}
+use Rattle.walk.specs.Reading.{readMode, readBlocks, readJoined}
+use Rattle.walk.proofs.Staying.{continues-off}
 use Rattle.state.specs.Acting.{State, act, handed}
+use Rattle.state.proofs.Clearing.{untrue}
 use Rattle.claims.specs.Noise.{Hears, Near, over, Fits}
 use Rattle.claims.specs.Mingled.{Kind, Mingled}
-use Rattle.claims.specs.Damage.{carriedIn, streamIn, sendings, landed}
+use Rattle.claims.specs.Damage.{Placed, placed, byteIn, carriedIn, sendings, landed}
 use Rattle.claims.specs.Carrying.{heardBlocks}
 use Rattle.claims.proofs.Losing.{near-length, near-drop, came-append}
-use Rattle.claims.proofs.Telling.{Told, told, told-append, told-came, told-noisy}
+use Rattle.claims.proofs.Telling.{told, told-append, told-came, told-noisy, told-paged, bytes-placed}
 use Rattle.claims.proofs.Landing.{packet-bytes}
-use Rattle.claims.proofs.Walking.{Plain, sentEnds, sentGives, Blocks, flow-follows}
+use Rattle.claims.proofs.Walking.{Plain, Blocks, flow-follows}
 use Rattle.claims.proofs.Walking
-use Rattle.claims.proofs.Packet.{sim-between}
+use Rattle.claims.proofs.Packet.{here-joined, sim-between}
+use Rattle.claims.proofs.Marking.{sentFirst, sentOut, InPage, first-le, from-here, Spot, moved}
 use Rattle.claims.proofs.Hearing.{Beside, zero-heard, packet-heard, PacketHeard, read, skipped, unread}
 use Rattle.claims.proofs.Sending.{Sends, stream-sends, split}
 use Rattle.claims.proofs.Carried.{Inside, opened, Took, act-junk, act-foreign, act-packet, handed-packet, handed-ours, strip, strip-aside, quiet, after-one, first-near, none-left, none-more, packets-carried, pages-carried}
-use Rattle.claims.proofs.Apart.{continues-off}
 use Rattle.claims.proofs.Starting.{Ahead, ahead-grab, ahead-drop, Next, silent, starts, next}
 
 -- ---- with nothing running
@@ -69,10 +73,21 @@ still-ours k index st small e =
     }
 
 -- an empty stream is of no blocks
-none-sent : (bs : List Block) → length (streamOf bs) ≡ 0 → (cs : List ℕ) → sendings bs cs ≡ []
+none-sent : (bs : List Block) → length (streamOf bs) ≡ 0 → (cs : List Placed) → sendings bs cs ≡ []
 unfolding streamOf cellsOf symbols sendings
 none-sent [] e cs = refl
 none-sent (b ∷ bs) e cs = absurd (omega arith)
+
+-- nothing runs, in this page
+abbrev at : ℕ → Spot
+at x = record { mode = scan; first = x; page = x }
+
+-- the bytes from a place of a packet on
+placed-drop : (x f : ℕ) (l : List ℕ) → map byteIn (drop f (map (placed x) l)) ≡ drop f l
+placed-drop x f l = map-drop byteIn f (map (placed x) l) ∙ ap (drop f) (bytes-placed x l)
+
+paged-drop : (x f : ℕ) (ss : List Symbol) (l : List ℕ) → Each (InPage x) (told ss (drop f (map (placed x) l)))
+paged-drop x f ss l = subst (λ (cs : List Placed). Each (InPage x) (told ss cs)) (map-drop (placed x) f l) (told-paged x ss (drop f l))
 
 module _ (R : ℕ → ℕ → Type 0) (hears : Hears R ⊥) (s : Setting) (k : ℕ) (page : s .page < 256) (stream : s .stream < 16) (most : k ≤ 25) where
   zero-opens :
@@ -106,7 +121,9 @@ module _ (R : ℕ → ℕ → Type 0) (hears : Hears R ⊥) (s : Setting) (k : �
 
     taken :
         {P : State → Type 0} {bs : List Block} (p : ℕ) → pointerOf (grab perPacket ss) ≡ p
-        → P (record { page = Open k (suc last); index = st .index; mode = readMode off p cs }) → Blocks ⊥ bs (readBlocks off p cs)
+        → P
+        (record { page = Open k (suc last); index = st .index; mode = readMode off p cs; joined = readJoined (st .joined) off p cs })
+        → Blocks ⊥ bs (readBlocks (st .joined) off p cs)
         → Took ⊥ P bs st (see s q)
     taken p e x y =
         rw (is-read, e)
@@ -123,35 +140,42 @@ module _ (R : ℕ → ℕ → Type 0) (hears : Hears R ⊥) (s : Setting) (k : �
         (record { page = refl; at = r .at; mode = rw o })
         (rw o over)
 
-    -- with the first start in it
+    -- with the first start in it, in this page
     begins :
-        (bs : List Block) (f : ℕ) → Ahead ss f bs → f < perPacket → beforeStart (grab perPacket ss) ≡ f
-        → Plain scan (told (streamOf bs) (drop f cs))
-        → Took ⊥ (Inside ⊥ k (sentEnds scan (told (streamOf bs) (drop f cs))) index (suc last)) (sentGives scan (told (streamOf bs) (drop f cs))) st (see s q)
-    begins bs f a small e plain =
-        let ys = told (streamOf bs) (drop f cs) in
+        (x : ℕ) (bs : List Block) (f : ℕ) → Ahead ss f bs → f < perPacket → beforeStart (grab perPacket ss) ≡ f
+        → Plain scan (told (streamOf bs) (drop f (map (placed x) cs)))
+        → Took ⊥ (Inside ⊥ k (moved (at x) (told (streamOf bs) (drop f (map (placed x) cs)))) index (suc last))
+        (sentOut scan x (told (streamOf bs) (drop f (map (placed x) cs)))) st (see s q)
+    begins x bs f a small e plain =
+        let ys = told (streamOf bs) (drop f (map (placed x) cs)) in
         let p = pointerOf (grab perPacket ss) in
         let least : p ≤ 12 = omega arith in
+        let not-13 : p ≡ 13 → ⊥ = λ z. omega arith in
         let place : 3 * p ≡ f = celled-aligned celled ∙ e in
         let from = rw (ahead-grab perPacket a (omega arith)) at (near-drop f near) in
-        let g = flow-follows R ⊥ hears ys plain (told-noisy (perPacket - f) (streamOf bs) from) (Walking.same tt) in
-        let came = told-came (streamOf bs) (drop f cs) in
+        let noisy = told-noisy {R = R} (perPacket - f) (streamOf bs) (drop f (map (placed x) cs)) (rw (placed-drop x f cs) from) in
+        let g = flow-follows R ⊥ hears ys plain noisy (Walking.same tt) in
+        let w = from-here x scan x (paged-drop x f (streamOf bs) cs) plain (λ z. untrue z) in
+        let came = told-came (streamOf bs) (drop f (map (placed x) cs)) ∙ placed-drop x f cs in
         let o = continues-off true (take (3 * p) cs) in
+        let b = rw came at (sim-between (g .mode)) in
         taken p refl
-        (opened refl (r .at) (rw (le-leb p 12 least, place) (rw came at (sim-between (g .mode)))))
-        (rw (le-leb p 12 least, o, place) (rw came at (g .blocks)))
+        (opened refl (r .at)
+        (rw (le-leb p 12 least, ne-eqb p 13 not-13, both-false, place)
+        (record { mode = b; joined = here-joined (sentFirst x ys) x b refl (w .first) })))
+        (rw (w .out, le-leb p 12 least, o, place) (rw came at (g .blocks)))
 
   module _ (K : Kind → List ℕ → Type 0) (seen : (kind : Kind) (q : List ℕ) → K kind q → Beside ⊥ kind (see s q)) (bs : List Block) (fits : Each Fits bs) where
     -- what comes of the blocks whose starts stand ahead, n bytes of the stream on
-    abbrev out : ℕ → List ℕ → List Block
+    abbrev out : ℕ → List Placed → List Block
     out n cs = map landed (sendings bs (drop n cs))
 
     -- what is said of so many pages from an index on
     abbrev Comes : ℕ → ℕ → Type 0
     Comes p index =
-        (ss : List Symbol) (n : ℕ) (mine : List (List ℕ)) (st : State) (qs : List (List ℕ)) → Celled ss → Ahead ss n bs
-        → length ss ≤ length (streamIn k mine) → Idle st → Mingled R K k 0 false (pages s k p index ss) mine qs
-        → Blocks ⊥ (out n (streamIn k mine)) (heardBlocks s st qs)
+        (x : ℕ) (ss : List Symbol) (n : ℕ) (mine : List (List ℕ)) (st : State) (qs : List (List ℕ)) → Celled ss → Ahead ss n bs
+        → length ss ≤ length (carriedIn k x 0 mine) → Idle st → Mingled R K k 0 false (pages s k p index ss) mine qs
+        → Blocks ⊥ (out n (carriedIn k x 0 mine)) (heardBlocks s st qs)
 
     -- our next packet, which is taken so, and what follows it
     packet-then :
@@ -167,51 +191,54 @@ module _ (R : ℕ → ℕ → Type 0) (hears : Hears R ⊥) (s : Setting) (k : �
         st r a
 
     packets-silent :
-        (w last index p : ℕ) (ss : List Symbol) (n : ℕ) (mine : List (List ℕ)) (st : State) (qs : List (List ℕ)) → last + w ≡ k → index < 16 → Celled ss
-        → Ahead ss n bs → length ss ≤ length (carriedIn k w mine) → Comes p ((index + 1) % 16) → Still k index last st
+        (x w last index p : ℕ) (ss : List Symbol) (n : ℕ) (mine : List (List ℕ)) (st : State) (qs : List (List ℕ)) → last + w ≡ k → index < 16
+        → Celled ss → Ahead ss n bs → length ss ≤ length (carriedIn k x w mine) → Comes p ((index + 1) % 16) → Still k index last st
         → Mingled R K k w false (dataPackets s w (suc last) ss ++ pages s k p ((index + 1) % 16) (afterPackets w ss)) mine qs
-        → Blocks ⊥ (out n (carriedIn k w mine)) (heardBlocks s st qs)
+        → Blocks ⊥ (out n (carriedIn k x w mine)) (heardBlocks s st qs)
     unfolding dataPackets carriedIn
-    packets-silent zero last index p ss n mine st qs e low celled ahead cover on still a = on ss n mine st qs celled ahead cover (still .mode) a
-    packets-silent (suc w) last index p ss n [] st qs e low celled ahead cover on still a =
+    packets-silent x zero last index p ss n mine st qs e low celled ahead cover on still a = on x ss n mine st qs celled ahead cover (still .mode) a
+    packets-silent x (suc w) last index p ss n [] st qs e low celled ahead cover on still a =
         absurd (none-left R ⊥ hears s K seen k page stream most a)
-    packets-silent (suc w) last index p ss n (q ∷ mine) st qs e low celled ahead cover on still a =
+    packets-silent x (suc w) last index p ss n (q ∷ mine) st qs e low celled ahead cover on still a =
         let near = packet-bytes s (suc last) ss q (first-near R ⊥ hears s K seen k page stream most a) in
-        let long : length (drop 3 q) ≡ 39 = sym (near-length near) ∙ length-map (grab perPacket ss) byteOf ∙ length-grab perPacket ss in
-        let cs = carriedIn k w mine in
+        let here = map (placed x) (drop 3 q) in
+        let long : length here ≡ 39 =
+        length-map (drop 3 q) (placed x) ∙ sym (near-length near) ∙ length-map (grab perPacket ss) byteOf ∙ length-grab perPacket ss in
+        let cs = carriedIn k x w mine in
         let within : suc last ≤ k = omega arith in
         let up : suc last + w ≡ k = omega arith in
-        let whole : length (drop 3 q ++ cs) ≡ 39 + length cs = length-append (drop 3 q) cs ∙ rw long in
+        let whole : length (here ++ cs) ≡ 39 + length cs = length-append here cs ∙ rw long in
         let after = after-one R ⊥ hears s K seen k page stream most w ss in
         elim (next ss n bs ahead) [
           | silent {m} none further same ↦
-              rw (same (drop 3 q) cs long)
+              rw (same here cs long)
               (packet-then (Still k index (suc last)) index last w (dataPacket s (suc last) ss) q [] (out m cs)
               (λ st r f. passes index last ss st q within celled r f none)
               (λ st qs r a.
-              packets-silent w (suc last) index p (drop perPacket ss) m mine st qs up low (after-celled 1 celled) further
+              packets-silent x w (suc last) index p (drop perPacket ss) m mine st qs up low (after-celled 1 celled) further
               (omega (arith, length-drop perPacket ss)) on r
               (subst
               (λ (l : List Symbol).
               Mingled R K k w false (dataPackets s w (suc (suc last)) (drop perPacket ss) ++ pages s k p ((index + 1) % 16) l) mine qs)
               after a))
               st still a)
-          | starts small here ↦
-              let ys = told (streamOf bs) (drop n (drop 3 q)) in
-              let back : drop n (drop 3 q ++ cs) ≡ drop n (drop 3 q) ++ cs = drop-append-le n (drop 3 q) cs (omega arith) in
-              let left : length (drop n (drop 3 q)) ≡ 39 - n = length-drop n (drop 3 q) ∙ rw long in
-              let cut : told (streamOf bs) (drop n (drop 3 q ++ cs)) ≡ ys ++ told (drop perPacket ss) cs =
-              ap (told (streamOf bs)) back ∙ told-append (streamOf bs) (drop n (drop 3 q)) cs
+          | starts small first ↦
+              let ys = told (streamOf bs) (drop n here) in
+              let back : drop n (here ++ cs) ≡ drop n here ++ cs = drop-append-le n here cs (omega arith) in
+              let left : length (drop n here) ≡ 39 - n = length-drop n here ∙ rw long in
+              let cut : told (streamOf bs) (drop n (here ++ cs)) ≡ ys ++ told (drop perPacket ss) cs =
+              ap (told (streamOf bs)) back ∙ told-append (streamOf bs) (drop n here) cs
               ∙ rw (left, ← ahead-drop perPacket ahead (omega arith)) in
-              let enough : length (streamOf bs) ≤ length (drop n (drop 3 q ++ cs)) =
-              omega (arith, length-drop n (drop 3 q ++ cs), length-append (ahead .front) (streamOf bs), ap length (ahead .whole), ahead .long) in
-              let g = split scan ys (told (drop perPacket ss) cs) (rw cut at (stream-sends fits (drop n (drop 3 q ++ cs)) enough)) in
+              let enough : length (streamOf bs) ≤ length (drop n (here ++ cs)) =
+              omega (arith, length-drop n (here ++ cs), length-append (ahead .front) (streamOf bs), ap length (ahead .whole), ahead .long) in
+              let g = split scan x ys (told (drop perPacket ss) cs) (rw cut at (stream-sends x fits (drop n (here ++ cs)) enough)) in
               rw (g .gives)
-              (packet-then (Inside ⊥ k (sentEnds scan ys) index (suc last)) index last w (dataPacket s (suc last) ss) q (sentGives scan ys) (g .rest)
-              (λ st r f. begins index last ss st q within celled r f bs n ahead small here (g .plain))
+              (packet-then (Inside ⊥ k (moved (at x) ys) index (suc last)) index last w (dataPacket s (suc last) ss) q (sentOut scan x ys) (g .rest)
+              (λ st r f. begins index last ss st q within celled r f x bs n ahead small first (g .plain))
               (λ st qs r a.
-              packets-carried R ⊥ hears s K seen k page stream most w (suc last) index p (sentEnds scan ys) (drop perPacket ss) mine (g .rest) st qs up
-              (after-celled 1 celled) (g .sends) (pages-carried R ⊥ hears s K seen k page stream most p ((index + 1) % 16) (omega arith)) r
+              packets-carried R ⊥ hears s K seen k page stream most w (suc last) index p (moved (at x) ys) (drop perPacket ss) mine (g .rest) st qs up
+              (after-celled 1 celled) (first-le x x (paged-drop x n (streamOf bs) (drop 3 q)) (omega arith)) (g .sends)
+              (pages-carried R ⊥ hears s K seen k page stream most p ((index + 1) % 16) (omega arith)) r
               (subst
               (λ (l : List Symbol).
               Mingled R K k w false (dataPackets s w (suc (suc last)) (drop perPacket ss) ++ pages s k p ((index + 1) % 16) l) mine qs)
@@ -221,16 +248,16 @@ module _ (R : ℕ → ℕ → Type 0) (hears : Hears R ⊥) (s : Setting) (k : �
 
     pub pages-silent : (p index : ℕ) → index < 16 → Comes p index
     unfolding pages carriedIn heardBlocks
-    pages-silent zero index low ss n [] st qs celled ahead cover idle a =
+    pages-silent zero index low x ss n [] st qs celled ahead cover idle a =
         let z : length (streamOf bs) ≡ 0 = omega (arith, length-append (ahead .front) (streamOf bs), ap length (ahead .whole)) in
         rw (none-sent bs z (drop n [])) (quiet R ⊥ hears s K seen k st tt a)
-    pages-silent zero index low ss n (q ∷ mine) st qs celled ahead cover idle a = absurd (none-more R ⊥ hears s K seen k page stream most a)
-    pages-silent (suc p) index low ss n [] st qs celled ahead cover idle a = absurd (none-left R ⊥ hears s K seen k page stream most a)
-    pages-silent (suc p) index low ss n (q ∷ mine) st qs celled ahead cover idle a =
-        strip-aside R ⊥ hears s K seen k Idle idle-junk idle-foreign (out n (carriedIn k k mine))
+    pages-silent zero index low x ss n (q ∷ mine) st qs celled ahead cover idle a = absurd (none-more R ⊥ hears s K seen k page stream most a)
+    pages-silent (suc p) index low x ss n [] st qs celled ahead cover idle a = absurd (none-left R ⊥ hears s K seen k page stream most a)
+    pages-silent (suc p) index low x ss n (q ∷ mine) st qs celled ahead cover idle a =
+        strip-aside R ⊥ hears s K seen k Idle idle-junk idle-foreign (out n (carriedIn k (suc x) k mine))
         (λ st qs r f a.
         let t = zero-opens index low st r f in
         came-append (t .blocks)
-        (packets-silent k 0 index p ss n mine (act st (see s q)) qs (omega arith) low celled ahead cover
+        (packets-silent (suc x) k 0 index p ss n mine (act st (see s q)) qs (omega arith) low celled ahead cover
         (pages-silent p ((index + 1) % 16) (omega arith)) (t .state) a))
         st idle a

@@ -12,7 +12,7 @@ use Rattle.laws.proofs.Eaches.{each-append, each-right}
 use Rattle.blocks.specs.Block.{Block}
 use Rattle.symbols.specs.Stream.{Symbol, fill, raw, byteOf, cell, perPacket, symbols, fillAfter, cellsOf, streamOf, grab, beforeStart}
 use Rattle.writer.proofs.Aligned.{Plain, fills, bit, byte, before-plain}
-use Rattle.claims.specs.Damage.{sendings}
+use Rattle.claims.specs.Damage.{Placed, sendings}
 use Rattle.claims.specs.CutLine.{startingFrom}
 use Rattle.claims.proofs.Landing.{drop-grab}
 
@@ -71,8 +71,7 @@ ahead (b ∷ bs) (suc n) =
           ap (λ (i : ℕ). drop i (cellsOf b ++ streamOf bs)) e ∙ drop-append-add (cellsOf b) (streamOf bs) (suc n - length (cellsOf b)) in
           (rest .0, rw d (rest .1))
       | no h ↦
-          let z : suc n - length (cellsOf b) ≡ 0 = omega arith in
-          (
+          let z : suc n - length (cellsOf b) ≡ 0 = omega arith in (
             length (drop (suc n) (cellsOf b)),
             record {
               front = drop (suc n) (cellsOf b);
@@ -114,7 +113,7 @@ before-end (suc n) (and {l = front} p r) = before-plain p (grab n (front ++ []))
 pub data Next (ss : List Symbol) (n : ℕ) (bs : List Block) : Type 0 where
   silent :
       {m : ℕ} → beforeStart (grab perPacket ss) ≡ perPacket → Ahead (drop perPacket ss) m bs
-      → ((cs ds : List ℕ) → length cs ≡ perPacket → sendings bs (drop n (cs ++ ds)) ≡ sendings bs (drop m ds)) → Next ss n bs
+      → ((cs ds : List Placed) → length cs ≡ perPacket → sendings bs (drop n (cs ++ ds)) ≡ sendings bs (drop m ds)) → Next ss n bs
   starts : n < perPacket → beforeStart (grab perPacket ss) ≡ n → Next ss n bs
 
 pub next : (ss : List Symbol) (n : ℕ) (bs : List Block) → Ahead ss n bs → Next ss n bs
@@ -144,7 +143,7 @@ next ss n (b ∷ bs) a =
           (λ cs ds e. ap (sendings (b ∷ bs)) (past cs ds e h))
     ]
   where
-    past : (cs ds : List ℕ) → length cs ≡ perPacket → (n < perPacket → ⊥) → drop n (cs ++ ds) ≡ drop (n - perPacket) ds
+    past : (cs ds : List Placed) → length cs ≡ perPacket → (n < perPacket → ⊥) → drop n (cs ++ ds) ≡ drop (n - perPacket) ds
     past cs ds e h =
         let m : n ≡ length cs + (n - perPacket) = omega arith in
         ap (λ (i : ℕ). drop i (cs ++ ds)) m ∙ drop-append-add cs ds (n - perPacket)

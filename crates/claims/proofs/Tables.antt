@@ -6,13 +6,14 @@ use mathlib.Core.Logic.{_⊎_, inl, inr}
 use mathlib.Core.List.{List, [], _∷_, _++_, map}
 use Prim.Native.Nat.{ℕ, zero, suc, _+_, _/_, _%_, _≤_, _<_}
 use native.Mathlib.Omega.{arith}
-use lib.ListN.{length, length-map, getD, drop}
+use lib.ListN.{length, length-map, getD, drop, take}
 use Rattle.laws.specs.Each.{Each, nil, and}
 use Rattle.laws.proofs.Eaches.{each-all, each-map}
 use Rattle.octet.specs.Image.{image}
 use Rattle.octet.specs.Decoding.{nib, undecodable}
 use Rattle.octet.specs.Hearing.{harms}
 use Rattle.octet.proofs.Hearing.{harm-sent}
+use Rattle.symbols.specs.Stream.{symbols}
 use Rattle.blocks.specs.Block.{Block, blocks, recordOf as Block·recordOf, recordsOf as Block·recordsOf}
 use Rattle.blocks.specs.Sizes.{Sized}
 use Rattle.blocks.proofs.Round.{blocks-records}
@@ -27,10 +28,10 @@ use Rattle.frames.proofs.Framed.{header-lt, header-size}
 use Rattle.table.proofs.Back.{writes-back}
 use Rattle.table.proofs.Noise.{reads-alike, broken-refused}
 use Rattle.claims.specs.Noise.{Hears, Near, none, more, Came, over, kept, lost, Fits}
-use Rattle.claims.specs.Damage.{unlike, Sending, sendings, damage, leadDamage, landed, Counted, damaged}
+use Rattle.claims.specs.Damage.{unlike, Placed, Sending, sendingOf, sendings, damage, leadDamage, landed, Counted, damaged}
 use Rattle.claims.specs.Tables.{recordsOf, taken, tablesOf}
 use Rattle.claims.proofs.Telling.{eqb-turned}
-use Rattle.claims.proofs.Landing.{Heard, lead-five, raw-near, damage-parts}
+use Rattle.claims.proofs.Landing.{Heard, lead-five, second-one, raw-near, damage-parts}
 
 -- the nibbles of a table's block as it is written
 abbrev nibblesFor : ℕ → Table → List ℕ
@@ -112,9 +113,9 @@ module _ (R : ℕ → ℕ → Type 0) (L : Type 0) (hears : Hears R L) where
       ap₂ (λ (a b : ℕ). a + b) (harm-sent n c first ∙ rw (eqb-turned (image n) c)) (mended-damaged ns cs rest)
 
   -- of a table's block with these bytes
-  module _ (application : ℕ) (t : Table) (cs : List ℕ) (n : Heard R (record { block = tableBlock application t; came = cs })) where
+  module _ (application : ℕ) (t : Table) (cs : List Placed) (n : Heard R (sendingOf (tableBlock application t) cs)) where
     abbrev x : Sending
-    x = record { block = tableBlock application t; came = cs }
+    x = sendingOf (tableBlock application t) cs
 
     blocked : Near R (tableBlock application t .raw) (landed x .raw) → Nibbles L (nibblesFor application t) (landed x .raw)
     unfolding blockWith nibbles
@@ -144,7 +145,7 @@ module _ (R : ℕ → ℕ → Type 0) (L : Type 0) (hears : Hears R L) where
         go (right e) =
             itself
             (reads-alike application (Block·recordOf (landed x)) (recordOf application t) t 0
-            (record { part = lead-five x; second = omega arith }) refl (again e) (writes-back application t a f)
+            (record { part = lead-five x; second = second-one x }) refl (again e) (writes-back application t a f)
             ∙ ap (accepted t) (counts e))
 
   not-taken : (o : Outcome Table) → ((u : Table) (c : ℕ) → o ≡ accepted u c → ⊥) → taken o ≡ []
@@ -161,12 +162,13 @@ module _ (R : ℕ → ℕ → Type 0) (L : Type 0) (hears : Hears R L) where
 
   -- blocks that land are read as the tables that were sent, each with its damage, or, where two flips are allowed, are lost
   pub tables-came :
-      (application : ℕ) → application < 32 → (ts : List Table) (cs : List ℕ) {bs : List Block} → Each (λ t. fits t ≡ true) ts
+      (application : ℕ) → application < 32 → (ts : List Table) (cs : List Placed) {bs : List Block} → Each (λ t. fits t ≡ true) ts
       → Each (Heard R) (sendings (map (tableBlock application) ts) cs)
       → Came L _≡_ (map landed (sendings (map (tableBlock application) ts) cs)) bs
       → Came L _≡_ (damaged ts (sendings (map (tableBlock application) ts) cs)) (tablesOf application bs)
   unfolding tablesOf sendings damaged
   tables-came application a [] cs nil nil over = over
   tables-came application a (t ∷ ts) cs (and f r) (and n m) (kept {b = b} e c) =
-      table-came application t _ e (read-heard application t _ n a f) (tables-came application a ts _ r m c)
+      table-came application t _ e (read-heard application t (take (length (symbols (tableBlock application t))) cs) n a f)
+      (tables-came application a ts _ r m c)
   tables-came application a (t ∷ ts) cs (and f r) (and n m) (lost y c) = lost y (tables-came application a ts _ r m c)

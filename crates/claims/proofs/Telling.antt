@@ -22,7 +22,9 @@ use Rattle.octet.specs.Hearing.{harm}
 use Rattle.octet.proofs.Laws.{nib-image}
 use Rattle.octet.proofs.Hearing.{harm-sent}
 use Rattle.symbols.specs.Stream.{Symbol, start, fill, bits, raw, byteOf, grab}
-use Rattle.claims.specs.Noise.{Hears, Near, none, more}
+use Rattle.claims.specs.Noise.{Hears, Near, more}
+use Rattle.claims.specs.Damage.{Placed, placed, byteIn}
+use Rattle.claims.proofs.Losing.{near-length}
 
 pub eqb-turned : (a b : ℕ) → eqb a b ≡ eqb b a
 eqb-turned a b = go (eqb b a) refl
@@ -85,13 +87,17 @@ stands-heard R L hears n c h f =
 -- ---- a symbol and the byte that arrived of it
 
 pub data Told : Type 0 where
-  heard : Symbol → ℕ → Told
+  heard : Symbol → Placed → Told
 
 abbrev pub symbolOf : Told → Symbol
 symbolOf (heard s c) = s
 
 abbrev pub cameOf : Told → ℕ
-cameOf (heard s c) = c
+cameOf (heard s c) = c .byte
+
+-- the page that it stands in
+abbrev pub pageOf : Told → ℕ
+pageOf (heard s c) = c .page
 
 -- the byte that stands for it; a raw byte isn't read
 unfoldable pub standing : Symbol → ℕ → ℕ
@@ -101,39 +107,51 @@ standing (bits n) c = stands n c
 standing (raw b) c = c
 
 abbrev pub stood : Told → ℕ
-stood (heard s c) = standing s c
+stood (heard s c) = standing s (c .byte)
 
 -- the byte that arrived is to the one that was sent as R says
 abbrev pub Noisy : (ℕ → ℕ → Type 0) → Told → Type 0
-Noisy R (heard s c) = R (byteOf s) c
+Noisy R (heard s c) = R (byteOf s) (c .byte)
 
 -- the symbols of a stream beside the bytes that arrived, with filler past its end
-unfoldable pub told : List Symbol → List ℕ → List Told
+unfoldable pub told : List Symbol → List Placed → List Told
 told ss [] = []
 told [] (c ∷ cs) = heard fill c ∷ told [] cs
 told (s ∷ ss) (c ∷ cs) = heard s c ∷ told ss cs
 
-pub told-append : (ss : List Symbol) (xs ys : List ℕ) → told ss (xs ++ ys) ≡ told ss xs ++ told (drop (length xs) ss) ys
+pub told-append : (ss : List Symbol) (xs ys : List Placed) → told ss (xs ++ ys) ≡ told ss xs ++ told (drop (length xs) ss) ys
 unfolding told
 told-append ss [] ys = refl
 told-append [] (x ∷ xs) ys = ap (λ (l : List Told). heard fill x ∷ l) (told-append [] xs ys ∙ rw (drop-nil (length xs)))
 told-append (s ∷ ss) (x ∷ xs) ys = ap (λ (l : List Told). heard s x ∷ l) (told-append ss xs ys)
 
-pub told-came : (ss : List Symbol) (cs : List ℕ) → map cameOf (told ss cs) ≡ cs
+pub told-came : (ss : List Symbol) (cs : List Placed) → map cameOf (told ss cs) ≡ map byteIn cs
 unfolding told
 told-came ss [] = refl
-told-came [] (c ∷ cs) = ap (λ (l : List ℕ). c ∷ l) (told-came [] cs)
-told-came (s ∷ ss) (c ∷ cs) = ap (λ (l : List ℕ). c ∷ l) (told-came ss cs)
+told-came [] (c ∷ cs) = ap (λ (l : List ℕ). c .byte ∷ l) (told-came [] cs)
+told-came (s ∷ ss) (c ∷ cs) = ap (λ (l : List ℕ). c .byte ∷ l) (told-came ss cs)
 
-pub told-symbols : (ss : List Symbol) (cs : List ℕ) → map symbolOf (told ss cs) ≡ grab (length cs) ss
+pub told-symbols : (ss : List Symbol) (cs : List Placed) → map symbolOf (told ss cs) ≡ grab (length cs) ss
 unfolding told grab
 told-symbols ss [] = refl
 told-symbols [] (c ∷ cs) = ap (λ (l : List Symbol). fill ∷ l) (told-symbols [] cs)
 told-symbols (s ∷ ss) (c ∷ cs) = ap (λ (l : List Symbol). s ∷ l) (told-symbols ss cs)
 
 pub told-noisy :
-    {R : ℕ → ℕ → Type 0} (n : ℕ) (ss : List Symbol) {cs : List ℕ} → Near R (map byteOf (grab n ss)) cs → Each (Noisy R) (told ss cs)
+    {R : ℕ → ℕ → Type 0} (n : ℕ) (ss : List Symbol) (cs : List Placed) → Near R (map byteOf (grab n ss)) (map byteIn cs) → Each (Noisy R) (told ss cs)
 unfolding told grab
-told-noisy zero ss none = nil
-told-noisy (suc n) [] (more h r) = and h (told-noisy n [] r)
-told-noisy (suc n) (s ∷ ss) (more h r) = and h (told-noisy n ss r)
+told-noisy n ss [] r = nil
+told-noisy zero ss (c ∷ cs) r = absurd (omega (arith, near-length r))
+told-noisy (suc n) [] (c ∷ cs) (more h r) = and h (told-noisy n [] cs r)
+told-noisy (suc n) (s ∷ ss) (c ∷ cs) (more h r) = and h (told-noisy n ss cs r)
+
+pub bytes-placed : (x : ℕ) (l : List ℕ) → map byteIn (map (placed x) l) ≡ l
+bytes-placed x [] = refl
+bytes-placed x (c ∷ cs) = ap (λ (l : List ℕ). c ∷ l) (bytes-placed x cs)
+
+-- they stand in the pages that the bytes do
+pub told-paged : (x : ℕ) (ss : List Symbol) (l : List ℕ) → Each (λ z. pageOf z ≡ x) (told ss (map (placed x) l))
+unfolding told
+told-paged x ss [] = nil
+told-paged x [] (c ∷ cs) = and refl (told-paged x [] cs)
+told-paged x (s ∷ ss) (c ∷ cs) = and refl (told-paged x ss cs)

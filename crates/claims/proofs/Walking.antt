@@ -163,10 +163,10 @@ module _ (R : ℕ → ℕ → Type 0) (L : Type 0) (hears : Hears R L) where
       {m k : Mode} (z : Told) → Fit m (symbolOf z) → Noisy R z → Sim L m k
       → Follows L (step m (stood z)) (emitted m (stood z)) (step k (cameOf z)) (emitted k (cameOf z))
   step-follows z f n (gone x) = gone-step _ _ (cameOf z) x
-  step-follows (heard fill c) skips n (same r) = scan-follows fill 3 c (lit< tt) skips (is-fill c) n
-  step-follows (heard start c) opens n (same r) = scan-follows start 12 c (lit< tt) opens (is-start c) n
-  step-follows (heard (bits x) c) (nibble {g} {v} {part} h) n (same r) = head-follows g v part x c h n
-  step-follows (heard (raw b) c) (byte {h} {part} {held = held}) n (same r) = byte-follows h part b c held
+  step-follows (heard fill c) skips n (same r) = scan-follows fill 3 (c .byte) (lit< tt) skips (is-fill (c .byte)) n
+  step-follows (heard start c) opens n (same r) = scan-follows start 12 (c .byte) (lit< tt) opens (is-start (c .byte)) n
+  step-follows (heard (bits x) c) (nibble {g} {v} {part} h) n (same r) = head-follows g v part x (c .byte) h n
+  step-follows (heard (raw b) c) (byte {h} {part} {held = held}) n (same r) = byte-follows h part b (c .byte) held
 
   -- along any bytes
   pub flow-follows :

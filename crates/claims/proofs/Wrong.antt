@@ -370,9 +370,14 @@ pub never-drops-shut-out :
 unfolding decodes nib nibbleFrom image withParity differing number bits
 never-drops-shut-out heard out never tells =
     let c = callFor (replicate 42 0x16) in
-    let st : State = record { page = Shut; index = 0; mode = heading 0 0 0 } in
+    let st : State = record { page = Shut; index = 0; mode = heading 0 0 0; joined = false } in
     let r : Sound st =
-    record { page = refl; index = omega arith; mode = record { got = omega arith; small = omega arith; only = refl; counted = omega arith } } in
+    record {
+      page = refl;
+      index = omega arith;
+      mode = record { got = omega arith; small = omega arith; only = refl; counted = omega arith };
+      joined = λ e. refl;
+    } in
     let d = tells .drops desk desk-range st r c refl refl (March.address refl) in
     let n = never desk (readerOf st) (c .packet) (c .lent) in
     let z : _≡_ {A = ℕ} 0 1 = cc in

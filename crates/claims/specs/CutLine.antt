@@ -11,7 +11,8 @@ use Rattle.packet.specs.declared.Setting.{Setting}
 use Rattle.packet.specs.Packet.{packetLength}
 use Rattle.packet.specs.Address.{decodes}
 use Rattle.symbols.specs.Stream.{perPacket, cellsOf}
-use Rattle.walk.specs.Mode.{Mode, continues, finished, unfinished}
+use Rattle.walk.specs.Mode.{Mode, continues, unfinished}
+use Rattle.walk.specs.Reading.{ended}
 use Rattle.claims.specs.Mingled.{Kind, elsewhere, header, row, Mingled}
 
 -- ---- what stands between can be read
@@ -63,7 +64,7 @@ Resumed s k j ps ours qs = Mingled (λ a b. a ≡ b) (λ kind q. Readable s q ki
 -- the block b is what a running block comes to along bytes of packets: of each up to the last all of its bytes with no start among them, of the
 -- last those up to the start that it points at, or all
 pub data Becomes : Mode → Block → Type 0 where
-  ends : {m : Mode} {b : Block} (pointed : Bool) (l : List ℕ) → finished (continues pointed m l) ≡ b ∷ [] → Becomes m b
+  ends : {m : Mode} {b : Block} (joined pointed : Bool) (l : List ℕ) → ended joined (continues pointed m l) ≡ b ∷ [] → Becomes m b
   goes : {m : Mode} {b : Block} (l : List ℕ) → Becomes (unfinished (continues false m l)) b → Becomes m b
 
 -- these blocks come out, and before them none, or the one that was running in m

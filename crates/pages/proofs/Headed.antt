@@ -62,20 +62,20 @@ module _ (s : Setting) (p : List ℕ) where
 
 module _ (page : Page) (index : ℕ) {x : Seen} where
   pub as-lost :
-      {r : Verdict} → r ≡ record { page = Shut; index = index; drops = true; reads = false } → x ≡ junk → r ≡ verdictOf page index x
+      {r : Verdict} → r ≡ record { page = Shut; index = index; drops = true; opens = false; reads = false } → x ≡ junk → r ≡ verdictOf page index x
   as-lost e f = rw (e, f)
 
   pub as-foreign :
-      {t : Bool} → t ≡ incomplete page → x ≡ foreign → record { page = Shut; index = index; drops = t; reads = false } ≡ verdictOf page index x
+      {t : Bool} → t ≡ incomplete page → x ≡ foreign → record { page = Shut; index = index; drops = t; opens = false; reads = false } ≡ verdictOf page index x
   as-foreign g f = rw (g, f)
 
   -- n is over 25
   pub as-many :
-      {r : Verdict} {i n : ℕ} → r ≡ record { page = Shut; index = i; drops = true; reads = false } → 25 < n → x ≡ ours i n
+      {r : Verdict} {i n : ℕ} → r ≡ record { page = Shut; index = i; drops = true; opens = false; reads = false } → 25 < n → x ≡ ours i n
       → r ≡ verdictOf page index x
   as-many {i = i} {n = n} e h f = rw (e, f, lt-leb n 25 h, lt-ltb 25 n h, either-true)
 
   pub as-ours :
       {t : Bool} {i n : ℕ} → t ≡ either (incomplete page) (not (eqb i ((index + 1) % 16))) → n ≤ 25 → x ≡ ours i n
-      → record { page = Open n 0; index = i; drops = t; reads = false } ≡ verdictOf page index x
+      → record { page = Open n 0; index = i; drops = t; opens = true; reads = false } ≡ verdictOf page index x
   as-ours {n = n} e h f = rw (e, f, le-leb n 25 h, le-ltb 25 n h)

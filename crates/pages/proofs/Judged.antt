@@ -139,7 +139,7 @@ shaped s q =
 -- ---- the verdict, by what a packet is seen as
 
 module _ (page : Page) (index : ℕ) {x : Seen} where
-  pub as-stays : x ≡ other → record { page = page; index = index; drops = false; reads = false } ≡ verdictOf page index x
+  pub as-stays : x ≡ other → record { page = page; index = index; drops = false; opens = false; reads = false } ≡ verdictOf page index x
   as-stays f = rw f
 
   pub as-numbered : {r : Verdict} {y q : ℕ} {l : List ℕ} → r ≡ verdictOfY page index y → x ≡ packetY y q l → r ≡ verdictOf page index x

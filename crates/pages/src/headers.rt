@@ -17,12 +17,13 @@ pub enum Page {
     Open { n: u8, last: u8 },
 }
 
-// What a packet does: page and index as they are then, whether the running block is dropped, and
-// whether the packet's bytes are then read.
+// What a packet does: page and index as they are then, whether the running block is dropped, whether
+// the packet opens a page of ours, and whether its bytes are read after that.
 pub struct Verdict {
     pub page: Page,
     pub index: u8,
     pub drops: bool,
+    pub opens: bool,
     pub reads: bool,
 }
 
@@ -40,6 +41,7 @@ pub(crate) fn judge_zero(setting: Setting, page: Page, last: u8, packet: &[u8]) 
             page: Page::Shut,
             index: last,
             drops: is_incomplete(page),
+            opens: false,
             reads: false,
         };
     }
@@ -52,6 +54,7 @@ pub(crate) fn judge_zero(setting: Setting, page: Page, last: u8, packet: &[u8]) 
         page: Page::Open { n: n, last: 0 },
         index: index,
         drops: is_break(page, last, index),
+        opens: true,
         reads: false,
     }
 }
@@ -75,13 +78,14 @@ fn readable(packet: &[u8]) -> bool
 
 // No page of ours is open then.
 fn shut(index: u8, drops: bool) -> Verdict
-    ensures { λ r. ⌜ r ≡ record { page = Shut; index = index; drops = drops; reads = false } ⌝ }
+    ensures { λ r. ⌜ r ≡ record { page = Shut; index = index; drops = drops; opens = false; reads = false } ⌝ }
 {
     let page = Page::Shut;
     Verdict {
         page: page,
         index: index,
         drops: drops,
+        opens: false,
         reads: false,
     }
 }

@@ -19,6 +19,7 @@ pub fn judge(setting: Setting, page: Page, index: u8, address: usize, packet: &[
         page: Page::Shut,
         index: index,
         drops: true,
+        opens: false,
         reads: false,
     };
     if packet.len() != 42 {
@@ -32,6 +33,7 @@ pub fn judge(setting: Setting, page: Page, index: u8, address: usize, packet: &[
             page: page,
             index: index,
             drops: false,
+            opens: false,
             reads: false,
         };
     }
@@ -44,6 +46,7 @@ pub fn judge(setting: Setting, page: Page, index: u8, address: usize, packet: &[
             page: page,
             index: index,
             drops: false,
+            opens: false,
             reads: false,
         };
     }
@@ -60,6 +63,7 @@ fn judge_y(page: Page, index: u8, y: u8) -> Verdict
             page: page,
             index: index,
             drops: false,
+            opens: false,
             reads: false,
         },
         Page::Open { n, last } => {
@@ -69,6 +73,7 @@ fn judge_y(page: Page, index: u8, y: u8) -> Verdict
                     page: page,
                     index: index,
                     drops: wrong,
+                    opens: false,
                     reads: false,
                 };
             }
@@ -76,6 +81,7 @@ fn judge_y(page: Page, index: u8, y: u8) -> Verdict
                 page: Page::Open { n: n, last: y },
                 index: index,
                 drops: wrong,
+                opens: false,
                 reads: true,
             }
         }

@@ -30,9 +30,10 @@ use Rattle.reader.specs.Internal.{stateIn, started, RanTo}
 
 -- the reader that what has come is handed back as
 handed-back :
-    {st : State} {page : Page} {index : ℕ} {run : Run} {store : List ℕ} → page ≡ st .page → index ≡ st .index → Holds (st .mode) run store
-    → record { page = page; index = index; run = run; store = store } ≡ readerOf st
-handed-back x y w = rw (x, y, w .run, w .kept)
+    {st : State} {page : Page} {index : ℕ} {run : Run} {joined : Bool} {store : List ℕ} → page ≡ st .page → index ≡ st .index
+    → joined ≡ st .joined → Holds (st .mode) run store
+    → record { page = page; index = index; run = run; joined = joined; store = store } ≡ readerOf st
+handed-back x y z w = rw (x, y, z, w .run, w .kept)
 
 -- the answer, the reader and the output are these
 abbrev pub AnswersAll : Setting → Reader → List ℕ → List ℕ → HeardAll → Reader → List ℕ → Type 0
@@ -55,16 +56,16 @@ module _ (s : Setting) (r : Reader) (l old : List ℕ) where
     no-room-all i z h f = rw (f, both-assoc, ← e, i, eq-eqb _ _ z, lt-leb _ _ h) (refl, (refl, refl))
 
     pub taken-all :
-        {g : Going} {t : Taking} {store new : List ℕ} → ready ≡ true → length l % packetLength ≡ 0 → room ≤ length old → g ≡ started (r .page) (r .index) (r .run)
+        {g : Going} {t : Taking} {store new : List ℕ} → ready ≡ true → length l % packetLength ≡ 0 → room ≤ length old → g ≡ started (r .page) (r .index) (r .run) (r .joined)
         → t .going .got .written ≤ length old
         → RanTo (run s (length old) (length l / packetLength) (begun (stateIn g (r .store))) l) t store old new
         → AnswersAll s r l old
         (TookAll (t .packets) (t .going .got .blocks) (t .going .got .written) (t .going .got .dropped))
-        (record { page = t .going .page; index = t .going .index; run = t .going .got .run; store = store }) new
+        (record { page = t .going .page; index = t .going .index; run = t .going .got .run; joined = t .going .joined; store = store }) new
     taken-all {g} {t} {store} {new} i z h q f x =
         let bytes : List ℕ = recordsOf (ranAll s r l old .blocks) in
         let w : RanTo (ranAll s r l old) t store old new = rw q at x in
         rw (both-assoc, ← e, i, eq-eqb _ _ z, le-leb _ _ h) (
           rw (w .packets, w .blocks, w .written, w .dropped),
-          (handed-back (w .page) (w .index) (w .holds), w .out ∙ sets-front old bytes (omega (arith, w .written))),
+          (handed-back (w .page) (w .index) (w .joined) (w .holds), w .out ∙ sets-front old bytes (omega (arith, w .written))),
         )

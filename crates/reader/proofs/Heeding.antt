@@ -1,9 +1,10 @@
 -- A verdict that is heeded is what the packet does: the running block is dropped or not, then the packet's bytes are read or not.
 -- Assumes nothing.
-use mathlib.Core.Path.{_≡_, refl}
-use mathlib.Core.Bool.{true, false}
+use mathlib.Core.Path.{_≡_, _∙_, refl, ap}
+use mathlib.Core.Bool.{Bool, true, false}
 use mathlib.Core.List.{List, []}
 use Prim.Native.Nat.{ℕ}
+use lib.Dec.{eqb}
 use lib.ListN.{getD, drop}
 use Rattle.laws.specs.Pick.{both}
 use Rattle.octet.specs.Decoding.{nib}
@@ -15,30 +16,42 @@ use Rattle.packet.specs.Address.{addressOf}
 use Rattle.pages.specs.Judging.{verdictOf}
 use Rattle.pages.proofs.Judged.{Shaped, shaped}
 use Rattle.walk.specs.declared.Got.{Got}
-use Rattle.walk.specs.Mode.{running}
-use Rattle.walk.specs.Reading.{dropIf}
-use Rattle.walk.specs.Store.{modeOf}
-use Rattle.walk.specs.Internal.{Kept, Went, ReadPacket}
+use Rattle.walk.specs.Mode.{Mode, off, scan, heading, body, running}
+use Rattle.walk.specs.Reading.{dropIf, readMode}
+use Rattle.walk.specs.Store.{modeOf, runOf}
+use Rattle.walk.specs.Internal.{Kept, Went, ReadPacket, runs}
 use Rattle.walk.proofs.Keeping.{holds-mode}
 use Rattle.laws.proofs.Tests.{either-false}
 use Rattle.walk.proofs.Adding.{went-nowhere, went-on}
 use Rattle.reader.specs.declared.many.Going.{Going}
-use Rattle.state.specs.Acting.{State, act, handed, dropped}
+use Rattle.state.specs.Acting.{State, spans, act, handed, dropped}
 use Rattle.reader.specs.Internal.{Heeded, Acted, stateIn}
 
 -- ---- what the code does by a verdict
 
+runs-of : (m : Mode) → runs (runOf m) ≡ running m
+runs-of off = refl
+runs-of scan = refl
+runs-of (heading g v part) = refl
+runs-of (body h part held) = refl
+
 module _ (v : Verdict) (p : ℕ) (l : List ℕ) (st : State) {a : Going} {g : Got} {between old : List ℕ}
     (w : Went (dropIf (v .drops) (st .mode)) [] (both (v .drops) (running (st .mode))) (a .got) g between old old) where
-  pub heed-only : v .reads ≡ false → Heeded v p l st a (record { page = v .page; index = v .index; got = g }) between old old
-  heed-only e = rw (e, either-false) (record { page = refl; index = refl; went = w })
+  pub heed-only :
+      {j : Bool} → v .reads ≡ false → j ≡ spans v st
+      → Heeded v p l st a (record { page = v .page; index = v .index; joined = j; got = g }) between old old
+  heed-only e f = rw (e, either-false) (record { page = refl; index = refl; joined = f; went = w })
 
   pub heed-read :
-      {h : Got} {store new : List ℕ} → v .reads ≡ true → ReadPacket (modeOf (g .run) between) p l g h store old new
-      → Heeded v p l st a (record { page = v .page; index = v .index; got = h }) store old new
-  heed-read e z =
+      {h : Got} {j k : Bool} {store new : List ℕ} → v .reads ≡ true → j ≡ spans v st
+      → ReadPacket j (modeOf (g .run) between) p l g h store old new → k ≡ both j (both (eqb p 13) (runs (h .run)))
+      → Heeded v p l st a (record { page = v .page; index = v .index; joined = k; got = h }) store old new
+  heed-read {h} {j} {k} {store} {new} e f z q =
       let m = holds-mode (dropIf (v .drops) (st .mode)) (w .holds) in
-      rw e (record { page = refl; index = refl; went = went-on w (rw m at z) })
+      let y : ReadPacket (spans v st) (dropIf (v .drops) (st .mode)) p l g h store old new = rw (m, f) at z in
+      let after = readMode (dropIf (v .drops) (st .mode)) p l in
+      let r : runs (h .run) ≡ running after = ap runs (y .holds .run) ∙ runs-of after in
+      rw e (record { page = refl; index = refl; joined = q ∙ rw (f, r); went = went-on w y })
 
 -- ---- it is what the packet does
 
@@ -65,4 +78,4 @@ pub act-other :
     (a : Going) {store : List ℕ} (out : List ℕ) → Kept (a .got .run) store → {x : Seen} → x ≡ other
     → Acted x (stateIn a store) a a store out out
 unfolding act handed dropped
-act-other a out k e = rw e (record { page = refl; index = refl; went = went-nowhere (a .got) out k })
+act-other a out k e = rw e (record { page = refl; index = refl; joined = refl; went = went-nowhere (a .got) out k })

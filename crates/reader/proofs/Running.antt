@@ -36,11 +36,11 @@ pub begins :
     → a .got .dropped ≡ false → RanTo (begun (stateIn a store)) (taking a 0) store out out
 unfolding recordsOf
 begins a out k x y z =
-    record { packets = refl; page = refl; index = refl; holds = k; blocks = x; written = y; dropped = z; out = refl }
+    record { packets = refl; page = refl; index = refl; joined = refl; holds = k; blocks = x; written = y; dropped = z; out = refl }
 
 module _ {b : Ran} {a : Going} {count : ℕ} {store old mid : List ℕ} (w : RanTo b (taking a count) store old mid) where
   ran-state : stateIn a store ≡ b .state
-  ran-state = rw (w .page, w .index, holds-mode (b .state .mode) (w .holds))
+  ran-state = rw (w .page, w .index, w .joined, holds-mode (b .state .mode) (w .holds))
 
   -- its records go behind those there
   laid-on :
@@ -61,6 +61,7 @@ module _ {b : Ran} {a : Going} {count : ℕ} {store old mid : List ℕ} (w : Ran
         packets = rw (w .packets) (omega arith);
         page = y .page;
         index = y .index;
+        joined = y .joined;
         holds = y .went .holds;
         blocks = y .went .blocks ∙ rw (w .blocks, length-append);
         written = y .went .written ∙ rw (w .written, recordsOf-append, length-append);

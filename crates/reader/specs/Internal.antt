@@ -34,29 +34,30 @@ use Rattle.reader.specs.Many.{Ran, begun, run}
 -- ---- one packet of our page
 
 -- the packet p is read, with the block that runs in this store
-abbrev pub ReadFrom : List ℕ → List ℕ → Got → Got → List ℕ → List ℕ → List ℕ → Type 0
-ReadFrom store p got = ReadPacket (modeOf (got .run) store) (nib (getD p 2 0)) (drop 3 p) got
+abbrev pub ReadFrom : Bool → List ℕ → List ℕ → Got → Got → List ℕ → List ℕ → List ℕ → Type 0
+ReadFrom joined store p got = ReadPacket joined (modeOf (got .run) store) (nib (getD p 2 0)) (drop 3 p) got
 
 -- a block that has taken its own of the bytes l before the pointed one has gone on to it
-abbrev pub GoneTo : List ℕ → Got → Taken → List ℕ → Got → List ℕ → List ℕ → List ℕ → Type 0
-GoneTo l got taken was r store old new =
-    (m : Mode) → runs (got .run) ≡ running m → TookIn m l l taken was → ContinuedTo m l got r store old new
+abbrev pub GoneTo : Bool → List ℕ → Got → Taken → List ℕ → Got → List ℕ → List ℕ → List ℕ → Type 0
+GoneTo joined l got taken was r store old new =
+    (m : Mode) → runs (got .run) ≡ running m → TookIn m l l taken was → ContinuedTo joined m l got r store old new
 
 -- a block that has taken what it wants of some bytes has gone on over them
-abbrev pub GoneOn : Got → Taken → List ℕ → Got → List ℕ → List ℕ → List ℕ → Type 0
-GoneOn got taken was r store old new =
-    (m : Mode) (l : List ℕ) → runs (got .run) ≡ running m → TookIn m l l taken was → ContinuedOn m l got r store old new
+abbrev pub GoneOn : Bool → Got → Taken → List ℕ → Got → List ℕ → List ℕ → List ℕ → Type 0
+GoneOn joined got taken was r store old new =
+    (m : Mode) (l : List ℕ) → runs (got .run) ≡ running m → TookIn m l l taken was → ContinuedOn joined m l got r store old new
 
 -- ---- one packet more
 
 -- the state that packets have come to
 abbrev pub stateIn : Going → List ℕ → State
-stateIn a store = record { page = a .page; index = a .index; mode = modeOf (a .got .run) store }
+stateIn a store = record { page = a .page; index = a .index; mode = modeOf (a .got .run) store; joined = a .joined }
 
 -- what stood at a is now at r: the state st is held, these blocks have gone out, and a block was dropped if d says so
 pub record Stepped (st : State) (bs : List Block) (d : Bool) (a r : Going) (store old new : List ℕ) : Type 0 where
   pub page : r .page ≡ st .page
   pub index : r .index ≡ st .index
+  pub joined : r .joined ≡ st .joined
   pub went : Went (st .mode) bs d (a .got) (r .got) store old new
 
 -- the verdict v is heeded on a packet with pointer p and these 39 bytes after it
@@ -70,8 +71,9 @@ Acted x st = Stepped (act st x) (handed st x) (dropped st x)
 -- ---- packets one after the other
 
 -- no packet has come yet
-abbrev pub started : Page → ℕ → Run → Going
-started page index run = record { page = page; index = index; got = record { run = run; blocks = 0; written = 0; dropped = false } }
+abbrev pub started : Page → ℕ → Run → Bool → Going
+started page index run joined =
+    record { page = page; index = index; joined = joined; got = record { run = run; blocks = 0; written = 0; dropped = false } }
 
 -- what the packets of l come to from a, with so much room
 abbrev pub ranFrom : Setting → ℕ → Going → List ℕ → List ℕ → Ran
@@ -82,6 +84,7 @@ pub record RanTo (b : Ran) (r : Taking) (store old new : List ℕ) : Type 0 wher
   pub packets : r .packets ≡ b .packets
   pub page : r .going .page ≡ b .state .page
   pub index : r .going .index ≡ b .state .index
+  pub joined : r .going .joined ≡ b .state .joined
   pub holds : Holds (b .state .mode) (r .going .got .run) store
   pub blocks : r .going .got .blocks ≡ length (b .blocks)
   pub written : r .going .got .written ≡ length (recordsOf (b .blocks))

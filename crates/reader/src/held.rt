@@ -9,23 +9,29 @@ ghost use mathlib.Core.List.{List, []};
 ghost use Prim.Native.Nat.{ℕ, _+_, _*_, _≤_};
 ghost use lib.ListN.{length, take, drop};
 ghost use lib.Seq.{sets};
-ghost use Rattle.laws.specs.Pick.{both as Pick·both, either as Pick·either};
+ghost use Rattle.laws.specs.Pick.{pick, both as Pick·both, either as Pick·either};
 ghost use Rattle.blocks.specs.Block.{headLength, recordOf};
 ghost use Rattle.packet.specs.Packet.{packetLength};
 ghost use Rattle.walk.specs.declared.Run.the-variants.{Body};
 ghost use Rattle.walk.specs.Mode.{blockWith, body};
 ghost use Rattle.walk.specs.Store.{zeroed, modeOf};
-ghost use Rattle.walk.specs.Reading.{dropIf};
+ghost use Rattle.walk.specs.Reading.{dropIf, spanning};
 ghost use Rattle.walk.specs.Internal.{Holds, Kept, TookIn, Room, Finished, Flowed, PacketRoom, Lost, runs};
 ghost use Rattle.reader.specs.Internal.{ReadFrom, GoneTo, GoneOn};
 
-// The 39 bytes of a packet of our page, by its pointer: the running block goes on or is dropped, and the records of the blocks that
-// they finish stand in the output behind what is written.
-pub(crate) fn read(got: Got, store: &mut [u8; 2047], packet: &[u8], out: &mut [u8]) -> Got
+// The 39 bytes of a packet of our page, by its pointer: the running block, which spans pages or not, goes on or is dropped, and the
+// records of the blocks that they finish stand in the output behind what is written.
+pub(crate) fn read(
+    got: Got,
+    joined: bool,
+    store: &mut [u8; 2047],
+    packet: &[u8],
+    out: &mut [u8],
+) -> Got
     requires { ⌜ Kept (got .run) (now store) ⌝ }
     requires { ⌜ length (now packet) ≡ packetLength ⌝ }
     requires { ⌜ PacketRoom got (now out) ⌝ }
-    ensures { λ r. ⌜ ReadFrom (now (store .entry)) (now (packet .entry)) got r (now (store .exit)) (now (out .entry)) (now (out .exit)) ⌝ }
+    ensures { λ r. ⌜ ReadFrom joined (now (store .entry)) (now (packet .entry)) got r (now (store .exit)) (now (out .entry)) (now (out .exit)) ⌝ }
 {
     let before = walk::pointed(packet[2]);
     if before > 39 {
@@ -35,10 +41,10 @@ pub(crate) fn read(got: Got, store: &mut [u8; 2047], packet: &[u8], out: &mut [u
     let was = got.run;
     let taken = take_in(was, store, &packet[3..at]);
     if before < 39 {
-        let carried = continue_to(got, taken, store, &packet[3..at], out);
+        let carried = continue_to(got, joined, taken, store, &packet[3..at], out);
         return flow(carried, store, &packet[at..], out);
     }
-    continue_on(got, taken, store, out)
+    continue_on(got, joined, taken, store, out)
 }
 
 // The running block is dropped where the test holds, and that is noted.
@@ -59,10 +65,17 @@ pub(crate) fn lose(t: bool, got: Got, store: &mut [u8; 2047]) -> Got
 
 // The bytes before the pointed one, of which a running block has taken its own: it is finished by then
 // with only filler behind it, or it is dropped.
-fn continue_to(got: Got, taken: Taken, store: &mut [u8; 2047], s: &[u8], out: &mut [u8]) -> Got
+fn continue_to(
+    got: Got,
+    joined: bool,
+    taken: Taken,
+    store: &mut [u8; 2047],
+    s: &[u8],
+    out: &mut [u8],
+) -> Got
     requires { ⌜ Kept (taken .run) (now store) ⌝ }
     requires { ⌜ Room got (now out) ⌝ }
-    ensures { λ r. ⌜ GoneTo (now (s .entry)) got taken (now (store .entry)) r (now (store .exit)) (now (out .entry)) (now (out .exit)) ⌝ }
+    ensures { λ r. ⌜ GoneTo joined (now (s .entry)) got taken (now (store .entry)) r (now (store .exit)) (now (out .entry)) (now (out .exit)) ⌝ }
 {
     let run = taken.run;
     let lost = walk::falls(run, s, taken.next);
@@ -76,16 +89,17 @@ fn continue_to(got: Got, taken: Taken, store: &mut [u8; 2047], s: &[u8], out: &m
             written: got.written,
             dropped: dropped,
         },
+        joined,
         store,
         out,
     )
 }
 
 // No start is pointed at: a running block has taken what it wants, and what follows it isn't read.
-fn continue_on(got: Got, taken: Taken, store: &mut [u8; 2047], out: &mut [u8]) -> Got
+fn continue_on(got: Got, joined: bool, taken: Taken, store: &mut [u8; 2047], out: &mut [u8]) -> Got
     requires { ⌜ Kept (taken .run) (now store) ⌝ }
     requires { ⌜ Room got (now out) ⌝ }
-    ensures { λ r. ⌜ GoneOn got taken (now (store .entry)) r (now (store .exit)) (now (out .entry)) (now (out .exit)) ⌝ }
+    ensures { λ r. ⌜ GoneOn joined got taken (now (store .entry)) r (now (store .exit)) (now (out .entry)) (now (out .exit)) ⌝ }
 {
     let run = taken.run;
     let was = got.run;
@@ -97,6 +111,7 @@ fn continue_on(got: Got, taken: Taken, store: &mut [u8; 2047], out: &mut [u8]) -
             written: got.written,
             dropped: dropped,
         },
+        joined,
         store,
         out,
     )
@@ -142,7 +157,7 @@ fn flow(got: Got, store: &mut [u8; 2047], s: &[u8], out: &mut [u8]) -> Got
                     };
                     return so_far(left, blocks, q, dropped);
                 }
-                emit(head, mended, s, next, size, out, q);
+                emit(head, mended, 0, s, next, size, out, q);
                 blocks += 1;
                 q = q + HEAD + size;
                 at = next + size;
@@ -233,11 +248,11 @@ fn body_in(head: u16, part: u8, held: usize, store: &mut [u8; 2047], s: &[u8], f
     }
 }
 
-// A block that is held whole goes out.
-fn finish(got: Got, store: &mut [u8; 2047], out: &mut [u8]) -> Got
+// A block that is held whole goes out, as one that spans pages or not.
+fn finish(got: Got, joined: bool, store: &mut [u8; 2047], out: &mut [u8]) -> Got
     requires { ⌜ Kept (got .run) (now store) ⌝ }
     requires { ⌜ Room got (now out) ⌝ }
-    ensures { λ r. ⌜ Finished (modeOf (got .run) (now (store .entry))) got r (now (store .exit)) (now (out .entry)) (now (out .exit)) ⌝ }
+    ensures { λ r. ⌜ Finished joined (modeOf (got .run) (now (store .entry))) got r (now (store .exit)) (now (out .entry)) (now (out .exit)) ⌝ }
 {
     let run = got.run;
     match run {
@@ -253,7 +268,7 @@ fn finish(got: Got, store: &mut [u8; 2047], out: &mut [u8]) -> Got
             }
             let q = got.written;
             let blocks = got.blocks;
-            hand_out(head, part, held, store, out, q);
+            hand_out(head, part, joined, held, store, out, q);
             Got {
                 run: Run::Idle,
                 blocks: blocks + 1,
@@ -265,14 +280,32 @@ fn finish(got: Got, store: &mut [u8; 2047], out: &mut [u8]) -> Got
 }
 
 // A block that is held whole goes out, and the store is clear again.
-fn hand_out(head: u16, part: u8, held: usize, store: &mut [u8; 2047], out: &mut [u8], q: usize)
+fn hand_out(
+    head: u16,
+    part: u8,
+    joined: bool,
+    held: usize,
+    store: &mut [u8; 2047],
+    out: &mut [u8],
+    q: usize,
+)
     requires { ⌜ Kept (Body head part held) (now store) ⌝ }
     requires { ⌜ q + headLength + held ≤ length (now out) ⌝ }
     ensures { λ _. ⌜ now (store .exit) ≡ zeroed [] ⌝ }
-    ensures { λ _. ⌜ now (out .exit) ≡ sets (now (out .entry)) q (recordOf (blockWith head part (take held (now (store .entry))))) ⌝ }
+    ensures { λ _. ⌜ now (out .exit) ≡ sets (now (out .entry)) q (recordOf (spanning joined (blockWith head part (take held (now (store .entry)))))) ⌝ }
 {
-    emit(head, part, &*store, 0, held, out, q);
+    emit(head, part, second_byte(joined), &*store, 0, held, out, q);
     lent_bytes::clear(store, held);
+}
+
+// The second byte of the record of a block that spans pages or not.
+fn second_byte(joined: bool) -> u8
+    ensures { λ r. ⌜ r ≡ pick joined 1 0 ⌝ }
+{
+    if joined {
+        return 1;
+    }
+    0
 }
 
 // The running block, dropped where the test holds.
@@ -308,7 +341,7 @@ fn let_go(run: Run, store: &mut [u8; 2047])
 }
 
 // Whether a block runs.
-fn is_running(run: Run) -> bool
+pub(crate) fn is_running(run: Run) -> bool
     ensures { λ r. ⌜ r ≡ runs run ⌝ }
 {
     match run {
@@ -327,15 +360,24 @@ fn is_running(run: Run) -> bool
 }
 
 // The record of a block whose raw bytes are so many of `raw` from `from` on, to the place q of the
-// output: its 16 bits, its part, a byte 0, the raw bytes.
-fn emit(head: u16, part: u8, raw: &[u8], from: usize, size: usize, out: &mut [u8], q: usize)
+// output: its 16 bits, its part, its second byte, the raw bytes.
+fn emit(
+    head: u16,
+    part: u8,
+    second: u8,
+    raw: &[u8],
+    from: usize,
+    size: usize,
+    out: &mut [u8],
+    q: usize,
+)
     requires { ⌜ (from + size ≤ length (now raw)) × (q + headLength + size ≤ length (now out)) ⌝ }
-    ensures { λ _. ⌜ now (out .exit) ≡ sets (now (out .entry)) q (recordOf (blockWith head part (take size (drop from (now (raw .entry)))))) ⌝ }
+    ensures { λ _. ⌜ now (out .exit) ≡ sets (now (out .entry)) q (recordOf (record { head = head; part = part; second = second; raw = take size (drop from (now (raw .entry))) })) ⌝ }
 {
     out[q] = (head % 256) as u8;
     out[q + 1] = (head / 256) as u8;
     out[q + 2] = part;
-    out[q + 3] = 0;
+    out[q + 3] = second;
     lent_bytes::copy(raw, from, size, out, q + HEAD);
 }
 

@@ -11,12 +11,13 @@ use walk::Run;
 ghost use mathlib.Core.Path.{_≡_};
 ghost use mathlib.Core.Bool.{true, false};
 ghost use Prim.Native.Nat.{_-_, _%_, _≤_};
+ghost use lib.Dec.{eqb};
 ghost use lib.ListN.{length, getD, drop};
-ghost use Rattle.laws.specs.Pick.{both};
+ghost use Rattle.laws.specs.Pick.{pick, both, either};
 ghost use Rattle.packet.specs.Setting.{inRange};
 ghost use Rattle.packet.specs.Packet.{packetLength};
 ghost use Rattle.octet.specs.Decoding.{nib};
-ghost use Rattle.walk.specs.Internal.{Kept, PacketRoom};
+ghost use Rattle.walk.specs.Internal.{Kept, PacketRoom, runs};
 ghost use Rattle.state.specs.State.{readerInRange, Sixteen};
 ghost use Rattle.reader.specs.Many.{refusedAll, feedAllHeard, feedAllReader, feedAllOut};
 ghost use Rattle.reader.specs.Internal.{stateIn, Heeded, started, ranFrom, RanTo, PassedTo};
@@ -43,6 +44,7 @@ pub struct FedAll {
 struct Going {
     page: Page,
     index: u8,
+    joined: bool,
     got: Got,
 }
 
@@ -74,13 +76,13 @@ pub fn feed_all(setting: Setting, reader: Reader, packets: &[u8], out: &mut [u8]
     let page = reader.page;
     let run = reader.run;
     let mut store = reader.store;
-    if !is_ready(setting, page, reader.index, run, &store) {
+    if !is_ready(setting, page, reader.index, run, reader.joined, &store) {
         return refused(16, reader);
     }
     if out.len() < 2112 {
         return refused(1, reader);
     }
-    let from = start(page, reader.index, run);
+    let from = start(page, reader.index, run, reader.joined);
     let t = take_all(setting, from, &mut store, packets, out);
     let a = t.going;
     let got = a.got;
@@ -97,6 +99,7 @@ pub fn feed_all(setting: Setting, reader: Reader, packets: &[u8], out: &mut [u8]
             page: now_open,
             index: a.index,
             run: now_running,
+            joined: a.joined,
             store: store,
         },
     }
@@ -169,29 +172,76 @@ fn heed(v: Verdict, a: Going, store: &mut [u8; 2047], packet: &[u8], out: &mut [
     ensures { λ r. ⌜ Heeded v (nib (getD (now (packet .entry)) 2 0)) (drop 3 (now (packet .entry))) (stateIn a (now (store .entry))) a r (now (store .exit)) (now (out .entry)) (now (out .exit)) ⌝ }
 {
     let was = a.got;
+    let running = was.run;
     let page = v.page;
+    let joined = spans(v, running, a.joined);
     let got = crate::held::lose(v.drops, was, store);
     if v.reads {
+        let next = crate::held::read(got, joined, store, packet, out);
+        let left = next.run;
         return Going {
             page: page,
             index: v.index,
-            got: crate::held::read(got, store, packet, out),
+            joined: goes_on(joined, packet[2], left),
+            got: next,
         };
     }
     Going {
         page: page,
         index: v.index,
+        joined: joined,
         got: got,
     }
 }
 
+// Whether a block that ran spans pages once the verdict is heeded: it lives through a packet 0 that opens a page of ours, or it
+// did so before.
+fn spans(v: Verdict, run: Run, joined: bool) -> bool
+    ensures { λ r. ⌜ r ≡ pick (v .drops) false (either (both (v .opens) (runs run)) joined) ⌝ }
+{
+    if v.drops {
+        return false;
+    }
+    if !v.opens {
+        return joined;
+    }
+    match run {
+        Run::Idle => joined,
+        Run::Head {
+            got: _,
+            bits: _,
+            part: _,
+        } => true,
+        Run::Body {
+            head: _,
+            part: _,
+            held: _,
+        } => true,
+    }
+}
+
+// Whether the block that runs after a packet was read is one that spans pages: only where its pointer says that no block
+// starts there can it have run before.
+fn goes_on(joined: bool, pointer: u8, run: Run) -> bool
+    ensures { λ r. ⌜ r ≡ both joined (both (eqb (nib pointer) 13) (runs run)) ⌝ }
+{
+    if !joined {
+        return false;
+    }
+    if octet::quick::decode(pointer) != 13 {
+        return false;
+    }
+    crate::held::is_running(run)
+}
+
 // No packet has come yet.
-fn start(page: Page, index: u8, run: Run) -> Going
-    ensures { λ r. ⌜ r ≡ started page index run ⌝ }
+fn start(page: Page, index: u8, run: Run, joined: bool) -> Going
+    ensures { λ r. ⌜ r ≡ started page index run joined ⌝ }
 {
     Going {
         page: page,
         index: index,
+        joined: joined,
         got: Got {
             run: run,
             blocks: 0,
@@ -212,12 +262,12 @@ fn refused(no: u8, reader: Reader) -> FedAll
 }
 
 // Whether setting and state are in range.
-fn is_ready(setting: Setting, page: Page, index: u8, run: Run, store: &[u8]) -> bool
-    ensures { λ r. ⌜ r ≡ both (inRange setting) (readerInRange (record { page = page; index = index; run = run; store = now (store .entry) })) ⌝ }
+fn is_ready(setting: Setting, page: Page, index: u8, run: Run, joined: bool, store: &[u8]) -> bool
+    ensures { λ r. ⌜ r ≡ both (inRange setting) (readerInRange (record { page = page; index = index; run = run; joined = joined; store = now (store .entry) })) ⌝ }
     ensures { λ r. ⌜ (r ≡ true → Sixteen run) ⌝ }
 {
     if !packet::is_in_range(setting) {
         return false;
     }
-    state::in_range(page, index, run, store)
+    state::in_range(page, index, run, joined, store)
 }

@@ -12,7 +12,7 @@ use Rattle.walk.specs.Reading.{dropIf, readBlocks}
 use Rattle.walk.specs.Mode.{Good}
 use Rattle.walk.proofs.Along.{drop-good}
 use Rattle.walk.proofs.Room.{Within, within-none, read-room}
-use Rattle.state.specs.Acting.{State, pointerOf, bytesOf, handed}
+use Rattle.state.specs.Acting.{State, spans, pointerOf, bytesOf, handed}
 use Rattle.pages.specs.declared.headers.Verdict.{Verdict}
 use Rattle.pages.specs.Judging.{verdictOf}
 use Rattle.pages.specs.Headers.{Seen, junk, other, foreign, ours, packetY}
@@ -33,9 +33,9 @@ handed-room q st x h w g = go (v .reads)
     v : Verdict
     v = verdictOf (st .page) (st .index) x
 
-    go : (t : Bool) → Within (pick t (readBlocks (dropIf (v .drops) (st .mode)) (pointerOf x) (bytesOf x)) [])
+    go : (t : Bool) → Within (pick t (readBlocks (spans v st) (dropIf (v .drops) (st .mode)) (pointerOf x) (bytesOf x)) [])
     go true =
-        read-room (dropIf (v .drops) (st .mode)) (pointerOf x) (bytesOf x) (drop-good (v .drops) (st .mode) g) (bytes-few q x h w)
+        read-room (spans v st) (dropIf (v .drops) (st .mode)) (pointerOf x) (bytesOf x) (drop-good (v .drops) (st .mode) g) (bytes-few q x h w)
     go false = within-none
 
 -- a packet finishes no more than eight blocks (SCOPE 10.4), and 2,112 bytes of output hold them (SCOPE 3.5)

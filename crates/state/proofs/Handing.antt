@@ -2,8 +2,8 @@
 -- four header bytes, each once. So whatever holds of such a block holds of each. By induction along the bytes. Assumes nothing.
 use mathlib.Core.Path.{_≡_, refl}
 use mathlib.Core.Bool.{Bool, true, false}
-use mathlib.Core.List.{List, [], _∷_, _++_}
-use Prim.Native.Nat.{ℕ, suc, _+_, _*_, _≤_, _<_, zero-le}
+use mathlib.Core.List.{List, [], _∷_, _++_, map}
+use Prim.Native.Nat.{ℕ, suc, _+_, _*_, _≤_, _<_}
 use native.Mathlib.Omega.{arith}
 use lib.Dec.{eqb, leb, ltb}
 use lib.ListN.{length, length-append, take, drop}
@@ -17,13 +17,13 @@ use Rattle.octet.proofs.Hearing.{harm-le}
 use Rattle.blocks.specs.Block.{Block, sizeOf}
 use Rattle.blocks.specs.Sizes.{Sized}
 use Rattle.blocks.specs.Parts.{Parted}
-use Rattle.walk.specs.Mode.{Mode, off, scan, heading, body, shifted, full, blockWith, step, emitted, gives, continues, finished, Good}
-use Rattle.walk.specs.Reading.{dropIf, readBlocks}
+use Rattle.walk.specs.Mode.{Mode, off, scan, heading, body, shifted, full, blockWith, step, emitted, gives, continues, Good}
+use Rattle.walk.specs.Reading.{dropIf, spanning, ended, readBlocks}
 use Rattle.walk.proofs.Along.{Along, good-along, drop-good, continues-along, step-along}
 use Rattle.pages.specs.declared.headers.Verdict.{Verdict}
 use Rattle.pages.specs.Judging.{verdictOf}
 use Rattle.pages.specs.Headers.{Seen}
-use Rattle.state.specs.Acting.{State, pointerOf, bytesOf, handed}
+use Rattle.state.specs.Acting.{State, spans, pointerOf, bytesOf, handed}
 use Rattle.state.specs.State.{Sound}
 
 -- from the pointed byte on a block never waits whole
@@ -57,12 +57,21 @@ step-short (body h part held) b r = go (full h (held ++ b ∷ [])) refl
     go true e = tt
     go false e = leb-false (sizeOf h) (length (held ++ b ∷ [])) e
 
--- P holds of every whole block whose part is at most 5
-module _ (P : Block → Type 0) (of-whole : (h part : ℕ) (l : List ℕ) → sizeOf h ≡ length l → part ≤ 5 → P (blockWith h part l)) where
+-- P holds of every whole block whose part is at most 5, whether it spans pages or not
+module _ (P : Block → Type 0)
+    (of-whole : (j : Bool) (h part : ℕ) (l : List ℕ) → sizeOf h ≡ length l → part ≤ 5 → P (spanning j (blockWith h part l))) where
   one-each :
+      (j : Bool) (h part : ℕ) (l : List ℕ) (t : Bool) → full h l ≡ t → length l ≤ sizeOf h → part ≤ 5
+      → Each P (map (spanning j) (pick t (blockWith h part l ∷ []) []))
+  one-each j h part l true e k p =
+      let f : sizeOf h ≡ length l = omega (arith, leb-true (sizeOf h) (length l) e) in and (of-whole j h part l f p) nil
+  one-each j h part l false e k p = nil
+
+  -- one that begins and ends in the packet
+  here-each :
       (h part : ℕ) (l : List ℕ) (t : Bool) → full h l ≡ t → length l ≤ sizeOf h → part ≤ 5 → Each P (pick t (blockWith h part l ∷ []) [])
-  one-each h part l true e k p = let f : sizeOf h ≡ length l = omega (arith, leb-true (sizeOf h) (length l) e) in and (of-whole h part l f p) nil
-  one-each h part l false e k p = nil
+  here-each h part l true e k p = one-each false h part l true e k p
+  here-each h part l false e k p = nil
 
   emitted-each : (m : Mode) (b : ℕ) → Along m → Short m → Each P (emitted m b)
   unfolding emitted
@@ -76,32 +85,33 @@ module _ (P : Block → Type 0) (of-whole : (h part : ℕ) (l : List ℕ) → si
       go true u = nil
       go false true = nil
       go false false =
-          one-each (shifted v b) (part + harm b) [] (full (shifted v b) []) refl (omega arith)
+          here-each (shifted v b) (part + harm b) [] (full (shifted v b) []) refl (omega arith)
           (omega (arith, r .got, r .counted, harm-le b))
   emitted-each (body h part held) b r s =
-      one-each h part (held ++ b ∷ []) (full h (held ++ b ∷ [])) refl (rw length-append (omega arith)) (r .1)
+      here-each h part (held ++ b ∷ []) (full h (held ++ b ∷ [])) refl (rw length-append (omega arith)) (r .1)
 
   gives-each : (m : Mode) (l : List ℕ) → Along m → Short m → Each P (gives m l)
   unfolding gives
   gives-each m [] r s = nil
   gives-each m (b ∷ l) r s = each-append (emitted-each m b r s) (gives-each (step m b) l (step-along m b r) (step-short m b s))
 
-  finished-each : (m : Mode) → Along m → Each P (finished m)
-  finished-each off r = nil
-  finished-each scan r = nil
-  finished-each (heading g v part) r = nil
-  finished-each (body h part held) r = one-each h part held (full h held) refl (r .2) (r .1)
+  ended-each : (j : Bool) (m : Mode) → Along m → Each P (ended j m)
+  ended-each j off r = nil
+  ended-each j scan r = nil
+  ended-each j (heading g v part) r = nil
+  ended-each j (body h part held) r = one-each j h part held (full h held) refl (r .2) (r .1)
 
-  read-each : (m : Mode) (p : ℕ) (l : List ℕ) → Good m → Each P (readBlocks m p l)
-  read-each m p l r = go (leb p 12) (eqb p 13)
+  read-each : (j : Bool) (m : Mode) (p : ℕ) (l : List ℕ) → Good m → Each P (readBlocks j m p l)
+  read-each j m p l r = go (leb p 12) (eqb p 13)
     where
       go :
           (t u : Bool)
-          → Each P (pick t (finished (continues true m (take (3 * p) l)) ++ gives scan (drop (3 * p) l)) (pick u (finished (continues false m l)) []))
+          → Each P
+          (pick t (ended j (continues true m (take (3 * p) l)) ++ gives scan (drop (3 * p) l)) (pick u (ended j (continues false m l)) []))
       go true u =
-          each-append (finished-each (continues true m (take (3 * p) l)) (continues-along true m (take (3 * p) l) (good-along m r)))
+          each-append (ended-each j (continues true m (take (3 * p) l)) (continues-along true m (take (3 * p) l) (good-along m r)))
           (gives-each scan (drop (3 * p) l) tt tt)
-      go false true = finished-each (continues false m l) (continues-along false m l (good-along m r))
+      go false true = ended-each j (continues false m l) (continues-along false m l (good-along m r))
       go false false = nil
 
   -- every block that a packet finishes, from any state in range
@@ -112,14 +122,18 @@ module _ (P : Block → Type 0) (of-whole : (h part : ℕ) (l : List ℕ) → si
       v : Verdict
       v = verdictOf (st .page) (st .index) x
 
-      go : (t : Bool) → Each P (pick t (readBlocks (dropIf (v .drops) (st .mode)) (pointerOf x) (bytesOf x)) [])
-      go true = read-each (dropIf (v .drops) (st .mode)) (pointerOf x) (bytesOf x) (drop-good (v .drops) (st .mode) (r .mode))
+      go : (t : Bool) → Each P (pick t (readBlocks (spans v st) (dropIf (v .drops) (st .mode)) (pointerOf x) (bytesOf x)) [])
+      go true = read-each (spans v st) (dropIf (v .drops) (st .mode)) (pointerOf x) (bytesOf x) (drop-good (v .drops) (st .mode) (r .mode))
       go false = nil
 
 -- what is handed out is whole records
 pub handed-sized : (st : State) (x : Seen) → Sound st → Each Sized (handed st x)
-handed-sized = handed-each Sized (λ h part l e p. e)
+handed-sized = handed-each Sized (λ j h part l e p. e)
 
 -- and each has a part of at most 5 and a second byte of at most 1
 pub handed-parted : (st : State) (x : Seen) → Sound st → Each Parted (handed st x)
-handed-parted = handed-each Parted (λ h part l e p. (p, zero-le))
+handed-parted = handed-each Parted (λ j h part l e p. (p, one j))
+  where
+    one : (j : Bool) → pick j 1 0 ≤ 1
+    one true = omega arith
+    one false = omega arith

@@ -17,7 +17,7 @@ use Rattle.walk.specs.declared.Run.{Run}
 use Rattle.walk.specs.declared.Run.the-variants.{Idle, Head, Body}
 use Rattle.state.specs.declared.Reader.{Reader}
 use Rattle.walk.specs.Store.{storeLength, zeroed}
-use Rattle.state.specs.State.{zeros, pageInRange, runInRange, heldBy, readerInRange, Sixteen}
+use Rattle.state.specs.State.{zeros, pageInRange, runInRange, joinedInRange, heldBy, readerInRange, Sixteen}
 use Rattle.walk.specs.Internal.{Kept}
 use Rattle.walk.specs.Mode.{Bits}
 
@@ -63,7 +63,8 @@ unfolding readerInRange
 kept-in-range r e w k =
     let i = both-second (pageInRange (r .page)) _ e in
     let u = both-second (leb (r .index) 15) _ i in
-    run-kept (r .run) (r .store) (both-first (runInRange (r .run)) _ u) w k (both-second (runInRange (r .run)) _ u)
+    let j = both-second (runInRange (r .run)) _ u in
+    run-kept (r .run) (r .store) (both-first (runInRange (r .run)) _ u) w k (both-second (joinedInRange (r .joined) (r .run)) _ j)
 
 -- where a call goes on, the state is held
 pub ready-kept :

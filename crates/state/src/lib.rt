@@ -10,11 +10,13 @@ ghost use Rattle.state.specs.State.{zeros, pageInRange, runInRange, read
 // A block's start and the four bytes of its header: so many bytes can count in its part.
 const LEAD: u8 = 5;
 
-// What a reader keeps between packets. Every byte of the store past those held is zero.
+// What a reader keeps between packets: the page of ours that is open, our last index, the running block, and whether
+// that has lived through a packet 0 that opened a page of ours. Every byte of the store past those held is zero.
 pub struct Reader {
     pub page: Page,
     pub index: u8,
     pub run: Run,
+    pub joined: bool,
     pub store: [u8; 2047],
 }
 
@@ -26,13 +28,14 @@ pub fn fresh() -> Reader
         page: Page::Shut,
         index: 15,
         run: Run::Idle,
+        joined: false,
         store: [0u8; 2047],
     }
 }
 
 // Whether a state is in range, its store so long as it is lent.
-pub fn in_range(page: Page, index: u8, run: Run, store: &[u8]) -> bool
-    ensures { λ r. ⌜ r ≡ readerInRange (record { page = page; index = index; run = run; store = now (store .entry) }) ⌝ }
+pub fn in_range(page: Page, index: u8, run: Run, joined: bool, store: &[u8]) -> bool
+    ensures { λ r. ⌜ r ≡ readerInRange (record { page = page; index = index; run = run; joined = joined; store = now (store .entry) }) ⌝ }
     ensures { λ r. ⌜ (r ≡ true → Sixteen run) ⌝ }
 {
     if !is_page(page) {
@@ -42,7 +45,12 @@ pub fn in_range(page: Page, index: u8, run: Run, store: &[u8]) -> bool
         return false;
     }
     match run {
-        Run::Idle => is_clear(store, 0),
+        Run::Idle => {
+            if joined {
+                return false;
+            }
+            is_clear(store, 0)
+        }
         Run::Head { got, bits, part } => {
             if !is_head(got, bits, part) {
                 return false;

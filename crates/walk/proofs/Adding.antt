@@ -21,7 +21,7 @@ use Rattle.walk.specs.Mode.{Mode, off, scan, heading, body, full, blockW
 use Rattle.walk.specs.Store.{zeroed, storeLength, modeOf}
 use Rattle.walk.specs.Places.{StartAhead, nothing, broken, cut, whole, fillers, found, stands}
 use Rattle.walk.specs.Internal.{Holds, Kept, Went, Finished, runs, awaits, TookIn, ContinuedTo, ContinuedOn, Flowed, ReadPacket, Lost}
-use Rattle.walk.specs.Reading.{dropIf, pointedBy}
+use Rattle.walk.specs.Reading.{dropIf, spanning, ended, pointedBy}
 use Rattle.walk.proofs.Staying.{waits, breaks-off}
 use Rattle.walk.proofs.Walking.{left-by, given-by, spoilt-by, found-left, found-given, found-spoilt, headed-long, headed-short}
 use Rattle.walk.proofs.Keeping.{kept-body, body-length, found-part, holds-idle, holds-mode, zeroed-more}
@@ -63,9 +63,9 @@ not-full (heading n v part) g e = (refl, refl)
 not-full (body h part held) g e = (rw e, rw e)
 
 pub stays-running :
-    (a : Got) {store : List ℕ} (out : List ℕ) → Kept (a .run) store → isFull (modeOf (a .run) store) ≡ false
-    → Finished (modeOf (a .run) store) a a store out out
-stays-running a {store} out k e =
+    (a : Got) (j : Bool) {store : List ℕ} (out : List ℕ) → Kept (a .run) store → isFull (modeOf (a .run) store) ≡ false
+    → Finished j (modeOf (a .run) store) a a store out out
+stays-running a j {store} out k e =
     let n = not-full (modeOf (a .run) store) (k .good) e in
     rw (n .0, n .1) (went-nowhere a out k)
 
@@ -74,13 +74,13 @@ module _ {r : Run} {store : List ℕ} {h part n : ℕ} (k : Kept r store) (e : r
   body-short f = rw (e, body-length (kept-body k e)) (lt-leb _ _ f)
 
 pub goes-out :
-    (a : Got) {store after : List ℕ} (old : List ℕ) {new : List ℕ} {h part n : ℕ} → Kept (a .run) store → a .run ≡ Body h part n
+    (a : Got) (j : Bool) {store after : List ℕ} (old : List ℕ) {new : List ℕ} {h part n : ℕ} → Kept (a .run) store → a .run ≡ Body h part n
     → sizeOf h ≤ n
-    → after ≡ zeroed [] → new ≡ sets old (a .written) (recordOf (blockWith h part (take n store)))
-    → Finished (modeOf (a .run) store) a
+    → after ≡ zeroed [] → new ≡ sets old (a .written) (recordOf (spanning j (blockWith h part (take n store))))
+    → Finished j (modeOf (a .run) store) a
     (record { run = Idle; blocks = a .blocks + 1; written = a .written + 4 + n; dropped = a .dropped }) after old new
-goes-out a {store} {after} old {new} {h} {part} {n} k e f c o =
-    let b : Block = blockWith h part (take n store) in
+goes-out a j {store} {after} old {new} {h} {part} {n} k e f c o =
+    let b : Block = spanning j (blockWith h part (take n store)) in
     let l : length (take n store) ≡ n = body-length (kept-body k e) in
     let w : full h (take n store) ≡ true = rw l (le-leb _ _ f) in
     let x : length (recordsOf (b ∷ [])) ≡ suc (suc (suc (suc n))) = ap length (record-one b) ∙ rw l in
@@ -160,13 +160,13 @@ lost-or-out (body x part held) l g =
 abbrev pub noted : Got → Run → Bool → Got
 noted a r d = record { run = r; blocks = a .blocks; written = a .written; dropped = d }
 
-module _ (m : Mode) (l : List ℕ) (a : Got) {t : Taken} {store : List ℕ} (took : TookIn m l l t store) where
+module _ (j : Bool) (m : Mode) (l : List ℕ) (a : Got) {t : Taken} {store : List ℕ} (took : TookIn m l l t store) where
   in-mode : modeOf (t .run) store ≡ continues false m l
   in-mode = holds-mode (continues false m l) (took .holds)
 
   pub continued-on :
       {r : Got} {d : Bool} {after old new : List ℕ} → d ≡ either (a .dropped) (both (running m) (not (runs (t .run))))
-      → Finished (modeOf (t .run) store) (noted a (t .run) d) r after old new → ContinuedOn m l a r after old new
+      → Finished j (modeOf (t .run) store) (noted a (t .run) d) r after old new → ContinuedOn j m l a r after old new
   continued-on {r} {d} e f =
       let x : runs (t .run) ≡ running (continues false m l) = sym (runs-mode (t .run) store) ∙ ap running in-mode in
       went-noting (noted a (t .run) d) (rw in-mode at f) refl refl (rw x at e)
@@ -174,7 +174,7 @@ module _ (m : Mode) (l : List ℕ) (a : Got) {t : Taken} {store : List ℕ} (too
   pub continued-to :
       {kept : Run} {r : Got} {d lost : Bool} {between after old new : List ℕ} → lost ≡ not (stands (t .run) (drop (t .next) l))
       → Holds (dropIf lost (modeOf (t .run) store)) kept between → d ≡ either (a .dropped) (both (running m) lost)
-      → Finished (modeOf kept between) (noted a kept d) r after old new → ContinuedTo m l a r after old new
+      → Finished j (modeOf kept between) (noted a kept d) r after old new → ContinuedTo j m l a r after old new
   continued-to {kept} {r} {d} {lost} {between} {after} {old} {new} x h e f =
       let rest = drop (t .next) l in
       let y : lost ≡ not (isFull (awaits (continues false m l) rest))
@@ -182,7 +182,7 @@ module _ (m : Mode) (l : List ℕ) (a : Got) {t : Taken} {store : List ℕ} (too
       let z : modeOf kept between ≡ dropIf (not (isFull (awaits (continues false m l) rest))) (continues false m l)
       = holds-mode (dropIf lost (modeOf (t .run) store)) h ∙ rw (in-mode, y) in
       let o = lost-or-out (continues false m l) rest (took .holds .good) in
-      let g : Went off (finished (awaits (continues false m l) rest)) false (noted a kept d) r after old new = rw (z, o .0, o .1) at f in
+      let g : Went off (ended j (awaits (continues false m l) rest)) false (noted a kept d) r after old new = rw (z, o .0, o .1) at f in
       rw (took .rest) (went-noting (noted a kept d) g refl refl (rw y at e))
 
 -- ---- from the pointed byte on
@@ -307,19 +307,19 @@ module _ (p : ℕ) {n : ℕ} (e : n ≡ pointedBy p) where
   by-skipped : 39 < n → 13 < p
   by-skipped h = three (λ l. absurd (omega (arith, small l, l, h))) (λ f. absurd (omega (arith, thirteen f, h))) (λ i. i)
 
-module _ (m : Mode) (p : ℕ) (packet : List ℕ) (a : Got) {n : ℕ} {old : List ℕ} (e : n ≡ pointedBy p) where
+module _ (j : Bool) (m : Mode) (p : ℕ) (packet : List ℕ) (a : Got) {n : ℕ} {old : List ℕ} (e : n ≡ pointedBy p) where
   pub read-pointed :
-      {b r : Got} {between store mid new : List ℕ} → n < 39 → ContinuedTo m (take (3 + n - 3) (drop 3 packet)) a b between old mid
+      {b r : Got} {between store mid new : List ℕ} → n < 39 → ContinuedTo j m (take (3 + n - 3) (drop 3 packet)) a b between old mid
       → Flowed (take (length packet - (3 + n)) (drop (3 + n) packet)) b r store mid new
-      → ReadPacket m p (drop 3 packet) a r store old new
+      → ReadPacket j m p (drop 3 packet) a r store old new
   read-pointed h x y =
       let k = by-pointed p e h in
       rw (le-leb _ _ (k .0), drop-drop)
       (went-on (rw (k .1, part-of 3 (3 * p) packet) at x) (rw (k .1, part-rest (3 + 3 * p) packet) at y))
 
   pub read-unpointed :
-      {r : Got} {store new : List ℕ} → length packet ≡ packetLength → n ≡ 39 → ContinuedOn m (take (3 + n - 3) (drop 3 packet)) a r store old new
-      → ReadPacket m p (drop 3 packet) a r store old new
+      {r : Got} {store new : List ℕ} → length packet ≡ packetLength → n ≡ 39 → ContinuedOn j m (take (3 + n - 3) (drop 3 packet)) a r store old new
+      → ReadPacket j m p (drop 3 packet) a r store old new
   read-unpointed z h x =
       let f = by-none p e h in
       let k : 12 < p = omega (arith, f) in
@@ -327,7 +327,7 @@ module _ (m : Mode) (p : ℕ) (packet : List ℕ) (a : Got) {n : ℕ} {old : Lis
       rw (lt-leb _ _ k, eq-eqb _ _ f) (rw (w, part-rest 3 packet) at x)
 
   pub read-skipped :
-      {r : Got} {store : List ℕ} → 39 < n → Lost true m a r store old → ReadPacket m p (drop 3 packet) a r store old old
+      {r : Got} {store : List ℕ} → 39 < n → Lost true m a r store old → ReadPacket j m p (drop 3 packet) a r store old old
   read-skipped h w =
       let f = by-skipped p e h in
       let i : 12 < p = omega (arith, f) in

@@ -2,7 +2,7 @@
 -- byte more of it than its record has; only one block can have been running before. By induction along the bytes. Assumes nothing.
 use mathlib.Core.Path.{_≡_, refl}
 use mathlib.Core.Bool.{Bool, true, false}
-use mathlib.Core.List.{List, [], _∷_, _++_}
+use mathlib.Core.List.{List, [], _∷_, _++_, map}
 use Prim.Native.Nat.{ℕ, suc, _+_, _*_, _≤_}
 use native.Mathlib.Omega.{arith}
 use lib.Dec.{eqb, leb, ltb}
@@ -14,7 +14,7 @@ use Rattle.octet.specs.Hearing.{harm}
 use Rattle.blocks.specs.Block.{Block, headLength, recordsOf}
 use Rattle.walk.specs.Mode.{Mode, off, scan, heading, body, filler, shifted, full, blockWith, step, emitted, gives, continues, finished, Good}
 use Rattle.walk.specs.Store.{storeLength}
-use Rattle.walk.specs.Reading.{room, pointed, readBlocks}
+use Rattle.walk.specs.Reading.{room, pointed, spanning, ended, readBlocks}
 use Rattle.walk.proofs.Adding.{recordsOf-append}
 use Rattle.walk.proofs.Along.{Along, good-along, continues-along}
 
@@ -27,23 +27,24 @@ head-each (b ∷ bs) =
     simp length-append (omega arith)
 
 -- the block that was running
-finished-room : (m : Mode) → Along m → (length (finished m) ≤ 1) × (length (recordsOf (finished m)) ≤ headLength + storeLength)
+ended-room : (j : Bool) (m : Mode) → Along m → (length (ended j m) ≤ 1) × (length (recordsOf (ended j m)) ≤ headLength + storeLength)
 unfolding recordsOf
-finished-room off g = (omega arith, omega arith)
-finished-room scan g = (omega arith, omega arith)
-finished-room (heading n v part) g = (omega arith, omega arith)
-finished-room (body h part held) g = go (full h held)
+ended-room j off g = (omega arith, omega arith)
+ended-room j scan g = (omega arith, omega arith)
+ended-room j (heading n v part) g = (omega arith, omega arith)
+ended-room j (body h part held) g = go (full h held)
   where
     go :
         (t : Bool)
-        → (length (pick t (blockWith h part held ∷ []) []) ≤ 1) × (length (recordsOf (pick t (blockWith h part held ∷ []) [])) ≤ headLength + storeLength)
+        → (length (map (spanning j) (pick t (blockWith h part held ∷ []) [])) ≤ 1)
+        × (length (recordsOf (map (spanning j) (pick t (blockWith h part held ∷ []) []))) ≤ headLength + storeLength)
     go true = (omega arith, simp length-append (omega arith))
     go false = (omega arith, omega arith)
 
 pub carried-room :
-    (p : Bool) (m : Mode) (l : List ℕ) → Good m
-    → (length (finished (continues p m l)) ≤ 1) × (length (recordsOf (finished (continues p m l))) ≤ headLength + storeLength)
-carried-room p m l g = finished-room (continues p m l) (continues-along p m l (good-along m g))
+    (p j : Bool) (m : Mode) (l : List ℕ) → Good m
+    → (length (ended j (continues p m l)) ≤ 1) × (length (recordsOf (ended j (continues p m l))) ≤ headLength + storeLength)
+carried-room p j m l g = ended-room j (continues p m l) (continues-along p m l (good-along m g))
 
 -- how many bytes a running block has used of the packet
 abbrev used : Mode → ℕ
@@ -112,12 +113,12 @@ pub within-none : Within []
 unfolding recordsOf
 within-none = (omega arith, omega arith)
 
-pub read-room : (m : Mode) (p : ℕ) (l : List ℕ) → Good m → length l ≤ 39 → Within (readBlocks m p l)
-read-room m p l g h = go (leb p 12) (eqb p 13)
+pub read-room : (j : Bool) (m : Mode) (p : ℕ) (l : List ℕ) → Good m → length l ≤ 39 → Within (readBlocks j m p l)
+read-room j m p l g h = go (leb p 12) (eqb p 13)
   where
-    pointed-at : Within (finished (continues true m (take (pointed p) l)) ++ gives scan (drop (pointed p) l))
+    pointed-at : Within (ended j (continues true m (take (pointed p) l)) ++ gives scan (drop (pointed p) l))
     pointed-at =
-        let f = carried-room true m (take (pointed p) l) g in
+        let f = carried-room true j m (take (pointed p) l) g in
         let n = gives-room (drop (pointed p) l) in
         let t = head-each (gives scan (drop (pointed p) l)) in
         let d = length-drop (pointed p) l in
@@ -126,8 +127,8 @@ read-room m p l g h = go (leb p 12) (eqb p 13)
     go :
         (t u : Bool)
         → Within
-        (pick t (finished (continues true m (take (pointed p) l)) ++ gives scan (drop (pointed p) l))
-        (pick u (finished (continues false m l)) []))
+        (pick t (ended j (continues true m (take (pointed p) l)) ++ gives scan (drop (pointed p) l))
+        (pick u (ended j (continues false m l)) []))
     go true u = pointed-at
-    go false true = let f = carried-room false m l g in (omega arith, omega arith)
+    go false true = let f = carried-room false j m l g in (omega arith, omega arith)
     go false false = within-none

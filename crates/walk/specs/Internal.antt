@@ -12,9 +12,9 @@ use Rattle.walk.specs.declared.Run.{Run}
 use Rattle.walk.specs.declared.Run.the-variants.{Idle, Head, Body}
 use Rattle.walk.specs.declared.Got.{Got}
 use Rattle.walk.specs.declared.Taken.{Taken}
-use Rattle.walk.specs.Mode.{Mode, off, scan, heading, body, full, running, isFull, ends, gives, spoils, continues, finished, unfinished, Good}
+use Rattle.walk.specs.Mode.{Mode, off, scan, heading, body, full, running, isFull, ends, gives, spoils, continues, unfinished, Good}
 use Rattle.walk.specs.Store.{storeLength, zeroed, modeOf, runOf, heldOf}
-use Rattle.walk.specs.Reading.{dropIf, readMode, readBlocks, readDrops, room}
+use Rattle.walk.specs.Reading.{dropIf, readMode, ended, readBlocks, readDrops, room}
 
 -- run and store hold the mode m
 pub record Holds (m : Mode) (r : Run) (store : List ℕ) : Type 0 where
@@ -58,17 +58,18 @@ pub record Room (a : Got) (out : List ℕ) : Type 0 where
   pub long : a .written + (headLength + storeLength) ≤ length out
   pub few : headLength * a .blocks ≤ a .written
 
--- a block that is held whole has gone out
-abbrev pub Finished : Mode → Got → Got → List ℕ → List ℕ → List ℕ → Type 0
-Finished m a r store old new = Went (unfinished m) (finished m) false a r store old new
+-- a block that is held whole has gone out, as one that spans pages or not
+abbrev pub Finished : Bool → Mode → Got → Got → List ℕ → List ℕ → List ℕ → Type 0
+Finished joined m a r store old new = Went (unfinished m) (ended joined m) false a r store old new
 
 -- the bytes l stand before the pointed byte
-abbrev pub ContinuedTo : Mode → List ℕ → Got → Got → List ℕ → List ℕ → List ℕ → Type 0
-ContinuedTo m l = Went off (finished (continues true m l)) (both (running m) (not (isFull (continues true m l))))
+abbrev pub ContinuedTo : Bool → Mode → List ℕ → Got → Got → List ℕ → List ℕ → List ℕ → Type 0
+ContinuedTo joined m l = Went off (ended joined (continues true m l)) (both (running m) (not (isFull (continues true m l))))
 
 -- the bytes l are a packet's that points at no start
-abbrev pub ContinuedOn : Mode → List ℕ → Got → Got → List ℕ → List ℕ → List ℕ → Type 0
-ContinuedOn m l = Went (unfinished (continues false m l)) (finished (continues false m l)) (both (running m) (not (running (continues false m l))))
+abbrev pub ContinuedOn : Bool → Mode → List ℕ → Got → Got → List ℕ → List ℕ → List ℕ → Type 0
+ContinuedOn joined m l =
+    Went (unfinished (continues false m l)) (ended joined (continues false m l)) (both (running m) (not (running (continues false m l))))
 
 -- the bytes l stand from the pointed byte on
 abbrev pub Flowed : List ℕ → Got → Got → List ℕ → List ℕ → List ℕ → Type 0
@@ -80,8 +81,8 @@ pub record PacketRoom (a : Got) (out : List ℕ) : Type 0 where
   pub few : headLength * a .blocks ≤ a .written
 
 -- the packet's pointer is p, and l the 39 bytes after it
-abbrev pub ReadPacket : Mode → ℕ → List ℕ → Got → Got → List ℕ → List ℕ → List ℕ → Type 0
-ReadPacket m p l = Went (readMode m p l) (readBlocks m p l) (readDrops m p l)
+abbrev pub ReadPacket : Bool → Mode → ℕ → List ℕ → Got → Got → List ℕ → List ℕ → List ℕ → Type 0
+ReadPacket joined m p l = Went (readMode m p l) (readBlocks joined m p l) (readDrops m p l)
 
 -- the running block is dropped where the test holds, and that is noted
 abbrev pub Lost : Bool → Mode → Got → Got → List ℕ → List ℕ → Type 0

@@ -39,7 +39,7 @@ shifted v b = v / 16 + nib b * 4096
 abbrev pub full : ℕ → List ℕ → Bool
 full h held = leb (sizeOf h) (length held)
 
--- a block as it goes out: its 16 bits, its part, a byte 0, its raw bytes (SCOPE 10.3)
+-- a block as it goes out where it begins and ends in one packet: its 16 bits, its part, a byte 0, its raw bytes (SCOPE 10.3)
 abbrev pub blockWith : ℕ → ℕ → List ℕ → Block
 blockWith h part l = record { head = h; part = part; second = 0; raw = l }
 

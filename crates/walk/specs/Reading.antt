@@ -1,6 +1,6 @@
 -- What the 39 bytes of a packet of our page do to the running block, by the packet's pointer.
 use mathlib.Core.Bool.{Bool, false, true, not}
-use mathlib.Core.List.{List, [], _++_}
+use mathlib.Core.List.{List, [], _++_, map}
 use Prim.Native.Nat.{ℕ, _*_}
 use lib.Dec.{eqb, leb}
 use lib.ListN.{take, drop}
@@ -30,11 +30,23 @@ abbrev pub readMode : Mode → ℕ → List ℕ → Mode
 readMode m p l =
     pick (leb p 12) (unfinished (ends scan (drop (pointed p) l))) (pick (eqb p 13) (unfinished (continues false m l)) off)
 
--- the blocks that they finish
-abbrev pub readBlocks : Mode → ℕ → List ℕ → List Block
-readBlocks m p l =
-    pick (leb p 12) (finished (continues true m (take (pointed p) l)) ++ gives scan (drop (pointed p) l))
-    (pick (eqb p 13) (finished (continues false m l)) [])
+-- a block that ran before the packet, as it goes out: its second byte is 1 where it spans pages (SCOPE 26.1)
+abbrev pub spanning : Bool → Block → Block
+spanning joined b = record { head = b .head; part = b .part; second = pick joined 1 0; raw = b .raw }
+
+-- the block that ran before and is held whole, if one is
+abbrev pub ended : Bool → Mode → List Block
+ended joined m = map (spanning joined) (finished m)
+
+-- the blocks that they finish: what ran before, which may span pages, then what begins with them, which stands in one
+abbrev pub readBlocks : Bool → Mode → ℕ → List ℕ → List Block
+readBlocks joined m p l =
+    pick (leb p 12) (ended joined (continues true m (take (pointed p) l)) ++ gives scan (drop (pointed p) l))
+    (pick (eqb p 13) (ended joined (continues false m l)) [])
+
+-- whether the block that runs after them spans pages: only where no start is pointed at can it be the one that ran before
+abbrev pub readJoined : Bool → Mode → ℕ → List ℕ → Bool
+readJoined joined m p l = both joined (both (eqb p 13) (running (readMode m p l)))
 
 -- whether they drop a block: the running one, or one whose header can't be decoded
 abbrev pub readDrops : Mode → ℕ → List ℕ → Bool

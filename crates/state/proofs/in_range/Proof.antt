@@ -32,6 +32,12 @@ returns-2 c = (rw (page-fits (c .before), lt-leb _ _ (c .if2 .taken)), λ e. unt
 enum-told : tie.Need-enum-told
 enum-told c = search needs
 
+returns-3 : tie.Need-returns-3
+unfolding readerInRange
+returns-3 c =
+    let run = c .before .enum-told .given in
+    (rw (page-fits (c .before .before .before .before), index-fits (c .before .before .before), run .1, c .if3 .taken), λ e. untrue e)
+
 is-clear-requires : tie.Need-is-clear-requires
 is-clear-requires c κs = search needs
 
@@ -41,11 +47,11 @@ enum-known-run c = search needs
 is-head-requires : tie.Need-is-head-requires
 is-head-requires c κs = search needs
 
-returns-3 : tie.Need-returns-3
+returns-4 : tie.Need-returns-4
 unfolding readerInRange
-returns-3 c =
+returns-4 c =
     let run = c .before .before .before .run .given in
-    let lost = sym (c .before .is-head .ensures) ∙ not-true _ (c .if3 .taken) in
+    let lost = sym (c .before .is-head .ensures) ∙ not-true _ (c .if4 .taken) in
     (rw (page-fits (c .before .before .before .before .before .before), index-fits (c .before .before .before .before .before), run .1, lost), λ e. untrue e)
 
 is-clear-requires-2 : tie.Need-is-clear-requires-2
@@ -54,18 +60,18 @@ is-clear-requires-2 c κs = search needs
 enum-known-run-2 : tie.Need-enum-known-run-2
 enum-known-run-2 c = search needs
 
-returns-4 : tie.Need-returns-4
-unfolding readerInRange
-returns-4 c =
-    let run = c .before .before .run2 .given in
-    (rw (page-fits (c .before .before .before .before .before), index-fits (c .before .before .before .before), run .1, lt-leb (run .0 .1 .0) 5 (omega arith)), λ e. untrue e)
-
-cast-if5 : tie.Need-cast-if5
-cast-if5 c = search needs
-
 returns-5 : tie.Need-returns-5
 unfolding readerInRange
 returns-5 c =
+    let run = c .before .before .run2 .given in
+    (rw (page-fits (c .before .before .before .before .before), index-fits (c .before .before .before .before), run .1, lt-leb (run .0 .1 .0) 5 (omega arith)), λ e. untrue e)
+
+cast-if6 : tie.Need-cast-if6
+cast-if6 c = search needs
+
+returns-6 : tie.Need-returns-6
+unfolding readerInRange
+returns-6 c =
     let run = c .before .before .before .run2 .given in
     let fits = le-leb (run .0 .1 .0) 5 (omega arith) in
     (rw (page-fits (c .before .before .before .before .before .before), index-fits (c .before .before .before .before .before), run .1, fits, lt-leb (run .0 .1 .1 .0) (sizeOf (run .0 .0)) (omega arith)), λ e. untrue e)
@@ -73,23 +79,23 @@ returns-5 c =
 is-clear-requires-3 : tie.Need-is-clear-requires-3
 is-clear-requires-3 c κs = search needs
 
-returns-6 : tie.Need-returns-6
-unfolding readerInRange
-returns-6 c =
-    let run = c .before .enum-told .given in
-    (rw (page-fits (c .before .before .before .before), index-fits (c .before .before .before), run .1) (c .is-clear .ensures), λ e. rw (run .1) tt)
-
 returns-7 : tie.Need-returns-7
 unfolding readerInRange
 returns-7 c =
-    let b = c .before .before .before .before in
-    let run = b .run .given in
-    let fits = sym (c .before .before .is-head .ensures) ∙ not-false _ (c .before .if3 .left) in
-    (rw (page-fits (b .before .before .before), index-fits (b .before .before), run .1, fits) (c .is-clear2 .ensures), λ e. rw (run .1) (omega arith))
+    let run = c .before .before .enum-told .given in
+    (rw (page-fits (c .before .before .before .before .before), index-fits (c .before .before .before .before), run .1, c .before .if3 .left) (c .is-clear .ensures), λ e. rw (run .1) tt)
 
 returns-8 : tie.Need-returns-8
 unfolding readerInRange
 returns-8 c =
+    let b = c .before .before .before .before in
+    let run = b .run .given in
+    let fits = sym (c .before .before .is-head .ensures) ∙ not-false _ (c .before .if4 .left) in
+    (rw (page-fits (b .before .before .before), index-fits (b .before .before), run .1, fits) (c .is-clear2 .ensures), λ e. rw (run .1) (omega arith))
+
+returns-9 : tie.Need-returns-9
+unfolding readerInRange
+returns-9 c =
     let run = c .before .before .before .before .run2 .given in
     let part = le-leb (run .0 .1 .0) 5 (omega arith) in
     let fits = le-leb (run .0 .1 .1 .0) (sizeOf (run .0 .0)) (omega arith) in
@@ -103,16 +109,17 @@ in-range-spec =
     returns
     returns-2
     enum-told
+    returns-3
     is-clear-requires
     enum-known-run
     is-head-requires
-    returns-3
+    returns-4
     is-clear-requires-2
     enum-known-run-2
-    returns-4
-    cast-if5
     returns-5
-    is-clear-requires-3
+    cast-if6
     returns-6
+    is-clear-requires-3
     returns-7
-    returns-8)
+    returns-8
+    returns-9)

@@ -26,7 +26,8 @@ same-length c = search needs
 returns : tie.Need-returns
 returns c m l e t =
     let b = c .before .before .before .before .before in
-    continued-on m l (b .before .before .before .before .before .args .got) t
+    let a = b .before .before .before .before .before .args in
+    continued-on (a .joined) m l (a .got) t
     (b .either .ensures ∙ rw (b .before .both .ensures, b .before .before .before .is-running .ensures, b .before .before .is-running2 .ensures, e))
     (c .before .before .finish .ensures)
 

@@ -34,7 +34,7 @@ returns : tie.Need-returns
 returns c m e t =
     let b = c .before .before .before .before .before in
     let a = b .before .before .before .before .before .before .before .before .args in
-    continued-to m (now (a .s)) (a .got) t (b .before .before .before .before .before .falls .ensures) (b .before .before .before .drop-if .ensures)
+    continued-to (a .joined) m (now (a .s)) (a .got) t (b .before .before .before .before .before .falls .ensures) (b .before .before .before .drop-if .ensures)
     (b .either .ensures ∙ rw (b .before .both .ensures, b .before .before .is-running .ensures, e))
     (c .before .before .finish .ensures)
 

@@ -49,7 +49,7 @@ returns : tie.Need-returns
 returns c =
     let a = c .before .before .before .before .before .before .args in
     c .before .before .copy .ensures
-    ∙ head-first (now (a .out)) (take (a .size) (drop (a .from) (now (a .raw)))) (a .q) (a .head % 256) (a .head / 256) (a .part) 0
+    ∙ head-first (now (a .out)) (take (a .size) (drop (a .from) (now (a .raw)))) (a .q) (a .head % 256) (a .head / 256) (a .part) (a .second)
 
 pub emit-spec : {M : Type 1} → statement M
 emit-spec =

@@ -23,21 +23,21 @@ returns : tie.Need-returns
 returns c =
     let a = c .before .before .before .before .before .args in
     let k = c .before .before .before .before .before .pre .0 in
-    stays-running (a .got) (now (a .out)) k (body-short k (c .before .before .run .given .1) (c .if1 .taken))
+    stays-running (a .got) (a .joined) (now (a .out)) k (body-short k (c .before .before .run .given .1) (c .if1 .taken))
 
 hand-out-requires : tie.Need-hand-out-requires
 hand-out-requires c κs =
     let k = kept-body (c .before .before .before .before .before .before .before .pre .0) (c .before .before .before .before .run .given .1) in
     (k, omega (arith, body-fits k, body-size k))
 
-add-t12 : tie.Need-add-t12
-add-t12 c = search needs
-
-add-t19 : tie.Need-add-t19
-add-t19 c = search needs
+add-t13 : tie.Need-add-t13
+add-t13 c = search needs
 
 add-t20 : tie.Need-add-t20
-add-t20 c =
+add-t20 c = search needs
+
+add-t21 : tie.Need-add-t21
+add-t21 c =
     let b = c .before .before .before .before .before .before .before in
     let k = kept-body (b .before .before .before .pre .0) (b .run .given .1) in
     omega (arith, body-fits k, body-size k, b .before .before .before .pre, b .before .before .before .good)
@@ -45,12 +45,12 @@ add-t20 c =
 returns-2 : tie.Need-returns-2
 returns-2 c =
     let a = c .before .before .before .args in
-    stays-running (a .got) (now (a .out)) (c .before .before .before .pre .0) (rw (c .enum-told .given .1))
+    stays-running (a .got) (a .joined) (now (a .out)) (c .before .before .before .pre .0) (rw (c .enum-told .given .1))
 
 returns-3 : tie.Need-returns-3
 returns-3 c =
     let a = c .before .before .before .args in
-    stays-running (a .got) (now (a .out)) (c .before .before .before .pre .0) (rw (c .enum-told2 .given .1))
+    stays-running (a .got) (a .joined) (now (a .out)) (c .before .before .before .pre .0) (rw (c .enum-told2 .given .1))
 
 same-length : tie.Need-same-length
 same-length c = search needs
@@ -60,7 +60,7 @@ returns-4 c =
     let b = c .before .before .before .before .before .before .before in
     let a = b .before .before .before .args in
     let o = c .before .before .hand-out .ensures in
-    goes-out (a .got) (now (a .out)) (b .before .before .before .pre .0) (b .run .given .1) (c .before .before .before .before .before .if1 .left) (o .0) (o .1)
+    goes-out (a .got) (a .joined) (now (a .out)) (b .before .before .before .pre .0) (b .run .given .1) (c .before .before .before .before .before .if1 .left) (o .0) (o .1)
 
 pub finish-spec : {M : Type 1} → statement M
 finish-spec =
@@ -72,9 +72,9 @@ finish-spec =
     cast-if1
     returns
     hand-out-requires
-    add-t12
-    add-t19
+    add-t13
     add-t20
+    add-t21
     returns-2
     returns-3
     same-length

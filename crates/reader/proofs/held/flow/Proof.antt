@@ -185,7 +185,7 @@ loop-again c =
       omega (arith, n),
       omega (arith, n),
       omega (arith, n),
-      c .before .before .emit .kept .1 .1 .1 .1 .1 .0 ∙ l .inv .3,
+      c .before .before .emit .kept .1 .1 .1 .1 .1 .1 .0 ∙ l .inv .3,
       l .inv .4,
       λ r store new y. l .inv .5 r store new
           (flow-on (drop (l .at) (now (a .s))) (place (a .got .dropped) (l .blocks) (l .q)) (is-whole (c .before .before .before .before .before .before)) (rw length-drop (omega (arith, n)))

@@ -6,9 +6,12 @@ use Rattle.walk.proofs.Keeping.{body-fits, body-size, body-store, body-clear}
 use Rattle.reader.proofs.held.hand_out.Statement.{statement}
 use Rattle.reader.proofs.held.hand_out.Tie as tie
 
+second-byte-requires : tie.Need-second-byte-requires
+second-byte-requires c κs = search needs
+
 emit-requires : tie.Need-emit-requires
 emit-requires c κs =
-    let k = c .before .before .before .before .pre .0 in
+    let k = c .before .before .before .before .before .pre .0 in
     (omega (arith, body-fits k, body-size k, body-store k), omega arith)
 
 clear-requires : tie.Need-clear-requires
@@ -19,8 +22,9 @@ same-length c = search needs
 
 returns : tie.Need-returns
 returns c =
-    let k = c .before .before .before .before .before .before .before .before .before .pre .0 in
-    (c .clear .ensures ∙ body-clear k, c .before .before .before .before .emit .ensures)
+    let b = c .before .before .before .before in
+    let k = b .before .before .before .before .before .before .pre .0 in
+    (c .clear .ensures ∙ body-clear k, rw (b .before .before .before .before .second-byte .ensures) at (b .emit .ensures))
 
 pub hand-out-spec : {M : Type 1} → statement M
-hand-out-spec = tie.close (tie.spec emit-requires clear-requires same-length returns)
+hand-out-spec = tie.close (tie.spec second-byte-requires emit-requires clear-requires same-length returns)

@@ -8,7 +8,8 @@ use denote.Ref.{now}
 use borrow.Author.Needs.{needs}
 use Rattle.laws.proofs.Lists.{part-rest}
 use Rattle.octet.specs.Decoding.{nib}
-use Rattle.walk.specs.Mode.{continues, finished}
+use Rattle.walk.specs.Mode.{continues}
+use Rattle.walk.specs.Reading.{ended}
 use Rattle.walk.specs.Store.{modeOf}
 use Rattle.walk.proofs.Room.{carried-room, head-each}
 use Rattle.walk.proofs.Keeping.{holds-kept}
@@ -28,7 +29,7 @@ lose-requires c κs = search needs
 returns : tie.Need-returns
 returns c =
     let a = c .before .before .before .before .before .before .before .args in
-    read-skipped (modeOf (a .got .run) (now (a .store))) (nib (getD (now (a .packet)) 2 0)) (now (a .packet)) (a .got)
+    read-skipped (a .joined) (modeOf (a .got .run) (now (a .store))) (nib (getD (now (a .packet)) 2 0)) (now (a .packet)) (a .got)
     (c .before .before .before .pointed .ensures) (c .before .before .if1 .taken) (c .lose .ensures (now (a .out)))
 
 add-at : tie.Need-add-at
@@ -78,9 +79,9 @@ flow-requires c κs =
     let p = now (a .packet) in
     let n = 3 + b .before .before .before .before .pointed .result in
     let m = modeOf (a .got .run) (now (a .store)) in
-    let g = carried-room true m (take (n - 3) (drop 3 p)) (q .0 .good) in
-    let t = head-each (finished (continues true m (take (n - 3) (drop 3 p)))) in
-    let k = c .before .before .before .before .before .continue-to .kept .1 .1 .1 .1 .0 in
+    let g = carried-room true (a .joined) m (take (n - 3) (drop 3 p)) (q .0 .good) in
+    let t = head-each (ended (a .joined) (continues true m (take (n - 3) (drop 3 p)))) in
+    let k = c .before .before .before .before .before .continue-to .kept .1 .1 .1 .1 .1 .0 in
     let l : length (take (length p - n) (drop n p)) ≡ length p - n = ap length (part-rest n p) ∙ length-drop n p in
     (x .holds .kept, (omega (arith, x .written, g, l, k, q), omega (arith, x .written, x .blocks, t, q)))
 
@@ -92,7 +93,7 @@ returns-2 c =
     let b = c .before .before .before .before .before .before .before .before .before .before .before .before .before in
     let a = b .before .before .before .before .before .before .before .before .args in
     let r = sym (runs-mode (a .got .run) (now (a .store))) in
-    read-pointed (modeOf (a .got .run) (now (a .store))) (nib (getD (now (a .packet)) 2 0)) (now (a .packet)) (a .got) (b .before .before .before .before .pointed .ensures)
+    read-pointed (a .joined) (modeOf (a .got .run) (now (a .store))) (nib (getD (now (a .packet)) 2 0)) (now (a .packet)) (a .got) (b .before .before .before .before .pointed .ensures)
     (c .before .before .before .before .before .before .before .before .before .before .before .before .if2 .taken)
     (c .before .before .before .before .before .before .before .before .continue-to .ensures _ r (b .take-in .ensures)) (c .before .before .flow .ensures)
 
@@ -109,7 +110,7 @@ returns-3 c =
     let b = c .before .before .before .before .before .before in
     let a = b .before .before .before .before .before .before .before .before .args in
     let r = sym (runs-mode (a .got .run) (now (a .store))) in
-    read-unpointed (modeOf (a .got .run) (now (a .store))) (nib (getD (now (a .packet)) 2 0)) (now (a .packet)) (a .got) (b .before .before .before .before .pointed .ensures)
+    read-unpointed (a .joined) (modeOf (a .got .run) (now (a .store))) (nib (getD (now (a .packet)) 2 0)) (now (a .packet)) (a .got) (b .before .before .before .before .pointed .ensures)
     (b .before .before .before .before .before .before .before .before .pre .1 .0) (omega arith) (c .before .before .continue-on .ensures _ _ r (b .take-in .ensures))
 
 pub read-spec : {M : Type 1} → statement M

@@ -1,15 +1,33 @@
 -- `reader::many::heed` meets its contract. Assumes nothing.
+use mathlib.Core.Path.{_≡_, _∙_, sym, ap}
+use mathlib.Core.Bool.{Bool, false}
 use native.Mathlib.Omega.{arith}
 use lib.ListN.{getD, drop}
 use denote.Ref.{now}
 use borrow.Author.Needs.{needs}
+use Rattle.laws.specs.Pick.{pick, both, either}
 use Rattle.octet.specs.Decoding.{nib}
 use Rattle.blocks.specs.Block.{recordsOf}
 use Rattle.walk.proofs.Keeping.{holds-kept}
+use Rattle.walk.proofs.Adding.{runs-mode}
+use Rattle.state.specs.Acting.{spans}
 use Rattle.reader.specs.Internal.{stateIn}
 use Rattle.reader.proofs.Heeding.{heed-only, heed-read}
 use Rattle.reader.proofs.many.heed.Statement.{statement}
 use Rattle.reader.proofs.many.heed.Tie as tie
+
+-- whether the running block spans pages, as the state has it
+spanned :
+    (c : tie.After-spans)
+    → (let a = c .before .before .before .before .args in c .spans .result ≡ spans (a .v) (stateIn (a .a) (now (a .store))))
+spanned c =
+    let a = c .before .before .before .before .args in
+    c .spans .ensures
+    ∙ ap (λ (b : Bool). pick (a .v .drops) false (either (both (a .v .opens) b) (a .a .joined)))
+    (sym (runs-mode (a .a .got .run) (now (a .store))))
+
+spans-requires : tie.Need-spans-requires
+spans-requires c κs = search needs
 
 lose-requires : tie.Need-lose-requires
 lose-requires c κs = search needs
@@ -17,25 +35,43 @@ lose-requires c κs = search needs
 read-requires : tie.Need-read-requires
 unfolding recordsOf
 read-requires c κs =
-    let p = c .before .before .before .before .before .before .before .before .pre in
-    let w = c .before .before .before .lose .ensures (now (c .before .before .before .before .before .before .before .before .args .out)) in
-    let q = p .1 .1 in
-    (holds-kept _ (w .holds), (p .1 .0, record { long = omega (arith, w .written, q .long); few = omega (arith, w .written, w .blocks, q .few) }))
+    let s = c .before .before .before .before .before .before .before .before .before in
+    let w = c .before .before .before .lose .ensures (now (s .args .out)) in
+    let q = s .pre .1 .1 in
+    (holds-kept _ (w .holds), (s .pre .1 .0, record { long = omega (arith, w .written, q .long); few = omega (arith, w .written, w .blocks, q .few) }))
+
+shared-slice-read-goes-on : tie.Need-shared-slice-read-goes-on
+shared-slice-read-goes-on c = search needs
+
+goes-on-requires : tie.Need-goes-on-requires
+goes-on-requires c κs = search needs
 
 same-length : tie.Need-same-length
 same-length c = search needs
 
 returns : tie.Need-returns
 returns c =
-    let a = c .before .before .before .before .before .before .before .before .before .before .before .args in
+    let b = c .before .before .before .before .before .before .before .before in
+    let a = b .before .before .before .before .before .before .args in
     heed-read (a .v) (nib (getD (now (a .packet)) 2 0)) (drop 3 (now (a .packet))) (stateIn (a .a) (now (a .store)))
-    (c .before .before .before .before .before .before .lose .ensures (now (a .out))) (c .before .before .before .before .before .if1 .taken) (c .before .before .read .ensures)
+    (b .lose .ensures (now (a .out))) (c .before .before .before .before .before .before .before .if1 .taken) (spanned (b .before .before))
+    (c .before .before .before .before .read .ensures) (c .goes-on .ensures)
 
 returns-2 : tie.Need-returns-2
 returns-2 c =
-    let a = c .before .before .before .before .before .before .args in
+    let a = c .before .before .before .before .before .before .before .args in
     heed-only (a .v) (nib (getD (now (a .packet)) 2 0)) (drop 3 (now (a .packet))) (stateIn (a .a) (now (a .store)))
-    (c .before .lose .ensures (now (a .out))) (c .if1 .left)
+    (c .before .lose .ensures (now (a .out))) (c .if1 .left) (spanned (c .before .before .before))
 
 pub heed-spec : {M : Type 1} → statement M
-heed-spec = tie.close (tie.spec lose-requires read-requires same-length returns returns-2)
+heed-spec =
+    tie.close
+    (tie.spec
+    spans-requires
+    lose-requires
+    read-requires
+    shared-slice-read-goes-on
+    goes-on-requires
+    same-length
+    returns
+    returns-2)

@@ -1,0 +1,37 @@
+-- `reader::many::goes_on` meets its contract: its tests in order. Assumes nothing.
+use mathlib.Core.Path.{_∙_, sym}
+use borrow.Author.Needs.{needs}
+use borrow.Author.Tests.{eq-eqb, ne-eqb, not-true, not-false}
+use Rattle.octet.specs.Decoding.{nib}
+use Rattle.reader.proofs.many.goes_on.Statement.{statement}
+use Rattle.reader.proofs.many.goes_on.Tie as tie
+
+returns : tie.Need-returns
+returns c = rw (not-true (c .before .args .joined) (c .if1 .taken))
+
+decode-requires : tie.Need-decode-requires
+decode-requires c κs = search needs
+
+returns-2 : tie.Need-returns-2
+returns-2 c =
+    let a = c .before .before .before .args in
+    rw (
+      not-false (a .joined) (c .before .before .if1 .left),
+      ne-eqb (nib (a .pointer)) 13 (λ e. c .if2 .taken (c .before .decode .ensures ∙ e)),
+    )
+
+is-running-requires : tie.Need-is-running-requires
+is-running-requires c κs = search needs
+
+returns-3 : tie.Need-returns-3
+returns-3 c =
+    let b = c .before .before in
+    let a = b .before .before .args in
+    c .is-running .ensures
+    ∙ rw (
+      not-false (a .joined) (b .before .if1 .left),
+      eq-eqb (nib (a .pointer)) 13 (sym (b .decode .ensures) ∙ c .before .if2 .left),
+    )
+
+pub goes-on-spec : {M : Type 1} → statement M
+goes-on-spec = tie.close (tie.spec returns decode-requires returns-2 is-running-requires returns-3)

@@ -1,0 +1,40 @@
+-- `reader::many::spans` meets its contract: its tests in order. Assumes nothing.
+use borrow.Author.Needs.{needs}
+use borrow.Author.Tests.{not-true, not-false}
+use Rattle.reader.proofs.many.spans.Statement.{statement}
+use Rattle.reader.proofs.many.spans.Tie as tie
+
+returns : tie.Need-returns
+returns c = search needs
+
+returns-2 : tie.Need-returns-2
+returns-2 c = rw (c .before .before .if1 .left, not-true (c .before .before .before .args .v .opens) (c .if2 .taken))
+
+enum-told : tie.Need-enum-told
+enum-told c = search needs
+
+enum-told-2 : tie.Need-enum-told-2
+enum-told-2 c = search needs
+
+enum-told-3 : tie.Need-enum-told-3
+enum-told-3 c = search needs
+
+returns-3 : tie.Need-returns-3
+returns-3 c =
+    let b = c .before .before in
+    rw (b .before .before .if1 .left, not-false (b .before .before .before .args .v .opens) (b .if2 .left), c .enum-told .given .1)
+
+returns-4 : tie.Need-returns-4
+returns-4 c =
+    let b = c .before .before in
+    rw (b .before .before .if1 .left, not-false (b .before .before .before .args .v .opens) (b .if2 .left), c .enum-told2 .given .1)
+
+returns-5 : tie.Need-returns-5
+returns-5 c =
+    let b = c .before .before in
+    rw (b .before .before .if1 .left, not-false (b .before .before .before .args .v .opens) (b .if2 .left), c .enum-told3 .given .1)
+
+pub spans-spec : {M : Type 1} → statement M
+spans-spec =
+    tie.close
+    (tie.spec returns returns-2 enum-told enum-told-2 enum-told-3 returns-3 returns-4 returns-5)
