@@ -57,7 +57,7 @@ int main(int argc, char **argv)
         } else if (table && op == 30 && length >= 1) {
             unsigned no = plain_read_block(payload[0], payload + 1, length - 1, out, room, &written, &at, &mended);
             line(30, no, at, written);
-            printf(" mended=%u", mended);
+            printf(" mended=%u joined=%u", mended, no ? 0u : payload[1 + 3]);
         } else {
             continue;
         }

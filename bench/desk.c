@@ -32,7 +32,7 @@ static int list(const struct plain_setting *setting, size_t written)
             refused++;
         } else {
             accepted++;
-            held += plain_lines(form, got, mended, out + held);
+            held += plain_lines(form, got, mended, records[at + 3], out + held);
             if (held >= sizeof out / 2 && !flush())
                 return 0;
         }

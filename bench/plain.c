@@ -49,7 +49,7 @@ static void hand_out(struct plain_reader *r, struct plain_heard *heard, uint8_t 
     to[0] = (uint8_t)r->head;
     to[1] = (uint8_t)(r->head >> 8);
     to[2] = r->part;
-    to[3] = 0;
+    to[3] = r->joined;
     memcpy(to + PLAIN_HEAD, r->store, r->held);
     heard->written += (uint16_t)(PLAIN_HEAD + r->held);
     heard->blocks++;
@@ -111,6 +111,7 @@ static void starts(struct plain_reader *r, struct plain_heard *heard, const uint
         r->got = 0;
         r->head = 0;
         r->part = harm[d[at]];
+        r->joined = 0;
         at = fill(r, heard, d, at + 1, DATA);
         if (!finished(r))
             return;
@@ -159,6 +160,7 @@ static void packet_0(struct plain_reader *r, struct plain_heard *heard, const st
         r->open = 1;
         r->n = (uint8_t)n;
         r->last = 0;
+        r->joined = 1;                  /* of the block that runs; each that starts sets it anew */
     }
 }
 
@@ -274,7 +276,7 @@ unsigned plain_read_block(uint8_t application, const uint8_t *record, size_t len
     size = head >> 5;
     if (length != PLAIN_HEAD + size)
         return 13;
-    if (record[2] > 5 || record[3] != 0)
+    if (record[2] > 5 || record[3] > 1)
         return 16;
     if (head % 32 != application)
         return 12;
@@ -352,7 +354,7 @@ static char *language(char *to, const uint8_t *word)
     return to + 4;
 }
 
-size_t plain_lines(const uint8_t *form, size_t length, unsigned mended, char *out)
+size_t plain_lines(const uint8_t *form, size_t length, unsigned mended, unsigned joined, char *out)
 {
     char *to = out;
     size_t at = 6;
@@ -360,6 +362,8 @@ size_t plain_lines(const uint8_t *form, size_t length, unsigned mended, char *ou
     to = decimal(text(to, "block="), form[2] + 256u * form[3]);
     to = decimal(text(to, "network="), form[4]);
     to = decimal(text(to, "mended="), mended);
+    if (joined == 1)
+        to = text(to, "joined=1\n");
     while (at < length) {
         unsigned entries = form[at + 1];
         to = decimal(text(to, "descriptor="), form[at]);

@@ -27,6 +27,7 @@ struct plain_reader {
     uint8_t run, got;               /* the running block: PLAIN_IDLE .., nibbles of its 16 bits */
     uint16_t head, held;
     uint8_t part;                   /* its start and header bytes that weren't images */
+    uint8_t joined;                 /* 1: a page of ours was opened while it ran */
     uint8_t store[2047];
 };
 
@@ -50,7 +51,7 @@ struct plain_heard plain_feed(struct plain_reader *reader, const struct plain_se
 unsigned plain_read_block(uint8_t application, const uint8_t *record, size_t length,
                           uint8_t *form, size_t room, size_t *written, size_t *at, unsigned *mended);
 
-/* The desk's lines of a form and a count that plain_read_block gave; their length. */
-size_t plain_lines(const uint8_t *form, size_t length, unsigned mended, char *text);
+/* The desk's lines of a form and a count that plain_read_block gave, and of its record's second byte; their length. */
+size_t plain_lines(const uint8_t *form, size_t length, unsigned mended, unsigned joined, char *text);
 
 #endif

@@ -11,8 +11,8 @@ and prints a line for each case:
 
 no and at are the refusal's number and offset, both 0 where it is accepted; out
 is what the call reports as written; kept is whether every other byte is still
-A5. Op 21 adds blocks=N dropped=yes or no, ops 30 and 32 mended=N (0 where refused). An op that
-isn't known, or a payload that is too short for it: op=N unknown. A case that the end cuts short: short=N.
+A5. Op 21 adds blocks=N dropped=yes or no, ops 30 and 32 mended=N joined=N (0 and 0 where refused;
+joined is the record's second byte). An op that isn't known, or a payload that is too short for it: op=N unknown. A case that the end cuts short: short=N.
 
     op  program      payload                                  out
     1   try_octet    a byte                                   its nibble, or 16
@@ -33,7 +33,8 @@ isn't known, or a payload that is too short for it: op=N unknown. A case that th
     32  try_menu     application, a record                    an NI form
     33  try_menu     application, an NI form                  a record
     40  try_listing  how many bytes were mended (2 bytes,     the desk's lines
-                     low first), a table form
+                     low first), a record's second byte
+                     (not judged), a table form
     41  try_menu     application, a block number (2 bytes,    the listing
                      low first), records
     50  try_sheet    a sheet                                  the sheet, written again

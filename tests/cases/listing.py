@@ -8,22 +8,35 @@ from .table import CASE_G, LATER, extreme_tables, limits, shaped, some_table, un
 
 
 def list_call(payload, room=2 ** 32):
-    """How many bytes were mended, low byte first, and a table form."""
-    return listing.list_table(payload[2:], int.from_bytes(payload[:2], "little"), room)
+    """How many bytes were mended, low byte first, a record's second byte and a table form."""
+    return listing.list_table(payload[3:], int.from_bytes(payload[:2], "little"), payload[2], room)
+
+
+def list_payload(form, mended=0, joined=0):
+    return mended.to_bytes(2, "little") + bytes([joined]) + form
 
 
 def script_of(dice, size):
-    script = Script({40: (2, lambda payload, room: line(list_call, payload, room))})
-    show = lambda form, room=65536, mended=0: script.case(40, room, mended.to_bytes(2, "little") + form)
+    script = Script({40: (3, lambda payload, room: line(list_call, payload, room))})
+    show = lambda form, room=65536, mended=0, joined=0: script.case(40, room, list_payload(form, mended, joined))
     for t in (CASE_G, *(some_table(dice) for _ in range(40 * size))):
-        room_tried(script, 40, dice.below(2052).to_bytes(2, "little") + table.form_of(t), list_call)
+        room_tried(script, 40, list_payload(table.form_of(t), dice.below(2052), dice.below(2)), list_call)
     for mended in (0, 1, 9, 10, 99, 100, 256, 999, 1000, 2051, 2052, 9999, 10000, 65535):
         show(table.form_of(CASE_G), mended=mended), show(table.form_of(shaped(table.LI, [])), mended=mended)
+    for joined in (1, 2, 3, 9, 10, 49, 127, 128, 129, 255):     # 1 prints a line, and no other value does
+        for t in (CASE_G, shaped(table.LI, []), shaped(table.TI, [])):
+            show(table.form_of(t), mended=joined * 8, joined=joined)
+    for t in (CASE_G, shaped(table.LI, [])):                    # its line needs nine bytes
+        length = len(listing.list_table(table.form_of(t)))
+        for joined in (0, 1, 2):
+            for room in (length, length - 1, length + 8, length + 9):
+                show(table.form_of(t), room, joined=joined)
     for t in extreme_tables():
         show(table.form_of(t))
     for within, over in limits():
         text = len(listing.list_table(table.form_of(within)))
-        show(table.form_of(within), text), show(table.form_of(within), text - 1), show(table.form_of(over))
+        show(table.form_of(within), text), show(table.form_of(within), text - 1), show(table.form_of(over), joined=1)
+        show(table.form_of(within), text + 8, joined=1)
     for kind in (table.TI, table.LI):                   # a language is three of a..z
         for at in range(3):
             for letter in (0x00, 0x20, 0x41, 0x60, 0x61, 0x62, 0x79, 0x7A, 0x7B, 0xE1, 0xFF):
@@ -35,7 +48,7 @@ def script_of(dice, size):
             show(table.form_of(Table(table.LI, 0, block_no, number, [(number % 64, [])])))
     form = table.form_of(some_table(dice, table.TI, 2, 2)._replace(descriptors=[(9, [1, 2]), (3, [4, 5, 6, 7])]))
     for length in range(len(form)):
-        show(form[:length]), show(form[:length], 0)
+        show(form[:length]), show(form[:length], 0, joined=1)
     show(form + b"\x00")
     for block_no in LATER:
         other = with_bytes(form, (2, block_no % 256), (3, block_no // 256))
@@ -48,9 +61,9 @@ def script_of(dice, size):
     for kind in (table.TI, table.LI):
         for counts in ([15], [16], [0] * 63, [0] * 64, [255]):
             show(table.form_of(shaped(kind, counts)))
-    for payload in (b"", b"\x00", b"\x00\x00"):
+    for payload in (b"", b"\x00", b"\x00\x00", b"\x01\x00\x01", bytes(2) + form, bytes(2) + b"\x01" + form):
         script.case(40, 99, payload)
     for op in (0, 39, 41, 255):
-        script.case(op, 99, bytes(2) + form)
+        script.case(op, 99, bytes(3) + form)
     script.cut_short(b"\x28\x40\x00\x00\x00\x08\x00\x00\x00" + form[:7])
     return script

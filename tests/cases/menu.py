@@ -1,11 +1,11 @@
 """Menus both ways, and their listing: every kind of attribute, escapes, the largest blocks, each refusal alone and in pairs, links."""
 
-from model import Refused, guide, menu, octet, table
+from model import guide, menu, octet, table
 from model.guide import HEAD
 from model.menu import Escape, Event, Menu, String, with_parity
 
 from .form import LOST, Script, line, room_tried, with_bytes
-from .table import CASE_G, hit
+from .table import CASE_G, block_line, hit
 
 KINDS = (0x00, 0x02, 0x10, 0x18, 0x20, 0x27, 0x30, 0x40, 0x41, 0x7E, 0x7F, 0x80, 0x81, 0xBE, 0xBF, 0xC0, 0xC8, 0xC9, 0xDE, 0xDF, 0xE0, 0xE1, 0xFE, 0xFF)
 DATATYPES = (0, 1, 2, 3, 4, 5, 6, 7, 8, 0x0B, 0x13, 0x23, 0x33, 0x3B, 0x3E, 0x3F)     # a menu's, and others that share bits with it or don't
@@ -135,7 +135,7 @@ FAULTS = {
     "setting": lambda b: setattr(b, "application", 32),
     "length": lambda b: setattr(b, "cut", 1),
     "part": lambda b: setattr(b, "part", 6),
-    "second": lambda b: setattr(b, "second", 1),
+    "second": lambda b: setattr(b, "second", 2),
     "application": lambda b: setattr(b, "application", max(b.application, 2)),
     "size": lambda b: setattr(b, "cut", -1),
     "first": lambda b: b.changes.append((HEAD + 7, LOST)),
@@ -235,8 +235,10 @@ def head_cases(read):
     for application in (1, 31, 32, 33, 255):
         for length in (0, 1, 2, 3, len(good)):
             read(good[:length], application)
-    for part, second in ((0, 2), (0, 255), (128, 0), (255, 0), (255, 255), (1, 1), (2, 1), (3, 1), (4, 1), (5, 1)):
+    for part, second in ((0, 2), (0, 255), (128, 0), (255, 0), (255, 255), (0, 1), (1, 1), (2, 1), (3, 1), (4, 1), (5, 1), (6, 1),
+                         (5, 2), (6, 2), (1, 3), (0, 128), (0, 129)):
         read(with_bytes(good, (2, part), (3, second)))
+        read(with_bytes(good, (2, part), (3, second), (HEAD, LOST))), read(with_bytes(good, (2, part), (3, second)), room=0)
 
 
 def parity_cases(read, dice):
@@ -377,7 +379,7 @@ def passed_over(show):
         show(4, changed(one, *KIND, kind) + two)
     show(4, b"".join(table.write_block(1, table.form_of(CASE_G._replace(kind=kind, descriptors=[]))) for kind in (table.LI, table.TI)) + two)
     for part in range(6):
-        show(4, with_bytes(whole, (2, part)) + two)
+        show(4, with_bytes(whole, (2, part)) + two), show(4, with_bytes(whole, (2, part), (3, 1)) + two)
     for bit in range(8):                                             # a third of its control bytes mended
         show(4, with_bytes(whole, *((at, whole[at] ^ 1 << bit) for at in range(HEAD + bit % 3, HEAD + menu.width(one) // 4, 3))) + two)
     for place, width in spare_fields(0):
@@ -417,17 +419,9 @@ def list_call(payload, room=65536):
     return menu.list_menu(payload[0], int.from_bytes(payload[1:3], "little"), payload[3:], room)
 
 
-def read_line(payload, room):
-    try:
-        mended = menu.read_menu(payload[0], payload[1:], room).mended
-    except Refused:
-        mended = 0
-    return line(lambda: menu.read_menu(payload[0], payload[1:], room).form) + f" mended={mended}"
-
-
 def script_of(dice, size):
     script = Script({
-        32: (1, read_line),
+        32: (1, lambda payload, room: block_line(menu.read_menu, payload, room)),
         33: (1, lambda payload, room: line(menu.write_menu, payload[0], payload[1:], room)),
         41: (3, lambda payload, room: line(list_call, payload, room)),
     })

@@ -346,6 +346,114 @@ def mended_cases(hear, dice, size):
             hear.feed(air.noised(packet, 1) if dice.below(9) else air.noised(packet, 2))
 
 
+def joined_cases(hear, dice, size):
+    """The second byte: 1 for a block whose bytes, start and header among them, stand in more than one page as they were met."""
+    def over(air, block, begin, *between, n=1, more=b""):
+        """A block that begins at a byte of a page's last packet, what comes between, and a page with its rest and what follows it."""
+        lead = (begin - 1) // 3
+        hear.fresh(air)
+        hear.feed(air.header(3, n), *(air.row(y, 13) for y in range(1, n)), air.row(n, lead, bytes([FILL]) * (begin - 1) + block), *between)
+        rest = block[40 - begin:]
+        return rest + bytes([FILL]) * (-len(rest) % 3) + more
+
+    def rest_of(air, y, rest, at):
+        return air.row(y, at // 3, rest)
+
+    # a start alone in a page, a header across pages, one byte of a block in the second page, with blocks before and behind that aren't joined
+    for begin in range(33, 40):
+        for left in (0, 1, 2, 20):
+            air = Air(dice)
+            block = air.block(max(0, 40 - begin - 5 + left))
+            rest = over(air, block, begin)
+            hear.feed(air.header(4, 1), rest_of(air, 1, rest + air.block(0) + air.block(3), len(rest)))
+    for n in (1, 2):                            # the last block of a packet runs on, in the same page or over its end
+        air = Air(dice)
+        first, second, third = air.block(40), air.block(14), air.block(60)
+        hear.fresh(air)
+        hear.feed(air.header(13 + n, n), air.row(1, 0, first))
+        if n == 1:
+            hear.feed(air.header(15, 1))
+        rest = first[39:] + second + bytes([FILL]) * 2
+        hear.feed(air.row(n, 2, rest + third), air.header(0, 2), air.row(1, 13, third[39 - len(rest):]))
+        hear.feed(air.row(2, 5, third[78 - len(rest):] + bytes([FILL]) + air.block(1)))
+    for pages in (3, 4, 17):                    # over many pages, and round the indices
+        for n in (1, 2):
+            air = Air(dice)
+            rows = pages * n
+            block = air.block(39 * (rows - 1) - 2)          # three bytes are left for the last packet
+            hear.fresh(air)
+            for at in range(rows):
+                if at % n == 0:
+                    hear.feed(air.header(9 + at // n, n))
+                more = air.block(1) if at + 1 == rows else b""
+                hear.feed(air.row(1 + at % n, 0 if at == 0 else 13 if at + 1 < rows else 1, (block[39 * at:39 * at + 39] + more + b"\x00" * 39)[:39]))
+            hear.feed(air.header(9 + pages, 1), air.row(1, 0, air.block(2)))
+    # what stands between the pages: a page of n 0, more of them, other pages, streams and magazines, their rows, Y over 25
+    for zeros in (1, 2, 16):
+        air = Air(dice)
+        block = air.block(50)
+        rest = over(air, block, 37, *(air.header(4 + i, 0) for i in range(zeros)))
+        hear.feed(air.header(4 + zeros, 2), air.row(1, 13, rest), rest_of(air, 2, rest[39:] + air.block(1), len(rest) - 39))
+    air = Air(dice)                             # .. and rows in it are over its n: they drop
+    rest = over(air, air.block(5), 39, air.header(4, 0), air.row(1, 13))
+    hear.feed(air.header(5, 1), rest_of(air, 1, rest + air.block(1), len(rest)))
+    for what in ("page", "stream", "magazine", "high y"):
+        for twice in (False, True):
+            for n in (1, 2):
+                air = Air(dice)
+                between = [air.elsewhere(what), *([air.row(1, 0, air.block(1)), air.elsewhere(what)] if twice and what in ("page", "stream") else [])]
+                rest = over(air, air.block(dice.below(30)), 38, *between, n=n)
+                hear.feed(air.header(4, 1), rest_of(air, 1, rest + air.block(0), len(rest)))
+    # another page's packet 0 alone opens no page of ours: nothing is joined, a row behind it isn't read
+    for what in ("page", "stream"):
+        air = Air(dice)
+        rest = over(air, air.block(3), 37, air.elsewhere(what))
+        hear.feed(rest_of(air, 1, rest + air.block(0), len(rest)), rest_of(air, 2, rest, len(rest)), air.header(4, 1), air.row(1, 0, air.block(0)))
+    # a joined block is dropped, and the next, in the same page or over its end, has its own byte
+    for fault in ("pointer", "stray", "y", "address", "header", "index", "long"):
+        for second in (3, 60):
+            air = Air(dice)
+            block = air.block(20)
+            block = with_bytes(block, (4, LOST)) if fault == "header" else block
+            index, n = (6, 3) if fault == "index" else (4, 30) if fault == "long" else (4, 3)
+            rest = over(air, block, 38, air.header(index, n))
+            if fault == "address":
+                hear.feed(with_bytes(air.row(1, 13), (1, LOST)))
+            if fault in ("address", "long"):
+                hear.feed(air.header(5, 3))
+            rest = with_bytes(rest, (len(rest) - 1, LOST)) if fault == "stray" else rest
+            other = air.block(second)
+            hear.feed(air.row(2 if fault == "y" else 1, 16 if fault == "pointer" else len(rest) // 3, rest + other))
+            hear.feed(air.row(3 if fault == "y" else 2, 13, other[39 - len(rest):]), air.row(3, 13, other[78 - len(rest):]))
+            hear.feed(air.header(6, 1), air.row(1, 0, air.block(0)))
+    # a block that ends with its page, and one that begins with the next: neither is joined
+    for length in (39, 78):
+        air = Air(dice)
+        block = air.block(length - 5)
+        n = length // 39
+        hear.fresh(air)
+        hear.feed(air.header(0, n), *(air.row(y, 13 if y > 1 else 0, block[39 * (y - 1):]) for y in range(1, n + 1)), air.header(1, 1), air.row(1, 0, air.block(34)),
+                  air.header(2, 1), air.row(1, 0, air.block(29) + b"\x00" * 9))
+    # 0 doesn't say whole: of pages of two packets three are gone without a word, and two halves join in what is met as one page
+    air = Air(dice)
+    packets = air.stream(2, [73] * 4)
+    hear.fresh(air)
+    hear.feed(*packets[:2], *packets[5:])
+    air = Air(dice)                             # .. and one page of sixteen: 1, and not as it was sent
+    packets = air.stream(1, [60] * 20)
+    hear.fresh(air)
+    hear.feed(*packets[:2], *packets[34:])
+    # after a cut line: from a packet 0 on all comes, whatever ran before
+    for _ in range(5 * size):
+        air = Air(dice)
+        k = dice.between(1, 4)
+        packets = air.stream(k, [60, 73, *(dice.pick([0, 3, dice.below(90), 34, 73]) for _ in range(6)), 80], dice.below(16))
+        cut = dice.between(1, len(packets) // (k + 1) - 1) * (k + 1)
+        before = packets[:cut][:dice.between(1, cut)] if dice.chance(2) else [p for p in packets[:cut] if dice.below(4)]
+        hear.fresh(air)
+        hear.feed(*before, *packets[cut:])
+
+
 def refused_cases(hear, dice, size):
     """16 and 1; the state comes back equal, so what follows is as if they weren't."""
     air = Air(dice)
@@ -419,5 +527,5 @@ def wild_row(dice):
 
 def all_cases(script, dice, size):
     hear = Hearing(script)
-    for cases in (clean_cases, noise_cases, running_cases, pointer_cases, mended_cases, refused_cases, wild_cases):
+    for cases in (clean_cases, noise_cases, running_cases, pointer_cases, mended_cases, joined_cases, refused_cases, wild_cases):
         cases(hear, dice, size)

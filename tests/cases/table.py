@@ -103,14 +103,15 @@ def l1_records():
     return printed, guide.record_of(head, whole), mended, mended[:HEAD] + octet.images(sizes) + mended[HEAD + 60:]
 
 
-def read_line(payload, room):
-    mended = 0
+def block_line(call, payload, room):
+    """The line of a call that reads a record: its form, and behind it what was mended and whether it is joined, 0 and 0 where it is refused."""
+    read = table.Read(b"", 0, 0)
 
-    def call():
-        nonlocal mended
-        form, mended = table.read_block(payload[0], payload[1:], room)
-        return form
-    return line(call) + f" mended={mended}"
+    def form():
+        nonlocal read
+        read = call(payload[0], payload[1:], room)
+        return read.form
+    return line(form) + f" mended={read.mended} joined={read.joined}"
 
 
 def hit(dice, record, count):
@@ -124,7 +125,7 @@ def hit(dice, record, count):
 
 def script_of(dice, size):
     script = Script({
-        30: (1, read_line),
+        30: (1, lambda payload, room: block_line(table.read_block, payload, room)),
         31: (1, lambda payload, room: line(table.write_block, payload[0], payload[1:], room)),
     })
     read = lambda record, application=1, room=4096: script.case(30, room, bytes([application]) + record)
@@ -299,22 +300,23 @@ def pair_cases(read):
     lost = [with_bytes(good, (at, LOST)) for at in (HEAD, HEAD + 7, HEAD + 8, len(good) - 1)]
     kinds = [table.summed(1, with_field(nibbles, name, 3)) for name in ("datatype_id", "CA_mode")]
     for record in (*lost, *kinds, table.summed(1, nibbles + [0]), later(CASE_G, 3), guide.record_of(guide.head_of(1, 7), bytes(7))):
-        read(record, 32), read(record, 255), read(with_bytes(record, (2, 6))), read(with_bytes(record, (3, 1))), read(record, room=0)
+        read(record, 32), read(record, 255), read(with_bytes(record, (2, 6))), read(with_bytes(record, (3, 2))), read(record, room=0)
+        read(with_bytes(record, (3, 1))), read(with_bytes(record, (3, 1)), room=0)      # 1 is in range: as with 0
 
 
 def mended_cases(read, dice, good, size):
-    """What was mended: the part and the byte behind it, and the count that an accepted block carries."""
+    """What was mended: the part and, 0 or 1, the byte behind it, and the count that an accepted block carries."""
     for part in (0, 1, 4, 5, 6, 7, 128, 255):
         for second in (0, 1, 2, 255):
             record = with_bytes(good, (2, part), (3, second))
             read(record), read(hit(dice, record, 3))
-            if part in (5, 6) or second == 1:           # each other fault with it, in front and behind
+            if part in (5, 6) or second == 2:           # each other fault with it, in front and behind
                 read(record, 32), read(record, 2), read(record[:-1]), read(record + b"\x15"), read(record, room=0)
                 read(record[:3]), read(guide.record_of(guide.head_of(1, 7), bytes(7), part, second))
                 read(with_bytes(record, (HEAD, LOST))), read(with_bytes(record, (len(record) - 1, LOST)))
                 read(with_bytes(record, (HEAD, record[HEAD] ^ 0xFF))), read(table.summed(1, nibbles_in(good) + [0])[:2] + record[2:HEAD] + good[HEAD:] + b"\x15")
     for count in range(len(good) - HEAD + 1):           # every number of mended bytes
-        read(with_bytes(hit(dice, good, count), (2, dice.below(6))))
+        read(with_bytes(hit(dice, good, count), (2, dice.below(6)), (3, count % 2)))
     for at in range(HEAD, len(good)):                   # each byte, by each of its bits
         for bit in range(8):
             read(with_bytes(good, (at, good[at] ^ 1 << bit)))
@@ -322,5 +324,5 @@ def mended_cases(read, dice, good, size):
     read(with_bytes(hit(dice, most, len(most) - HEAD), (2, guide.MOST_PART)))      # 2,051, the most there can be
     for _ in range(20 * size):
         record = table.write_block(1, table.form_of(some_table(dice)))
-        record = with_bytes(hit(dice, record, dice.below(len(record) - HEAD)), (2, dice.below(7)), (3, dice.chance(9)))
+        record = with_bytes(hit(dice, record, dice.below(len(record) - HEAD)), (2, dice.below(7)), (3, dice.pick([0, 0, 1, 1, 1, 2])))
         read(record), read(record, room=dice.below(40))

@@ -67,7 +67,7 @@ def all_cases(script, dice, size):
         cut(good, 1, 1, small + tail)
     cut(good, 1, 1, b"\xe0\xff\x00\x00" + bytes(2046)), cut(good, 1, 1, b"\xe0\xff" + bytes(2047))
     cut(good, 0, 1, b"\x01\x00\x00\x00" * 5100) # needs more than 65,536 bytes
-    for part, second in ((1, 0), (5, 0), (6, 0), (255, 0), (0, 1), (0, 255), (255, 255), (0x16, 0x16)):     # neither sent nor judged
+    for part, second in ((1, 0), (5, 0), (6, 0), (255, 0), (0, 1), (0, 2), (5, 1), (0, 255), (255, 255), (0x16, 0x16)):     # neither sent nor judged
         other = guide.record_of(guide.head_of(31, 3), dice.bytes(3), part, second)
         cut(good, 2, 1, other + small + other), cut(good, 2, 1, other[:-1]), rooms(good, 2, 1, other)
     for _ in range(8 * size):

@@ -108,6 +108,13 @@ def editions():
     yield "editions", "", DESK, guide.cut(DESK, 0, 20, b"".join(later(CASE_G, n) for n in (0, 3, 0x8000, 1, 0x8001, 0xFFFF, 0)))
 
 
+def pages(dice):
+    """Tables in pages of one packet, most of them in more than one: each such table says so."""
+    data = guide.cut(DESK, 15, 1, b"".join(record(some_table(dice, descriptors=2)) for _ in range(12)))
+    assert 3 < listing.desk(data).count(b"joined=1\n") < 12
+    yield "joined", "", DESK, data
+
+
 def menus():
     """Menus among tables count as refused."""
     yield "menus", "", DESK, guide_menus()[0]
@@ -115,7 +122,8 @@ def menus():
 
 def main(folder):
     dice = Dice(11)
-    for name, words, setting, data in (*elsewhere(dice), *long(dice), *halves(dice), *longest(), *editions(), *menus(), *rough(dice), *without(dice)):
+    for name, words, setting, data in (*elsewhere(dice), *long(dice), *halves(dice), *longest(), *editions(), *menus(), *rough(dice), *without(dice),
+                                       *pages(dice)):
         (folder / f"{name}.t42").write_bytes(data)
         (folder / f"{name}.words").write_text("".join(word + "\n" for word in words.split()))
         (folder / f"{name}.txt").write_bytes(listing.desk(data, setting))

@@ -9,7 +9,7 @@ sys.dont_write_bytecode = True
 sys.path.insert(0, str(pathlib.Path(__file__).resolve().parent.parent))
 
 from cases.form import Dice, with_bytes
-from cases.reader import Air
+from cases.reader import Air, all_cases
 from cases.menu import EMPTY, SAMPLE, filled, linked, listed, some_menu, worded
 from cases.sheet import largest, named, sized, small, some_entry, some_sheet
 from cases.table import CASE_G, L1_PRINTED, L1_SUM, l1_records, later, shaped, some_table
@@ -169,7 +169,7 @@ def menus():
     for made in (EMPTY, SAMPLE, filled(1023, 1), worded(2047), *(some_menu(dice) for _ in range(200))):
         form = menu.form_of(made)
         record = menu.write_menu(1, form)
-        assert menu.menu_of(form) == made and menu.read_menu(1, record) == (form, 0)
+        assert menu.menu_of(form) == made and menu.read_menu(1, record) == (form, 0, 0)
         assert menu.width(made) % 8 == 0 and len(record) == guide.HEAD + menu.block_size(made)
         assert number(table.read_block, 1, record)[0] == 12
     assert number(menu.read_menu, 1, table.write_block(1, table.form_of(CASE_G)))[0] == 12
@@ -208,6 +208,94 @@ def menu_levels():
         assert said(*(linked(n) for n in range(1, count + 1))).endswith(end)
 
 
+class Marked(guide.Reader):
+    """A reader in which a block that runs is marked where a packet 0 opens our page and it lives."""
+
+    def __init__(self, setting):
+        super().__init__(setting)
+        self.marks = []
+
+    def open(self, n):
+        super().open(n)
+        if self.running:
+            self.running.marked = True
+
+    def hand_out(self):
+        self.marks.append(getattr(self.running, "marked", False))
+        super().hand_out()
+
+
+class Streams:
+    """Takes the reader's vector cases as streams."""
+
+    def __init__(self):
+        self.streams = []
+
+    def case(self, op, room, payload):
+        if op == 20:
+            self.streams.append((guide.Setting(*payload), []))
+        elif len(payload) == guide.PACKET:
+            self.streams[-1][1].append(payload)
+
+
+def joined_blocks():
+    """The second byte is 1 exactly where the block ran when a packet 0 opened our page, and lived; both come, in one page or many."""
+    streams, seen = Streams(), {0: 0, 1: 0}
+    all_cases(streams, Dice(6), 3)
+    for setting, packets in streams.streams:
+        if setting.in_range():
+            reader = Marked(setting)
+            came = [record for packet in packets for record in guide.records_in(reader.feed(packet).records)]
+            assert [record[3] for record in came] == reader.marks
+            for mark in reader.marks:
+                seen[mark] += 1
+    assert min(seen.values()) > 300
+    # 0 doesn't say whole: of pages of two packets three are gone without a word, and a block comes that wasn't sent
+    records = b"".join(guide.record_of(guide.head_of(1, 73), bytes([i]) * 73) for i in range(4))
+    packets = guide.cut(DESK, 0, 2, records)
+    came = guide.read_all(DESK, packets[:84] + packets[5 * 42:])
+    assert came[0][3] == 0 and guide.bare(came[0]) not in guide.records_in(records)
+
+
+def cut_line():
+    """After a cut line: from a packet 0 of ours on everything that starts behind it comes, with its second byte; before that at most one
+    block, which was running, and its second byte is 1. Between may stand other magazines' packets and, between pages, other pages'."""
+    dice, first = Dice(9), 0
+    for _ in range(400):
+        air, k = Air(dice), dice.between(1, 5)
+        records = [guide.record_of(guide.head_of(dice.below(32), size), dice.bytes(size))
+                   for size in (dice.pick([0, 1, 34, 73, dice.below(300)]) for _ in range(dice.between(3, 12)))]
+        packets = guide.cut(air.setting, dice.below(16), k, b"".join(records))
+        spans = list(guide.spanning(b"".join(records), packets))
+        packets = [packets[at:at + guide.PACKET] for at in range(0, len(packets), guide.PACKET)]
+        cut = dice.below(len(packets) // (k + 1)) * (k + 1)
+        place, starts = 0, []                               # the byte behind pointers at which each block starts
+        for record in records:
+            starts.append(place)
+            place += guide.CELL * len(guide.cells_of(record))
+        reader = guide.Reader(air.setting)
+        for packet in dice.pick([packets[:cut], packets[:cut][:dice.below(cut + 1)], packets, [], [p for p in packets if dice.below(3)]]):
+            reader.feed(packet if dice.below(9) else air.noised(packet, 2))
+        ran = reader.running is not None
+        came = []
+        for at, packet in enumerate(packets[cut:]):
+            if dice.chance(4):
+                came += guide.records_in(reader.feed(air.elsewhere("magazine")).records)
+            if at % (k + 1) == 0 and dice.chance(3):        # between whole pages another page, whole or not
+                if at > 0 or not reader.page or reader.page.last == reader.page.n:
+                    reader.feed(air.elsewhere(dice.pick(["page", "stream"])))
+                    for y in range(1, dice.below(4)):
+                        reader.feed(air.row(y, dice.below(14), dice.bytes(39)))
+            came += guide.records_in(reader.feed(packet).records)
+        behind = [guide.record_of(guide.head_in(r), r[guide.HEAD:], 0, span)
+                  for r, span, start in zip(records, spans, starts) if start >= cut // (k + 1) * k * 39]
+        assert came[len(came) - len(behind):] == behind and len(came) - len(behind) <= ran
+        for record in came[:len(came) - len(behind)]:
+            assert record[3] == 1
+            first += 1
+    assert first > 20
+
+
 def subsequence(some, whole):
     rest = iter(whole)
     return all(thing in rest for thing in some)
@@ -225,7 +313,8 @@ def damage(records, sent, arrived):
 
 
 def noise(rounds, most):
-    """Demand 3: one flip in each byte gives exactly the list, two a subsequence, each table with its count of damaged bytes."""
+    """Demand 3: one flip in each byte gives exactly the list, two a subsequence, each table with its count of damaged bytes and with whether
+    it was sent in more than one page."""
     dice = Dice(most)
     kept = sent = 0
     for _ in range(rounds):
@@ -234,11 +323,12 @@ def noise(rounds, most):
         application = air.setting.application
         records = [table.write_block(application, form) for form in forms]
         packets = guide.cut(air.setting, dice.below(16), dice.between(1, 25), b"".join(records))
+        spans = guide.spanning(b"".join(records), packets)
         packets = [packets[at:at + guide.PACKET] for at in range(0, len(packets), guide.PACKET)]
         hit = [air.noised(packet, most if dice.chance(6) else 1) for packet in packets]     # two flips everywhere leave nothing to see
         arrived = b"".join((air.noised(air.elsewhere("magazine"), most) if dice.chance(4) else b"") + packet for packet in hit)
         rows = [i for i, packet in enumerate(packets) if packet[:2] != guide.address(air.setting.magazine, 0)]
-        truth = list(zip(forms, damage(records, [packets[i] for i in rows], [hit[i] for i in rows])))
+        truth = list(zip(forms, damage(records, [packets[i] for i in rows], [hit[i] for i in rows]), spans))
         came = []
         for record in guide.read_all(air.setting, arrived):
             try:
@@ -251,7 +341,7 @@ def noise(rounds, most):
 
 
 def main():
-    for check in (images, cases_a_to_f, case_g, cases_h_to_k, annex_l1, editions, lost_pes, pages, day_sheet, dropping, menus, menu_levels):
+    for check in (images, cases_a_to_f, case_g, cases_h_to_k, annex_l1, editions, lost_pes, pages, day_sheet, dropping, menus, menu_levels, joined_blocks, cut_line):
         check()
         print(f"{check.__name__}: ok")
     for most in (1, 2):

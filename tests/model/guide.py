@@ -27,7 +27,7 @@ class Setting(NamedTuple):
                 and self.stream <= 15 and self.application <= 31)
 
 
-# --- records: 16 bits, low byte first, the part, a byte 0, the block's raw bytes ---
+# --- records: 16 bits, low byte first, the part, whether it is joined, the block's raw bytes ---
 
 HEAD = 4                        # the bytes before the raw ones
 MOST_PART = 5                   # the part counts start and header bytes
@@ -42,12 +42,17 @@ def size_of(head):
     return head >> 5
 
 
-def record_of(head, raw, part=0, second=0):
-    return head.to_bytes(2, "little") + bytes([part, second]) + bytes(raw)
+def record_of(head, raw, part=0, joined=0):
+    return head.to_bytes(2, "little") + bytes([part, joined]) + bytes(raw)
 
 
 def head_in(record):
     return int.from_bytes(record[:2], "little")
+
+
+def bare(record):
+    """A record without what the reader says of its way."""
+    return record_of(head_in(record), record[HEAD:])
 
 
 def records_in(data):
@@ -112,13 +117,28 @@ def cut(setting, first_index, k, records, room=2 ** 32):
     return packets
 
 
+def spanning(records, packets):
+    """Of each block that was cut into these packets whether its bytes, start and header among them, stand in more than one page."""
+    page, pages = 0, []         # the page of each byte behind a pointer
+    for at in range(0, len(packets), PACKET):
+        if packets[at + 1:at + 2] == images([0]) and decode(packets[at]) < 8:
+            page += 1
+        else:
+            pages += [page] * (DATA - 1)
+    at = 0
+    for record in records_in(records):
+        yield pages[at] != pages[at + len(record)]      # start and header are a byte more than the record's head
+        at += CELL * len(cells_of(record))
+
+
 # --- the reader ----------------------------------------------------------------
 
 class Block:
-    """A block that has started: its header's nibbles, then its raw bytes; the part is how many of start and header were mended."""
+    """A block that has started: its header's nibbles, then its raw bytes; the part is how many of start and header were mended, the pages
+    are those in which its bytes stand."""
 
-    def __init__(self, start):
-        self.nibbles, self.raw, self.part = [], bytearray(), int(mended(start))
+    def __init__(self, start, page):
+        self.nibbles, self.raw, self.part, self.pages = [], bytearray(), int(mended(start)), {page}
 
     def head(self):
         return sum(n << 4 * i for i, n in enumerate(self.nibbles))
@@ -126,8 +146,12 @@ class Block:
     def finished(self):
         return len(self.nibbles) == 4 and len(self.raw) == size_of(self.head())
 
-    def take(self, byte):
+    def joined(self):
+        return len(self.pages) > 1
+
+    def take(self, byte, page):
         """False where the byte is of the header and can't be decoded (SCOPE 9.11)."""
+        self.pages.add(page)
         if len(self.nibbles) == 4:
             self.raw.append(byte)
             return True
@@ -137,9 +161,10 @@ class Block:
 
 
 class Page(NamedTuple):
-    """Our open page: the count of packets that follow, the last Y."""
+    """Our open page: the count of packets that follow, the last Y, and its number among those that were met."""
     n: int
     last: int
+    met: int
 
 
 class Heard(NamedTuple):
@@ -152,7 +177,7 @@ class Reader:
     """The state, fresh at first: no page, no running block."""
 
     def __init__(self, setting):
-        self.setting, self.page, self.index, self.running = setting, None, 15, None
+        self.setting, self.page, self.index, self.running, self.met = setting, None, 15, None, 0
 
     def feed(self, packet, room=ROOM):
         need(self.setting.in_range() and len(packet) == PACKET, 16)
@@ -167,8 +192,13 @@ class Reader:
 
     def hand_out(self):
         """The running block goes out as a record (SCOPE 10.3)."""
-        self.finished.append(record_of(self.running.head(), self.running.raw, self.running.part))
-        self.running = None
+        block, self.running = self.running, None
+        self.finished.append(record_of(block.head(), block.raw, block.part, block.joined()))
+
+    def open(self, n):
+        """A page of ours begins."""
+        self.met += 1
+        self.page = Page(n, 0, self.met)
 
     def packet(self, address, data):
         one, two = (decode(byte) for byte in address)
@@ -207,14 +237,14 @@ class Reader:
             self.drop()
         self.index = s1                 # whatever n is (SCOPE 8.8)
         if n <= MOST_ROWS:
-            self.page = Page(n, last=0)
+            self.open(n)
 
     def row(self, y, data):
-        n, last = self.page
+        n, last, _ = self.page
         if y != last + 1 or y > n:      # the wrong Y (SCOPE 8.11, 8.12)
             self.drop()
         if y <= n:                      # read all the same (SCOPE 8.12, 8.13)
-            self.page = Page(n, last=y)
+            self.page = self.page._replace(last=y)
             self.data(data)
 
     def data(self, data):
@@ -248,7 +278,7 @@ class Reader:
             # The packet ends, or something else than a start comes (SCOPE 9.10).
             if at == DATA or decode(data[at]) != START:
                 return
-            self.running = Block(data[at])
+            self.running = Block(data[at], self.page.met)
             at = self.fill(data, at + 1, DATA)
             # Its header is broken (SCOPE 9.11), or it goes on in the next packet.
             if self.running is None or not self.running.finished():
@@ -258,7 +288,7 @@ class Reader:
     def fill(self, data, at, end):
         """The running block takes what it needs; the place after it."""
         while at < end and not self.running.finished():
-            if not self.running.take(data[at]):
+            if not self.running.take(data[at], self.page.met):
                 self.drop()
                 return at
             at += 1

@@ -16,11 +16,13 @@ def language(word):
     return f"{word:06x}"
 
 
-def lines(table, mended):
+def lines(table, mended, joined):
     yield f"kind={NAMES[table.kind]}"
     yield f"block={table.block_no}"
     yield f"network={table.network}"
     yield f"mended={mended}"
+    if joined == 1:
+        yield "joined=1"
     yield from table_lines(table)
 
 
@@ -34,9 +36,9 @@ def table_lines(table):
                 yield f"page={words[at + 1]:06x}"
 
 
-def list_table(form, mended=0, room=2 ** 32):
-    """The lines of one table form and its count of mended bytes; 22, 13 and 15 as in writing."""
-    text = "".join(line + "\n" for line in lines(table_of(form), mended)).encode()
+def list_table(form, mended=0, joined=0, room=2 ** 32):
+    """The lines of one table form, its count of mended bytes and its record's second byte; 22, 13 and 15 as in writing."""
+    text = "".join(line + "\n" for line in lines(table_of(form), mended, joined)).encode()
     need(len(text) <= room, 1)
     return text
 

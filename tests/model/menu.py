@@ -167,8 +167,8 @@ def with_parity(code):
 # --- reading --------------------------------------------------------------------------
 
 def read_menu(application, record, room=65536):
-    """A record's NI form, and how many bytes of its start, header and control data were mended."""
-    head, size, part, nibbles, front = opened(application, record, [NI])
+    """A record's NI form, how many bytes of its start, header and control data were mended, and whether it is joined."""
+    head, size, part, joined, nibbles, front = opened(application, record, [NI])
     control = HEAD + max(FIRST, min(2 * front["control_block_size"], size))
     nibbles += decoded(record, range(HEAD + FIRST, control))
     for at in range(control, len(record)):
@@ -179,7 +179,7 @@ def read_menu(application, record, room=65536):
     codes = bytes(byte & 0x7F for byte in record[control:])
     form = form_of(with_codes(menu, lengths, codes))
     need(len(form) <= room, 1)
-    return Read(form, part + sum(map(mended, record[HEAD:control])))
+    return Read(form, part + sum(map(mended, record[HEAD:control])), joined)
 
 
 def menu_in(nibbles):

@@ -112,27 +112,28 @@ def decoded(record, places):
 class Read(NamedTuple):
     form: bytes
     mended: int                     # the block's protected bytes that aren't images
+    joined: int                     # the record's second byte, as it was given
 
 
 def opened(application, record, kinds):
-    """What is judged first of a block of any kind, up to kind and access: head, size, part, first nibbles and their fields."""
+    """What is judged first of a block of any kind, up to kind and access: head, size, part and second byte, first nibbles and their fields."""
     need(application <= 31, 16)
     head = head_in(record)
     size = size_of(head)
     need(len(record) >= HEAD and len(record) == HEAD + size, 13)
-    part, second = record[2:HEAD]
-    need(part <= MOST_PART and second == 0, 16)
+    part, joined = record[2:HEAD]
+    need(part <= MOST_PART and joined <= 1, 16)
     need(head == head_of(application, size), 12)
     need(size >= FIRST, 13)
     nibbles = decoded(record, range(HEAD, HEAD + FIRST))
     front = Bits(nibbles).fields(COMMON)
     need(front["datatype_id"] in kinds and front["CA_mode"] == 0, 12)
-    return head, size, part, nibbles, front
+    return head, size, part, joined, nibbles, front
 
 
 def read_block(application, record, room=65536):
-    """A record's table form, and how many bytes of its block were mended, start and header included."""
-    head, size, part, nibbles, _ = opened(application, record, WORDS)
+    """A record's table form, how many bytes of its block were mended, start and header included, and whether it is joined."""
+    head, size, part, joined, nibbles, _ = opened(application, record, WORDS)
     need(size % 2 == 0, 13)
     nibbles += decoded(record, range(HEAD + FIRST, HEAD + size))
     table, front = table_in(nibbles)
@@ -142,7 +143,7 @@ def read_block(application, record, room=65536):
     need(0 <= 4 * size - width(table) <= 7, 14)        # loops, then fill 0..7
     form = form_of(table)
     need(len(form) <= room, 1)
-    return Read(form, part + sum(mended(byte) for byte in record[HEAD:]))
+    return Read(form, part + sum(mended(byte) for byte in record[HEAD:]), joined)
 
 
 def table_in(nibbles):

@@ -77,12 +77,12 @@ def unseen(dice, units):
     fives[first + 4] = march_table(dice, first, (5, 5, 4), [some_page(dice)] + [swapped(page) for page in pages[1:]])
     sent = [record(t) for t in fives]
     packets = packets_in(guide.cut(DESK, 0, 0, b"".join(sent)))
-    joined = [r for r in handed_out(guide.Reader(DESK), packets[:at] + packets[at + 21:]) if r not in sent]
+    joined = [r for r in handed_out(guide.Reader(DESK), packets[:at] + packets[at + 21:]) if guide.bare(r) not in sent]
     assert len(joined) == 1 and form(joined[0]), "without a word the halves join"
     carried = [pes.write(0x10, b"".join(b"\x02\xe7" + packet for packet in packets[i:i + units])) for i in range(0, len(packets), units)]
     hit = range(at // units, (at + 21) // units)
     data = b"".join(with_bytes(p, (49, 0x27)) if i in hit else p for i, p in enumerate(carried))
-    assert all(r in sent for r in handed_out(guide.Reader(DESK), packets_in(unpes.run(data)[0])))
+    assert all(guide.bare(r) in sent for r in handed_out(guide.Reader(DESK), packets_in(unpes.run(data)[0])))
     return data
 
 
