@@ -33,3 +33,4 @@ pub mod Again
 pub mod Usual
 pub mod Happening
 pub mod Aerials
+pub mod Unseen

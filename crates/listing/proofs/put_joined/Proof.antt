@@ -14,7 +14,7 @@ returns : tie.Need-returns
 unfolding joinedLine
 returns c =
     let a = c .before .before .args in
-    (put-as (simp (ne-eqb (a .second) 1 (c .if1 .taken))) (put-none (now (a .out)) (a .q)), omega arith)
+    (put-as (simp (ne-eqb (a .second) 1 (λ e. omega arith))) (put-none (now (a .out)) (a .q)), omega arith)
 
 slice-aggregate-put-number : tie.Need-slice-aggregate-put-number
 slice-aggregate-put-number c = search needs

