@@ -62,7 +62,7 @@ aired-long {R} {s} r a = mingled-long (rightly-long R s) r (aired-shared {k = 0}
 -- ---- the blocks
 
 -- blocks of which no byte was damaged land as they were sent
-all-clean : {xs : List Sending} → Each (Heard (λ a b. a ≡ b)) xs → map landed xs ≡ map unharmed xs
+pub all-clean : {xs : List Sending} → Each (Heard (λ a b. a ≡ b)) xs → map landed xs ≡ map unharmed xs
 all-clean nil = refl
 all-clean (and {a = x} n r) = ap₂ (λ (b : Block) (bs : List Block). b ∷ bs) (landed-clean x n) (all-clean r)
 

@@ -68,7 +68,7 @@ cuts :
 cuts (cut-pages κs a x t post) = post
 cuts (cut κs a x t post) = post
 
-starts : {r : Reader} → Starts r → r ≡ readerOf freshState
+pub starts : {r : Reader} → Starts r → r ≡ readerOf freshState
 starts (fresh κs a x t post) = post
 
 pub reads :

@@ -62,7 +62,7 @@ pub data Inside (L : Type 0) (k : ℕ) (m : Spot) (index last : ℕ) (st : State
 
 -- ---- what the packets do
 
-pub act-junk : (st : State) → act st junk ≡ record { page = Shut; index = st .index; mode = off; joined = false }
+act-junk : (st : State) → act st junk ≡ record { page = Shut; index = st .index; mode = off; joined = false }
 unfolding act
 act-junk st = refl
 
@@ -162,11 +162,11 @@ pub handed-packet :
 unfolding handed
 handed-packet k last p cs st e h = rw (e, eq-eqb (suc last) (last + 1) (omega arith), le-leb (suc last) k h)
 
-act-shut : (y p : ℕ) (cs : List ℕ) (st : State) → st .page ≡ Shut → act st (packetY y p cs) ≡ st
+pub act-shut : (y p : ℕ) (cs : List ℕ) (st : State) → st .page ≡ Shut → act st (packetY y p cs) ≡ st
 unfolding act
 act-shut y p cs st e = rw e
 
-handed-shut : (y p : ℕ) (cs : List ℕ) (st : State) → st .page ≡ Shut → handed st (packetY y p cs) ≡ []
+pub handed-shut : (y p : ℕ) (cs : List ℕ) (st : State) → st .page ≡ Shut → handed st (packetY y p cs) ≡ []
 unfolding handed
 handed-shut y p cs st e = rw e
 
@@ -174,11 +174,11 @@ handed-junk : (st : State) → handed st junk ≡ []
 unfolding handed
 handed-junk st = refl
 
-handed-other : (st : State) → handed st other ≡ []
+pub handed-other : (st : State) → handed st other ≡ []
 unfolding handed
 handed-other st = refl
 
-pub handed-foreign : (st : State) → handed st foreign ≡ []
+handed-foreign : (st : State) → handed st foreign ≡ []
 unfolding handed
 handed-foreign st = refl
 

@@ -35,12 +35,12 @@ use Rattle.claims.proofs.Many.{one-by-one}
 
 -- ---- what the two calls say
 
-feeds :
+pub feeds :
     {s : Setting} {r after : Reader} {p old out : List ℕ} {h : Heard} → Feeds s r p old h after out
     → (h ≡ feedHeard s r p old) × (after ≡ feedReader s r p old) × (out ≡ feedOut s r p old)
 feeds (feed κs a x t post) = (post .0, post .1 .0, post .1 .1)
 
-feeds-all :
+pub feeds-all :
     {s : Setting} {r after : Reader} {l old out : List ℕ} {h : HeardAll} → FeedsAll s r l old h after out
     → (h ≡ feedAllHeard s r l old) × (after ≡ feedAllReader s r l old) × (out ≡ feedAllOut s r l old)
 feeds-all (feed-all κs a x t post) = (post .0, post .1 .0, post .1 .1)

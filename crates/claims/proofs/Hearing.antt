@@ -115,7 +115,7 @@ elsewhere-heard R L hears s {q} e = go (address-heard R L hears (e .magazine) (e
 
 -- ---- packet 0
 
-not-both : (a b c d : ℕ) → ((a ≡ b) × (c ≡ d) → ⊥) → both (eqb a b) (eqb c d) ≡ false
+pub not-both : (a b c d : ℕ) → ((a ≡ b) × (c ≡ d) → ⊥) → both (eqb a b) (eqb c d) ≡ false
 not-both a b c d z = go (eqb a b) (eqb c d) refl refl
   where
     go : (t u : Bool) → eqb a b ≡ t → eqb c d ≡ u → both t u ≡ false

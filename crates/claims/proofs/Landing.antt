@@ -179,6 +179,10 @@ damage-parts x n =
     unlike-five (map byteOf (map raw (x .block .raw))) n
     ∙ ap (λ (l : List ℕ). leadDamage x + unlike l (landed x .raw)) (raw-bytes (x .block .raw))
 
+pub same-bytes : {l m : List ℕ} → Near (λ a b. a ≡ b) l m → l ≡ m
+same-bytes none = refl
+same-bytes (more e r) = ap₂ (λ (x : ℕ) (xs : List ℕ). x ∷ xs) e (same-bytes r)
+
 -- with no noise it lands as it was sent
 pub landed-clean : (x : Sending) → Heard (λ a b. a ≡ b) x → landed x ≡ unharmed x
 unfolding symbols
@@ -187,7 +191,3 @@ landed-clean x n =
     ap₂ (λ (part : ℕ) (l : List ℕ). record { head = x .block .head; part = part; second = secondByte x; raw = l })
     (ap (λ (l : List ℕ). unlike (take 5 (bytesOf (x .block))) (take 5 l)) (sym e) ∙ unlike-self (take 5 (bytesOf (x .block))))
     (ap (drop 5) (sym e) ∙ raw-bytes (x .block .raw))
-  where
-    same-bytes : {l m : List ℕ} → Near (λ a b. a ≡ b) l m → l ≡ m
-    same-bytes none = refl
-    same-bytes (more e r) = ap₂ (λ (x : ℕ) (xs : List ℕ). x ∷ xs) e (same-bytes r)

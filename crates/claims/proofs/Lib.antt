@@ -12,6 +12,8 @@ pub mod Sending
 pub mod Carried
 pub mod Apart
 pub mod Starting
+pub mod Tail
+pub mod Resuming
 pub mod Silent
 pub mod March
 pub mod Numbers
@@ -27,8 +29,10 @@ pub mod Worked
 pub mod Wrong
 pub mod Many
 pub mod Handing
+pub mod CutLine
 pub mod Calls
 pub mod Sheets
+pub mod CutLineCalls
 pub mod Again
 pub mod Usual
 pub mod Happening

@@ -2,8 +2,8 @@
 -- dropped. The pointer names the first start, so the bytes before it are the running block's and filler. Assumes nothing.
 use mathlib.Core.Path.{_≡_, _∙_, refl, sym, ap, subst}
 use mathlib.Core.Bool.{Bool, true, false, not}
-use mathlib.Core.List.{List, [], _∷_, _++_, map, map-append, append-assoc}
-use Prim.Native.Nat.{ℕ, suc, _+_, _*_, _≤_, _<_}
+use mathlib.Core.List.{List, [], _∷_, _++_, map, map-append}
+use Prim.Native.Nat.{ℕ, suc, _*_, _≤_, _<_}
 use native.Mathlib.Decide.{decLt}
 use native.Mathlib.Omega.{arith}
 use lib.ListN.{length, take, drop, take-append-drop}
@@ -24,9 +24,9 @@ use Rattle.state.proofs.Clearing.{untrue}
 use Rattle.claims.specs.Noise.{Hears}
 use Rattle.claims.proofs.Losing.{lost-all, came-append, came-map}
 use Rattle.claims.proofs.Telling.{Told, heard, symbolOf, cameOf, stood, Noisy}
-use Rattle.claims.proofs.Walking.{Fit, opens, Plain, sentEnds, sentGives, Runs, Sim, same, gone, Blocks, flow-follows}
+use Rattle.claims.proofs.Walking.{Fit, opens, Plain, sentEnds, Runs, Sim, same, gone, Blocks, flow-follows}
 use Rattle.claims.proofs.Carrying.{Carried, Between, continues-follows, out-of, runs-on}
-use Rattle.claims.proofs.Marking.{marked, sentFirst, sentOut, first-append, out-append, InPage, before-out, from-here, Spot, moved}
+use Rattle.claims.proofs.Marking.{sentFirst, sentOut, first-append, out-append, InPage, before-out, from-here, Spot, moved}
 use Rattle.claims.proofs.Carrying
 
 -- ---- walks go on from one list to the next
@@ -36,16 +36,8 @@ unfolding ends
 ends-append m [] ys = refl
 ends-append m (x ∷ xs) ys = ends-append (step m x) xs ys
 
-pub gives-append : (m : Mode) (xs ys : List ℕ) → gives m (xs ++ ys) ≡ gives m xs ++ gives (ends m xs) ys
-unfolding gives ends
-gives-append m [] ys = refl
-gives-append m (x ∷ xs) ys = rw (gives-append (step m x) xs ys, append-assoc)
-
 pub sentEnds-append : (m : Mode) (xs ys : List Told) → sentEnds m (xs ++ ys) ≡ sentEnds (sentEnds m xs) ys
 sentEnds-append m xs ys = ap (ends m) (map-append stood xs ys) ∙ ends-append m (map stood xs) (map stood ys)
-
-pub sentGives-append : (m : Mode) (xs ys : List Told) → sentGives m (xs ++ ys) ≡ sentGives m xs ++ sentGives (sentEnds m xs) ys
-sentGives-append m xs ys = ap (gives m) (map-append stood xs ys) ∙ gives-append m (map stood xs) (map stood ys)
 
 pub plain-left : (m : Mode) (xs ys : List Told) → Plain m (xs ++ ys) → Plain m xs
 plain-left m [] ys t = tt
@@ -86,7 +78,7 @@ at-start m (heard (bits n) c ∷ zs) t h = at-start _ zs (t .1) (omega arith)
 at-start m (heard (raw b) c ∷ zs) t h = at-start _ zs (t .1) (omega arith)
 
 -- what the flow leaves at the packet's end goes on running
-pub sim-between : {L : Type 0} {m k : Mode} → Sim L m k → Between L m (unfinished k)
+sim-between : {L : Type 0} {m k : Mode} → Sim L m k → Between L m (unfinished k)
 sim-between (same {m} r) = go m r
   where
     go : {L : Type 0} (m : Mode) → Runs m → Between L m (unfinished m)
@@ -155,7 +147,7 @@ lost-packet L m k j zs cs x =
     }
 
 -- the running block along xs, where no start is, and the flow from ys on
-split-heard :
+pub split-heard :
     (R : ℕ → ℕ → Type 0) (L : Type 0) → Hears R L → (m : Spot) (k : Mode) (j : Bool) (xs ys : List Told) → Plain (m .mode) (xs ++ ys)
     → beforeStart (map symbolOf xs) ≡ length (map symbolOf xs) → sentEnds (m .mode) xs ≡ scan → Each (Noisy R) (xs ++ ys)
     → Each (InPage (m .page)) (xs ++ ys) → Stands L m k j

@@ -1,14 +1,14 @@
 -- A reader with nothing running along packets of ours that begin at a packet 0: it is silent up to the first pointed start, and from there on it
 -- stands where the walk without loss does. No byte may be lost, so that at most one flip a byte is allowed. Assumes nothing.
 use mathlib.Core.Path.{_≡_, _∙_, refl, sym, ap, subst}
-use mathlib.Core.Bool.{Bool, true, false}
+use mathlib.Core.Bool.{true, false}
 use mathlib.Core.Logic.{_⊎_, inl, inr}
 use mathlib.Core.List.{List, [], _∷_, _++_, map}
 use Prim.Native.Nat.{ℕ, zero, suc, _+_, _-_, _*_, _%_, _≤_, _<_}
 use native.Mathlib.Omega.{arith}
 use lib.ListN.{length, take, drop, length-map, length-append, length-drop}
-use lib.Seq.{drop-append-le, drop-at, drop-drop}
-use borrow.Author.Tests.{le-leb, ne-eqb}
+use lib.Seq.{drop-append-le}
+use borrow.Author.Tests.{le-leb}
 use Rattle.laws.specs.Each.{Each}
 use Rattle.laws.proofs.Picks.{same}
 use Rattle.laws.proofs.Tests.{both-false}
@@ -24,52 +24,62 @@ use Rattle.pages.specs.declared.headers.Page.the-variants.{Open}
 use Rattle.pages.specs.Headers.{junk, foreign, ours, packetY}
 use Rattle.pages.specs.Seen.{see}
 use Rattle.pages.specs.Judging.{incomplete, breaks}
-use Rattle.walk.specs.Mode.{off, scan}
-use Rattle.walk.specs.Reading.{readMode, readBlocks, readJoined}
+use Rattle.walk.specs.Mode.{off, scan, ends, gives}
+use Rattle.walk.specs.Reading.{readMode, readBlocks}
 use Rattle.walk.proofs.Staying.{continues-off}
-use Rattle.state.specs.Acting.{State, act, handed}
-use Rattle.state.proofs.Clearing.{untrue}
+use Rattle.state.specs.Acting.{State, act}
 use Rattle.claims.specs.Noise.{Hears, Near, over, Fits}
 use Rattle.claims.specs.Mingled.{Kind, Mingled}
-use Rattle.claims.specs.Damage.{Placed, placed, byteIn, carriedIn, sendings, landed}
+use Rattle.claims.specs.Damage.{Placed, placed, carriedIn, sendings, landed}
 use Rattle.claims.specs.Carrying.{heardBlocks}
 use Rattle.claims.proofs.Losing.{near-length, near-drop, came-append}
-use Rattle.claims.proofs.Telling.{told, told-append, told-came, told-noisy, told-paged, bytes-placed}
+use Rattle.claims.proofs.Telling.{cameOf, told, told-append, told-came, told-noisy, told-paged, bytes-placed}
 use Rattle.claims.proofs.Landing.{packet-bytes}
-use Rattle.claims.proofs.Walking.{Plain, Blocks, flow-follows}
-use Rattle.claims.proofs.Walking
-use Rattle.claims.proofs.Packet.{here-joined, sim-between}
-use Rattle.claims.proofs.Marking.{sentFirst, sentOut, InPage, first-le, from-here, Spot, moved}
+use Rattle.claims.proofs.Walking.{Plain, Blocks}
+use Rattle.claims.proofs.Carrying.{idle}
+use Rattle.claims.proofs.Marking.{sentOut, first-le, Spot, moved}
+use Rattle.claims.proofs.Packet.{split-heard}
 use Rattle.claims.proofs.Hearing.{Beside, zero-heard, packet-heard, PacketHeard, read, skipped, unread}
-use Rattle.claims.proofs.Sending.{Sends, stream-sends, split}
-use Rattle.claims.proofs.Carried.{Inside, opened, Took, act-junk, act-foreign, act-packet, handed-packet, handed-ours, strip, strip-aside, quiet, after-one, first-near, none-left, none-more, packets-carried, pages-carried}
-use Rattle.claims.proofs.Starting.{Ahead, ahead-grab, ahead-drop, Next, silent, starts, next}
+use Rattle.claims.proofs.Sending.{stream-sends, split}
+use Rattle.claims.proofs.Carried.{Inside, opened, Took, act-foreign, act-packet, handed-packet, handed-ours, strip, strip-aside, quiet, after-one, first-near, none-left, none-more, packets-carried, pages-carried}
+use Rattle.claims.proofs.Starting.{Ahead, ahead-grab, ahead-drop, silent, starts, next}
 
 -- ---- with nothing running
 
-abbrev Idle : State → Type 0
-Idle st = st .mode ≡ off
+pub record Idle (st : State) : Type 0 where
+  pub mode : st .mode ≡ off
+  pub joined : st .joined ≡ false
 
 idle-junk : (st : State) → ⊥ → Idle (act st junk)
 idle-junk st x = absurd x
 
 idle-foreign : (st : State) → Idle st → Idle (act st foreign)
-idle-foreign st e = rw (act-foreign, e) (same (incomplete (st .page)) refl refl)
+idle-foreign st r =
+    rw act-foreign
+    (record {
+      mode = rw (r .mode) (same (incomplete (st .page)) refl refl);
+      joined = rw (r .joined) (same (incomplete (st .page)) refl refl);
+    })
 
 -- in a page of k packets with this index, after packet `last`, with nothing running
 record Still (k index last : ℕ) (st : State) : Type 0 where
   page : st .page ≡ Open k last
   at : st .index ≡ index
-  mode : Idle st
+  idle : Idle st
 
 -- our packet 0 opens the page, whatever stood open
 still-ours : (k index : ℕ) (st : State) → k ≤ 25 → Idle st → Still k index 0 (act st (ours index k))
 unfolding act
-still-ours k index st small e =
+still-ours k index st small r =
+    let d = breaks (st .page) (st .index) index k in
     record {
       page = rw (le-leb k 25 small);
       at = refl;
-      mode = rw e (same (breaks (st .page) (st .index) index k) {a = off} refl refl);
+      idle =
+          record {
+            mode = rw (r .mode) (same d {a = off} refl refl);
+            joined = rw (r .mode, r .joined, both-false) (same d {a = false} refl refl);
+          };
     }
 
 -- an empty stream is of no blocks
@@ -78,16 +88,9 @@ unfolding streamOf cellsOf symbols sendings
 none-sent [] e cs = refl
 none-sent (b ∷ bs) e cs = absurd (omega arith)
 
--- nothing runs, in this page
-abbrev at : ℕ → Spot
-at x = record { mode = scan; first = x; page = x }
-
--- the bytes from a place of a packet on
-placed-drop : (x f : ℕ) (l : List ℕ) → map byteIn (drop f (map (placed x) l)) ≡ drop f l
-placed-drop x f l = map-drop byteIn f (map (placed x) l) ∙ ap (drop f) (bytes-placed x l)
-
-paged-drop : (x f : ℕ) (ss : List Symbol) (l : List ℕ) → Each (InPage x) (told ss (drop f (map (placed x) l)))
-paged-drop x f ss l = subst (λ (cs : List Placed). Each (InPage x) (told ss cs)) (map-drop (placed x) f l) (told-paged x ss (drop f l))
+-- at the first start, in page x
+abbrev fresh : ℕ → Spot
+fresh x = record { mode = scan; first = x; page = x }
 
 module _ (R : ℕ → ℕ → Type 0) (hears : Hears R ⊥) (s : Setting) (k : ℕ) (page : s .page < 256) (stream : s .stream < 16) (most : k ≤ 25) where
   zero-opens :
@@ -121,15 +124,13 @@ module _ (R : ℕ → ℕ → Type 0) (hears : Hears R ⊥) (s : Setting) (k : �
 
     taken :
         {P : State → Type 0} {bs : List Block} (p : ℕ) → pointerOf (grab perPacket ss) ≡ p
-        → P
-        (record { page = Open k (suc last); index = st .index; mode = readMode off p cs; joined = readJoined (st .joined) off p cs })
-        → Blocks ⊥ bs (readBlocks (st .joined) off p cs)
+        → P (record { page = Open k (suc last); index = st .index; mode = readMode off p cs; joined = false }) → Blocks ⊥ bs (readBlocks false off p cs)
         → Took ⊥ P bs st (see s q)
     taken p e x y =
         rw (is-read, e)
         (record {
-          state = rw (act-packet k last p cs st (r .page) h, r .mode) x;
-          blocks = rw (handed-packet k last p cs st (r .page) h, r .mode) y;
+          state = rw (act-packet k last p cs st (r .page) h, r .idle .mode, r .idle .joined) x;
+          blocks = rw (handed-packet k last p cs st (r .page) h, r .idle .mode, r .idle .joined) y;
         })
 
     -- with no start in it
@@ -137,40 +138,36 @@ module _ (R : ℕ → ℕ → Type 0) (hears : Hears R ⊥) (s : Setting) (k : �
     passes e =
         let o = continues-off false cs in
         taken 13 (omega arith)
-        (record { page = refl; at = r .at; mode = rw o })
+        (record { page = refl; at = r .at; idle = record { mode = rw o; joined = refl } })
         (rw o over)
 
-    -- with the first start in it, in this page
+    -- with the first start in it; x is the number of the page
     begins :
         (x : ℕ) (bs : List Block) (f : ℕ) → Ahead ss f bs → f < perPacket → beforeStart (grab perPacket ss) ≡ f
-        → Plain scan (told (streamOf bs) (drop f (map (placed x) cs)))
-        → Took ⊥ (Inside ⊥ k (moved (at x) (told (streamOf bs) (drop f (map (placed x) cs)))) index (suc last))
-        (sentOut scan x (told (streamOf bs) (drop f (map (placed x) cs)))) st (see s q)
+        → let ys = told (streamOf bs) (map (placed x) (drop f cs)) in
+        Plain scan ys → Took ⊥ (Inside ⊥ k (moved (fresh x) ys) index (suc last)) (sentOut scan x ys) st (see s q)
+    unfolding beforeStart ends
     begins x bs f a small e plain =
-        let ys = told (streamOf bs) (drop f (map (placed x) cs)) in
+        let ys = told (streamOf bs) (map (placed x) (drop f cs)) in
         let p = pointerOf (grab perPacket ss) in
         let least : p ≤ 12 = omega arith in
-        let not-13 : p ≡ 13 → ⊥ = λ z. omega arith in
         let place : 3 * p ≡ f = celled-aligned celled ∙ e in
         let from = rw (ahead-grab perPacket a (omega arith)) at (near-drop f near) in
-        let noisy = told-noisy {R = R} (perPacket - f) (streamOf bs) (drop f (map (placed x) cs)) (rw (placed-drop x f cs) from) in
-        let g = flow-follows R ⊥ hears ys plain noisy (Walking.same tt) in
-        let w = from-here x scan x (paged-drop x f (streamOf bs) cs) plain (λ z. untrue z) in
-        let came = told-came (streamOf bs) (drop f (map (placed x) cs)) ∙ placed-drop x f cs in
+        let noisy = told-noisy {R = R} (perPacket - f) (streamOf bs) (map (placed x) (drop f cs)) (rw bytes-placed from) in
+        let g = split-heard R ⊥ hears (fresh x) off false [] ys plain refl refl noisy (told-paged x (streamOf bs) (drop f cs))
+        (record { mode = idle; joined = refl }) in
+        let came : map cameOf ys ≡ drop f cs = told-came (streamOf bs) (map (placed x) (drop f cs)) ∙ bytes-placed x (drop f cs) in
         let o = continues-off true (take (3 * p) cs) in
-        let b = rw came at (sim-between (g .mode)) in
         taken p refl
-        (opened refl (r .at)
-        (rw (le-leb p 12 least, ne-eqb p 13 not-13, both-false, place)
-        (record { mode = b; joined = here-joined (sentFirst x ys) x b refl (w .first) })))
-        (rw (w .out, le-leb p 12 least, o, place) (rw came at (g .blocks)))
+        (opened refl (r .at) (rw (le-leb p 12 least, place) (rw came at (g .stands))))
+        (rw (le-leb p 12 least, o, place) (rw (continues-off true [], came) at (g .blocks)))
 
   module _ (K : Kind → List ℕ → Type 0) (seen : (kind : Kind) (q : List ℕ) → K kind q → Beside ⊥ kind (see s q)) (bs : List Block) (fits : Each Fits bs) where
     -- what comes of the blocks whose starts stand ahead, n bytes of the stream on
     abbrev out : ℕ → List Placed → List Block
     out n cs = map landed (sendings bs (drop n cs))
 
-    -- what is said of so many pages from an index on
+    -- what is said of so many pages from an index on, before which x have begun
     abbrev Comes : ℕ → ℕ → Type 0
     Comes p index =
         (x : ℕ) (ss : List Symbol) (n : ℕ) (mine : List (List ℕ)) (st : State) (qs : List (List ℕ)) → Celled ss → Ahead ss n bs
@@ -191,20 +188,22 @@ module _ (R : ℕ → ℕ → Type 0) (hears : Hears R ⊥) (s : Setting) (k : �
         st r a
 
     packets-silent :
-        (x w last index p : ℕ) (ss : List Symbol) (n : ℕ) (mine : List (List ℕ)) (st : State) (qs : List (List ℕ)) → last + w ≡ k → index < 16
+        (w last index p x : ℕ) (ss : List Symbol) (n : ℕ) (mine : List (List ℕ)) (st : State) (qs : List (List ℕ)) → last + w ≡ k → index < 16
         → Celled ss → Ahead ss n bs → length ss ≤ length (carriedIn k x w mine) → Comes p ((index + 1) % 16) → Still k index last st
         → Mingled R K k w false (dataPackets s w (suc last) ss ++ pages s k p ((index + 1) % 16) (afterPackets w ss)) mine qs
         → Blocks ⊥ (out n (carriedIn k x w mine)) (heardBlocks s st qs)
     unfolding dataPackets carriedIn
-    packets-silent x zero last index p ss n mine st qs e low celled ahead cover on still a = on x ss n mine st qs celled ahead cover (still .mode) a
-    packets-silent x (suc w) last index p ss n [] st qs e low celled ahead cover on still a =
+    packets-silent zero last index p x ss n mine st qs e low celled ahead cover on still a =
+        on x ss n mine st qs celled ahead cover (still .idle) a
+    packets-silent (suc w) last index p x ss n [] st qs e low celled ahead cover on still a =
         absurd (none-left R ⊥ hears s K seen k page stream most a)
-    packets-silent x (suc w) last index p ss n (q ∷ mine) st qs e low celled ahead cover on still a =
+    packets-silent (suc w) last index p x ss n (q ∷ mine) st qs e low celled ahead cover on still a =
         let near = packet-bytes s (suc last) ss q (first-near R ⊥ hears s K seen k page stream most a) in
-        let here = map (placed x) (drop 3 q) in
-        let long : length here ≡ 39 =
-        length-map (drop 3 q) (placed x) ∙ sym (near-length near) ∙ length-map (grab perPacket ss) byteOf ∙ length-grab perPacket ss in
+        let bytes = drop 3 q in
+        let here = map (placed x) bytes in
         let cs = carriedIn k x w mine in
+        let long : length here ≡ 39 =
+        length-map bytes (placed x) ∙ sym (near-length near) ∙ length-map (grab perPacket ss) byteOf ∙ length-grab perPacket ss in
         let within : suc last ≤ k = omega arith in
         let up : suc last + w ≡ k = omega arith in
         let whole : length (here ++ cs) ≡ 39 + length cs = length-append here cs ∙ rw long in
@@ -215,7 +214,7 @@ module _ (R : ℕ → ℕ → Type 0) (hears : Hears R ⊥) (s : Setting) (k : �
               (packet-then (Still k index (suc last)) index last w (dataPacket s (suc last) ss) q [] (out m cs)
               (λ st r f. passes index last ss st q within celled r f none)
               (λ st qs r a.
-              packets-silent x w (suc last) index p (drop perPacket ss) m mine st qs up low (after-celled 1 celled) further
+              packets-silent w (suc last) index p x (drop perPacket ss) m mine st qs up low (after-celled 1 celled) further
               (omega (arith, length-drop perPacket ss)) on r
               (subst
               (λ (l : List Symbol).
@@ -223,21 +222,23 @@ module _ (R : ℕ → ℕ → Type 0) (hears : Hears R ⊥) (s : Setting) (k : �
               after a))
               st still a)
           | starts small first ↦
-              let ys = told (streamOf bs) (drop n here) in
-              let back : drop n (here ++ cs) ≡ drop n here ++ cs = drop-append-le n here cs (omega arith) in
-              let left : length (drop n here) ≡ 39 - n = length-drop n here ∙ rw long in
+              let ys = told (streamOf bs) (map (placed x) (drop n bytes)) in
+              let back : drop n (here ++ cs) ≡ map (placed x) (drop n bytes) ++ cs =
+              drop-append-le n here cs (omega arith) ∙ ap (λ (l : List Placed). l ++ cs) (sym (map-drop (placed x) n bytes)) in
+              let left : length (map (placed x) (drop n bytes)) ≡ 39 - n =
+              ap length (map-drop (placed x) n bytes) ∙ length-drop n here ∙ rw long in
               let cut : told (streamOf bs) (drop n (here ++ cs)) ≡ ys ++ told (drop perPacket ss) cs =
-              ap (told (streamOf bs)) back ∙ told-append (streamOf bs) (drop n here) cs
+              ap (told (streamOf bs)) back ∙ told-append (streamOf bs) (map (placed x) (drop n bytes)) cs
               ∙ rw (left, ← ahead-drop perPacket ahead (omega arith)) in
               let enough : length (streamOf bs) ≤ length (drop n (here ++ cs)) =
               omega (arith, length-drop n (here ++ cs), length-append (ahead .front) (streamOf bs), ap length (ahead .whole), ahead .long) in
               let g = split scan x ys (told (drop perPacket ss) cs) (rw cut at (stream-sends x fits (drop n (here ++ cs)) enough)) in
               rw (g .gives)
-              (packet-then (Inside ⊥ k (moved (at x) ys) index (suc last)) index last w (dataPacket s (suc last) ss) q (sentOut scan x ys) (g .rest)
+              (packet-then (Inside ⊥ k (moved (fresh x) ys) index (suc last)) index last w (dataPacket s (suc last) ss) q (sentOut scan x ys) (g .rest)
               (λ st r f. begins index last ss st q within celled r f x bs n ahead small first (g .plain))
               (λ st qs r a.
-              packets-carried R ⊥ hears s K seen k page stream most w (suc last) index p (moved (at x) ys) (drop perPacket ss) mine (g .rest) st qs up
-              (after-celled 1 celled) (first-le x x (paged-drop x n (streamOf bs) (drop 3 q)) (omega arith)) (g .sends)
+              packets-carried R ⊥ hears s K seen k page stream most w (suc last) index p (moved (fresh x) ys) (drop perPacket ss) mine (g .rest) st qs up
+              (after-celled 1 celled) (first-le x x (told-paged x (streamOf bs) (drop n bytes)) (omega arith)) (g .sends)
               (pages-carried R ⊥ hears s K seen k page stream most p ((index + 1) % 16) (omega arith)) r
               (subst
               (λ (l : List Symbol).
@@ -248,16 +249,16 @@ module _ (R : ℕ → ℕ → Type 0) (hears : Hears R ⊥) (s : Setting) (k : �
 
     pub pages-silent : (p index : ℕ) → index < 16 → Comes p index
     unfolding pages carriedIn heardBlocks
-    pages-silent zero index low x ss n [] st qs celled ahead cover idle a =
+    pages-silent zero index low x ss n [] st qs celled ahead cover rests a =
         let z : length (streamOf bs) ≡ 0 = omega (arith, length-append (ahead .front) (streamOf bs), ap length (ahead .whole)) in
         rw (none-sent bs z (drop n [])) (quiet R ⊥ hears s K seen k st tt a)
-    pages-silent zero index low x ss n (q ∷ mine) st qs celled ahead cover idle a = absurd (none-more R ⊥ hears s K seen k page stream most a)
-    pages-silent (suc p) index low x ss n [] st qs celled ahead cover idle a = absurd (none-left R ⊥ hears s K seen k page stream most a)
-    pages-silent (suc p) index low x ss n (q ∷ mine) st qs celled ahead cover idle a =
+    pages-silent zero index low x ss n (q ∷ mine) st qs celled ahead cover rests a = absurd (none-more R ⊥ hears s K seen k page stream most a)
+    pages-silent (suc p) index low x ss n [] st qs celled ahead cover rests a = absurd (none-left R ⊥ hears s K seen k page stream most a)
+    pages-silent (suc p) index low x ss n (q ∷ mine) st qs celled ahead cover rests a =
         strip-aside R ⊥ hears s K seen k Idle idle-junk idle-foreign (out n (carriedIn k (suc x) k mine))
         (λ st qs r f a.
         let t = zero-opens index low st r f in
         came-append (t .blocks)
-        (packets-silent (suc x) k 0 index p ss n mine (act st (see s q)) qs (omega arith) low celled ahead cover
+        (packets-silent k 0 index p (suc x) ss n mine (act st (see s q)) qs (omega arith) low celled ahead cover
         (pages-silent p ((index + 1) % 16) (omega arith)) (t .state) a))
-        st idle a
+        st rests a

@@ -1,18 +1,18 @@
 -- The writer's stream from any place on: the rest of the block that is being sent there, with no start in it, and then the blocks that start
 -- behind that place. Packet by packet, up to the first start. Assumes nothing.
-use mathlib.Core.Path.{_≡_, _∙_, refl, sym, ap, subst}
+use mathlib.Core.Path.{_≡_, _∙_, refl, sym, ap, ap₂, subst}
 use mathlib.Core.List.{List, [], _∷_, _++_, map, append-nil}
 use Prim.Native.Nat.{ℕ, zero, suc, _+_, _-_, _*_, _%_, _≤_, _<_}
 use native.Mathlib.Decide.{decLt}
 use native.Mathlib.Omega.{arith}
-use lib.ListN.{length, take, drop, replicate, length-drop, take-append-drop, length-append}
-use lib.Seq.{drop-nil, drop-append-le, drop-append-add, drop-drop}
+use lib.ListN.{length, take, drop, replicate, length-drop, take-append-drop}
+use lib.Seq.{drop-nil, drop-drop, drop-append-le, drop-append-add}
 use Rattle.laws.specs.Each.{Each, nil, and}
 use Rattle.laws.proofs.Eaches.{each-append, each-right}
 use Rattle.blocks.specs.Block.{Block}
-use Rattle.symbols.specs.Stream.{Symbol, fill, raw, byteOf, cell, perPacket, symbols, fillAfter, cellsOf, streamOf, grab, beforeStart}
+use Rattle.symbols.specs.Stream.{Symbol, fill, raw, byteOf, cell, perPacket, symbols, cellsOf, streamOf, grab, beforeStart}
 use Rattle.writer.proofs.Aligned.{Plain, fills, bit, byte, before-plain}
-use Rattle.claims.specs.Damage.{Placed, sendings}
+use Rattle.claims.specs.Damage.{Placed, Sending, sendings}
 use Rattle.claims.specs.CutLine.{startingFrom}
 use Rattle.claims.proofs.Landing.{drop-grab}
 
@@ -58,33 +58,85 @@ unfolding cellsOf symbols
 cells-plain b n =
     plain-drop n _ (and bit (and bit (and bit (and bit (each-append (plain-raws (b .raw)) (plain-fills (length (symbols b) * 2 % cell)))))))
 
-pub ahead : (bs : List Block) (n : ℕ) → (m : ℕ) × Ahead (drop n (streamOf bs)) m (startingFrom bs n)
-unfolding startingFrom streamOf
-ahead [] n = (0, record { front = []; plain = nil; long = refl; whole = drop-nil n })
-ahead (b ∷ bs) zero = (0, record { front = []; plain = nil; long = refl; whole = refl })
-ahead (b ∷ bs) (suc n) =
-    elim (decLt (length (cellsOf b)) (suc n)) [
+-- the blocks whose start stands at place n of their stream, or behind it
+unfoldable pub startsFrom : List Block → ℕ → List Block
+startsFrom [] n = []
+startsFrom (b ∷ bs) zero = b ∷ bs
+startsFrom (b ∷ bs) (suc n) = startsFrom bs (suc n - length (cellsOf b))
+
+starts-all : (bs : List Block) → startsFrom bs 0 ≡ bs
+unfolding startsFrom
+starts-all [] = refl
+starts-all (b ∷ bs) = refl
+
+starting-all : (xs : List Sending) → startingFrom xs 0 ≡ xs
+unfolding startingFrom
+starting-all [] = refl
+starting-all (x ∷ xs) = refl
+
+pub each-starts : {P : Block → Type 0} {bs : List Block} (n : ℕ) → Each P bs → Each P (startsFrom bs n)
+unfolding startsFrom
+each-starts n nil = nil
+each-starts zero (and p r) = and p r
+each-starts (suc n) (and p r) = each-starts _ r
+
+-- the stream from place n on: how far ahead the first of them starts, and where their bytes stand in the whole
+pub record From (bs : List Block) (n : ℕ) : Type 0 where
+  pub far : ℕ
+  pub ahead : Ahead (drop n (streamOf bs)) far (startsFrom bs n)
+  pub bytes : (cs : List Placed) → startingFrom (sendings bs cs) n ≡ sendings (startsFrom bs n) (drop (n + far) cs)
+
+pub from : (bs : List Block) (n : ℕ) → From bs n
+unfolding startsFrom startingFrom streamOf sendings
+from [] n =
+    record {
+      far = 0;
+      ahead = record { front = []; plain = nil; long = refl; whole = drop-nil n };
+      bytes = λ cs. refl;
+    }
+from (b ∷ bs) zero =
+    record {
+      far = 0;
+      ahead = record { front = []; plain = nil; long = refl; whole = refl };
+      bytes = λ cs. refl;
+    }
+from (b ∷ bs) (suc n) =
+    let size = length (cellsOf b) in
+    elim (decLt size (suc n)) [
       | yes h ↦
-          let rest = ahead bs (suc n - length (cellsOf b)) in
-          let e : suc n ≡ length (cellsOf b) + (suc n - length (cellsOf b)) = omega arith in
-          let d : drop (suc n) (cellsOf b ++ streamOf bs) ≡ drop (suc n - length (cellsOf b)) (streamOf bs) =
-          ap (λ (i : ℕ). drop i (cellsOf b ++ streamOf bs)) e ∙ drop-append-add (cellsOf b) (streamOf bs) (suc n - length (cellsOf b)) in
-          (rest .0, rw d (rest .1))
+          let left = suc n - size in
+          let rest = from bs left in
+          let e : suc n ≡ size + left = omega arith in
+          let d : drop (suc n) (cellsOf b ++ streamOf bs) ≡ drop left (streamOf bs) =
+          ap (λ (i : ℕ). drop i (cellsOf b ++ streamOf bs)) e ∙ drop-append-add (cellsOf b) (streamOf bs) left in
+          let f : size + (left + rest .far) ≡ suc n + rest .far = omega arith in
+          record {
+            far = rest .far;
+            ahead = rw d (rest .ahead);
+            bytes =
+                λ cs.
+                rest .bytes (drop size cs)
+                ∙ ap (sendings (startsFrom bs left)) (drop-drop (left + rest .far) size cs ∙ ap (λ (i : ℕ). drop i cs) f);
+          }
       | no h ↦
-          let z : suc n - length (cellsOf b) ≡ 0 = omega arith in (
-            length (drop (suc n) (cellsOf b)),
-            record {
-              front = drop (suc n) (cellsOf b);
-              plain = cells-plain b n;
-              long = refl;
-              whole = drop-append-le (suc n) (cellsOf b) (streamOf bs) (omega arith) ∙ rw (z, all bs);
-            },
-          )
+          let z : suc n - size ≡ 0 = omega arith in
+          let f : suc n + (size - suc n) ≡ size = omega arith in
+          record {
+            far = size - suc n;
+            ahead =
+                record {
+                  front = drop (suc n) (cellsOf b);
+                  plain = cells-plain b n;
+                  long = length-drop (suc n) (cellsOf b);
+                  whole = drop-append-le (suc n) (cellsOf b) (streamOf bs) (omega arith) ∙ rw (z, starts-all bs);
+                };
+            bytes =
+                λ cs.
+                ap (startingFrom (sendings bs (drop size cs))) z
+                ∙ starting-all (sendings bs (drop size cs))
+                ∙ sym (ap₂ (λ (l : List Block) (i : ℕ). sendings l (drop i cs)) (ap (startsFrom bs) z ∙ starts-all bs) f);
+          }
     ]
-  where
-    all : (bs : List Block) → startingFrom bs 0 ≡ bs
-    all [] = refl
-    all (b ∷ bs) = refl
 
 -- ---- a packet's symbols
 

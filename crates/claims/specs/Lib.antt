@@ -2,7 +2,6 @@ pub mod Noise
 pub mod Mingled
 pub mod Damage
 pub mod Carrying
-pub mod CutLine
 pub mod Feeding
 pub mod Lists
 pub mod Tables
@@ -11,5 +10,6 @@ pub mod March
 pub mod Tells
 pub mod Calls
 pub mod Sheets
+pub mod CutLine
 pub mod Judges
 pub mod Twice
