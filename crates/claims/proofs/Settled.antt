@@ -62,6 +62,8 @@ use Rattle.walk.proofs.starts.find.Reads as walk·find
 use Rattle.walk.proofs.head_on.Reads as walk·head-on
 use Rattle.walk.proofs.starts.falls.Reads as walk·falls
 use Rattle.pages.proofs.judge.Reads as pages·judge
+use Rattle.pages.proofs.two.judge.Reads as pages·two-judge
+use Rattle.pages.proofs.two.page_of.Reads as pages·two-page-of
 use Rattle.survey.proofs.count.Reads as survey·count
 use Rattle.survey.proofs.find.Reads as survey·find
 use Rattle.survey.proofs.turn_all.Reads as survey·turn-all
@@ -74,6 +76,9 @@ use Rattle.captures.proofs.start.Reads as captures·start
 use Rattle.captures.proofs.sight.pages.Reads as captures·pages
 use Rattle.packet.proofs.address.Reads as packet·address
 use Rattle.packet.proofs.passes_by.Reads as packet·passes-by
+use Rattle.packet.proofs.two.is_in_range.Reads as packet·two-is-in-range
+use Rattle.packet.proofs.two.first.Reads as packet·two-first
+use Rattle.packet.proofs.two.second.Reads as packet·two-second
 use Rattle.lent_bytes.proofs.copy.Reads as lent-bytes·copy
 use Rattle.lent_bytes.proofs.clear.Reads as lent-bytes·clear
 use Rattle.state.proofs.fresh.Reads as state·fresh
@@ -271,11 +276,26 @@ walk·falls-settled κs a x y s t p q = same p q
 pub pages·judge-settled : (κs : _) (a : _) (x y : _) (s t : _) → pages·judge.Post κs a x s → pages·judge.Post κs a y t → x ≡ y
 pages·judge-settled κs a x y s t p q = same p q
 
+pub pages·two-judge-settled : (κs : _) (a : _) (x y : _) (s t : _) → pages·two-judge.Post κs a x s → pages·two-judge.Post κs a y t → x ≡ y
+pages·two-judge-settled κs a x y s t p q = same p q
+
+pub pages·two-page-of-settled : (κs : _) (a : _) (x y : _) (s t : _) → pages·two-page-of.Post κs a x s → pages·two-page-of.Post κs a y t → x ≡ y
+pages·two-page-of-settled κs a x y s t p q = same p q
+
 pub packet·address-settled : (κs : _) (a : _) (x y : _) (s t : _) → packet·address.Post κs a x s → packet·address.Post κs a y t → x ≡ y
 packet·address-settled κs a x y s t p q = same p q
 
 pub packet·passes-by-settled : (κs : _) (a : _) (x y : _) (s t : _) → packet·passes-by.Post κs a x s → packet·passes-by.Post κs a y t → x ≡ y
 packet·passes-by-settled κs a x y s t p q = same p q
+
+pub packet·two-is-in-range-settled : (κs : _) (a : _) (x y : _) (s t : _) → packet·two-is-in-range.Post κs a x s → packet·two-is-in-range.Post κs a y t → x ≡ y
+packet·two-is-in-range-settled κs a x y s t p q = same p q
+
+pub packet·two-first-settled : (κs : _) (a : _) (x y : _) (s t : _) → packet·two-first.Post κs a x s → packet·two-first.Post κs a y t → x ≡ y
+packet·two-first-settled κs a x y s t p q = same p q
+
+pub packet·two-second-settled : (κs : _) (a : _) (x y : _) (s t : _) → packet·two-second.Post κs a x s → packet·two-second.Post κs a y t → x ≡ y
+packet·two-second-settled κs a x y s t p q = same p q
 
 pub lent-bytes·copy-settled :
     (κs : _) (a : _) (x y : _) (s t : _) → lent-bytes·copy.Post κs a x s → lent-bytes·copy.Post κs a y t → now (s .1 .1 .1 .0) ≡ now (t .1 .1 .1 .0)

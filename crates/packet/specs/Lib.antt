@@ -1,3 +1,4 @@
 pub mod Setting
 pub mod Packet
 pub mod Address
+pub mod Two

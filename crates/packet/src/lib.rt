@@ -1,4 +1,6 @@
-// A packet of the guide page, and the setting that says which page, stream and application are ours.
+// A packet of the guide page, and the setting that says which page, stream and application are ours. That of two streams is module `two`.
+pub mod two;
+
 ghost use mathlib.Core.Path.{_≡_};
 ghost use Rattle.packet.specs.Setting.{inRange};
 ghost use Rattle.packet.specs.Address.{addressOf, elsewhere};

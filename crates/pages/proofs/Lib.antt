@@ -1,3 +1,4 @@
 pub mod Judged
 pub mod Headed
 pub mod Seeing
+pub mod Beside
