@@ -83,6 +83,8 @@ use Rattle.lent_bytes.proofs.copy.Reads as lent-bytes·copy
 use Rattle.lent_bytes.proofs.clear.Reads as lent-bytes·clear
 use Rattle.state.proofs.fresh.Reads as state·fresh
 use Rattle.state.proofs.in_range.Reads as state·in-range
+use Rattle.state.proofs.two.fresh.Reads as state·two-fresh
+use Rattle.state.proofs.two.in_range.Reads as state·two-in-range
 use Rattle.reader.proofs.feed.Reads as reader·feed
 use Rattle.reader.proofs.many.feed_all.Reads as reader·feed-all
 use Rattle.frames.proofs.judge.Reads as frames·judge
@@ -316,6 +318,12 @@ state·fresh-settled κs a x y s t p q = same p q
 
 pub state·in-range-settled : (κs : _) (a : _) (x y : _) (s t : _) → state·in-range.Post κs a x s → state·in-range.Post κs a y t → x ≡ y
 state·in-range-settled κs a x y s t p q = same (p .0) (q .0)
+
+pub state·two-fresh-settled : (κs : _) (a : _) (x y : _) (s t : _) → state·two-fresh.Post κs a x s → state·two-fresh.Post κs a y t → x ≡ y
+state·two-fresh-settled κs a x y s t p q = same p q
+
+pub state·two-in-range-settled : (κs : _) (a : _) (x y : _) (s t : _) → state·two-in-range.Post κs a x s → state·two-in-range.Post κs a y t → x ≡ y
+state·two-in-range-settled κs a x y s t p q = same (p .0) (q .0)
 
 pub reader·feed-settled :
     (κs : _) (a : _) (x y : _) (s t : _) → reader·feed.Post κs a x s → reader·feed.Post κs a y t

@@ -3,3 +3,5 @@ pub mod Clearing
 pub mod Holding
 pub mod Ranging
 pub mod Handing
+pub mod Beside
+pub mod BothRanging

@@ -2,3 +2,4 @@
 -- of its 39 bytes in `walk`.
 pub mod Acting
 pub mod State
+pub mod Two

@@ -1,4 +1,6 @@
-// The reader's state: what it keeps between packets, and when that is in range (SCOPE 10).
+// The reader's state: what it keeps between packets, and when that is in range (SCOPE 10). That of two streams is module `two`.
+pub mod two;
+
 use pages::Page;
 use walk::Run;
 ghost use mathlib.Core.Path.{_≡_};
