@@ -3,15 +3,13 @@
 // The caller must know that the two are one packet of the sender's, sent once. To compare their addresses is not enough: a packet of
 // the next page has the same address, and where one aerial is a page late the head of one table and the tail of another would join, and
 // nothing shows it.
+use packet::PACKET;
 ghost use mathlib.Core.Path.{_≡_};
 ghost use mathlib.Core.List.{_∷_, []};
 ghost use denote.Ref.{ptr};
 ghost use lib.ListN.{length};
 ghost use Rattle.packet.specs.Packet.{packetLength};
 ghost use Rattle.aerials.specs.Better.{judgedBytes, brokenIn, betterOf, betterAt};
-
-// How long a packet is.
-const PACKET: usize = 42;
 
 // How many bytes at its front are looked at.
 const JUDGED: usize = 10;

@@ -2,6 +2,7 @@
 use mathlib.Core.List.{List}
 use Prim.Native.Nat.{ℕ, zero, suc, _+_, _%_}
 use lib.ListN.{take, drop}
+use Rattle.packet.specs.Packet.{packetLength}
 use Rattle.packet.specs.declared.Setting.{Setting}
 use Rattle.state.specs.declared.Reader.{Reader}
 use Rattle.reader.specs.declared.Heard.{Heard}
@@ -30,13 +31,13 @@ added count (Refused r) = count
 unfoldable pub eachCount : ℕ → Reader → List ℕ → List ℕ → ℕ → ℕ
 eachCount zero r l out count = count
 eachCount (suc n) r l out count =
-    eachCount n (feedReader desk r (take 42 l) out) (drop 42 l) (feedOut desk r (take 42 l) out)
-    (added count (feedHeard desk r (take 42 l) out))
+    eachCount n (feedReader desk r (take packetLength l) out) (drop packetLength l) (feedOut desk r (take packetLength l) out)
+    (added count (feedHeard desk r (take packetLength l) out))
 
 -- the output after them
 unfoldable pub eachOut : ℕ → Reader → List ℕ → List ℕ → List ℕ
 eachOut zero r l out = out
-eachOut (suc n) r l out = eachOut n (feedReader desk r (take 42 l) out) (drop 42 l) (feedOut desk r (take 42 l) out)
+eachOut (suc n) r l out = eachOut n (feedReader desk r (take packetLength l) out) (drop packetLength l) (feedOut desk r (take packetLength l) out)
 
 -- how many blocks a list of packets gave
 abbrev pub blocksOf : HeardAll → ℕ

@@ -2,12 +2,14 @@
 // No product links this crate.
 use answer::Answer;
 use frames::Read;
+use packet::PACKET;
 use packet::Setting;
 use reader::Heard;
 use reader::HeardAll;
 ghost use mathlib.Core.Path.{_≡_};
 ghost use Prim.Native.Nat.{_/_, _<_};
 ghost use lib.ListN.{length};
+ghost use Rattle.packet.specs.Packet.{packetLength};
 ghost use Rattle.answer.specs.Values.{writtenOf};
 ghost use Rattle.answer.specs.Writing.{answered, left};
 ghost use Rattle.forms.specs.Form.{form};
@@ -82,8 +84,8 @@ pub extern "C" fn bench_read(rec: &[u8], out: &mut [u8]) -> usize
 // blocks were handed out.
 #[no_mangle]
 pub extern "C" fn bench_feed(packets: &[u8], out: &mut [u8]) -> usize
-    ensures count { λ r. ⌜ r ≡ eachCount (length (now (packets .entry)) / 42) start (now (packets .entry)) (now (out .entry)) 0 ⌝ }
-    ensures bytes { λ r. ⌜ now (out .exit) ≡ eachOut (length (now (packets .entry)) / 42) start (now (packets .entry)) (now (out .entry)) ⌝ }
+    ensures count { λ r. ⌜ r ≡ eachCount (length (now (packets .entry)) / packetLength) start (now (packets .entry)) (now (out .entry)) 0 ⌝ }
+    ensures bytes { λ r. ⌜ now (out .exit) ≡ eachOut (length (now (packets .entry)) / packetLength) start (now (packets .entry)) (now (out .entry)) ⌝ }
 {
     let setting = Setting {
         magazine: 1,
@@ -91,12 +93,12 @@ pub extern "C" fn bench_feed(packets: &[u8], out: &mut [u8]) -> usize
         stream: 1,
         application: 1,
     };
-    let mut left = packets.len() / 42;
+    let mut left = packets.len() / PACKET;
     let mut at = 0;
     let mut count = 0;
     let mut state = reader::fresh();
     while left > 0 {
-        let end = at + 42;
+        let end = at + PACKET;
         let fed = reader::feed(setting, state, &packets[at..end], out);
         let heard = fed.heard;
         count = counted(count, heard);

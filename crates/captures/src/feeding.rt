@@ -2,10 +2,10 @@
 use crate::Came;
 use crate::Capture;
 use crate::Course;
-use crate::PACKET;
 use crate::PIECE;
 use crate::Stage;
 use crate::Turn;
+use packet::PACKET;
 use reader::HeardAll;
 ghost use mathlib.Core.Path.{_≡_};
 ghost use Prim.Native.Nat.{_+_, _^_, _<_};

@@ -1,6 +1,6 @@
 // What is said of a capture of which no packet 0 of our page came: that, and what it may be (SCOPE 13.9).
-use crate::PACKET;
 use crate::Sight;
+use packet::PACKET;
 use packet::Setting;
 use survey::seen::NO_PAGE;
 

@@ -10,6 +10,7 @@ pub mod lack;
 pub mod reading;
 pub mod sight;
 
+use packet::PACKET;
 use packet::Setting;
 use reader::Reader;
 pub use reading::Got;
@@ -27,9 +28,6 @@ pub const PIECE: usize = 65520;
 
 // More than the records that the packets of one piece finish.
 pub const RECORDS: usize = 65536;
-
-// The bytes of a packet.
-pub const PACKET: usize = 42;
 
 // How much of a capture is left.
 pub enum Stage {

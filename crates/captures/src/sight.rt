@@ -1,5 +1,6 @@
 // What is seen of a capture besides its tables: the counts that `-v` asks for (SCOPE 13.10), and, where no packet 0 of our page came,
 // what the capture may be (SCOPE 13.9). Once one has come, only `-v` looks on. To say it is the program's.
+use packet::PACKET;
 use packet::Setting;
 use survey::Counts;
 use survey::Place;
@@ -7,9 +8,8 @@ use survey::seen::NO_PAGE;
 ghost use mathlib.Core.Path.{_≡_};
 ghost use Prim.Native.Nat.{_/_};
 ghost use lib.ListN.{length};
+ghost use Rattle.packet.specs.Packet.{packetLength};
 ghost use Rattle.captures.specs.Sights.{noSight, startPages, seenFrom, countedAll, notedAll, fitFrom, isLooked, seenOn, leftOf, notedIn, lookedSight, lookedAt, notedAt};
-
-const PACKET: usize = 42;
 
 // Our own page, and ten others that are told where it didn't come.
 pub const PAGES: usize = 11;
@@ -117,8 +117,8 @@ fn begin(sight: Sight, bytes: &[u8]) -> Sight
 
 // Counts the whole packets, and notes the pages of those that are packets 0.
 fn count_all(setting: Setting, counts: Counts, bytes: &[u8], pages: &mut [u16]) -> Counts
-    ensures { λ r. ⌜ r ≡ countedAll setting (length (now (bytes .entry)) / 42) counts (now (bytes .entry)) ⌝ }
-    ensures { λ _. ⌜ now (pages .exit) ≡ notedAll (length (now (bytes .entry)) / 42) (now (pages .entry)) (now (bytes .entry)) ⌝ }
+    ensures { λ r. ⌜ r ≡ countedAll setting (length (now (bytes .entry)) / packetLength) counts (now (bytes .entry)) ⌝ }
+    ensures { λ _. ⌜ now (pages .exit) ≡ notedAll (length (now (bytes .entry)) / packetLength) (now (pages .entry)) (now (bytes .entry)) ⌝ }
 {
     let mut counts = counts;
     let mut at = 0;

@@ -4,7 +4,7 @@ use mathlib.Core.List.{List, [], _∷_, _++_}
 use Prim.Native.Nat.{ℕ, _%_, _<_}
 use lib.ListN.{length, take}
 use Rattle.packet.specs.declared.Setting.{Setting}
-use Rattle.packet.specs.Packet.{address}
+use Rattle.packet.specs.Packet.{packetLength, address}
 use Rattle.aerials.specs.Better.{addressLength, betterOf}
 use Rattle.claims.specs.Noise.{Near}
 
@@ -22,7 +22,7 @@ pub data Both (R : ℕ → ℕ → Type 0) (p q : List ℕ) : Type 0 where
 pub data Twice (R : ℕ → ℕ → Type 0) (s : Setting) : List (List ℕ) → List (List ℕ) → List (List ℕ) → Type 0 where
   ended : Twice R s [] [] []
   sent :
-      {p q : List ℕ} {ps ours qs : List (List ℕ)} → length p ≡ 42 → Both R p q → Twice R s ps ours qs → Twice R s (p ∷ ps) (q ∷ ours) (q ∷ qs)
+      {p q : List ℕ} {ps ours qs : List (List ℕ)} → length p ≡ packetLength → Both R p q → Twice R s ps ours qs → Twice R s (p ∷ ps) (q ∷ ours) (q ∷ qs)
   between :
       {q : List ℕ} {ps ours qs : List (List ℕ)} (magazine y : ℕ) (rest : List ℕ) → y < 32 → length rest ≡ 40
       → (magazine % 8 ≡ s .magazine % 8 → ⊥) → Both R (address magazine y ++ rest) q → Twice R s ps ours qs → Twice R s ps ours (q ∷ qs)

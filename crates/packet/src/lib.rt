@@ -14,6 +14,9 @@ pub struct Setting {
     pub application: u8,
 }
 
+// The bytes of a packet.
+pub const PACKET: usize = 42;
+
 // Whether a setting is in range.
 pub fn is_in_range(s: Setting) -> bool
     ensures { λ r. ⌜ r ≡ inRange s ⌝ }

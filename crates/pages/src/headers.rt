@@ -1,5 +1,6 @@
 // What a packet 0, a page's header, is to the open page of ours and to our last index: the two as they are then, and whether it drops
 // the running block.
+use packet::PACKET;
 use packet::Setting;
 ghost use mathlib.Core.Path.{_≡_};
 ghost use mathlib.Core.Bool.{false, not};
@@ -63,7 +64,7 @@ pub(crate) fn judge_zero(setting: Setting, page: Page, last: u8, packet: &[u8]) 
 fn readable(packet: &[u8]) -> bool
     ensures { λ r. ⌜ r ≡ legible (now (packet .entry)) ⌝ }
 {
-    if packet.len() != 42 {
+    if packet.len() != PACKET {
         return false;
     }
     let mut i = 2;

@@ -6,6 +6,7 @@ pub mod two;
 
 pub use headers::Page;
 pub use headers::Verdict;
+use packet::PACKET;
 use packet::Setting;
 ghost use mathlib.Core.Path.{_≡_};
 ghost use Prim.Native.Nat.{_≤_};
@@ -23,7 +24,7 @@ pub fn judge(setting: Setting, page: Page, index: u8, address: usize, packet: &[
         opens: false,
         reads: false,
     };
-    if packet.len() != 42 {
+    if packet.len() != PACKET {
         return unread;
     }
     if 255 < address {

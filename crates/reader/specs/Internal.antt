@@ -102,7 +102,7 @@ Reached s long packets at a store old new whole =
 
 -- the packet at a place of the list
 abbrev pub packetAt : List ℕ → ℕ → List ℕ
-packetAt packets at = take (at + 42 - at) (drop at packets)
+packetAt packets at = take (at + packetLength - at) (drop at packets)
 
 -- from one place to another only other magazines' packets stand
 pub record Passed (s : Setting) (packets : List ℕ) (from at : ℕ) : Type 0 where

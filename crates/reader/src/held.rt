@@ -1,5 +1,6 @@
 // The running block in its store: how a packet's bytes go on with it, finish it or drop it, and where finished blocks go.
 use blocks::HEAD;
+use state::STORE;
 use walk::Ahead;
 use walk::Got;
 use walk::Run;
@@ -24,7 +25,7 @@ ghost use Rattle.reader.specs.Internal.{ReadFrom, GoneTo, GoneOn};
 pub(crate) fn read(
     got: Got,
     joined: bool,
-    store: &mut [u8; 2047],
+    store: &mut [u8; STORE],
     packet: &[u8],
     out: &mut [u8],
 ) -> Got
@@ -48,7 +49,7 @@ pub(crate) fn read(
 }
 
 // The running block is dropped where the test holds, and that is noted.
-pub(crate) fn lose(t: bool, got: Got, store: &mut [u8; 2047]) -> Got
+pub(crate) fn lose(t: bool, got: Got, store: &mut [u8; STORE]) -> Got
     requires { ⌜ Kept (got .run) (now store) ⌝ }
     ensures { λ r. ⌜ ((out : List ℕ) → Lost t (modeOf (got .run) (now (store .entry))) got r (now (store .exit)) out) ⌝ }
 {
@@ -69,7 +70,7 @@ fn continue_to(
     got: Got,
     joined: bool,
     taken: Taken,
-    store: &mut [u8; 2047],
+    store: &mut [u8; STORE],
     s: &[u8],
     out: &mut [u8],
 ) -> Got
@@ -96,7 +97,7 @@ fn continue_to(
 }
 
 // No start is pointed at: a running block has taken what it wants, and what follows it isn't read.
-fn continue_on(got: Got, joined: bool, taken: Taken, store: &mut [u8; 2047], out: &mut [u8]) -> Got
+fn continue_on(got: Got, joined: bool, taken: Taken, store: &mut [u8; STORE], out: &mut [u8]) -> Got
     requires { ⌜ Kept (taken .run) (now store) ⌝ }
     requires { ⌜ Room got (now out) ⌝ }
     ensures { λ r. ⌜ GoneOn joined got taken (now (store .entry)) r (now (store .exit)) (now (out .entry)) (now (out .exit)) ⌝ }
@@ -119,7 +120,7 @@ fn continue_on(got: Got, joined: bool, taken: Taken, store: &mut [u8; 2047], out
 
 // From the pointed byte on, where nothing runs: filler is skipped to a start, the block is handed out
 // where all of it is there, and so on to the end. What is left of a block is held.
-fn flow(got: Got, store: &mut [u8; 2047], s: &[u8], out: &mut [u8]) -> Got
+fn flow(got: Got, store: &mut [u8; STORE], s: &[u8], out: &mut [u8]) -> Got
     requires { ⌜ now store ≡ zeroed [] ⌝ }
     requires { ⌜ (got .written + length (now s) ≤ length (now out)) × (headLength * got .blocks ≤ got .written) ⌝ }
     ensures { λ r. ⌜ Flowed (now (s .entry)) got r (now (store .exit)) (now (out .entry)) (now (out .exit)) ⌝ }
@@ -179,7 +180,7 @@ fn so_far(run: Run, blocks: usize, written: usize, dropped: bool) -> Got
 }
 
 // The running block takes its bytes from the front of s.
-fn take_in(run: Run, store: &mut [u8; 2047], s: &[u8]) -> Taken
+fn take_in(run: Run, store: &mut [u8; STORE], s: &[u8]) -> Taken
     requires { ⌜ Kept run (now store) ⌝ }
     ensures { λ r. ⌜ TookIn (modeOf run (now (store .entry))) (now (s .entry)) (now (s .entry)) r (now (store .exit)) ⌝ }
 {
@@ -220,7 +221,14 @@ fn take_in(run: Run, store: &mut [u8; 2047], s: &[u8]) -> Taken
 }
 
 // A block takes the bytes that it still wants, from `from` on, or all that are there.
-fn body_in(head: u16, part: u8, held: usize, store: &mut [u8; 2047], s: &[u8], from: usize) -> Taken
+fn body_in(
+    head: u16,
+    part: u8,
+    held: usize,
+    store: &mut [u8; STORE],
+    s: &[u8],
+    from: usize,
+) -> Taken
     requires { ⌜ Kept (Body head part held) (now store) ⌝ }
     requires { ⌜ from ≤ length (now s) ⌝ }
     ensures { λ r. ⌜ TookIn (body head part (take held (now (store .entry)))) (drop from (now (s .entry))) (now (s .entry)) r (now (store .exit)) ⌝ }
@@ -249,7 +257,7 @@ fn body_in(head: u16, part: u8, held: usize, store: &mut [u8; 2047], s: &[u8], f
 }
 
 // A block that is held whole goes out, as one that spans pages or not.
-fn finish(got: Got, joined: bool, store: &mut [u8; 2047], out: &mut [u8]) -> Got
+fn finish(got: Got, joined: bool, store: &mut [u8; STORE], out: &mut [u8]) -> Got
     requires { ⌜ Kept (got .run) (now store) ⌝ }
     requires { ⌜ Room got (now out) ⌝ }
     ensures { λ r. ⌜ Finished joined (modeOf (got .run) (now (store .entry))) got r (now (store .exit)) (now (out .entry)) (now (out .exit)) ⌝ }
@@ -285,7 +293,7 @@ fn hand_out(
     part: u8,
     joined: bool,
     held: usize,
-    store: &mut [u8; 2047],
+    store: &mut [u8; STORE],
     out: &mut [u8],
     q: usize,
 )
@@ -309,7 +317,7 @@ fn second_byte(joined: bool) -> u8
 }
 
 // The running block, dropped where the test holds.
-fn drop_if(t: bool, run: Run, store: &mut [u8; 2047]) -> Run
+fn drop_if(t: bool, run: Run, store: &mut [u8; STORE]) -> Run
     requires { ⌜ Kept run (now store) ⌝ }
     ensures { λ r. ⌜ Holds (dropIf t (modeOf run (now (store .entry)))) r (now (store .exit)) ⌝ }
 {
@@ -321,7 +329,7 @@ fn drop_if(t: bool, run: Run, store: &mut [u8; 2047]) -> Run
 }
 
 // The store without what the running block held.
-fn let_go(run: Run, store: &mut [u8; 2047])
+fn let_go(run: Run, store: &mut [u8; STORE])
     requires { ⌜ Kept run (now store) ⌝ }
     ensures { λ _. ⌜ now (store .exit) ≡ zeroed [] ⌝ }
 {

@@ -7,12 +7,16 @@ use answer::Refusal;
 pub use many::FedAll;
 pub use many::HeardAll;
 pub use many::feed_all;
+use packet::PACKET;
 use packet::Setting;
 pub use state::Reader;
 pub use state::fresh;
 ghost use mathlib.Core.Path.{_≡_};
 ghost use Rattle.reader.specs.Feeding.{feedHeard, feedReader, feedOut};
 ghost use Rattle.reader.specs.Internal.{told as Internal·told};
+
+// The bytes of output that a reader must be lent for one packet (SCOPE 3.5).
+pub const ROOM: usize = 2112;
 
 // What one packet gave: so many blocks, as so many bytes of records at the front of the output, and
 // whether a block was dropped.
@@ -40,7 +44,7 @@ pub fn feed(setting: Setting, reader: Reader, packet: &[u8], out: &mut [u8]) -> 
     ensures { λ r. ⌜ r .reader ≡ feedReader setting reader (now (packet .entry)) (now (out .entry)) ⌝ }
     ensures { λ r. ⌜ now (out .exit) ≡ feedOut setting reader (now (packet .entry)) (now (out .entry)) ⌝ }
 {
-    if packet.len() != 42 {
+    if packet.len() != PACKET {
         return Fed {
             heard: Heard::Refused(Refusal { no: 16, at: 0 }),
             reader: reader,

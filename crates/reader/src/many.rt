@@ -1,11 +1,14 @@
 // The reader of the guide page for a list of packets: packets in, finished blocks out. A packet is lost
 // only where a byte can't be decoded, and then what was held is dropped: a missing table is fetched at
 // the next repeat.
+use crate::ROOM;
 use answer::Refusal;
+use packet::PACKET;
 use packet::Setting;
 use pages::Page;
 use pages::Verdict;
 use state::Reader;
+use state::STORE;
 use walk::Got;
 use walk::Run;
 ghost use mathlib.Core.Path.{_≡_};
@@ -70,7 +73,7 @@ pub fn feed_all(setting: Setting, reader: Reader, packets: &[u8], out: &mut [u8]
     ensures { λ r. ⌜ r .reader ≡ feedAllReader setting reader (now (packets .entry)) (now (out .entry)) ⌝ }
     ensures { λ r. ⌜ now (out .exit) ≡ feedAllOut setting reader (now (packets .entry)) (now (out .entry)) ⌝ }
 {
-    if packets.len() % 42 != 0 {
+    if packets.len() % PACKET != 0 {
         return refused(16, reader);
     }
     let page = reader.page;
@@ -79,7 +82,7 @@ pub fn feed_all(setting: Setting, reader: Reader, packets: &[u8], out: &mut [u8]
     if !is_ready(setting, page, reader.index, run, reader.joined, &store) {
         return refused(16, reader);
     }
-    if out.len() < 2112 {
+    if out.len() < ROOM {
         return refused(1, reader);
     }
     let from = start(page, reader.index, run, reader.joined);
@@ -109,7 +112,7 @@ pub fn feed_all(setting: Setting, reader: Reader, packets: &[u8], out: &mut [u8]
 fn take_all(
     setting: Setting,
     from: Going,
-    store: &mut [u8; 2047],
+    store: &mut [u8; STORE],
     packets: &[u8],
     out: &mut [u8],
 ) -> Taking
@@ -124,16 +127,16 @@ fn take_all(
     while at < packets.len() {
         let got = a.got;
         let q = got.written;
-        if out.len() - q < 2112 {
+        if out.len() - q < ROOM {
             return Taking {
                 going: a,
-                packets: at / 42,
+                packets: at / PACKET,
             };
         }
         let met = pass_on(setting, packets, at);
         at = met.at;
         if at < packets.len() {
-            let next = at + 42;
+            let next = at + PACKET;
             let page = a.page;
             let v = pages::judge(setting, page, a.index, met.address, &packets[at..next]);
             a = heed(v, a, store, &packets[at..next], out);
@@ -142,7 +145,7 @@ fn take_all(
     }
     Taking {
         going: a,
-        packets: at / 42,
+        packets: at / PACKET,
     }
 }
 
@@ -154,7 +157,7 @@ fn pass_on(setting: Setting, packets: &[u8], from: usize) -> Met
 {
     let mut at = from;
     while at < packets.len() {
-        let next = at + 42;
+        let next = at + PACKET;
         let address = packet::address(&packets[at..next]);
         if !packet::passes_by(setting, address) {
             return Met { at, address };
@@ -165,7 +168,7 @@ fn pass_on(setting: Setting, packets: &[u8], from: usize) -> Met
 }
 
 // What the verdict says: the running block is dropped or not, and then the packet's bytes are read or not.
-fn heed(v: Verdict, a: Going, store: &mut [u8; 2047], packet: &[u8], out: &mut [u8]) -> Going
+fn heed(v: Verdict, a: Going, store: &mut [u8; STORE], packet: &[u8], out: &mut [u8]) -> Going
     requires { ⌜ Kept (a .got .run) (now store) ⌝ }
     requires { ⌜ length (now packet) ≡ packetLength ⌝ }
     requires { ⌜ PacketRoom (a .got) (now out) ⌝ }

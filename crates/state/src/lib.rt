@@ -12,6 +12,9 @@ ghost use Rattle.state.specs.State.{zeros, pageInRange, runInRange, read
 // A block's start and the four bytes of its header: so many bytes can count in its part.
 const LEAD: u8 = 5;
 
+// As many bytes as a block can have.
+pub const STORE: usize = 2047;
+
 // What a reader keeps between packets: the page of ours that is open, our last index, the running block, and whether
 // that has lived through a packet 0 that opened a page of ours. Every byte of the store past those held is zero.
 pub struct Reader {
@@ -19,7 +22,7 @@ pub struct Reader {
     pub index: u8,
     pub run: Run,
     pub joined: bool,
-    pub store: [u8; 2047],
+    pub store: [u8; STORE],
 }
 
 // A fresh reader: no page of ours is open, and nothing runs.
@@ -31,7 +34,7 @@ pub fn fresh() -> Reader
         index: 15,
         run: Run::Idle,
         joined: false,
-        store: [0u8; 2047],
+        store: [0u8; STORE],
     }
 }
 

@@ -1,4 +1,5 @@
 // The state of a reader of two streams: what it keeps between packets, and when that is in range (SCOPE 27.2).
+use crate::STORE;
 use pages::two::SharedPage;
 use pages::two::Whose;
 use walk::Run;
@@ -22,8 +23,8 @@ pub struct Readers {
     pub page: SharedPage,
     pub first: Half,
     pub second: Half,
-    pub store1: [u8; 2047],
-    pub store2: [u8; 2047],
+    pub store1: [u8; STORE],
+    pub store2: [u8; STORE],
 }
 
 // A fresh reader of two streams: no page of theirs is open, and nothing runs.
@@ -39,8 +40,8 @@ pub fn fresh() -> Readers
         page: SharedPage::None,
         first: none,
         second: none,
-        store1: [0u8; 2047],
-        store2: [0u8; 2047],
+        store1: [0u8; STORE],
+        store2: [0u8; STORE],
     }
 }
 

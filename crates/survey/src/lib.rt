@@ -3,6 +3,7 @@
 // here: what is known so far goes in and comes back.
 pub mod seen;
 
+use packet::PACKET;
 use packet::Setting;
 use pages::Page;
 use pages::Verdict;
@@ -14,9 +15,6 @@ ghost use Rattle.pages.specs.Seen.{see};
 ghost use Rattle.survey.specs.Counting.{more, moreIf, counted};
 ghost use Rattle.survey.specs.Fitting.{fits, firstIn};
 ghost use Rattle.survey.specs.Internal.{asked, mostOf, heeded};
-
-// The bytes of a packet.
-const PACKET: usize = 42;
 
 // No packet has this index.
 const NO_INDEX: u8 = 16;

@@ -1,4 +1,5 @@
 // Which pages came: the packets 0 of any magazine.
+use packet::PACKET;
 ghost use mathlib.Core.Path.{_≡_};
 ghost use lib.Dec.{ltb};
 ghost use Rattle.laws.specs.Pick.{both};
@@ -37,7 +38,7 @@ fn is_place(there: u16, code: u16) -> bool
 fn code(packet: &[u8]) -> u16
     ensures { λ r. ⌜ r ≡ codeOf (now (packet .entry)) ⌝ }
 {
-    if packet.len() != 42 {
+    if packet.len() != PACKET {
         return NO_PAGE;
     }
     let address = packet::address(packet);

@@ -2,14 +2,12 @@
 // room hands back are held against the space that they count in, so that no proof here has to know the room's
 // definitions; one that doesn't fit never comes.
 use crate::help::PROGRAM;
+use packet::PACKET;
 use pes::HEAD;
 use pes::Start;
 use stripped::Stripped;
 ghost use mathlib.Core.Path.{_≡_};
 ghost use Prim.Native.Nat.{_≤_, _<_};
-
-// The bytes of a packet that goes out.
-const PACKET: usize = 42;
 
 // More than the longest PES packet, and than the packets that it carries.
 const LONGEST: usize = 65536;

@@ -12,9 +12,16 @@ use Rattle.words.specs.Numbers.{numberOf, kindOf, most}
 abbrev pub spot : ℕ → ℕ → Spot
 spot at group = record { at = at; group = group }
 
+-- the marks before places that come again and again
+abbrev pub plus : ℕ
+plus = 43
+
+abbrev pub star : ℕ
+star = 42
+
 -- `+` or `*`
 unfoldable pub isMark : ℕ → Bool
-isMark b = either (eqb b 43) (eqb b 42)
+isMark b = either (eqb b plus) (eqb b star)
 
 -- the place behind a mark that stands at i; the other where none does
 unfoldable pub passed : List ℕ → ℕ → ℕ → ℕ
@@ -38,7 +45,7 @@ after p s =
 -- the names may end: all came, or the group may lack (`*`), or the group came and would begin again
 unfoldable pub mayEnd : List ℕ → Spot → Bool
 mayEnd p s =
-    either (leb (length p) (s .at)) (either (eqb (getD p (s .at) 0) 42) (pick (eqb (s .group) 0) false (eqb (s .at) (s .group))))
+    either (leb (length p) (s .at)) (either (eqb (getD p (s .at) 0) star) (pick (eqb (s .group) 0) false (eqb (s .at) (s .group))))
 
 -- a word names a kind of table
 unfoldable pub isKind : List ℕ → Bool

@@ -1,4 +1,5 @@
 // What the writer puts before a page's packets and before each of them: packet 0, and a packet's address.
+use packet::PACKET;
 use packet::Setting;
 ghost use mathlib.Core.Path.{_≡_};
 ghost use mathlib.Core.List.{map};
@@ -9,9 +10,6 @@ ghost use lib.Seq.{sets};
 ghost use Rattle.laws.specs.Pick.{pick};
 ghost use Rattle.octet.specs.Image.{image};
 ghost use Rattle.packet.specs.Packet.{packetLength, address, packetZero};
-
-// A packet's bytes.
-pub const PACKET: usize = 42;
 
 // An address, and all protected bytes of packet 0.
 const ADDRESS: usize = 2;
