@@ -24,19 +24,10 @@ abbrev μ-loop : tie.MeasureT-loop
 loop-holds : tie.Need-loop-holds Inv-loop μ-loop
 loop-holds c = (search needs, search needs, zero-add _)
 
-shared-slice-read-lost : tie.Need-shared-slice-read-lost Inv-loop μ-loop
-shared-slice-read-lost c = search needs
-
-lost-requires : tie.Need-lost-requires Inv-loop μ-loop
-lost-requires c κs = search needs
-
 add-n : tie.Need-add-n Inv-loop μ-loop
 add-n c =
     let l = c .before .before .before .loop in
     omega (arith, l .inv .0, l .inv .1, c .lost .ensures, lost-le (getD (now (c .before .before .before .before .before .args .packet)) (l .i) 0))
-
-add-i : tie.Need-add-i Inv-loop μ-loop
-add-i c = search needs
 
 loop-less : tie.Need-loop-less Inv-loop μ-loop
 loop-less c = search needs
@@ -63,4 +54,4 @@ returns c =
 
 pub broken-spec : {M : Type 1} → statement M
 broken-spec =
-    tie.close (tie.spec Inv-loop μ-loop loop-holds shared-slice-read-lost lost-requires add-n add-i loop-less loop-again returns)
+    tie.close (tie.spec Inv-loop μ-loop loop-holds (λ c. search needs) (λ c κs. search needs) add-n (λ c. search needs) loop-less loop-again returns)

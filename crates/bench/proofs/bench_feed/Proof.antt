@@ -23,9 +23,6 @@ Inv-loop packets out₀ setting left₀ at₀ count₀ state₀ out left at coun
 abbrev μ-loop : tie.MeasureT-loop
 μ-loop packets out₀ setting left₀ at₀ count₀ state₀ out left at count state = left
 
-fresh-requires : tie.Need-fresh-requires Inv-loop μ-loop
-fresh-requires c κs = search needs
-
 loop-holds : tie.Need-loop-holds Inv-loop μ-loop
 loop-holds c =
     let a = c .before .before .before .args in
@@ -36,27 +33,6 @@ loop-holds c =
       ap (λ (r : Reader). eachCount n r (now (a .packets)) (now (a .out)) 0) (c .fresh .ensures),
       ap (λ (r : Reader). eachOut n r (now (a .packets)) (now (a .out))) (c .fresh .ensures),
     )
-
-add-end : tie.Need-add-end Inv-loop μ-loop
-add-end c = search needs
-
-sub-feed : tie.Need-sub-feed Inv-loop μ-loop
-sub-feed c = search needs
-
-part-feed-start : tie.Need-part-feed-start Inv-loop μ-loop
-part-feed-start c = search needs
-
-part-feed-end : tie.Need-part-feed-end Inv-loop μ-loop
-part-feed-end c = search needs
-
-feed-requires : tie.Need-feed-requires Inv-loop μ-loop
-feed-requires c κs = search needs
-
-counted-requires : tie.Need-counted-requires Inv-loop μ-loop
-counted-requires c κs = search needs
-
-sub-left : tie.Need-sub-left Inv-loop μ-loop
-sub-left c = search needs
 
 loop-less : tie.Need-loop-less Inv-loop μ-loop
 loop-less c = search needs
@@ -78,9 +54,6 @@ loop-again c =
           ∙ l .inv .4,
     )
 
-same-length : tie.Need-same-length Inv-loop μ-loop
-same-length c = search needs
-
 returns : tie.Need-returns Inv-loop μ-loop
 returns c =
     let l = c .before .loop in
@@ -93,16 +66,16 @@ bench-feed-spec =
     (tie.spec
     Inv-loop
     μ-loop
-    fresh-requires
+    (λ c κs. search needs)
     loop-holds
-    add-end
-    sub-feed
-    part-feed-start
-    part-feed-end
-    feed-requires
-    counted-requires
-    sub-left
+    (λ c. search needs)
+    (λ c. search needs)
+    (λ c. search needs)
+    (λ c. search needs)
+    (λ c κs. search needs)
+    (λ c κs. search needs)
+    (λ c. search needs)
     loop-less
     loop-again
-    same-length
+    (λ c. search needs)
     returns)

@@ -5,29 +5,11 @@ use Rattle.bench.proofs.Feeding.{all-fed}
 use Rattle.bench.proofs.bench_feed_all.Statement.{statement}
 use Rattle.bench.proofs.bench_feed_all.Tie as tie
 
-fresh-requires : tie.Need-fresh-requires
-fresh-requires c κs = search needs
-
-feed-all-requires : tie.Need-feed-all-requires
-feed-all-requires c κs = search needs
-
-enum-known-heard : tie.Need-enum-known-heard
-enum-known-heard c = search needs
-
-enum-known-heard-2 : tie.Need-enum-known-heard-2
-enum-known-heard-2 c = search needs
-
-same-length : tie.Need-same-length
-same-length c = search needs
-
 returns : tie.Need-returns
 returns c =
     let f = c .before .before .before .before .before .feed-all in
     let a = c .before .before .before .before .before .before .before .before .before .before .args in
     all-fed _ (now (a .packets)) (now (a .out)) _ _ _ (c .before .before .before .before .before .before .before .fresh .ensures) (f .ensures .0) (f .ensures .1 .1) (c .before .heard .given .1)
-
-same-length-2 : tie.Need-same-length-2
-same-length-2 c = search needs
 
 returns-2 : tie.Need-returns-2
 returns-2 c =
@@ -39,11 +21,11 @@ pub bench-feed-all-spec : {M : Type 1} → statement M
 bench-feed-all-spec =
     tie.close
     (tie.spec
-    fresh-requires
-    feed-all-requires
-    enum-known-heard
-    enum-known-heard-2
-    same-length
+    (λ c κs. search needs)
+    (λ c κs. search needs)
+    (λ c. search needs)
+    (λ c. search needs)
+    (λ c. search needs)
     returns
-    same-length-2
+    (λ c. search needs)
     returns-2)

@@ -5,17 +5,8 @@ use Rattle.blocks.specs.Place.{afterFound, afterAt}
 use Rattle.blocks.proofs.after.Statement.{statement}
 use Rattle.blocks.proofs.after.Tie as tie
 
-record-at-requires : tie.Need-record-at-requires
-record-at-requires c κs = search needs
-
-enum-known-next : tie.Need-enum-known-next
-enum-known-next c = search needs
-
 enum-told : tie.Need-enum-told
 enum-told c = search needs
-
-enum-told-2 : tie.Need-enum-told-2
-enum-told-2 c = search needs
 
 returns : tie.Need-returns
 unfolding afterAt
@@ -32,4 +23,4 @@ returns-3 c = sym (ap (afterFound _) (sym (c .before .before .record-at .ensures
 pub after-spec : {M : Type 1} → statement M
 after-spec =
     tie.close
-    (tie.spec record-at-requires enum-known-next enum-told enum-told-2 returns returns-2 returns-3)
+    (tie.spec (λ c κs. search needs) (λ c. search needs) enum-told (λ c. search needs) returns returns-2 returns-3)

@@ -12,23 +12,11 @@ returns c = at-end _ _ (c .if1 .taken)
 returns-2 : tie.Need-returns-2
 returns-2 c = past _ _ (c .if2 .taken)
 
-sub-left : tie.Need-sub-left
-sub-left c = search needs
-
 returns-3 : tie.Need-returns-3
 returns-3 c = left-short _ _ (search needs) (c .if3 .taken)
 
-shared-slice-read-low : tie.Need-shared-slice-read-low
-shared-slice-read-low c = search needs
-
 cast-low : tie.Need-cast-low
 cast-low c = omega (arith, c .shared-slice-known .given (c .before .before .before .before .args .place))
-
-add-high : tie.Need-add-high
-add-high c = search needs
-
-shared-slice-read-high : tie.Need-shared-slice-read-high
-shared-slice-read-high c = search needs
 
 cast-high : tie.Need-cast-high
 cast-high c = omega (arith, c .shared-slice-known2 .given (c .before .before .before .before .before .args .place + 1))
@@ -49,12 +37,6 @@ cast-size c =
 returns-4 : tie.Need-returns-4
 returns-4 c = left-over _ _ (search needs) (c .if4 .taken)
 
-add-raw : tie.Need-add-raw
-add-raw c = search needs
-
-add-t9 : tie.Need-add-t9
-add-t9 c = search needs
-
 returns-5 : tie.Need-returns-5
 returns-5 c = left-whole _ _ (search needs) (search needs) (c .if4 .left)
 
@@ -64,17 +46,17 @@ record-at-spec =
     (tie.spec
     returns
     returns-2
-    sub-left
+    (λ c. search needs)
     returns-3
-    shared-slice-read-low
+    (λ c. search needs)
     cast-low
-    add-high
-    shared-slice-read-high
+    (λ c. search needs)
+    (λ c. search needs)
     cast-high
     mul-head
     add-head
     cast-size
     returns-4
-    add-raw
-    add-t9
+    (λ c. search needs)
+    (λ c. search needs)
     returns-5)

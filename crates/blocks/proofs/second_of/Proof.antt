@@ -10,11 +10,8 @@ use Rattle.blocks.proofs.second_of.Tie as tie
 returns : tie.Need-returns
 returns c = sym (List·getD-eq-default (now (c .before .args .rec)) 0 (omega arith))
 
-shared-slice-read-result : tie.Need-shared-slice-read-result
-shared-slice-read-result c = search needs
-
 returns-2 : tie.Need-returns-2
 returns-2 c = refl
 
 pub second-of-spec : {M : Type 1} → statement M
-second-of-spec = tie.close (tie.spec returns shared-slice-read-result returns-2)
+second-of-spec = tie.close (tie.spec returns (λ c. search needs) returns-2)

@@ -3,11 +3,8 @@ use borrow.Author.Needs.{needs}
 use Rattle.captures.proofs.end.Statement.{statement}
 use Rattle.captures.proofs.end.Tie as tie
 
-staged-requires : tie.Need-staged-requires
-staged-requires c κs = search needs
-
 returns : tie.Need-returns
 returns c = rw (c .before .staged .ensures)
 
 pub end-spec : {M : Type 1} → statement M
-end-spec = tie.close (tie.spec staged-requires returns)
+end-spec = tie.close (tie.spec (λ c κs. search needs) returns)

@@ -6,18 +6,6 @@ use Rattle.captures.proofs.heed.Tie as tie
 enum-told : tie.Need-enum-told
 enum-told c = search needs
 
-staged-requires : tie.Need-staged-requires
-staged-requires c κs = search needs
-
-enum-known-got : tie.Need-enum-known-got
-enum-known-got c = search needs
-
-after-requires : tie.Need-after-requires
-after-requires c κs = search needs
-
-staged-requires-2 : tie.Need-staged-requires-2
-staged-requires-2 c κs = search needs
-
 returns : tie.Need-returns
 returns c = rw (c .before .enum-told .given .1, c .staged .ensures)
 
@@ -29,9 +17,9 @@ heed-spec =
     tie.close
     (tie.spec
     enum-told
-    staged-requires
-    enum-known-got
-    after-requires
-    staged-requires-2
+    (λ c κs. search needs)
+    (λ c. search needs)
+    (λ c κs. search needs)
+    (λ c κs. search needs)
     returns
     returns-2)

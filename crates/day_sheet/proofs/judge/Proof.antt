@@ -7,23 +7,8 @@ use Rattle.day_sheet.proofs.Rewriting.{judge-long, judge-bad, judge-man
 use Rattle.day_sheet.proofs.judge.Statement.{statement}
 use Rattle.day_sheet.proofs.judge.Tie as tie
 
-refuse-requires : tie.Need-refuse-requires
-refuse-requires c κs = search needs
-
 returns : tie.Need-returns
 returns c = c .refuse .ensures ∙ judge-long (now (c .before .before .before .args .sheet)) (Done _) (search needs)
-
-judge-lines-requires : tie.Need-judge-lines-requires
-judge-lines-requires c κs = search needs
-
-enum-known-why : tie.Need-enum-known-why
-enum-known-why c = search needs
-
-enum-known-count : tie.Need-enum-known-count
-enum-known-count c = search needs
-
-refuse-requires-2 : tie.Need-refuse-requires-2
-refuse-requires-2 c κs = search needs
 
 returns-2 : tie.Need-returns-2
 returns-2 c =
@@ -44,12 +29,12 @@ pub judge-spec : {M : Type 1} → statement M
 judge-spec =
     tie.close
     (tie.spec
-    refuse-requires
+    (λ c κs. search needs)
     returns
-    judge-lines-requires
-    enum-known-why
-    enum-known-count
-    refuse-requires-2
+    (λ c κs. search needs)
+    (λ c. search needs)
+    (λ c. search needs)
+    (λ c κs. search needs)
     returns-2
     returns-3
     returns-4)

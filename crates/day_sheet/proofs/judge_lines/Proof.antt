@@ -8,12 +8,6 @@ use Rattle.day_sheet.proofs.Rewriting.{lines-bad, lines-good}
 use Rattle.day_sheet.proofs.judge_lines.Statement.{statement}
 use Rattle.day_sheet.proofs.judge_lines.Tie as tie
 
-read-requires : tie.Need-read-requires
-read-requires c κs = search needs
-
-refuse-requires : tie.Need-refuse-requires
-refuse-requires c κs = search needs
-
 returns : tie.Need-returns
 returns c = c .refuse .ensures ∙ lines-bad (now (c .before .before .before .before .args .sheet)) _ (c .before .before .read .ensures) (Done _) (not-true _ (c .before .if1 .taken))
 
@@ -21,4 +15,4 @@ returns-2 : tie.Need-returns-2
 returns-2 c = lines-good (now (c .before .before .before .args .sheet)) _ (c .before .read .ensures) (Done 0) (not-false _ (c .if1 .left))
 
 pub judge-lines-spec : {M : Type 1} → statement M
-judge-lines-spec = tie.close (tie.spec read-requires refuse-requires returns returns-2)
+judge-lines-spec = tie.close (tie.spec (λ c κs. search needs) (λ c κs. search needs) returns returns-2)

@@ -6,17 +6,8 @@ use Rattle.day_sheet.proofs.Rewriting.{rewrite-refused, rewrite-short, 
 use Rattle.day_sheet.proofs.rewrite.Statement.{statement}
 use Rattle.day_sheet.proofs.rewrite.Tie as tie
 
-judge-requires : tie.Need-judge-requires
-judge-requires c κs = search needs
-
-enum-known-why : tie.Need-enum-known-why
-enum-known-why c = search needs
-
 enum-told : tie.Need-enum-told
 enum-told c = search needs
-
-refuse-requires : tie.Need-refuse-requires
-refuse-requires c κs = search needs
 
 returns : tie.Need-returns
 returns c =
@@ -24,16 +15,10 @@ returns c =
     let p = rewrite-short (now (s .args .sheet)) (now (s .args .out)) (c .before .before .before .before .judge .ensures) (c .before .before .enum-told .given .1) (c .before .if1 .taken) in
     (c .refuse .ensures ∙ p .0, p .1)
 
-copy-requires : tie.Need-copy-requires
-copy-requires c κs = search needs
-
 returns-2 : tie.Need-returns-2
 returns-2 c =
     let s = c .before .before .before .before .before .before in
     rewrite-refused (now (s .args .sheet)) (now (s .args .out)) (c .before .before .before .judge .ensures) (c .before .why .given .1)
-
-same-length : tie.Need-same-length
-same-length c = search needs
 
 returns-3 : tie.Need-returns-3
 returns-3 c =
@@ -45,12 +30,12 @@ pub rewrite-spec : {M : Type 1} → statement M
 rewrite-spec =
     tie.close
     (tie.spec
-    judge-requires
-    enum-known-why
+    (λ c κs. search needs)
+    (λ c. search needs)
     enum-told
-    refuse-requires
+    (λ c κs. search needs)
     returns
-    copy-requires
+    (λ c κs. search needs)
     returns-2
-    same-length
+    (λ c. search needs)
     returns-3)

@@ -6,22 +6,13 @@ use borrow.Author.Needs.{needs}
 use Rattle.fields.proofs.field_at.Statement.{statement}
 use Rattle.fields.proofs.field_at.Tie as tie
 
-add-if2 : tie.Need-add-if2
-add-if2 c = search needs
-
-word-at-requires : tie.Need-word-at-requires
-word-at-requires c κs = search needs
-
 returns : tie.Need-returns
 returns c =
     let e : min (c .before .before .before .before .args .w) 24 ≡ 24 = omega arith in
     rw e (c .word-at .ensures)
 
-some-at-requires : tie.Need-some-at-requires
-some-at-requires c κs = search needs
-
 returns-2 : tie.Need-returns-2
 returns-2 c = search needs
 
 pub field-at-spec : {M : Type 1} → statement M
-field-at-spec = tie.close (tie.spec add-if2 word-at-requires returns some-at-requires returns-2)
+field-at-spec = tie.close (tie.spec (λ c. search needs) (λ c κs. search needs) returns (λ c κs. search needs) returns-2)

@@ -7,9 +7,6 @@ use Rattle.fields.proofs.Bits.{getD-none}
 use Rattle.fields.proofs.nibble_at.Statement.{statement}
 use Rattle.fields.proofs.nibble_at.Tie as tie
 
-nibble-in-requires : tie.Need-nibble-in-requires
-nibble-in-requires c κs = search needs
-
 returns : tie.Need-returns
 returns c = search needs
 
@@ -19,4 +16,4 @@ returns-2 c =
     ap (λ (n : ℕ). n % 16) (sym (getD-none (now (a .s)) (a .i) (search needs)))
 
 pub nibble-at-spec : {M : Type 1} → statement M
-nibble-at-spec = tie.close (tie.spec nibble-in-requires returns returns-2)
+nibble-at-spec = tie.close (tie.spec (λ c κs. search needs) returns returns-2)

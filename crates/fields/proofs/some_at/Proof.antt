@@ -20,23 +20,8 @@ Inv-loop s at w wide first end i₀ n₀ i n =
 abbrev μ-loop : tie.MeasureT-loop
 μ-loop s at w wide first end i₀ n₀ i n = i
 
-taken-requires : tie.Need-taken-requires Inv-loop μ-loop
-taken-requires c κs = search needs
-
-add-end : tie.Need-add-end Inv-loop μ-loop
-add-end c = search needs
-
-add-end-2 : tie.Need-add-end-2 Inv-loop μ-loop
-add-end-2 c = search needs
-
-add-end-3 : tie.Need-add-end-3 Inv-loop μ-loop
-add-end-3 c = search needs
-
 loop-holds : tie.Need-loop-holds Inv-loop μ-loop
 loop-holds c = (search needs, search needs, search needs, sym (none-yet _ _))
-
-sub-i : tie.Need-sub-i Inv-loop μ-loop
-sub-i c = search needs
 
 mul-n : tie.Need-mul-n Inv-loop μ-loop
 mul-n c =
@@ -44,9 +29,6 @@ mul-n c =
     let a = c .before .before .before .before .args in
     let h : l .n < 2 ^ 28 = rw (l .inv .3) (small _ _ 28 _ (omega arith)) in
     record { fits = omega arith }
-
-nibble-at-requires : tie.Need-nibble-at-requires Inv-loop μ-loop
-nibble-at-requires c κs = search needs
 
 add-n : tie.Need-add-n Inv-loop μ-loop
 add-n c =
@@ -63,12 +45,6 @@ loop-again c =
     let a = c .before .before .before .before .before .args in
     let e : c .nibble-at .result ≡ field ((l .i - 1) * 4) 4 (compound (now (a .s))) = c .nibble-at .ensures ∙ sym (nibble-of (now (a .s)) (l .i - 1)) in
     (search needs, search needs, search needs, rw e (one-more (l .i) _ (compound (now (a .s))) (l .n) (omega arith) (omega arith) (l .inv .3)))
-
-shr-result : tie.Need-shr-result Inv-loop μ-loop
-shr-result c = search needs
-
-shl-result : tie.Need-shl-result Inv-loop μ-loop
-shl-result c = search needs
 
 rem-result : tie.Need-rem-result Inv-loop μ-loop
 rem-result c =
@@ -90,18 +66,18 @@ some-at-spec =
     (tie.spec
     Inv-loop
     μ-loop
-    taken-requires
-    add-end
-    add-end-2
-    add-end-3
+    (λ c κs. search needs)
+    (λ c. search needs)
+    (λ c. search needs)
+    (λ c. search needs)
     loop-holds
-    sub-i
+    (λ c. search needs)
     mul-n
-    nibble-at-requires
+    (λ c κs. search needs)
     add-n
     loop-less
     loop-again
-    shr-result
-    shl-result
+    (λ c. search needs)
+    (λ c. search needs)
     rem-result
     returns)

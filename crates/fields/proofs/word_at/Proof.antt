@@ -17,23 +17,14 @@ Inv-loop s at first end i₀ n₀ i n = (first ≤ i) × (i ≤ end) × (n ≡ f
 abbrev μ-loop : tie.MeasureT-loop
 μ-loop s at first end i₀ n₀ i n = i
 
-add-end : tie.Need-add-end Inv-loop μ-loop
-add-end c = search needs
-
 loop-holds : tie.Need-loop-holds Inv-loop μ-loop
 loop-holds c = (search needs, search needs, sym (none-yet _ _))
-
-sub-i : tie.Need-sub-i Inv-loop μ-loop
-sub-i c = search needs
 
 mul-n : tie.Need-mul-n Inv-loop μ-loop
 mul-n c =
     let l = c .before .loop in
     let h : l .n < 2 ^ 28 = rw (l .inv .2) (small _ _ 28 _ (omega arith)) in
     record { fits = omega arith }
-
-nibble-in-requires : tie.Need-nibble-in-requires Inv-loop μ-loop
-nibble-in-requires c κs = search needs
 
 add-n : tie.Need-add-n Inv-loop μ-loop
 add-n c =
@@ -51,12 +42,6 @@ loop-again c =
     let e : c .nibble-in .result ≡ field ((l .i - 1) * 4) 4 (compound s) = c .nibble-in .ensures ∙ sym (nibble-of s (l .i - 1)) in
     (search needs, search needs, rw e (one-more (l .i) _ (compound s) (l .n) (omega arith) (omega arith) (l .inv .2)))
 
-shr-result : tie.Need-shr-result Inv-loop μ-loop
-shr-result c = search needs
-
-rem-result : tie.Need-rem-result Inv-loop μ-loop
-rem-result c = search needs
-
 returns : tie.Need-returns Inv-loop μ-loop
 returns c =
     let l = c .before .loop in
@@ -71,14 +56,14 @@ word-at-spec =
     (tie.spec
     Inv-loop
     μ-loop
-    add-end
+    (λ c. search needs)
     loop-holds
-    sub-i
+    (λ c. search needs)
     mul-n
-    nibble-in-requires
+    (λ c κs. search needs)
     add-n
     loop-less
     loop-again
-    shr-result
-    rem-result
+    (λ c. search needs)
+    (λ c. search needs)
     returns)

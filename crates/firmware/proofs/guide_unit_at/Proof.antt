@@ -5,14 +5,8 @@ use Rattle.firmware.specs.Values.{packed}
 use Rattle.firmware.proofs.guide_unit_at.Statement.{statement}
 use Rattle.firmware.proofs.guide_unit_at.Tie as tie
 
-unit-at-requires : tie.Need-unit-at-requires
-unit-at-requires c κs = search needs
-
-pack-requires : tie.Need-pack-requires
-pack-requires c κs = search needs
-
 returns : tie.Need-returns
 returns c = c .pack .ensures ∙ ap packed (c .before .unit-at .ensures)
 
 pub guide-unit-at-spec : {M : Type 1} → statement M
-guide-unit-at-spec = tie.close (tie.spec unit-at-requires pack-requires returns)
+guide-unit-at-spec = tie.close (tie.spec (λ c κs. search needs) (λ c κs. search needs) returns)

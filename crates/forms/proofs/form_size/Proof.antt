@@ -25,27 +25,12 @@ Inv-loop table kind left₀ at₀ left at =
 abbrev μ-loop : tie.MeasureT-loop
 μ-loop table kind left₀ at₀ left at = left
 
-byte-at-requires : tie.Need-byte-at-requires Inv-loop μ-loop
-byte-at-requires c κs = search needs
-
-byte-at-requires-2 : tie.Need-byte-at-requires-2 Inv-loop μ-loop
-byte-at-requires-2 c κs = search needs
-
 loop-holds : tie.Need-loop-holds Inv-loop μ-loop
 unfolding tableIn
 loop-holds c =
     let f : List ℕ = now (c .before .before .before .args .table) in
     let e = c .before .byte-at .ensures .0 in
     (omega (arith, c .byte-at2 .ensures .1), rw (e, c .byte-at2 .ensures .0) (sym (length-form (tableIn f))))
-
-add-byte-at : tie.Need-add-byte-at Inv-loop μ-loop
-add-byte-at c = search needs
-
-byte-at-requires-3 : tie.Need-byte-at-requires-3 Inv-loop μ-loop
-byte-at-requires-3 c κs = search needs
-
-words-of-requires : tie.Need-words-of-requires Inv-loop μ-loop
-words-of-requires c κs = search needs
 
 mul-at : tie.Need-mul-at Inv-loop μ-loop
 mul-at c = omega (arith, c .words-of .ensures .1, c .before .byte-at3 .ensures .1)
@@ -55,9 +40,6 @@ add-at c = omega (arith, c .words-of .ensures .1, c .before .byte-at3 .ensures .
 
 add-at-2 : tie.Need-add-at-2 Inv-loop μ-loop
 add-at-2 c = omega (arith, c .words-of .ensures .1, c .before .byte-at3 .ensures .1)
-
-sub-left : tie.Need-sub-left Inv-loop μ-loop
-sub-left c = search needs
 
 loop-less : tie.Need-loop-less Inv-loop μ-loop
 loop-less c = search needs
@@ -87,16 +69,16 @@ form-size-spec =
     (tie.spec
     Inv-loop
     μ-loop
-    byte-at-requires
-    byte-at-requires-2
+    (λ c κs. search needs)
+    (λ c κs. search needs)
     loop-holds
-    add-byte-at
-    byte-at-requires-3
-    words-of-requires
+    (λ c. search needs)
+    (λ c κs. search needs)
+    (λ c κs. search needs)
     mul-at
     add-at
     add-at-2
-    sub-left
+    (λ c. search needs)
     loop-less
     loop-again
     returns)

@@ -10,21 +10,6 @@ use Rattle.forms.proofs.is_numbered.Tie as tie
 returns : tie.Need-returns
 returns c = rw (lt-ltb _ 4 (c .if1 .taken))
 
-byte-at-requires : tie.Need-byte-at-requires
-byte-at-requires c κs = search needs
-
-byte-at-requires-2 : tie.Need-byte-at-requires-2
-byte-at-requires-2 c κs = search needs
-
-mul-numbered : tie.Need-mul-numbered
-mul-numbered c = search needs
-
-add-numbered : tie.Need-add-numbered
-add-numbered c = search needs
-
-numbered-requires : tie.Need-numbered-requires
-numbered-requires c κs = search needs
-
 returns-2 : tie.Need-returns-2
 returns-2 c =
     let s = c .before .before .before .before .before in
@@ -35,4 +20,4 @@ returns-2 c =
 
 pub is-numbered-spec : {M : Type 1} → statement M
 is-numbered-spec =
-    tie.close (tie.spec returns byte-at-requires byte-at-requires-2 mul-numbered add-numbered numbered-requires returns-2)
+    tie.close (tie.spec returns (λ c κs. search needs) (λ c κs. search needs) (λ c. search needs) (λ c. search needs) (λ c κs. search needs) returns-2)

@@ -13,33 +13,15 @@ use Rattle.forms.proofs.Judging.{form-22, form-13, form-15, form-editio
 use Rattle.forms.proofs.judge_form.Statement.{statement}
 use Rattle.forms.proofs.judge_form.Tie as tie
 
-is-numbered-requires : tie.Need-is-numbered-requires
-is-numbered-requires c κs = search needs
-
-refuse-requires : tie.Need-refuse-requires
-refuse-requires c κs = search needs
-
 returns : tie.Need-returns
 returns c =
     let n = sym (c .before .before .is-numbered .ensures) ∙ not-true _ (c .before .if1 .taken) in
     c .refuse .ensures ∙ sym (form-22 (now (c .before .before .before .before .args .table)) _ n)
 
-refuse-requires-2 : tie.Need-refuse-requires-2
-refuse-requires-2 c κs = search needs
-
 returns-2 : tie.Need-returns-2
 returns-2 c =
     let n = sym (c .before .before .before .is-numbered .ensures) ∙ not-false _ (c .before .before .if1 .left) in
     c .refuse2 .ensures ∙ sym (form-13 (now (c .before .before .before .before .before .args .table)) _ n (search needs))
-
-byte-at-requires : tie.Need-byte-at-requires
-byte-at-requires c κs = search needs
-
-known-requires : tie.Need-known-requires
-known-requires c κs = search needs
-
-refuse-requires-3 : tie.Need-refuse-requires-3
-refuse-requires-3 c κs = search needs
 
 returns-3 : tie.Need-returns-3
 returns-3 c =
@@ -48,12 +30,6 @@ returns-3 c =
     let n = sym (b .before .before .is-numbered .ensures) ∙ not-false _ (b .before .if1 .left) in
     let k = ap known (sym (c .before .before .before .byte-at .ensures .0)) ∙ sym (c .before .before .known .ensures) ∙ not-true _ (c .before .if3 .taken) in
     c .refuse3 .ensures ∙ sym (form-15 f _ n (search needs) k)
-
-form-size-requires : tie.Need-form-size-requires
-form-size-requires c κs = search needs
-
-refuse-requires-4 : tie.Need-refuse-requires-4
-refuse-requires-4 c κs = search needs
 
 returns-4 : tie.Need-returns-4
 returns-4 c =
@@ -89,17 +65,17 @@ pub judge-form-spec : {M : Type 1} → statement M
 judge-form-spec =
     tie.close
     (tie.spec
-    is-numbered-requires
-    refuse-requires
+    (λ c κs. search needs)
+    (λ c κs. search needs)
     returns
-    refuse-requires-2
+    (λ c κs. search needs)
     returns-2
-    byte-at-requires
-    known-requires
-    refuse-requires-3
+    (λ c κs. search needs)
+    (λ c κs. search needs)
+    (λ c κs. search needs)
     returns-3
-    form-size-requires
-    refuse-requires-4
+    (λ c κs. search needs)
+    (λ c κs. search needs)
     returns-4
     judge-values-requires
     returns-5)

@@ -17,35 +17,17 @@ use Rattle.forms.proofs.Forms.{in-sendable, out-copyright, out-count, o
 use Rattle.forms.proofs.judge_values.Statement.{statement}
 use Rattle.forms.proofs.judge_values.Tie as tie
 
-byte-at-requires : tie.Need-byte-at-requires
-byte-at-requires c κs = search needs
-
-byte-at-requires-2 : tie.Need-byte-at-requires-2
-byte-at-requires-2 c κs = search needs
-
-refuse-requires : tie.Need-refuse-requires
-refuse-requires c κs = search needs
-
 returns : tie.Need-returns
 returns c =
     let f : List ℕ = now (c .before .before .before .before .before .args .table) in
     let e : fits (tableIn f) ≡ false = out-copyright f (omega (arith, c .before .before .byte-at2 .ensures .0)) in
     rw e (c .refuse .ensures)
 
-refuse-requires-2 : tie.Need-refuse-requires-2
-refuse-requires-2 c κs = search needs
-
 returns-2 : tie.Need-returns-2
 returns-2 c =
     let f : List ℕ = now (c .before .before .before .before .before .before .args .table) in
     let e : fits (tableIn f) ≡ false = out-count f (omega (arith, c .before .before .before .before .byte-at .ensures .0)) in
     rw e (c .refuse2 .ensures)
-
-loops-fit-requires : tie.Need-loops-fit-requires
-loops-fit-requires c κs = search needs
-
-refuse-requires-3 : tie.Need-refuse-requires-3
-refuse-requires-3 c κs = search needs
 
 returns-3 : tie.Need-returns-3
 returns-3 c =
@@ -64,16 +46,10 @@ mul-bits c = omega (arith, c .before .before .before .before .before .before .be
 add-bits : tie.Need-add-bits
 add-bits c = omega (arith, c .before .before .before .before .before .before .before .pre)
 
-mul-bits-2 : tie.Need-mul-bits-2
-mul-bits-2 c = search needs
-
 sub-bits-2 : tie.Need-sub-bits-2
 sub-bits-2 c =
     let s = c .before .before .before .before .before .before .before in
     omega (arith, count-room (now (s .args .table)) (s .pre .1), c .before .before .before .before .before .byte-at .ensures .0)
-
-refuse-requires-4 : tie.Need-refuse-requires-4
-refuse-requires-4 c κs = search needs
 
 returns-4 : tie.Need-returns-4
 returns-4 c =
@@ -100,20 +76,20 @@ pub judge-values-spec : {M : Type 1} → statement M
 judge-values-spec =
     tie.close
     (tie.spec
-    byte-at-requires
-    byte-at-requires-2
-    refuse-requires
+    (λ c κs. search needs)
+    (λ c κs. search needs)
+    (λ c κs. search needs)
     returns
-    refuse-requires-2
+    (λ c κs. search needs)
     returns-2
-    loops-fit-requires
-    refuse-requires-3
+    (λ c κs. search needs)
+    (λ c κs. search needs)
     returns-3
     sub-bits
     mul-bits
     add-bits
-    mul-bits-2
+    (λ c. search needs)
     sub-bits-2
-    refuse-requires-4
+    (λ c κs. search needs)
     returns-4
     returns-5)

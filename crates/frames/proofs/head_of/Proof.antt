@@ -8,18 +8,6 @@ use lib.ListN.{getD}
 use Rattle.frames.proofs.head_of.Statement.{statement}
 use Rattle.frames.proofs.head_of.Tie as tie
 
-byte-at-requires : tie.Need-byte-at-requires
-byte-at-requires c κs = search needs
-
-byte-at-requires-2 : tie.Need-byte-at-requires-2
-byte-at-requires-2 c κs = search needs
-
-mul-result : tie.Need-mul-result
-mul-result c = search needs
-
-add-result : tie.Need-add-result
-add-result c = search needs
-
 returns : tie.Need-returns
 returns c =
     let l : List ℕ = now (c .before .before .before .args .rec) in
@@ -29,4 +17,4 @@ returns c =
 
 pub head-of-spec : {M : Type 1} → statement M
 head-of-spec =
-    tie.close (tie.spec byte-at-requires byte-at-requires-2 mul-result add-result returns)
+    tie.close (tie.spec (λ c κs. search needs) (λ c κs. search needs) (λ c. search needs) (λ c. search needs) returns)

@@ -7,42 +7,18 @@ use Rattle.frames.specs.Values.{refusedFrame}
 use Rattle.frames.proofs.judge.Statement.{statement}
 use Rattle.frames.proofs.judge.Tie as tie
 
-refuse-requires : tie.Need-refuse-requires
-refuse-requires c κs = search needs
-
 returns : tie.Need-returns
 returns c = c .refuse .ensures ∙ sym (frame-16 refusedFrame _ _ _ _ _ _ (search needs))
-
-head-of-requires : tie.Need-head-of-requires
-head-of-requires c κs = search needs
-
-add-if2 : tie.Need-add-if2
-add-if2 c = search needs
-
-refuse-requires-2 : tie.Need-refuse-requires-2
-refuse-requires-2 c κs = search needs
 
 returns-2 : tie.Need-returns-2
 returns-2 c =
     rw (← (c .before .before .head-of .ensures .0))
     (c .refuse2 .ensures ∙ sym (frame-13 refusedFrame _ _ _ _ _ _ (search needs) (c .before .if2 .taken)))
 
-shared-slice-read-if3 : tie.Need-shared-slice-read-if3
-shared-slice-read-if3 c = search needs
-
-refuse-requires-3 : tie.Need-refuse-requires-3
-refuse-requires-3 c κs = search needs
-
 returns-3 : tie.Need-returns-3
 returns-3 c =
     rw (← (c .before .before .before .before .head-of .ensures .0))
     (c .refuse3 .ensures ∙ sym (frame-part refusedFrame _ _ _ _ _ _ (search needs) (c .before .before .before .if2 .left) (search needs)))
-
-shared-slice-read-if4 : tie.Need-shared-slice-read-if4
-shared-slice-read-if4 c = search needs
-
-refuse-requires-4 : tie.Need-refuse-requires-4
-refuse-requires-4 c κs = search needs
 
 returns-4 : tie.Need-returns-4
 returns-4 c =
@@ -51,9 +27,6 @@ returns-4 c =
     ∙ sym
     (frame-second refusedFrame _ _ _ _ _ _ (search needs) (c .before .before .before .before .before .if2 .left) (search needs) (search needs)))
 
-refuse-requires-5 : tie.Need-refuse-requires-5
-refuse-requires-5 c κs = search needs
-
 returns-5 : tie.Need-returns-5
 returns-5 c =
     let b = c .before .before .before .before .before .before in
@@ -61,9 +34,6 @@ returns-5 c =
     (c .refuse5 .ensures
     ∙ sym
     (frame-12 refusedFrame _ _ _ _ _ _ (search needs) (b .if2 .left) (search needs) (search needs) (c .before .if5 .taken)))
-
-refuse-requires-6 : tie.Need-refuse-requires-6
-refuse-requires-6 c κs = search needs
 
 returns-6 : tie.Need-returns-6
 returns-6 c =
@@ -85,20 +55,20 @@ pub judge-spec : {M : Type 1} → statement M
 judge-spec =
     tie.close
     (tie.spec
-    refuse-requires
+    (λ c κs. search needs)
     returns
-    head-of-requires
-    add-if2
-    refuse-requires-2
+    (λ c κs. search needs)
+    (λ c. search needs)
+    (λ c κs. search needs)
     returns-2
-    shared-slice-read-if3
-    refuse-requires-3
+    (λ c. search needs)
+    (λ c κs. search needs)
     returns-3
-    shared-slice-read-if4
-    refuse-requires-4
+    (λ c. search needs)
+    (λ c κs. search needs)
     returns-4
-    refuse-requires-5
+    (λ c κs. search needs)
     returns-5
-    refuse-requires-6
+    (λ c κs. search needs)
     returns-6
     returns-7)

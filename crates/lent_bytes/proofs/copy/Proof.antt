@@ -18,33 +18,12 @@ Inv-loop src from n dst₀ to there m i₀ dst i =
 abbrev μ-loop : tie.MeasureT-loop
 μ-loop src from n dst₀ to there m i₀ dst i = m - i
 
-within-requires : tie.Need-within-requires Inv-loop μ-loop
-within-requires c κs = search needs
-
-within-requires-2 : tie.Need-within-requires-2 Inv-loop μ-loop
-within-requires-2 c κs = search needs
-
 loop-holds : tie.Need-loop-holds Inv-loop μ-loop
 loop-holds c =
     let a = c .before .before .before .before .args in
     let e = c .before .within .ensures in
     let f = c .within2 .ensures in
     (omega arith, omega (arith, e, f), omega (arith, f), refl, copy-begins (now (a .dst)) (now (a .src)) (a .to) (a .from) (a .n) e f)
-
-add-dst : tie.Need-add-dst Inv-loop μ-loop
-add-dst c = search needs
-
-shared-slice-read-dst : tie.Need-shared-slice-read-dst Inv-loop μ-loop
-shared-slice-read-dst c = search needs
-
-add-dst-2 : tie.Need-add-dst-2 Inv-loop μ-loop
-add-dst-2 c = search needs
-
-slice-write-dst : tie.Need-slice-write-dst Inv-loop μ-loop
-slice-write-dst c = search needs
-
-add-i : tie.Need-add-i Inv-loop μ-loop
-add-i c = search needs
 
 loop-less : tie.Need-loop-less Inv-loop μ-loop
 loop-less c = search needs
@@ -60,9 +39,6 @@ loop-again c =
       copy-on (l .dst) (now (a .src)) (a .to) (a .from) (c .before .before .before .within2 .result) (l .i) (omega arith) (omega (arith, l .inv .1)) ∙ l .inv .4,
     )
 
-same-length : tie.Need-same-length Inv-loop μ-loop
-same-length c = search needs
-
 returns : tie.Need-returns Inv-loop μ-loop
 returns c =
     let l = c .before .loop in
@@ -75,15 +51,15 @@ copy-spec =
     (tie.spec
     Inv-loop
     μ-loop
-    within-requires
-    within-requires-2
+    (λ c κs. search needs)
+    (λ c κs. search needs)
     loop-holds
-    add-dst
-    shared-slice-read-dst
-    add-dst-2
-    slice-write-dst
-    add-i
+    (λ c. search needs)
+    (λ c. search needs)
+    (λ c. search needs)
+    (λ c. search needs)
+    (λ c. search needs)
     loop-less
     loop-again
-    same-length
+    (λ c. search needs)
     returns)

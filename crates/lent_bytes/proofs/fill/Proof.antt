@@ -18,20 +18,11 @@ Inv-loop dst₀ n b there i₀ dst i =
 abbrev μ-loop : tie.MeasureT-loop
 μ-loop dst₀ n b there i₀ dst i = there - i
 
-within-requires : tie.Need-within-requires Inv-loop μ-loop
-within-requires c κs = search needs
-
 loop-holds : tie.Need-loop-holds Inv-loop μ-loop
 loop-holds c =
     let a = c .before .before .args in
     let e = c .within .ensures in
     (omega arith, omega (arith, e), refl, fill-begins (now (a .dst)) (a .n) (a .b) e)
-
-slice-write-dst : tie.Need-slice-write-dst Inv-loop μ-loop
-slice-write-dst c = search needs
-
-add-i : tie.Need-add-i Inv-loop μ-loop
-add-i c = search needs
 
 loop-less : tie.Need-loop-less Inv-loop μ-loop
 loop-less c = search needs
@@ -41,9 +32,6 @@ loop-again c =
     let l = c .before .loop in
     (omega arith, l .inv .1, simp length-set (l .inv .2), fill-on (l .dst) (c .before .before .within .result) (c .before .before .before .before .args .b) (l .i) (omega arith) ∙ l .inv .3)
 
-same-length : tie.Need-same-length Inv-loop μ-loop
-same-length c = search needs
-
 returns : tie.Need-returns Inv-loop μ-loop
 returns c =
     let l = c .before .loop in
@@ -52,4 +40,4 @@ returns c =
 pub fill-spec : {M : Type 1} → statement M
 fill-spec =
     tie.close
-    (tie.spec Inv-loop μ-loop within-requires loop-holds slice-write-dst add-i loop-less loop-again same-length returns)
+    (tie.spec Inv-loop μ-loop (λ c κs. search needs) loop-holds (λ c. search needs) (λ c. search needs) loop-less loop-again (λ c. search needs) returns)

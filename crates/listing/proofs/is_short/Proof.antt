@@ -28,11 +28,8 @@ returns c =
     ) in
     sym (le-ltb _ _ h)
 
-measure-requires : tie.Need-measure-requires
-measure-requires c κs = search needs
-
 returns-2 : tie.Need-returns-2
 returns-2 c = ap (λ (x : ℕ). ltb (c .before .before .before .args .room) x) (c .measure .ensures)
 
 pub is-short-spec : {M : Type 1} → statement M
-is-short-spec = tie.close (tie.spec returns measure-requires returns-2)
+is-short-spec = tie.close (tie.spec returns (λ c κs. search needs) returns-2)

@@ -16,12 +16,6 @@ use Rattle.listing.proofs.Room.{judged-form}
 use Rattle.listing.proofs.list.Statement.{statement}
 use Rattle.listing.proofs.list.Tie as tie
 
-judge-form-requires : tie.Need-judge-form-requires
-judge-form-requires c κs = search needs
-
-enum-known-why : tie.Need-enum-known-why
-enum-known-why c = search needs
-
 enum-told : tie.Need-enum-told
 enum-told c = search needs
 
@@ -38,17 +32,11 @@ returns c =
     lent-short (formRules f) (linesFrom (a .head) (a .mended) (a .second) (tableIn f)) (now (a .out)) _ (c .before .before .before .before .judge-form .ensures)
     (c .before .before .enum-told .given .1) short
 
-put-lines-requires : tie.Need-put-lines-requires
-put-lines-requires c κs = search needs
-
 returns-2 : tie.Need-returns-2
 returns-2 c =
     let a = c .before .before .before .before .before .before .args in
     let f : List ℕ = now (a .table) in
     lent-refused (formRules f) (linesFrom (a .head) (a .mended) (a .second) (tableIn f)) (now (a .out)) _ (c .before .before .before .judge-form .ensures) (c .before .why .given .1)
-
-same-length : tie.Need-same-length
-same-length c = search needs
 
 returns-3 : tie.Need-returns-3
 returns-3 c =
@@ -65,12 +53,12 @@ pub list-spec : {M : Type 1} → statement M
 list-spec =
     tie.close
     (tie.spec
-    judge-form-requires
-    enum-known-why
+    (λ c κs. search needs)
+    (λ c. search needs)
     enum-told
     is-short-requires
     returns
-    put-lines-requires
+    (λ c κs. search needs)
     returns-2
-    same-length
+    (λ c. search needs)
     returns-3)

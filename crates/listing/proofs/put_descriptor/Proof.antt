@@ -6,24 +6,6 @@ use Rattle.text_lines.proofs.Printed.{then, put-as, put-there}
 use Rattle.listing.proofs.put_descriptor.Statement.{statement}
 use Rattle.listing.proofs.put_descriptor.Tie as tie
 
-byte-at-requires : tie.Need-byte-at-requires
-byte-at-requires c κs = search needs
-
-slice-aggregate-put-number : tie.Need-slice-aggregate-put-number
-slice-aggregate-put-number c = search needs
-
-put-number-requires : tie.Need-put-number-requires
-put-number-requires c κs = search needs
-
-add-put-entries : tie.Need-add-put-entries
-add-put-entries c = search needs
-
-put-entries-requires : tie.Need-put-entries-requires
-put-entries-requires c κs = search needs
-
-same-length : tie.Need-same-length
-same-length c = search needs
-
 returns : tie.Need-returns
 unfolding descriptorLine
 returns c =
@@ -36,10 +18,10 @@ pub put-descriptor-spec : {M : Type 1} → statement M
 put-descriptor-spec =
     tie.close
     (tie.spec
-    byte-at-requires
-    slice-aggregate-put-number
-    put-number-requires
-    add-put-entries
-    put-entries-requires
-    same-length
+    (λ c κs. search needs)
+    (λ c. search needs)
+    (λ c κs. search needs)
+    (λ c. search needs)
+    (λ c κs. search needs)
+    (λ c. search needs)
     returns)

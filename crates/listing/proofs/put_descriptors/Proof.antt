@@ -26,30 +26,12 @@ Inv-loop table out₀ q kind left₀ i₀ p₀ out left i p =
 abbrev μ-loop : tie.MeasureT-loop
 μ-loop table out₀ q kind left₀ i₀ p₀ out left i p = left
 
-byte-at-requires : tie.Need-byte-at-requires Inv-loop μ-loop
-byte-at-requires c κs = search needs
-
-byte-at-requires-2 : tie.Need-byte-at-requires-2 Inv-loop μ-loop
-byte-at-requires-2 c κs = search needs
-
 loop-holds : tie.Need-loop-holds Inv-loop μ-loop
 unfolding descriptorLinesOf tableIn
 loop-holds c =
     let k = c .before .byte-at in
     let n = c .byte-at2 in
     (refl, omega (arith, n .ensures .1), omega (arith, n .ensures .1), rw (k .ensures .0, n .ensures .0) (left-start _ _ _))
-
-add-byte-at : tie.Need-add-byte-at Inv-loop μ-loop
-add-byte-at c = search needs
-
-byte-at-requires-3 : tie.Need-byte-at-requires-3 Inv-loop μ-loop
-byte-at-requires-3 c κs = search needs
-
-put-descriptor-requires : tie.Need-put-descriptor-requires Inv-loop μ-loop
-put-descriptor-requires c κs = search needs
-
-words-of-requires : tie.Need-words-of-requires Inv-loop μ-loop
-words-of-requires c κs = search needs
 
 mul-i : tie.Need-mul-i Inv-loop μ-loop
 mul-i c = omega (arith, c .words-of .ensures .1, c .before .before .before .before .before .byte-at3 .ensures .1)
@@ -59,9 +41,6 @@ add-i c = omega (arith, c .words-of .ensures .1, c .before .before .before .befo
 
 add-i-2 : tie.Need-add-i-2 Inv-loop μ-loop
 add-i-2 c = omega (arith, c .words-of .ensures .1, c .before .before .before .before .before .byte-at3 .ensures .1)
-
-sub-left : tie.Need-sub-left Inv-loop μ-loop
-sub-left c = search needs
 
 loop-less : tie.Need-loop-less Inv-loop μ-loop
 loop-less c = search needs
@@ -81,9 +60,6 @@ loop-again c =
       left-on (descriptors-on kind (l .left) (l .i) (n .result) (w .result) f (search needs) (n .ensures .0) (words-counted _ _ _ _ (w .ensures .0) (n .ensures .1) refl)) (p .ensures .0) (l .inv .3),
     )
 
-same-length : tie.Need-same-length Inv-loop μ-loop
-same-length c = search needs
-
 returns : tie.Need-returns Inv-loop μ-loop
 unfolding descriptorLines descriptorsIn
 returns c =
@@ -98,18 +74,18 @@ put-descriptors-spec =
     (tie.spec
     Inv-loop
     μ-loop
-    byte-at-requires
-    byte-at-requires-2
+    (λ c κs. search needs)
+    (λ c κs. search needs)
     loop-holds
-    add-byte-at
-    byte-at-requires-3
-    put-descriptor-requires
-    words-of-requires
+    (λ c. search needs)
+    (λ c κs. search needs)
+    (λ c κs. search needs)
+    (λ c κs. search needs)
     mul-i
     add-i
     add-i-2
-    sub-left
+    (λ c. search needs)
     loop-less
     loop-again
-    same-length
+    (λ c. search needs)
     returns)

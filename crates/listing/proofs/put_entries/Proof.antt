@@ -23,23 +23,8 @@ Inv-loop table kind from k out₀ q step left₀ i₀ p₀ out left i p =
 abbrev μ-loop : tie.MeasureT-loop
 μ-loop table kind from k out₀ q step left₀ i₀ p₀ out left i p = left
 
-words-of-requires : tie.Need-words-of-requires Inv-loop μ-loop
-words-of-requires c κs = search needs
-
-mul-step : tie.Need-mul-step Inv-loop μ-loop
-mul-step c = search needs
-
 loop-holds : tie.Need-loop-holds Inv-loop μ-loop
 loop-holds c = (refl, search needs, search needs, left-start _ _ _)
-
-put-entry-requires : tie.Need-put-entry-requires Inv-loop μ-loop
-put-entry-requires c κs = search needs
-
-add-i : tie.Need-add-i Inv-loop μ-loop
-add-i c = search needs
-
-sub-left : tie.Need-sub-left Inv-loop μ-loop
-sub-left c = search needs
 
 loop-less : tie.Need-loop-less Inv-loop μ-loop
 loop-less c = search needs
@@ -57,9 +42,6 @@ loop-again c =
       left-on (entries-on (s .args .kind) (l .left) (l .i) (w .result) f (search needs) (w .ensures .0)) (p .ensures .0) (l .inv .3),
     )
 
-same-length : tie.Need-same-length Inv-loop μ-loop
-same-length c = search needs
-
 returns : tie.Need-returns Inv-loop μ-loop
 returns c =
     let l = c .before .loop in
@@ -73,13 +55,13 @@ put-entries-spec =
     (tie.spec
     Inv-loop
     μ-loop
-    words-of-requires
-    mul-step
+    (λ c κs. search needs)
+    (λ c. search needs)
     loop-holds
-    put-entry-requires
-    add-i
-    sub-left
+    (λ c κs. search needs)
+    (λ c. search needs)
+    (λ c. search needs)
     loop-less
     loop-again
-    same-length
+    (λ c. search needs)
     returns)

@@ -9,15 +9,6 @@ use Rattle.listing.proofs.Walk.{entry-ti, entry-li}
 use Rattle.listing.proofs.put_entry.Statement.{statement}
 use Rattle.listing.proofs.put_entry.Tie as tie
 
-word-at-requires : tie.Need-word-at-requires
-word-at-requires c κs = search needs
-
-put-language-requires : tie.Need-put-language-requires
-put-language-requires c κs = search needs
-
-same-length : tie.Need-same-length
-same-length c = search needs
-
 returns : tie.Need-returns
 returns c =
     let a = c .before .before .before .before .before .before .before .before .args in
@@ -25,18 +16,6 @@ returns c =
     let w = c .before .before .before .before .before .word-at in
     let l = c .before .before .before .put-language in
     (put-as (entry-li (a .kind) (a .i) (w .result) f (w .ensures .0) (c .if1 .taken)) (put-there (search needs) (l .ensures .0)), omega (arith, l .ensures .1))
-
-add-word-at : tie.Need-add-word-at
-add-word-at c = search needs
-
-word-at-requires-2 : tie.Need-word-at-requires-2
-word-at-requires-2 c κs = search needs
-
-put-page-requires : tie.Need-put-page-requires
-put-page-requires c κs = search needs
-
-same-length-2 : tie.Need-same-length-2
-same-length-2 c = search needs
 
 returns-2 : tie.Need-returns-2
 returns-2 c =
@@ -54,12 +33,12 @@ pub put-entry-spec : {M : Type 1} → statement M
 put-entry-spec =
     tie.close
     (tie.spec
-    word-at-requires
-    put-language-requires
-    same-length
+    (λ c κs. search needs)
+    (λ c κs. search needs)
+    (λ c. search needs)
     returns
-    add-word-at
-    word-at-requires-2
-    put-page-requires
-    same-length-2
+    (λ c. search needs)
+    (λ c κs. search needs)
+    (λ c κs. search needs)
+    (λ c. search needs)
     returns-2)

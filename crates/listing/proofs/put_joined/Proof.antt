@@ -16,15 +16,6 @@ returns c =
     let a = c .before .before .args in
     (put-as (simp (ne-eqb (a .second) 1 (λ e. omega arith))) (put-none (now (a .out)) (a .q)), omega arith)
 
-slice-aggregate-put-number : tie.Need-slice-aggregate-put-number
-slice-aggregate-put-number c = search needs
-
-put-number-requires : tie.Need-put-number-requires
-put-number-requires c κs = search needs
-
-same-length : tie.Need-same-length
-same-length c = search needs
-
 returns-2 : tie.Need-returns-2
 unfolding joinedLine
 returns-2 c =
@@ -38,4 +29,4 @@ returns-2 c =
 pub put-joined-spec : {M : Type 1} → statement M
 put-joined-spec =
     tie.close
-    (tie.spec returns slice-aggregate-put-number put-number-requires same-length returns-2)
+    (tie.spec returns (λ c. search needs) (λ c κs. search needs) (λ c. search needs) returns-2)

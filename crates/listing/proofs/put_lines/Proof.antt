@@ -10,15 +10,6 @@ use Rattle.text_lines.proofs.Printed.{then, put-as}
 use Rattle.listing.proofs.put_lines.Statement.{statement}
 use Rattle.listing.proofs.put_lines.Tie as tie
 
-put-head-requires : tie.Need-put-head-requires
-put-head-requires c κs = search needs
-
-put-descriptors-requires : tie.Need-put-descriptors-requires
-put-descriptors-requires c κs = search needs
-
-same-length : tie.Need-same-length
-same-length c = search needs
-
 returns : tie.Need-returns
 unfolding linesOf
 returns c =
@@ -28,12 +19,6 @@ returns c =
     let s = a .second in
     put-as (ap (λ (b : Bool). linesFrom b m s t) (sym (c .before .before .before .before .before .before .before .before .if1 .taken)))
     (then (c .before .before .before .before .before .before .put-head .ensures .0) (c .before .before .put-descriptors .ensures))
-
-put-descriptors-requires-2 : tie.Need-put-descriptors-requires-2
-put-descriptors-requires-2 c κs = search needs
-
-same-length-2 : tie.Need-same-length-2
-same-length-2 c = search needs
 
 returns-2 : tie.Need-returns-2
 returns-2 c =
@@ -48,10 +33,10 @@ pub put-lines-spec : {M : Type 1} → statement M
 put-lines-spec =
     tie.close
     (tie.spec
-    put-head-requires
-    put-descriptors-requires
-    same-length
+    (λ c κs. search needs)
+    (λ c κs. search needs)
+    (λ c. search needs)
     returns
-    put-descriptors-requires-2
-    same-length-2
+    (λ c κs. search needs)
+    (λ c. search needs)
     returns-2)

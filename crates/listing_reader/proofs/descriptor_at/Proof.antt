@@ -9,15 +9,6 @@ use Rattle.listing_reader.proofs.Walks.{within-on, number-room, row-roo
 use Rattle.listing_reader.proofs.descriptor_at.Statement.{statement}
 use Rattle.listing_reader.proofs.descriptor_at.Tie as tie
 
-slice-aggregate-number-at : tie.Need-slice-aggregate-number-at
-slice-aggregate-number-at c = search needs
-
-number-at-requires : tie.Need-number-at-requires
-number-at-requires c κs = search needs
-
-ended-requires : tie.Need-ended-requires
-ended-requires c κs = search needs
-
 returns : tie.Need-returns
 returns c =
     let s = c .before .before .before .before .before in
@@ -46,9 +37,6 @@ add-ended c =
     let r = number-room (now (s .args .sheet)) (s .args .at) (s .args .kind) _ (number-at .ensures) in
     let q = row-room (now (s .args .sheet)) (s .args .at) (s .args .kind) _ (number-at .ensures) (if1 .left) _ (row-at .ensures .0) in
     omega (arith, w .short, simp length-drop at r, simp length-drop at q)
-
-ended-requires-2 : tie.Need-ended-requires-2
-ended-requires-2 c κs = search needs
 
 returns-2 : tie.Need-returns-2
 returns-2 c =
@@ -84,14 +72,14 @@ pub descriptor-at-spec : {M : Type 1} → statement M
 descriptor-at-spec =
     tie.close
     (tie.spec
-    slice-aggregate-number-at
-    number-at-requires
-    ended-requires
+    (λ c. search needs)
+    (λ c κs. search needs)
+    (λ c κs. search needs)
     returns
     add-row-at
     row-at-requires
     add-ended
-    ended-requires-2
+    (λ c κs. search needs)
     returns-2
     add-t12
     returns-3)

@@ -9,11 +9,8 @@ use Rattle.listing_reader.proofs.table_at.Tie as tie
 returns : tie.Need-returns
 returns c = let a = c .before .before .args in sym (table-none (now (a .sheet)) (a .at) (a .kind) (c .if1 .taken))
 
-table-from-requires : tie.Need-table-from-requires
-table-from-requires c κs = search needs
-
 returns-2 : tie.Need-returns-2
 returns-2 c = c .table-from .ensures .0
 
 pub table-at-spec : {M : Type 1} → statement M
-table-at-spec = tie.close (tie.spec returns table-from-requires returns-2)
+table-at-spec = tie.close (tie.spec returns (λ c κs. search needs) returns-2)

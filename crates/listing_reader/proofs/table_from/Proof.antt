@@ -63,9 +63,6 @@ add-entries c =
     let l = c .before .before .before .loop in
     omega (arith, l .inv .1, l .inv .3, s .pre .short, descriptor-at .ensures .1, simp length-drop at (e .1))
 
-is-over-requires : tie.Need-is-over-requires Inv-loop μ-loop
-is-over-requires c κs = search needs
-
 add-p : tie.Need-add-p Inv-loop μ-loop
 add-p c =
     let s = c .before .before .before .before .before .before .before in
@@ -121,7 +118,7 @@ table-from-spec =
     returns
     add-count
     add-entries
-    is-over-requires
+    (λ c κs. search needs)
     add-p
     loop-less
     loop-again)

@@ -8,19 +8,10 @@ use Rattle.listing_reader.proofs.Walks.{within-on, language-room, page-
 use Rattle.listing_reader.proofs.words_at.Statement.{statement}
 use Rattle.listing_reader.proofs.words_at.Tie as tie
 
-language-at-requires : tie.Need-language-at-requires
-language-at-requires c κs = search needs
-
-met-requires : tie.Need-met-requires
-met-requires c κs = search needs
-
 returns : tie.Need-returns
 returns c =
     let a = c .before .before .before .before .args in
     c .met .ensures ∙ words-stop (now (a .sheet)) (a .at) (a .kind) _ (c .before .before .language-at .ensures) (c .before .if1 .taken)
-
-met-requires-2 : tie.Need-met-requires-2
-met-requires-2 c κs = search needs
 
 returns-2 : tie.Need-returns-2
 returns-2 c =
@@ -38,9 +29,6 @@ page-at-requires : tie.Need-page-at-requires
 page-at-requires c κs =
     let a = c .before .before .before .before .args in
     within-on _ (c .before .before .before .before .pre) (language-room (now (a .sheet)) (a .at) (a .kind) _ (c .before .before .language-at .ensures))
-
-met-requires-3 : tie.Need-met-requires-3
-met-requires-3 c κs = search needs
 
 returns-3 : tie.Need-returns-3
 returns-3 c =
@@ -63,9 +51,6 @@ add-met c =
     let q = page-room (now (a .sheet)) (a .at) (a .kind) _ (language-at .ensures) (if1 .left) (search needs) _ (c .before .page-at .ensures) in
     omega (arith, w .short, simp length-drop at r, simp length-drop at q)
 
-met-requires-4 : tie.Need-met-requires-4
-met-requires-4 c κs = search needs
-
 returns-4 : tie.Need-returns-4
 returns-4 c =
     let s = c .before .before .before .before .before .before .before in
@@ -80,15 +65,15 @@ pub words-at-spec : {M : Type 1} → statement M
 words-at-spec =
     tie.close
     (tie.spec
-    language-at-requires
-    met-requires
+    (λ c κs. search needs)
+    (λ c κs. search needs)
     returns
-    met-requires-2
+    (λ c κs. search needs)
     returns-2
     add-page-at
     page-at-requires
-    met-requires-3
+    (λ c κs. search needs)
     returns-3
     add-met
-    met-requires-4
+    (λ c κs. search needs)
     returns-4)

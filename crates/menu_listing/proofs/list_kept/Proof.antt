@@ -8,12 +8,6 @@ use Rattle.menu_listing.proofs.Rules.{kept-16, kept, some-level}
 use Rattle.menu_listing.proofs.list_kept.Statement.{statement}
 use Rattle.menu_listing.proofs.list_kept.Tie as tie
 
-are-levels-requires : tie.Need-are-levels-requires
-are-levels-requires c κs = search needs
-
-refuse-requires : tie.Need-refuse-requires
-refuse-requires c κs = search needs
-
 returns : tie.Need-returns
 returns c =
     let s = c .before .before .before .before .before .before .args in
@@ -24,9 +18,6 @@ returns c =
 print-requires : tie.Need-print-requires
 print-requires c κs =
     (search needs, some-level _ (sym (c .before .before .are-levels .ensures) ∙ not-false _ (c .before .if1 .left)))
-
-same-length : tie.Need-same-length
-same-length c = search needs
 
 returns-2 : tie.Need-returns-2
 unfolding keptListing
@@ -40,4 +31,4 @@ returns-2 c =
 pub list-kept-spec : {M : Type 1} → statement M
 list-kept-spec =
     tie.close
-    (tie.spec are-levels-requires refuse-requires returns print-requires same-length returns-2)
+    (tie.spec (λ c κs. search needs) (λ c κs. search needs) returns print-requires (λ c. search needs) returns-2)

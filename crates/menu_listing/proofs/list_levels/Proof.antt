@@ -11,9 +11,6 @@ use Rattle.menu_listing.proofs.Rules.{listed-16, levels-16, listed-13, 
 use Rattle.menu_listing.proofs.list_levels.Statement.{statement}
 use Rattle.menu_listing.proofs.list_levels.Tie as tie
 
-refuse-requires : tie.Need-refuse-requires
-refuse-requires c κs = search needs
-
 returns : tie.Need-returns
 returns c =
     let s = c .before .before .before .before .args in
@@ -22,12 +19,6 @@ returns c =
     lent-refused (levelsRules (s .application) (s .levels) l) (listing (s .application) (s .number) (s .levels) l) (now (s .out)) 0 refl
     (listed-16 (s .application) (s .levels) l (c .before .if1 .taken)) in
     (c .refuse .ensures ∙ p .0, p .1)
-
-are-levels-requires : tie.Need-are-levels-requires
-are-levels-requires c κs = search needs
-
-refuse-requires-2 : tie.Need-refuse-requires-2
-refuse-requires-2 c κs = search needs
 
 returns-2 : tie.Need-returns-2
 returns-2 c =
@@ -38,12 +29,6 @@ returns-2 c =
     lent-refused (levelsRules (s .application) (s .levels) l) (listing (s .application) (s .number) (s .levels) l) (now (s .out)) 0 refl
     (levels-16 (s .application) (s .levels) l (c .before .before .before .if1 .left) n) in
     (c .refuse2 .ensures ∙ p .0, p .1)
-
-is-whole-requires : tie.Need-is-whole-requires
-is-whole-requires c κs = search needs
-
-refuse-requires-3 : tie.Need-refuse-requires-3
-refuse-requires-3 c κs = search needs
 
 returns-3 : tie.Need-returns-3
 returns-3 c =
@@ -62,9 +47,6 @@ print-requires c κs =
     let b = c .before .before .before in
     (search needs, some-level _ (sym (b .before .are-levels .ensures) ∙ not-false _ (b .if2 .left)))
 
-same-length : tie.Need-same-length
-same-length c = search needs
-
 returns-4 : tie.Need-returns-4
 unfolding listing
 returns-4 c =
@@ -80,14 +62,14 @@ pub list-levels-spec : {M : Type 1} → statement M
 list-levels-spec =
     tie.close
     (tie.spec
-    refuse-requires
+    (λ c κs. search needs)
     returns
-    are-levels-requires
-    refuse-requires-2
+    (λ c κs. search needs)
+    (λ c κs. search needs)
     returns-2
-    is-whole-requires
-    refuse-requires-3
+    (λ c κs. search needs)
+    (λ c κs. search needs)
     returns-3
     print-requires
-    same-length
+    (λ c. search needs)
     returns-4)

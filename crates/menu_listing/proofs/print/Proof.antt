@@ -15,18 +15,6 @@ use Rattle.menu_listing.proofs.Walks.{level-down}
 use Rattle.menu_listing.proofs.print.Statement.{statement}
 use Rattle.menu_listing.proofs.print.Tie as tie
 
-sub-below : tie.Need-sub-below
-sub-below c = search needs
-
-slice-aggregate-walk-menu : tie.Need-slice-aggregate-walk-menu
-slice-aggregate-walk-menu c = search needs
-
-walk-menu-requires : tie.Need-walk-menu-requires
-walk-menu-requires c κs = search needs
-
-refuse-requires : tie.Need-refuse-requires
-refuse-requires c κs = search needs
-
 returns : tie.Need-returns
 returns c =
     let s = c .before .before .before .before .before .before .before .before .args in
@@ -36,12 +24,6 @@ returns c =
     let long = too-long (penned-as e (c .before .before .before .walk-menu .ensures .0)) (omega (arith, c .before .if1 .taken)) in
     let p = lent-short [] text (now (s .out)) 0 refl refl long in
     (c .refuse .ensures ∙ p .0, p .1)
-
-walk-menu-requires-2 : tie.Need-walk-menu-requires-2
-walk-menu-requires-2 c κs = search needs
-
-same-length : tie.Need-same-length
-same-length c = search needs
 
 returns-2 : tie.Need-returns-2
 returns-2 c =
@@ -59,11 +41,11 @@ pub print-spec : {M : Type 1} → statement M
 print-spec =
     tie.close
     (tie.spec
-    sub-below
-    slice-aggregate-walk-menu
-    walk-menu-requires
-    refuse-requires
+    (λ c. search needs)
+    (λ c. search needs)
+    (λ c κs. search needs)
+    (λ c κs. search needs)
     returns
-    walk-menu-requires-2
-    same-length
+    (λ c κs. search needs)
+    (λ c. search needs)
     returns-2)

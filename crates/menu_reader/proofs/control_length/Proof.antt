@@ -9,12 +9,6 @@ use Rattle.menu_reader.proofs.control_length.Tie as tie
 slice-aggregate-field-of : tie.Need-slice-aggregate-field-of
 slice-aggregate-field-of c = sym (length-take-le 8 (now (c .before .before .args .raw)) (c .before .before .pre))
 
-field-of-requires : tie.Need-field-of-requires
-field-of-requires c κs = search needs
-
-mul-control : tie.Need-mul-control
-mul-control c = search needs
-
 returns : tie.Need-returns
 returns c = search needs
 
@@ -27,4 +21,4 @@ returns-3 c = search needs
 pub control-length-spec : {M : Type 1} → statement M
 control-length-spec =
     tie.close
-    (tie.spec slice-aggregate-field-of field-of-requires mul-control returns returns-2 returns-3)
+    (tie.spec slice-aggregate-field-of (λ c κs. search needs) (λ c. search needs) returns returns-2 returns-3)

@@ -18,17 +18,11 @@ use Rattle.menu_reader.proofs.judge_front.Tie as tie
 slice-aggregate-sound : tie.Need-slice-aggregate-sound
 slice-aggregate-sound c = sym (length-take-le 8 (now (c .before .before .args .control)) (c .before .before .pre))
 
-sound-requires : tie.Need-sound-requires
-sound-requires c κs = search needs
-
 add-refuse : tie.Need-add-refuse
 add-refuse c =
     let l = now (c .before .before .before .before .args .control) in
     let s : List ℕ = take 8 l in
     omega (arith, c .before .sound .ensures, sound-le (map nib s), length-map s nib, length-take-le 8 l (c .before .before .before .before .pre))
-
-refuse-requires : tie.Need-refuse-requires
-refuse-requires c κs = search needs
 
 returns : tie.Need-returns
 returns c =
@@ -36,24 +30,12 @@ returns c =
     let e : c .before .before .sound .result ≡ sound (take 8 (map nib s)) = c .before .before .sound .ensures ∙ ap sound (map-take nib 8 s) in
     rw e at (c .refuse .ensures) ∙ sym (front-10 (map nib s) _ (rw e at (c .before .if1 .taken)))
 
-field-of-requires : tie.Need-field-of-requires
-field-of-requires c κs = search needs
-
-refuse-requires-2 : tie.Need-refuse-requires-2
-refuse-requires-2 c κs = search needs
-
 returns-2 : tie.Need-returns-2
 returns-2 c =
     let b = c .before .before .before in
     let s : List ℕ = now (b .before .before .before .before .args .control) in
     let e : sound (take 8 (map nib s)) ≡ 8 = sym (b .before .sound .ensures ∙ ap sound (map-take nib 8 s)) ∙ b .if1 .left in
     c .refuse2 .ensures ∙ sym (front-12 (map nib s) _ e (λ (k : _). c .before .if2 .taken (c .before .before .field-of .ensures .0 ∙ k)))
-
-field-of-requires-2 : tie.Need-field-of-requires-2
-field-of-requires-2 c κs = search needs
-
-refuse-requires-3 : tie.Need-refuse-requires-3
-refuse-requires-3 c κs = search needs
 
 returns-3 : tie.Need-returns-3
 returns-3 c =
@@ -76,14 +58,14 @@ judge-front-spec =
     tie.close
     (tie.spec
     slice-aggregate-sound
-    sound-requires
+    (λ c κs. search needs)
     add-refuse
-    refuse-requires
+    (λ c κs. search needs)
     returns
-    field-of-requires
-    refuse-requires-2
+    (λ c κs. search needs)
+    (λ c κs. search needs)
     returns-2
-    field-of-requires-2
-    refuse-requires-3
+    (λ c κs. search needs)
+    (λ c κs. search needs)
     returns-3
     returns-4)

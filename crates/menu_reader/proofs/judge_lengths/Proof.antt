@@ -15,18 +15,6 @@ use Rattle.menu_reader.proofs.Judging.{lengths-header, lengths-control,
 use Rattle.menu_reader.proofs.judge_lengths.Statement.{statement}
 use Rattle.menu_reader.proofs.judge_lengths.Tie as tie
 
-slice-aggregate-spell : tie.Need-slice-aggregate-spell
-slice-aggregate-spell c = search needs
-
-spell-requires : tie.Need-spell-requires
-spell-requires c κs = search needs
-
-field-of-requires : tie.Need-field-of-requires
-field-of-requires c κs = search needs
-
-refuse-requires : tie.Need-refuse-requires
-refuse-requires c κs = search needs
-
 returns : tie.Need-returns
 returns c =
     let a = c .before .before .before .before .before .before .before .before .args in
@@ -35,12 +23,6 @@ returns c =
     let s = c .before .before .before .before .spell .ensures .0 in
     let lines = c .before .before .field-of .ensures .0 ∙ header-read ns cs in
     c .refuse .ensures ∙ sym (lengths-header _ _ (menuOf ns cs) _ (subst (λ (x : ℕ). 2 < x) lines (omega (arith, c .before .if1 .taken))))
-
-field-of-requires-2 : tie.Need-field-of-requires-2
-field-of-requires-2 c κs = search needs
-
-refuse-requires-2 : tie.Need-refuse-requires-2
-refuse-requires-2 c κs = search needs
 
 returns-2 : tie.Need-returns-2
 returns-2 c =
@@ -53,14 +35,8 @@ returns-2 c =
     c .refuse2 .ensures
     ∙ sym (lengths-control _ _ (menuOf ns cs) _ few (λ (e : _). c .before .if2 .taken (c .before .before .before .field-of2 .ensures .0 ∙ e ∙ sym (control-spelled s))))
 
-mul-if3 : tie.Need-mul-if3
-mul-if3 c = search needs
-
 add-if3 : tie.Need-add-if3
 add-if3 c = omega (arith, c .before .before .before .before .before .before .before .before .spell .ensures .1)
-
-refuse-requires-3 : tie.Need-refuse-requires-3
-refuse-requires-3 c κs = search needs
 
 returns-3 : tie.Need-returns-3
 returns-3 c =
@@ -88,16 +64,16 @@ pub judge-lengths-spec : {M : Type 1} → statement M
 judge-lengths-spec =
     tie.close
     (tie.spec
-    slice-aggregate-spell
-    spell-requires
-    field-of-requires
-    refuse-requires
+    (λ c. search needs)
+    (λ c κs. search needs)
+    (λ c κs. search needs)
+    (λ c κs. search needs)
     returns
-    field-of-requires-2
-    refuse-requires-2
+    (λ c κs. search needs)
+    (λ c κs. search needs)
     returns-2
-    mul-if3
+    (λ c. search needs)
     add-if3
-    refuse-requires-3
+    (λ c κs. search needs)
     returns-3
     returns-4)

@@ -11,26 +11,8 @@ use Rattle.menu_reader.specs.Reading.{frontRules, wholeRules, lengthRule
 use Rattle.menu_reader.proofs.judge_parts.Statement.{statement}
 use Rattle.menu_reader.proofs.judge_parts.Tie as tie
 
-judge-front-requires : tie.Need-judge-front-requires
-judge-front-requires c κs = search needs
-
-enum-known-why : tie.Need-enum-known-why
-enum-known-why c = search needs
-
 enum-told : tie.Need-enum-told
 enum-told c = search needs
-
-judge-whole-requires : tie.Need-judge-whole-requires
-judge-whole-requires c κs = search needs
-
-enum-known-why-2 : tie.Need-enum-known-why-2
-enum-known-why-2 c = search needs
-
-enum-told-2 : tie.Need-enum-told-2
-enum-told-2 c = search needs
-
-judge-lengths-requires : tie.Need-judge-lengths-requires
-judge-lengths-requires c κs = search needs
 
 returns : tie.Need-returns
 returns c =
@@ -66,13 +48,13 @@ pub judge-parts-spec : {M : Type 1} → statement M
 judge-parts-spec =
     tie.close
     (tie.spec
-    judge-front-requires
-    enum-known-why
+    (λ c κs. search needs)
+    (λ c. search needs)
     enum-told
-    judge-whole-requires
-    enum-known-why-2
-    enum-told-2
-    judge-lengths-requires
+    (λ c κs. search needs)
+    (λ c. search needs)
+    (λ c. search needs)
+    (λ c κs. search needs)
     returns
     returns-2
     returns-3)

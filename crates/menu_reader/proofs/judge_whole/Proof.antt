@@ -15,19 +15,10 @@ use Rattle.menu_reader.proofs.Judging.{whole-10, whole-23, whole-11, wh
 use Rattle.menu_reader.proofs.judge_whole.Statement.{statement}
 use Rattle.menu_reader.proofs.judge_whole.Tie as tie
 
-sum-of-requires : tie.Need-sum-of-requires
-sum-of-requires c κs = search needs
-
-sound-requires : tie.Need-sound-requires
-sound-requires c κs = search needs
-
 add-refuse : tie.Need-add-refuse
 add-refuse c =
     let s : List ℕ = now (c .before .before .before .before .before .args .control) in
     omega (arith, c .sound .ensures, sound-le (map nib s), length-map s nib, c .before .before .before .before .before .good)
-
-refuse-requires : tie.Need-refuse-requires
-refuse-requires c κs = search needs
 
 returns : tie.Need-returns
 returns c =
@@ -35,19 +26,10 @@ returns c =
     rw (c .before .sound .ensures) at (c .refuse .ensures)
     ∙ sym (whole-10 _ (map nib s) _ _ (λ (e : _). absurd (omega (arith, c .before .before .before .sum-of .ensures .0 (c .before .before .if1 .taken), e, length-map s nib))))
 
-odds-requires : tie.Need-odds-requires
-odds-requires c κs = search needs
-
-add-refuse-2 : tie.Need-add-refuse-2
-add-refuse-2 c = search needs
-
 add-refuse-3 : tie.Need-add-refuse-3
 add-refuse-3 c =
     let b = c .before .before .before .before .before .before in
     omega (arith, c .before .odds .ensures, odds-le (now (b .args .strings)), b .good, b .pre)
-
-refuse-requires-2 : tie.Need-refuse-requires-2
-refuse-requires-2 c κs = search needs
 
 returns-2 : tie.Need-returns-2
 returns-2 c =
@@ -58,12 +40,6 @@ returns-2 c =
     let place = ap₂ (λ (x y : ℕ). 4 + x + y) (sym (length-map s nib)) (c .before .before .odds .ensures) in
     c .refuse2 .ensures ∙ ap (refused 23) place
     ∙ sym (whole-23 _ (map nib s) t _ sounds (λ (e : _). c .before .if2 .taken (c .before .before .odds .ensures ∙ e)))
-
-field-of-requires : tie.Need-field-of-requires
-field-of-requires c κs = search needs
-
-refuse-requires-3 : tie.Need-refuse-requires-3
-refuse-requires-3 c κs = search needs
 
 returns-3 : tie.Need-returns-3
 returns-3 c =
@@ -86,17 +62,17 @@ pub judge-whole-spec : {M : Type 1} → statement M
 judge-whole-spec =
     tie.close
     (tie.spec
-    sum-of-requires
-    sound-requires
+    (λ c κs. search needs)
+    (λ c κs. search needs)
     add-refuse
-    refuse-requires
+    (λ c κs. search needs)
     returns
-    odds-requires
-    add-refuse-2
+    (λ c κs. search needs)
+    (λ c. search needs)
     add-refuse-3
-    refuse-requires-2
+    (λ c κs. search needs)
     returns-2
-    field-of-requires
-    refuse-requires-3
+    (λ c κs. search needs)
+    (λ c κs. search needs)
     returns-3
     returns-4)

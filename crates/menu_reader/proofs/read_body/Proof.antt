@@ -13,28 +13,13 @@ use Rattle.menu_reader.specs.Reading.{menuHeld, partRules}
 use Rattle.menu_reader.proofs.read_body.Statement.{statement}
 use Rattle.menu_reader.proofs.read_body.Tie as tie
 
-control-length-requires : tie.Need-control-length-requires
-control-length-requires c κs = search needs
-
 slice-aggregate-read-parts : tie.Need-slice-aggregate-read-parts
 slice-aggregate-read-parts c = sym (length-take-le _ (now (c .before .before .before .before .args .raw)) (c .before .control-length .ensures .2))
-
-sub-read-parts : tie.Need-sub-read-parts
-sub-read-parts c = search needs
-
-part-read-parts-start : tie.Need-part-read-parts-start
-part-read-parts-start c = search needs
-
-part-read-parts-end : tie.Need-part-read-parts-end
-part-read-parts-end c = search needs
 
 read-parts-requires : tie.Need-read-parts-requires
 read-parts-requires c κs =
     let n = c .before .before .before .control-length in
     rw (length-take-le (n .result) (now (c .before .before .before .before .before .before .args .raw)) (n .ensures .2)) (n .ensures .1, n .ensures .3)
-
-same-length : tie.Need-same-length
-same-length c = search needs
 
 returns : tie.Need-returns
 returns c =
@@ -53,11 +38,11 @@ pub read-body-spec : {M : Type 1} → statement M
 read-body-spec =
     tie.close
     (tie.spec
-    control-length-requires
+    (λ c κs. search needs)
     slice-aggregate-read-parts
-    sub-read-parts
-    part-read-parts-start
-    part-read-parts-end
+    (λ c. search needs)
+    (λ c. search needs)
+    (λ c. search needs)
     read-parts-requires
-    same-length
+    (λ c. search needs)
     returns)

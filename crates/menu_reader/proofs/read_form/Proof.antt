@@ -19,15 +19,6 @@ use Rattle.menu_reader.specs.Reading.{bodyRules, menuRead}
 use Rattle.menu_reader.proofs.read_form.Statement.{statement}
 use Rattle.menu_reader.proofs.read_form.Tie as tie
 
-judge-requires : tie.Need-judge-requires
-judge-requires c κs = search needs
-
-enum-known-why : tie.Need-enum-known-why
-enum-known-why c = search needs
-
-enum-known-head : tie.Need-enum-known-head
-enum-known-head c = search needs
-
 -- a frame that is taken says how long the record is
 taken :
     (c : tie.After-known-told2)
@@ -45,9 +36,6 @@ sub-read-body c = omega (arith, taken c)
 part-read-body-start : tie.Need-part-read-body-start
 part-read-body-start c = omega (arith, taken c)
 
-part-read-body-end : tie.Need-part-read-body-end
-part-read-body-end c = search needs
-
 read-body-requires : tie.Need-read-body-requires
 read-body-requires c κs =
     rw (part-rest 4 (now (c .before .before .before .before .before .before .before .before .args .rec)), length-drop) (omega (arith, taken (c .before .before)))
@@ -58,9 +46,6 @@ returns c =
     let r = now (a .rec) in
     frame-refused (framing (a .application) r) (headOf r) (c .before .before .before .judge .ensures) (bodyRules (headOf r) (drop 4 r))
     (form (menuRead (drop 4 r))) (now (a .out)) (c .before .why .given .1)
-
-same-length : tie.Need-same-length
-same-length c = search needs
 
 returns-2 : tie.Need-returns-2
 returns-2 c =
@@ -82,13 +67,13 @@ pub read-form-spec : {M : Type 1} → statement M
 read-form-spec =
     tie.close
     (tie.spec
-    judge-requires
-    enum-known-why
-    enum-known-head
+    (λ c κs. search needs)
+    (λ c. search needs)
+    (λ c. search needs)
     sub-read-body
     part-read-body-start
-    part-read-body-end
+    (λ c. search needs)
     read-body-requires
     returns
-    same-length
+    (λ c. search needs)
     returns-2)

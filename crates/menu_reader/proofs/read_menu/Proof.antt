@@ -16,15 +16,6 @@ use Rattle.menu_reader.proofs.Mending.{record-long}
 use Rattle.menu_reader.proofs.read_menu.Statement.{statement}
 use Rattle.menu_reader.proofs.read_menu.Tie as tie
 
-read-form-requires : tie.Need-read-form-requires
-read-form-requires c κs = search needs
-
-enum-known-why : tie.Need-enum-known-why
-enum-known-why c = search needs
-
-enum-known-written : tie.Need-enum-known-written
-enum-known-written c = search needs
-
 mended-in-requires : tie.Need-mended-in-requires
 mended-in-requires c κs =
     let a = c .before .before .before .before .before .before .before .before .before .args in
@@ -41,16 +32,10 @@ cast-mended c =
     let all = lent-all (readRules (a .application) r) (form (menuRead (drop 4 r))) (now (a .out)) _ d in
     omega (arith, c .mended-in .ensures, mended-most (a .application) r (all .0))
 
-same-length : tie.Need-same-length
-same-length c = search needs
-
 returns : tie.Need-returns
 returns c =
     let b = c .before .before .before .before .before in
     (sym (ap (counted (mendedIn _)) (sym (b .read-form .ensures .0) ∙ c .before .why .given .1)), b .read-form .ensures .1)
-
-same-length-2 : tie.Need-same-length-2
-same-length-2 c = search needs
 
 returns-2 : tie.Need-returns-2
 returns-2 c =
@@ -64,12 +49,12 @@ pub read-menu-spec : {M : Type 1} → statement M
 read-menu-spec =
     tie.close
     (tie.spec
-    read-form-requires
-    enum-known-why
-    enum-known-written
+    (λ c κs. search needs)
+    (λ c. search needs)
+    (λ c. search needs)
     mended-in-requires
     cast-mended
-    same-length
+    (λ c. search needs)
     returns
-    same-length-2
+    (λ c. search needs)
     returns-2)

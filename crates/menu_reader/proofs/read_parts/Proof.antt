@@ -11,18 +11,6 @@ use Rattle.menu_reader.specs.Reading.{menuHeld, partRules}
 use Rattle.menu_reader.proofs.read_parts.Statement.{statement}
 use Rattle.menu_reader.proofs.read_parts.Tie as tie
 
-judge-parts-requires : tie.Need-judge-parts-requires
-judge-parts-requires c κs = search needs
-
-enum-known-why : tie.Need-enum-known-why
-enum-known-why c = search needs
-
-enum-known-need : tie.Need-enum-known-need
-enum-known-need c = search needs
-
-refuse-requires : tie.Need-refuse-requires
-refuse-requires c κs = search needs
-
 returns : tie.Need-returns
 returns c =
     let a = c .before .before .before .before .before .before .before .before .before .args in
@@ -34,9 +22,6 @@ returns c =
     let p = lent-short rules bytes (now (a .out)) _ j d (omega (arith, e)) in
     (c .refuse .ensures ∙ p .0, p .1)
 
-spell-requires : tie.Need-spell-requires
-spell-requires c κs = search needs
-
 returns-2 : tie.Need-returns-2
 returns-2 c =
     let a = c .before .before .before .before .before .before .before .args in
@@ -44,9 +29,6 @@ returns-2 c =
     let bytes = form (menuHeld (now (a .control)) (now (a .strings))) in
     let j = c .before .before .before .judge-parts .ensures in
     lent-refused rules bytes (now (a .out)) _ j (c .before .why .given .1)
-
-same-length : tie.Need-same-length
-same-length c = search needs
 
 returns-3 : tie.Need-returns-3
 returns-3 c =
@@ -63,12 +45,12 @@ pub read-parts-spec : {M : Type 1} → statement M
 read-parts-spec =
     tie.close
     (tie.spec
-    judge-parts-requires
-    enum-known-why
-    enum-known-need
-    refuse-requires
+    (λ c κs. search needs)
+    (λ c. search needs)
+    (λ c. search needs)
+    (λ c κs. search needs)
     returns
-    spell-requires
+    (λ c κs. search needs)
     returns-2
-    same-length
+    (λ c. search needs)
     returns-3)

@@ -13,34 +13,19 @@ use Rattle.menu_writer.proofs.Records.{by-16, by-13, by-15, by-13′, b
 use Rattle.menu_writer.proofs.judge.Statement.{statement}
 use Rattle.menu_writer.proofs.judge.Tie as tie
 
-refuse-requires : tie.Need-refuse-requires
-refuse-requires c κs = search needs
-
 returns : tie.Need-returns
 returns c =
     let a = c .before .before .before .args in c .refuse .ensures ∙ sym (by-16 (a .application) (now (a .form)) _ (c .before .if1 .taken))
 
-refuse-requires-2 : tie.Need-refuse-requires-2
-refuse-requires-2 c κs = search needs
-
 returns-2 : tie.Need-returns-2
 returns-2 c =
     let a = c .before .before .before .before .args in c .refuse2 .ensures ∙ sym (by-13 (a .application) (now (a .form)) _ (search needs) (c .before .if2 .taken))
-
-byte-at-requires : tie.Need-byte-at-requires
-byte-at-requires c κs = search needs
-
-refuse-requires-3 : tie.Need-refuse-requires-3
-refuse-requires-3 c κs = search needs
 
 returns-3 : tie.Need-returns-3
 returns-3 c =
     let a = c .before .before .before .before .before .before .args in
     let b = c .before .before .byte-at .ensures .0 in
     c .refuse3 .ensures ∙ sym (by-15 (a .application) (now (a .form)) _ (search needs) (search needs) (λ e. c .before .if3 .taken (b ∙ e)))
-
-refuse-requires-4 : tie.Need-refuse-requires-4
-refuse-requires-4 c κs = search needs
 
 returns-4 : tie.Need-returns-4
 returns-4 c =
@@ -49,18 +34,6 @@ returns-4 c =
     let w = c .before .before .before .before .before .before .before .before .pre .0 in
     c .refuse4 .ensures
     ∙ sym (by-13′ (a .application) (now (a .form)) _ (search needs) (search needs) (sym b ∙ c .before .before .before .if3 .left) (λ e. c .before .if4 .taken (e ∙ sym (w .ends))))
-
-mul-size : tie.Need-mul-size
-mul-size c = search needs
-
-add-size : tie.Need-add-size
-add-size c = search needs
-
-both-requires : tie.Need-both-requires
-both-requires c κs = search needs
-
-refuse-requires-5 : tie.Need-refuse-requires-5
-refuse-requires-5 c κs = search needs
 
 returns-5 : tie.Need-returns-5
 returns-5 c =
@@ -72,9 +45,6 @@ returns-5 c =
     ∙ sym
     (by-15′ (a .application) f _ (search needs) (search needs) (sym b ∙ c .before .before .before .before .before .before .before .if3 .left) (c .before .before .before .before .before .if4 .left ∙ w .ends)
     (sym (fits-is (a .whole) f w) ∙ sym (c .before .before .both .ensures) ∙ not-true _ (c .before .if5 .taken)))
-
-add-t6 : tie.Need-add-t6
-add-t6 c = search needs
 
 returns-6 : tie.Need-returns-6
 returns-6 c =
@@ -91,19 +61,19 @@ pub judge-spec : {M : Type 1} → statement M
 judge-spec =
     tie.close
     (tie.spec
-    refuse-requires
+    (λ c κs. search needs)
     returns
-    refuse-requires-2
+    (λ c κs. search needs)
     returns-2
-    byte-at-requires
-    refuse-requires-3
+    (λ c κs. search needs)
+    (λ c κs. search needs)
     returns-3
-    refuse-requires-4
+    (λ c κs. search needs)
     returns-4
-    mul-size
-    add-size
-    both-requires
-    refuse-requires-5
+    (λ c. search needs)
+    (λ c. search needs)
+    (λ c κs. search needs)
+    (λ c κs. search needs)
     returns-5
-    add-t6
+    (λ c. search needs)
     returns-6)

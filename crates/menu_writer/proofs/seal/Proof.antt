@@ -14,27 +14,6 @@ use Rattle.sums.specs.Sums.{checksum}
 use Rattle.menu_writer.proofs.seal.Statement.{statement}
 use Rattle.menu_writer.proofs.seal.Tie as tie
 
-add-end : tie.Need-add-end
-add-end c = search needs
-
-sub-checksum : tie.Need-sub-checksum
-sub-checksum c = search needs
-
-part-checksum-start : tie.Need-part-checksum-start
-part-checksum-start c = search needs
-
-part-checksum-end : tie.Need-part-checksum-end
-part-checksum-end c = search needs
-
-checksum-requires : tie.Need-checksum-requires
-checksum-requires c κs = search needs
-
-put-nibbles-requires : tie.Need-put-nibbles-requires
-put-nibbles-requires c κs = search needs
-
-same-length : tie.Need-same-length
-same-length c = search needs
-
 returns : tie.Need-returns
 returns c =
     let a = c .before .before .before .before .before .before .before .before .args in
@@ -47,11 +26,11 @@ pub seal-spec : {M : Type 1} → statement M
 seal-spec =
     tie.close
     (tie.spec
-    add-end
-    sub-checksum
-    part-checksum-start
-    part-checksum-end
-    checksum-requires
-    put-nibbles-requires
-    same-length
+    (λ c. search needs)
+    (λ c. search needs)
+    (λ c. search needs)
+    (λ c. search needs)
+    (λ c κs. search needs)
+    (λ c κs. search needs)
+    (λ c. search needs)
     returns)

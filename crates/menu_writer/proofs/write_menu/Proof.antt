@@ -14,21 +14,6 @@ use Rattle.menu_writer.proofs.Records.{writable, sizes, long-is, size-i
 use Rattle.menu_writer.proofs.write_menu.Statement.{statement}
 use Rattle.menu_writer.proofs.write_menu.Tie as tie
 
-measure-requires : tie.Need-measure-requires
-measure-requires c κs = search needs
-
-judge-requires : tie.Need-judge-requires
-judge-requires c κs = search needs
-
-enum-known-why : tie.Need-enum-known-why
-enum-known-why c = search needs
-
-enum-known-need : tie.Need-enum-known-need
-enum-known-need c = search needs
-
-refuse-requires : tie.Need-refuse-requires
-refuse-requires c κs = search needs
-
 returns : tie.Need-returns
 returns c =
     let a = c .before .before .before .before .before .before .before .before .before .args in
@@ -56,9 +41,6 @@ returns-2 c =
     let f : List ℕ = now (a .form) in
     lent-refused (writeRules (a .application) f) (recordOf (a .application) (menuIn f)) (now (a .out)) _ (c .before .before .before .judge .ensures) (c .before .why .given .1)
 
-same-length : tie.Need-same-length
-same-length c = search needs
-
 returns-3 : tie.Need-returns-3
 returns-3 c =
     let a = c .before .before .before .before .before .before .before .before .before .before .before .before .args in
@@ -73,13 +55,13 @@ pub write-menu-spec : {M : Type 1} → statement M
 write-menu-spec =
     tie.close
     (tie.spec
-    measure-requires
-    judge-requires
-    enum-known-why
-    enum-known-need
-    refuse-requires
+    (λ c κs. search needs)
+    (λ c κs. search needs)
+    (λ c. search needs)
+    (λ c. search needs)
+    (λ c κs. search needs)
     returns
     write-record-requires
     returns-2
-    same-length
+    (λ c. search needs)
     returns-3)

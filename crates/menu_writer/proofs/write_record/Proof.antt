@@ -9,36 +9,6 @@ use Rattle.menu_writer.proofs.Records.{record-sent, size-is}
 use Rattle.menu_writer.proofs.write_record.Statement.{statement}
 use Rattle.menu_writer.proofs.write_record.Tie as tie
 
-mul-control : tie.Need-mul-control
-mul-control c = search needs
-
-add-head : tie.Need-add-head
-add-head c = search needs
-
-mul-head : tie.Need-mul-head
-mul-head c = search needs
-
-add-head-2 : tie.Need-add-head-2
-add-head-2 c = search needs
-
-put-head-requires : tie.Need-put-head-requires
-put-head-requires c κs = search needs
-
-put-control-requires : tie.Need-put-control-requires
-put-control-requires c κs = search needs
-
-add-put-all-strings : tie.Need-add-put-all-strings
-add-put-all-strings c = search needs
-
-put-all-strings-requires : tie.Need-put-all-strings-requires
-put-all-strings-requires c κs = search needs
-
-seal-requires : tie.Need-seal-requires
-seal-requires c κs = search needs
-
-same-length : tie.Need-same-length
-same-length c = search needs
-
 returns : tie.Need-returns
 returns c =
     let a = c .before .before .before .before .before .before .before .before .before .before .before .before .before .before .before .before .before .before .before .before .args in
@@ -53,14 +23,14 @@ pub write-record-spec : {M : Type 1} → statement M
 write-record-spec =
     tie.close
     (tie.spec
-    mul-control
-    add-head
-    mul-head
-    add-head-2
-    put-head-requires
-    put-control-requires
-    add-put-all-strings
-    put-all-strings-requires
-    seal-requires
-    same-length
+    (λ c. search needs)
+    (λ c. search needs)
+    (λ c. search needs)
+    (λ c. search needs)
+    (λ c κs. search needs)
+    (λ c κs. search needs)
+    (λ c. search needs)
+    (λ c κs. search needs)
+    (λ c κs. search needs)
+    (λ c. search needs)
     returns)

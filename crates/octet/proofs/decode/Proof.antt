@@ -7,12 +7,9 @@ use Rattle.octet.specs.Decoding.{nib, nibbleFrom}
 use Rattle.octet.proofs.decode.Statement.{statement}
 use Rattle.octet.proofs.decode.Tie as tie
 
-array-read-result : tie.Need-array-read-result
-array-read-result c = search needs
-
 returns : tie.Need-returns
 unfolding nib nibbleFrom image withParity differing number
 returns c = tabulate-at nib 256 (c .args .b) (search needs)
 
 pub decode-spec : {M : Type 1} → statement M
-decode-spec = tie.close (tie.spec array-read-result returns)
+decode-spec = tie.close (tie.spec (λ c. search needs) returns)

@@ -5,14 +5,8 @@ use Rattle.octet.proofs.Hearing.{heard-neither, heard-image, heard-mend
 use Rattle.octet.proofs.hear.Statement.{statement}
 use Rattle.octet.proofs.hear.Tie as tie
 
-decode-requires : tie.Need-decode-requires
-decode-requires c κs = search needs
-
 returns : tie.Need-returns
 returns c = heard-neither _ _ (c .before .decode .ensures) (c .if1 .taken)
-
-image-requires : tie.Need-image-requires
-image-requires c κs = search needs
 
 returns-2 : tie.Need-returns-2
 returns-2 c = let d = c .before .before .before in heard-image _ _ (d .decode .ensures) (c .before .before .if1 .left) (c .if2 .taken ∙ c .before .image .ensures)
@@ -23,4 +17,4 @@ returns-3 c =
     heard-mended _ _ (d .decode .ensures) (c .before .before .if1 .left) (λ h. c .if2 .left (h ∙ sym (c .before .image .ensures)))
 
 pub hear-spec : {M : Type 1} → statement M
-hear-spec = tie.close (tie.spec decode-requires returns image-requires returns-2 returns-3)
+hear-spec = tie.close (tie.spec (λ c κs. search needs) returns (λ c κs. search needs) returns-2 returns-3)

@@ -10,15 +10,9 @@ use Rattle.octet.proofs.Lowest.{image-mod}
 use Rattle.octet.proofs.image.Statement.{statement}
 use Rattle.octet.proofs.image.Tie as tie
 
-cast-result : tie.Need-cast-result
-cast-result c = search needs
-
-array-read-result : tie.Need-array-read-result
-array-read-result c = search needs
-
 returns : tie.Need-returns
 unfolding image withParity number
 returns c = tabulate-at image 16 (c .args .n % 16) (search needs) ∙ sym (image-mod (c .args .n))
 
 pub image-spec : {M : Type 1} → statement M
-image-spec = tie.close (tie.spec cast-result array-read-result returns)
+image-spec = tie.close (tie.spec (λ c. search needs) (λ c. search needs) returns)

@@ -5,15 +5,9 @@ use Rattle.octet.specs.Bits.{bits, number}
 use Rattle.octet.proofs.pair.Statement.{statement}
 use Rattle.octet.proofs.pair.Tie as tie
 
-mul-result : tie.Need-mul-result
-mul-result c = search needs
-
-add-result : tie.Need-add-result
-add-result c = search needs
-
 returns : tie.Need-returns
 unfolding bits number
 returns c = (omega arith, omega arith)
 
 pub pair-spec : {M : Type 1} → statement M
-pair-spec = tie.close (tie.spec mul-result add-result returns)
+pair-spec = tie.close (tie.spec (λ c. search needs) (λ c. search needs) returns)

@@ -6,21 +6,9 @@ use Rattle.octet.specs.Turning.{turned}
 use Rattle.octet.proofs.turn.Statement.{statement}
 use Rattle.octet.proofs.turn.Tie as tie
 
-half-requires : tie.Need-half-requires
-half-requires c κs = search needs
-
-mul-result : tie.Need-mul-result
-mul-result c = search needs
-
-half-requires-2 : tie.Need-half-requires-2
-half-requires-2 c κs = search needs
-
-add-result : tie.Need-add-result
-add-result c = search needs
-
 returns : tie.Need-returns
 unfolding turned
 returns c = rw (c .before .half .ensures .0, c .half2 .ensures .0) (sym (halves 4 (c .before .before .args .b)))
 
 pub turn-spec : {M : Type 1} → statement M
-turn-spec = tie.close (tie.spec half-requires mul-result half-requires-2 add-result returns)
+turn-spec = tie.close (tie.spec (λ c κs. search needs) (λ c. search needs) (λ c κs. search needs) (λ c. search needs) returns)

@@ -8,9 +8,6 @@ use Rattle.pages.proofs.Judged.{over}
 use Rattle.pages.proofs.is_wrong.Statement.{statement}
 use Rattle.pages.proofs.is_wrong.Tie as tie
 
-sub-if1 : tie.Need-sub-if1
-sub-if1 c = search needs
-
 returns : tie.Need-returns
 returns c =
     let n : c .before .args .y ≡ c .before .args .last + 1 → ⊥ = λ e. omega arith in
@@ -22,4 +19,4 @@ returns-2 c =
     rw (eq-eqb _ _ e) (over (c .before .args .n) (c .before .args .y))
 
 pub is-wrong-spec : {M : Type 1} → statement M
-is-wrong-spec = tie.close (tie.spec sub-if1 returns returns-2)
+is-wrong-spec = tie.close (tie.spec (λ c. search needs) returns returns-2)

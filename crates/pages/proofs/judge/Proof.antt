@@ -18,19 +18,10 @@ returns-2 c =
     let a = c .before .before .before .args in
     as-lost (a .page) (a .index) refl (as-junk (a .setting) (now (a .packet)) (c .before .if1 .left) (c .if2 .taken))
 
-cast-if3 : tie.Need-cast-if3
-cast-if3 c = search needs
-
 returns-3 : tie.Need-returns-3
 returns-3 c =
     let a = c .before .before .before .before .before .args in
     as-stays (a .page) (a .index) (as-other (a .setting) (now (a .packet)) (c .before .before .before .if1 .left) (c .before .before .if2 .left) (c .if3 .taken))
-
-cast-y : tie.Need-cast-y
-cast-y c = search needs
-
-judge-zero-requires : tie.Need-judge-zero-requires
-judge-zero-requires c κs = search needs
 
 returns-4 : tie.Need-returns-4
 returns-4 c =
@@ -61,10 +52,10 @@ judge-spec =
     (tie.spec
     returns
     returns-2
-    cast-if3
+    (λ c. search needs)
     returns-3
-    cast-y
-    judge-zero-requires
+    (λ c. search needs)
+    (λ c κs. search needs)
     returns-4
     returns-5
     judge-y-requires

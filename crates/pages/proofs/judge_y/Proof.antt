@@ -8,12 +8,6 @@ use Rattle.pages.proofs.judge_y.Tie as tie
 enum-told : tie.Need-enum-told
 enum-told c = search needs
 
-enum-known-page : tie.Need-enum-known-page
-enum-known-page c = search needs
-
-is-wrong-requires : tie.Need-is-wrong-requires
-is-wrong-requires c κs = search needs
-
 returns : tie.Need-returns
 returns c =
     let a = c .before .before .before .before .before .args in
@@ -28,4 +22,4 @@ returns-3 c = rw (c .before .is-wrong .ensures, c .before .before .before .page 
 
 pub judge-y-spec : {M : Type 1} → statement M
 judge-y-spec =
-    tie.close (tie.spec enum-told enum-known-page is-wrong-requires returns returns-2 returns-3)
+    tie.close (tie.spec enum-told (λ c. search needs) (λ c κs. search needs) returns returns-2 returns-3)

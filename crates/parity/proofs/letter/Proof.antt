@@ -6,17 +6,11 @@ use Rattle.parity.proofs.Letters.{letter-by}
 use Rattle.parity.proofs.letter.Statement.{statement}
 use Rattle.parity.proofs.letter.Tie as tie
 
-odd-requires : tie.Need-odd-requires
-odd-requires c κs = search needs
-
 returns : tie.Need-returns
 returns c = sym (letter-by _ (search needs) ∙ (rw (← (c .before .odd .ensures), c .if1 .taken) (add-zero _)))
-
-add-result : tie.Need-add-result
-add-result c = search needs
 
 returns-2 : tie.Need-returns-2
 returns-2 c = sym (letter-by _ (search needs) ∙ (rw (← (c .before .odd .ensures), c .if1 .left)))
 
 pub letter-spec : {M : Type 1} → statement M
-letter-spec = tie.close (tie.spec odd-requires returns add-result returns-2)
+letter-spec = tie.close (tie.spec (λ c κs. search needs) returns (λ c. search needs) returns-2)

@@ -20,19 +20,10 @@ abbrev μ-loop : tie.MeasureT-loop
 loop-holds : tie.Need-loop-holds Inv-loop μ-loop
 loop-holds c = (search needs, zero-add _)
 
-shared-slice-read-odd : tie.Need-shared-slice-read-odd Inv-loop μ-loop
-shared-slice-read-odd c = search needs
-
-odd-requires : tie.Need-odd-requires Inv-loop μ-loop
-odd-requires c κs = search needs
-
 returns : tie.Need-returns Inv-loop μ-loop
 returns c =
     let l = c .before .before .before .before .loop in
     odds-stop _ (l .i) (search needs) (sym (c .before .odd .ensures) ∙ not-true _ (c .if1 .taken)) ∙ l .inv .1
-
-add-i : tie.Need-add-i Inv-loop μ-loop
-add-i c = search needs
 
 loop-less : tie.Need-loop-less Inv-loop μ-loop
 loop-less c = search needs
@@ -52,10 +43,10 @@ odds-spec =
     Inv-loop
     μ-loop
     loop-holds
-    shared-slice-read-odd
-    odd-requires
+    (λ c. search needs)
+    (λ c κs. search needs)
     returns
-    add-i
+    (λ c. search needs)
     loop-less
     loop-again
     returns-2)

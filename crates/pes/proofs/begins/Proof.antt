@@ -7,20 +7,8 @@ use Rattle.pes.proofs.begins.Tie as tie
 returns : tie.Need-returns
 returns c = rw (lt-leb _ _ (c .if1 .taken))
 
-has-code-requires : tie.Need-has-code-requires
-has-code-requires c κs = search needs
-
 returns-2 : tie.Need-returns-2
 returns-2 c = rw (le-leb _ _ (c .before .before .if1 .left), ← (c .before .has-code .ensures), not-true (c .before .has-code .result) (c .if2 .taken))
-
-shared-slice-read-is-length : tie.Need-shared-slice-read-is-length
-shared-slice-read-is-length c = search needs
-
-shared-slice-read-is-length-2 : tie.Need-shared-slice-read-is-length-2
-shared-slice-read-is-length-2 c = search needs
-
-is-length-requires : tie.Need-is-length-requires
-is-length-requires c κs = search needs
 
 returns-3 : tie.Need-returns-3
 returns-3 c =
@@ -33,9 +21,9 @@ begins-spec =
     tie.close
     (tie.spec
     returns
-    has-code-requires
+    (λ c κs. search needs)
     returns-2
-    shared-slice-read-is-length
-    shared-slice-read-is-length-2
-    is-length-requires
+    (λ c. search needs)
+    (λ c. search needs)
+    (λ c κs. search needs)
     returns-3)

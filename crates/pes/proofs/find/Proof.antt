@@ -21,27 +21,12 @@ abbrev μ-loop : tie.MeasureT-loop
 loop-holds : tie.Need-loop-holds Inv-loop μ-loop
 loop-holds c = refl
 
-sub-begins : tie.Need-sub-begins Inv-loop μ-loop
-sub-begins c = search needs
-
-part-begins-start : tie.Need-part-begins-start Inv-loop μ-loop
-part-begins-start c = search needs
-
-part-begins-end : tie.Need-part-begins-end Inv-loop μ-loop
-part-begins-end c = search needs
-
-begins-requires : tie.Need-begins-requires Inv-loop μ-loop
-begins-requires c κs = search needs
-
 returns : tie.Need-returns Inv-loop μ-loop
 returns c =
     let l = c .before .before .before .before in
     let s = now (l .before .before .args .bytes) in
     let e = sym (ap beginsPacket (part-rest (l .loop .at) s)) ∙ sym (c .before .begins .ensures) ∙ c .if1 .taken in
     sym (first-here s (l .loop .at) (search needs) e) ∙ l .loop .inv
-
-add-at : tie.Need-add-at Inv-loop μ-loop
-add-at c = search needs
 
 loop-less : tie.Need-loop-less Inv-loop μ-loop
 loop-less c = search needs
@@ -65,12 +50,12 @@ find-spec =
     Inv-loop
     μ-loop
     loop-holds
-    sub-begins
-    part-begins-start
-    part-begins-end
-    begins-requires
+    (λ c. search needs)
+    (λ c. search needs)
+    (λ c. search needs)
+    (λ c κs. search needs)
     returns
-    add-at
+    (λ c. search needs)
     loop-less
     loop-again
     returns-2)

@@ -44,9 +44,6 @@ long c =
 
 -- ---- the needs
 
-starts-requires : tie.Need-starts-requires
-starts-requires c κs = search needs
-
 returns : tie.Need-returns
 unfolding readRules headerRules
 returns c = rw (← (c .before .starts .ensures), not-true (c .before .starts .result) (c .if1 .taken))
@@ -56,9 +53,6 @@ shared-slice-read-length-fits c = omega (arith, has-header (c .before))
 
 shared-slice-read-length-fits-2 : tie.Need-shared-slice-read-length-fits-2
 shared-slice-read-length-fits-2 c = omega (arith, has-header (c .before .before))
-
-length-fits-requires : tie.Need-length-fits-requires
-length-fits-requires c κs = search needs
 
 returns-2 : tie.Need-returns-2
 unfolding readRules headerRules
@@ -71,9 +65,6 @@ returns-2 c =
 
 shared-slice-read-flags-fit : tie.Need-shared-slice-read-flags-fit
 shared-slice-read-flags-fit c = omega (arith, long (c .before))
-
-flags-fit-requires : tie.Need-flags-fit-requires
-flags-fit-requires c κs = search needs
 
 returns-3 : tie.Need-returns-3
 unfolding readRules headerRules
@@ -99,9 +90,6 @@ returns-4 c =
 shared-slice-read-is-ebu : tie.Need-shared-slice-read-is-ebu
 shared-slice-read-is-ebu c = omega (arith, long (c .before .before .before .before .before .before))
 
-is-ebu-requires : tie.Need-is-ebu-requires
-is-ebu-requires c κs = search needs
-
 returns-5 : tie.Need-returns-5
 unfolding readRules headerRules
 returns-5 c =
@@ -116,9 +104,6 @@ returns-5 c =
       ← (c .before .is-ebu .ensures),
       not-true (c .before .is-ebu .result) (c .if5 .taken),
     )
-
-scan-requires : tie.Need-scan-requires
-scan-requires c κs = search needs
 
 returns-6 : tie.Need-returns-6
 unfolding readRules headerRules
@@ -140,19 +125,19 @@ pub judge-spec : {M : Type 1} → statement M
 judge-spec =
     tie.close
     (tie.spec
-    starts-requires
+    (λ c κs. search needs)
     returns
     shared-slice-read-length-fits
     shared-slice-read-length-fits-2
-    length-fits-requires
+    (λ c κs. search needs)
     returns-2
     shared-slice-read-flags-fit
-    flags-fit-requires
+    (λ c κs. search needs)
     returns-3
     shared-slice-read-if4
     returns-4
     shared-slice-read-is-ebu
-    is-ebu-requires
+    (λ c κs. search needs)
     returns-5
-    scan-requires
+    (λ c κs. search needs)
     returns-6)

@@ -23,9 +23,6 @@ loop-holds : tie.Need-loop-holds Inv-loop μ-loop
 unfolding recordsOf places
 loop-holds c = let s = c .before .before in filled-start _ _ _ (s .pre .0) (s .pre .1)
 
-unit-at-requires : tie.Need-unit-at-requires Inv-loop μ-loop
-unit-at-requires c κs = search needs
-
 enum-told : tie.Need-enum-told Inv-loop μ-loop
 enum-told c = search needs
 
@@ -37,9 +34,6 @@ unfolding recordsOf places
 returns c =
     let l = c .before .before .before .loop in
     filled-end _ _ _ _ _ _ (l .inv) (met-by _ _ (c .before .before .unit-at .ensures) (c .enum-told .given .1))
-
-enum-known-next : tie.Need-enum-known-next Inv-loop μ-loop
-enum-known-next c = search needs
 
 -- the text unit that the turn has met
 text :
@@ -67,9 +61,6 @@ loop-again c =
     let l = c .before .before .before .before .before .before .before .before .loop in
     filled-text _ _ _ _ _ _ (l .inv) 44 (record-length _ _) _ _ (text (c .before .before .before .before)) (c .before .before .put-record .kept .1 .1 .0) (c .before .before .put-record .ensures)
 
-enum-known-next-2 : tie.Need-enum-known-next-2 Inv-loop μ-loop
-enum-known-next-2 c = search needs
-
 -- the stuffing unit
 stuffing :
     (c : tie.After-known-told2 Inv-loop μ-loop)
@@ -81,9 +72,6 @@ loop-less-2 c = omega (arith, stuffing c, whole-moves _ _ _ _ (stuffing c))
 
 loop-again-2 : tie.Need-loop-again-2 Inv-loop μ-loop
 loop-again-2 c = filled-stuffing _ _ _ _ _ _ (c .before .before .before .before .loop .inv) _ (stuffing c)
-
-enum-told-2 : tie.Need-enum-told-2 Inv-loop μ-loop
-enum-told-2 c = search needs
 
 same-length-2 : tie.Need-same-length-2 Inv-loop μ-loop
 same-length-2 c = c .before .before .before .loop .inv .long
@@ -100,18 +88,18 @@ put-records-spec =
     Inv-loop
     μ-loop
     loop-holds
-    unit-at-requires
+    (λ c κs. search needs)
     enum-told
     same-length
     returns
-    enum-known-next
+    (λ c. search needs)
     put-record-requires
     add-to
     loop-less
     loop-again
-    enum-known-next-2
+    (λ c. search needs)
     loop-less-2
     loop-again-2
-    enum-told-2
+    (λ c. search needs)
     same-length-2
     returns-2)

@@ -14,15 +14,6 @@ use Rattle.pes.specs.Reading.{readRules, recordsOf}
 use Rattle.pes.proofs.read.Statement.{statement}
 use Rattle.pes.proofs.read.Tie as tie
 
-judge-requires : tie.Need-judge-requires
-judge-requires c κs = search needs
-
-enum-known-r : tie.Need-enum-known-r
-enum-known-r c = search needs
-
-enum-known-need : tie.Need-enum-known-need
-enum-known-need c = search needs
-
 -- what is judged to be done: every rule holds, and the need is exact
 passed :
     (c : tie.After-need)
@@ -52,9 +43,6 @@ returns-2 c =
     lent-refused (readRules (now (a .pes))) (recordsOf (now (a .pes))) (now (a .out)) (length (recordsOf (now (a .pes))))
     (c .before .before .before .judge .ensures) (c .before .r .given .1)
 
-same-length : tie.Need-same-length
-same-length c = search needs
-
 returns-3 : tie.Need-returns-3
 returns-3 c =
     let d = c .before .before .before .before in
@@ -69,11 +57,11 @@ pub read-spec : {M : Type 1} → statement M
 read-spec =
     tie.close
     (tie.spec
-    judge-requires
-    enum-known-r
-    enum-known-need
+    (λ c κs. search needs)
+    (λ c. search needs)
+    (λ c. search needs)
     returns
     put-records-requires
     returns-2
-    same-length
+    (λ c. search needs)
     returns-3)

@@ -28,9 +28,6 @@ loop-holds : tie.Need-loop-holds Inv-loop μ-loop
 unfolding unitsRules recordsOf places
 loop-holds c = (search needs, search needs, rw zero-add)
 
-unit-at-requires : tie.Need-unit-at-requires Inv-loop μ-loop
-unit-at-requires c κs = search needs
-
 enum-told : tie.Need-enum-told Inv-loop μ-loop
 enum-told c = search needs
 
@@ -38,9 +35,6 @@ returns : tie.Need-returns Inv-loop μ-loop
 returns c =
     let l = c .before .before .before .loop in
     sym (scan-step _ (l .at) (l .given) DataUnit.End (met-by _ _ (c .before .before .unit-at .ensures) (c .enum-told .given .1))) ∙ l .inv .2
-
-enum-known-next : tie.Need-enum-known-next Inv-loop μ-loop
-enum-known-next c = search needs
 
 -- the text unit that the turn has met
 text :
@@ -61,9 +55,6 @@ loop-again c =
     let m = whole-moves _ _ _ _ t in
     (omega (arith, text-next _ _ _ t), omega arith, sym (scan-step _ (l .at) (l .given) (DataUnit.Text _) t) ∙ l .inv .2)
 
-enum-known-next-2 : tie.Need-enum-known-next-2 Inv-loop μ-loop
-enum-known-next-2 c = search needs
-
 -- the stuffing unit
 stuffing :
     (c : tie.After-known-told2 Inv-loop μ-loop)
@@ -80,9 +71,6 @@ loop-again-2 c =
     let m = whole-moves _ _ _ _ t in
     (omega arith, omega arith, sym (scan-step _ (l .at) (l .given) (DataUnit.Stuffing _) t) ∙ l .inv .2)
 
-enum-known-r : tie.Need-enum-known-r Inv-loop μ-loop
-enum-known-r c = search needs
-
 returns-2 : tie.Need-returns-2 Inv-loop μ-loop
 returns-2 c =
     let l = c .before .before .before .before .loop in
@@ -95,15 +83,15 @@ scan-spec =
     Inv-loop
     μ-loop
     loop-holds
-    unit-at-requires
+    (λ c κs. search needs)
     enum-told
     returns
-    enum-known-next
+    (λ c. search needs)
     add-given
     loop-less
     loop-again
-    enum-known-next-2
+    (λ c. search needs)
     loop-less-2
     loop-again-2
-    enum-known-r
+    (λ c. search needs)
     returns-2)

@@ -7,11 +7,8 @@ use Rattle.pes.proofs.starts.Tie as tie
 returns : tie.Need-returns
 returns c = rw (lt-leb _ _ (c .if1 .taken))
 
-has-code-requires : tie.Need-has-code-requires
-has-code-requires c κs = search needs
-
 returns-2 : tie.Need-returns-2
 returns-2 c = rw (le-leb _ _ (c .before .if1 .left)) (c .has-code .ensures)
 
 pub starts-spec : {M : Type 1} → statement M
-starts-spec = tie.close (tie.spec returns has-code-requires returns-2)
+starts-spec = tie.close (tie.spec returns (λ c κs. search needs) returns-2)

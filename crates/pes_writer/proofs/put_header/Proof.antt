@@ -10,21 +10,6 @@ use Rattle.pes_writer.specs.Writing.{headerOf}
 use Rattle.pes_writer.proofs.put_header.Statement.{statement}
 use Rattle.pes_writer.proofs.put_header.Tie as tie
 
-mul-size : tie.Need-mul-size
-mul-size c = search needs
-
-sub-size : tie.Need-sub-size
-sub-size c = search needs
-
-cast-high : tie.Need-cast-high
-cast-high c = search needs
-
-cast-low : tie.Need-cast-low
-cast-low c = search needs
-
-slice-write-out : tie.Need-slice-write-out
-slice-write-out c = search needs
-
 slice-write-out-2 : tie.Need-slice-write-out-2
 slice-write-out-2 c = simp length-set (omega arith)
 
@@ -69,11 +54,11 @@ pub put-header-spec : {M : Type 1} → statement M
 put-header-spec =
     tie.close
     (tie.spec
-    mul-size
-    sub-size
-    cast-high
-    cast-low
-    slice-write-out
+    (λ c. search needs)
+    (λ c. search needs)
+    (λ c. search needs)
+    (λ c. search needs)
+    (λ c. search needs)
     slice-write-out-2
     slice-write-out-3
     slice-write-out-4

@@ -23,15 +23,6 @@ abbrev μ-loop : tie.MeasureT-loop
 loop-holds : tie.Need-loop-holds Inv-loop μ-loop
 loop-holds c = search needs
 
-put-stuffing-unit-requires : tie.Need-put-stuffing-unit-requires Inv-loop μ-loop
-put-stuffing-unit-requires c κs = search needs
-
-add-to : tie.Need-add-to Inv-loop μ-loop
-add-to c = search needs
-
-sub-left : tie.Need-sub-left Inv-loop μ-loop
-sub-left c = search needs
-
 loop-less : tie.Need-loop-less Inv-loop μ-loop
 loop-less c = search needs
 
@@ -47,9 +38,6 @@ loop-again c =
           stuffing-unit-length (p .ensures) ∙ l .inv .2,
     )
 
-same-length : tie.Need-same-length Inv-loop μ-loop
-same-length c = search needs
-
 returns : tie.Need-returns Inv-loop μ-loop
 unfolding stuffingUnits
 returns c =
@@ -63,10 +51,10 @@ put-stuffing-spec =
     Inv-loop
     μ-loop
     loop-holds
-    put-stuffing-unit-requires
-    add-to
-    sub-left
+    (λ c κs. search needs)
+    (λ c. search needs)
+    (λ c. search needs)
     loop-less
     loop-again
-    same-length
+    (λ c. search needs)
     returns)

@@ -8,17 +8,8 @@ use Rattle.pes_writer.specs.Writing.{stuffingUnit}
 use Rattle.pes_writer.proofs.put_stuffing_unit.Statement.{statement}
 use Rattle.pes_writer.proofs.put_stuffing_unit.Tie as tie
 
-slice-write-out : tie.Need-slice-write-out
-slice-write-out c = search needs
-
-add-out : tie.Need-add-out
-add-out c = search needs
-
 slice-write-out-2 : tie.Need-slice-write-out-2
 slice-write-out-2 c = simp length-set (omega arith)
-
-add-fill : tie.Need-add-fill
-add-fill c = search needs
 
 fill-requires : tie.Need-fill-requires
 fill-requires c κs = simp length-set (omega arith)
@@ -35,4 +26,4 @@ returns c =
 pub put-stuffing-unit-spec : {M : Type 1} → statement M
 put-stuffing-unit-spec =
     tie.close
-    (tie.spec slice-write-out add-out slice-write-out-2 add-fill fill-requires same-length returns)
+    (tie.spec (λ c. search needs) (λ c. search needs) slice-write-out-2 (λ c. search needs) fill-requires same-length returns)

@@ -15,15 +15,6 @@ use Rattle.pes_writer.proofs.Making.{packet-length, fits-packet}
 use Rattle.pes_writer.proofs.write.Statement.{statement}
 use Rattle.pes_writer.proofs.write.Tie as tie
 
-judge-records-requires : tie.Need-judge-records-requires
-judge-records-requires c κs = search needs
-
-enum-known-r : tie.Need-enum-known-r
-enum-known-r c = search needs
-
-enum-known-need : tie.Need-enum-known-need
-enum-known-need c = search needs
-
 -- what is judged to be done: every rule holds, and the need is the packet's length
 passed :
     (c : tie.After-need)
@@ -58,9 +49,6 @@ returns-2 c =
     (packetBytes (now (a .records)))
     (c .before .before .before .judge-records .ensures) (c .before .r .given .1)
 
-same-length : tie.Need-same-length
-same-length c = search needs
-
 returns-3 : tie.Need-returns-3
 returns-3 c =
     let d = c .before .before .before .before in
@@ -76,11 +64,11 @@ pub write-spec : {M : Type 1} → statement M
 write-spec =
     tie.close
     (tie.spec
-    judge-records-requires
-    enum-known-r
-    enum-known-need
+    (λ c κs. search needs)
+    (λ c. search needs)
+    (λ c. search needs)
     returns
     put-packet-requires
     returns-2
-    same-length
+    (λ c. search needs)
     returns-3)

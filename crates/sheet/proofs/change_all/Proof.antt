@@ -9,41 +9,20 @@ Inv-loop setting is-add path shown base₀ spare₀ sheet₀ again₀ kept₀ st
 abbrev μ-loop : tie.MeasureT-loop
 μ-loop setting is-add path shown base₀ spare₀ sheet₀ again₀ kept₀ stand₀ work₀ left₀ t15 base spare sheet again kept stand work left = left
 
-visit-all-requires : tie.Need-visit-all-requires Inv-loop μ-loop
-visit-all-requires c κs = search needs
-
 loop-holds : tie.Need-loop-holds Inv-loop μ-loop
 loop-holds c = search needs
-
-sub-left : tie.Need-sub-left Inv-loop μ-loop
-sub-left c = search needs
-
-is-idle-requires : tie.Need-is-idle-requires Inv-loop μ-loop
-is-idle-requires c κs = search needs
 
 returns : tie.Need-returns Inv-loop μ-loop
 returns c = search needs
 
-put-requires : tie.Need-put-requires Inv-loop μ-loop
-put-requires c κs = search needs
-
 returns-2 : tie.Need-returns-2 Inv-loop μ-loop
 returns-2 c = search needs
-
-redo-requires : tie.Need-redo-requires Inv-loop μ-loop
-redo-requires c κs = search needs
 
 loop-less : tie.Need-loop-less Inv-loop μ-loop
 loop-less c = search needs
 
 loop-again : tie.Need-loop-again Inv-loop μ-loop
 loop-again c = search needs
-
-slice-aggregate-tell : tie.Need-slice-aggregate-tell Inv-loop μ-loop
-slice-aggregate-tell c = search needs
-
-tell-requires : tie.Need-tell-requires Inv-loop μ-loop
-tell-requires c κs = search needs
 
 returns-3 : tie.Need-returns-3 Inv-loop μ-loop
 returns-3 c = search needs
@@ -57,17 +36,17 @@ change-all-spec =
     (tie.spec
     Inv-loop
     μ-loop
-    visit-all-requires
+    (λ c κs. search needs)
     loop-holds
-    sub-left
-    is-idle-requires
+    (λ c. search needs)
+    (λ c κs. search needs)
     returns
-    put-requires
+    (λ c κs. search needs)
     returns-2
-    redo-requires
+    (λ c κs. search needs)
     loop-less
     loop-again
-    slice-aggregate-tell
-    tell-requires
+    (λ c. search needs)
+    (λ c κs. search needs)
     returns-3
     returns-4)

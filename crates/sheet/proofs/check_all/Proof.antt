@@ -10,26 +10,8 @@ Inv-loop count said₀ is-sound₀ i₀ said is-sound i = Unit {0}
 abbrev μ-loop : tie.MeasureT-loop
 μ-loop count said₀ is-sound₀ i₀ said is-sound i = count - i
 
-arg-count-requires : tie.Need-arg-count-requires Inv-loop μ-loop
-arg-count-requires c κs = search needs
-
-slice-aggregate-start : tie.Need-slice-aggregate-start Inv-loop μ-loop
-slice-aggregate-start c = search needs
-
-start-requires : tie.Need-start-requires Inv-loop μ-loop
-start-requires c κs = search needs
-
 loop-holds : tie.Need-loop-holds Inv-loop μ-loop
 loop-holds c = search needs
-
-check-requires : tie.Need-check-requires Inv-loop μ-loop
-check-requires c κs = search needs
-
-hear-requires : tie.Need-hear-requires Inv-loop μ-loop
-hear-requires c κs = search needs
-
-add-i : tie.Need-add-i Inv-loop μ-loop
-add-i c = search needs
 
 loop-less : tie.Need-loop-less Inv-loop μ-loop
 loop-less c = search needs
@@ -46,13 +28,13 @@ check-all-spec =
     (tie.spec
     Inv-loop
     μ-loop
-    arg-count-requires
-    slice-aggregate-start
-    start-requires
+    (λ c κs. search needs)
+    (λ c. search needs)
+    (λ c κs. search needs)
     loop-holds
-    check-requires
-    hear-requires
-    add-i
+    (λ c κs. search needs)
+    (λ c κs. search needs)
+    (λ c. search needs)
     loop-less
     loop-again
     returns)

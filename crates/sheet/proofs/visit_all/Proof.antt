@@ -10,29 +10,8 @@ Inv-loop setting is-add base sheet₀ spare₀ kept₀ count heard₀ i₀ sheet
 abbrev μ-loop : tie.MeasureT-loop
 μ-loop setting is-add base sheet₀ spare₀ kept₀ count heard₀ i₀ sheet spare kept heard i = count - i
 
-copy-requires : tie.Need-copy-requires Inv-loop μ-loop
-copy-requires c κs = search needs
-
-arg-count-requires : tie.Need-arg-count-requires Inv-loop μ-loop
-arg-count-requires c κs = search needs
-
-slice-aggregate-start : tie.Need-slice-aggregate-start Inv-loop μ-loop
-slice-aggregate-start c = search needs
-
-start-requires : tie.Need-start-requires Inv-loop μ-loop
-start-requires c κs = search needs
-
-start-requires-2 : tie.Need-start-requires-2 Inv-loop μ-loop
-start-requires-2 c κs = search needs
-
 loop-holds : tie.Need-loop-holds Inv-loop μ-loop
 loop-holds c = search needs
-
-visit-requires : tie.Need-visit-requires Inv-loop μ-loop
-visit-requires c κs = search needs
-
-add-i : tie.Need-add-i Inv-loop μ-loop
-add-i c = search needs
 
 loop-less : tie.Need-loop-less Inv-loop μ-loop
 loop-less c = search needs
@@ -49,14 +28,14 @@ visit-all-spec =
     (tie.spec
     Inv-loop
     μ-loop
-    copy-requires
-    arg-count-requires
-    slice-aggregate-start
-    start-requires
-    start-requires-2
+    (λ c κs. search needs)
+    (λ c κs. search needs)
+    (λ c. search needs)
+    (λ c κs. search needs)
+    (λ c κs. search needs)
     loop-holds
-    visit-requires
-    add-i
+    (λ c κs. search needs)
+    (λ c. search needs)
     loop-less
     loop-again
     returns)

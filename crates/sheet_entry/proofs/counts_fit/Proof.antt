@@ -9,9 +9,6 @@ use Rattle.sheet_entry.proofs.Counting.{entries-over}
 use Rattle.sheet_entry.proofs.counts_fit.Statement.{statement}
 use Rattle.sheet_entry.proofs.counts_fit.Tie as tie
 
-numbered-requires : tie.Need-numbered-requires
-numbered-requires c κs = search needs
-
 returns : tie.Need-returns
 returns c =
     let other : numbered (c .before .before .args .block) ≡ false = sym (c .before .numbered .ensures) ∙ not-true _ (c .if1 .taken) in
@@ -38,21 +35,6 @@ returns-4 c =
       entries-over (a .kind) (a .table .count) (a .table .entries) (c .if4 .taken),
     )
 
-mul-result : tie.Need-mul-result
-mul-result c = search needs
-
-add-result : tie.Need-add-result
-add-result c = search needs
-
-mul-result-2 : tie.Need-mul-result-2
-mul-result-2 c = search needs
-
-mul-result-3 : tie.Need-mul-result-3
-mul-result-3 c = search needs
-
-add-result-2 : tie.Need-add-result-2
-add-result-2 c = search needs
-
 returns-5 : tie.Need-returns-5
 unfolding per
 returns-5 c =
@@ -62,21 +44,6 @@ returns-5 c =
       c .before .before .if3 .left,
       eq-eqb _ _ (c .if5 .taken),
     )
-
-mul-result-4 : tie.Need-mul-result-4
-mul-result-4 c = search needs
-
-add-result-3 : tie.Need-add-result-3
-add-result-3 c = search needs
-
-mul-result-5 : tie.Need-mul-result-5
-mul-result-5 c = search needs
-
-mul-result-6 : tie.Need-mul-result-6
-mul-result-6 c = search needs
-
-add-result-4 : tie.Need-add-result-4
-add-result-4 c = search needs
 
 returns-6 : tie.Need-returns-6
 unfolding per
@@ -92,20 +59,20 @@ pub counts-fit-spec : {M : Type 1} → statement M
 counts-fit-spec =
     tie.close
     (tie.spec
-    numbered-requires
+    (λ c κs. search needs)
     returns
     returns-2
     returns-3
     returns-4
-    mul-result
-    add-result
-    mul-result-2
-    mul-result-3
-    add-result-2
+    (λ c. search needs)
+    (λ c. search needs)
+    (λ c. search needs)
+    (λ c. search needs)
+    (λ c. search needs)
     returns-5
-    mul-result-4
-    add-result-3
-    mul-result-5
-    mul-result-6
-    add-result-4
+    (λ c. search needs)
+    (λ c. search needs)
+    (λ c. search needs)
+    (λ c. search needs)
+    (λ c. search needs)
     returns-6)

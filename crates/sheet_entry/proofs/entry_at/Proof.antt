@@ -7,17 +7,8 @@ use Rattle.sheet_entry.proofs.Finding.{entry-end, entry-headless, entry
 use Rattle.sheet_entry.proofs.entry_at.Statement.{statement}
 use Rattle.sheet_entry.proofs.entry_at.Tie as tie
 
-stopped-requires : tie.Need-stopped-requires
-stopped-requires c κs = search needs
-
 returns : tie.Need-returns
 returns c = c .stopped .ensures ∙ entry-end (now (c .before .before .before .args .sheet)) (c .before .before .before .args .at) (c .before .before .before .args .least) (c .before .if1 .taken)
-
-head-at-requires : tie.Need-head-at-requires
-head-at-requires c κs = search needs
-
-stopped-requires-2 : tie.Need-stopped-requires-2
-stopped-requires-2 c κs = search needs
 
 returns-2 : tie.Need-returns-2
 returns-2 c =
@@ -36,10 +27,10 @@ pub entry-at-spec : {M : Type 1} → statement M
 entry-at-spec =
     tie.close
     (tie.spec
-    stopped-requires
+    (λ c κs. search needs)
     returns
-    head-at-requires
-    stopped-requires-2
+    (λ c κs. search needs)
+    (λ c κs. search needs)
     returns-2
     with-table-requires
     returns-3)

@@ -10,12 +10,6 @@ use Rattle.sheet_entry.proofs.Heads.{head-unstamped, head-stamped, name
 use Rattle.sheet_entry.proofs.head_at.Statement.{statement}
 use Rattle.sheet_entry.proofs.head_at.Tie as tie
 
-slice-aggregate-number-at : tie.Need-slice-aggregate-number-at
-slice-aggregate-number-at c = search needs
-
-number-at-requires : tie.Need-number-at-requires
-number-at-requires c κs = search needs
-
 returns : tie.Need-returns
 returns c =
     let s = c .before .before .before .before in
@@ -44,8 +38,8 @@ pub head-at-spec : {M : Type 1} → statement M
 head-at-spec =
     tie.close
     (tie.spec
-    slice-aggregate-number-at
-    number-at-requires
+    (λ c. search needs)
+    (λ c κs. search needs)
     returns
     add-key-at
     key-at-requires

@@ -9,12 +9,6 @@ use Rattle.sheet_entry.proofs.Heads.{key-unkind, key-unnetwork, key-unb
 use Rattle.sheet_entry.proofs.key_at.Statement.{statement}
 use Rattle.sheet_entry.proofs.key_at.Tie as tie
 
-kind-at-requires : tie.Need-kind-at-requires
-kind-at-requires c κs = search needs
-
-unnamed-requires : tie.Need-unnamed-requires
-unnamed-requires c κs = search needs
-
 returns : tie.Need-returns
 returns c =
     let s = c .before .before .before .before in
@@ -22,15 +16,6 @@ returns c =
 
 add-number-at : tie.Need-add-number-at
 add-number-at c = let w = kind-place (c .before .before .before .pre) (c .before .kind-at .ensures) in omega (arith, w .inside, w .short)
-
-slice-aggregate-number-at : tie.Need-slice-aggregate-number-at
-slice-aggregate-number-at c = search needs
-
-number-at-requires : tie.Need-number-at-requires
-number-at-requires c κs = search needs
-
-unnamed-requires-2 : tie.Need-unnamed-requires-2
-unnamed-requires-2 c κs = search needs
 
 returns-2 : tie.Need-returns-2
 returns-2 c =
@@ -46,19 +31,10 @@ add-number-at-3 c =
     let w = number-place networkName 255 (kind-place (c .before .before .before .before .before .before .pre) (c .before .before .before .before .kind-at .ensures)) (c .before .number-at .ensures) in
     omega (arith, w .inside, w .short)
 
-slice-aggregate-number-at-2 : tie.Need-slice-aggregate-number-at-2
-slice-aggregate-number-at-2 c = search needs
-
-number-at-requires-2 : tie.Need-number-at-requires-2
-number-at-requires-2 c κs = search needs
-
 add-unnamed : tie.Need-add-unnamed
 add-unnamed c =
     let w = number-place networkName 255 (kind-place (c .before .before .before .before .before .before .before .before .before .pre) (c .before .before .before .before .before .before .before .kind-at .ensures)) (c .before .before .before .before .number-at .ensures) in
     omega (arith, w .inside, w .short)
-
-unnamed-requires-3 : tie.Need-unnamed-requires-3
-unnamed-requires-3 c κs = search needs
 
 returns-3 : tie.Need-returns-3
 returns-3 c =
@@ -88,20 +64,20 @@ pub key-at-spec : {M : Type 1} → statement M
 key-at-spec =
     tie.close
     (tie.spec
-    kind-at-requires
-    unnamed-requires
+    (λ c κs. search needs)
+    (λ c κs. search needs)
     returns
     add-number-at
-    slice-aggregate-number-at
-    number-at-requires
-    unnamed-requires-2
+    (λ c. search needs)
+    (λ c κs. search needs)
+    (λ c κs. search needs)
     returns-2
     add-number-at-2
     add-number-at-3
-    slice-aggregate-number-at-2
-    number-at-requires-2
+    (λ c. search needs)
+    (λ c κs. search needs)
     add-unnamed
-    unnamed-requires-3
+    (λ c κs. search needs)
     returns-3
     add-t15
     add-t12

@@ -15,18 +15,12 @@ add-table-at c =
     let q = head-room (now (s .args .sheet)) (s .args .at) (s .args .least) (s .args .head) (s .pre .1) (s .pre .2) in
     omega (arith, s .pre .0 .inside, s .pre .0 .short, simp length-drop at q)
 
-table-at-requires : tie.Need-table-at-requires
-table-at-requires c κs = search needs
-
 add-end : tie.Need-add-end
 add-end c =
     let s = c .before .before .before in
     let t = c .before .table-at .ensures in
     let q = end-room (now (s .args .sheet)) (s .args .at) (s .args .least) (s .args .head) (s .pre .1) (s .pre .2) _ t in
     omega (arith, s .pre .0 .inside, s .pre .0 .short, simp length-drop at q)
-
-stopped-requires : tie.Need-stopped-requires
-stopped-requires c κs = search needs
 
 returns : tie.Need-returns
 returns c =
@@ -42,24 +36,12 @@ add-byte-at c =
     let q = end-room (now (s .args .sheet)) (s .args .at) (s .args .least) (s .args .head) (s .pre .1) (s .pre .2) _ t in
     omega (arith, s .pre .0 .inside, s .pre .0 .short, simp length-drop at q)
 
-byte-at-requires : tie.Need-byte-at-requires
-byte-at-requires c κs = search needs
-
-stopped-requires-2 : tie.Need-stopped-requires-2
-stopped-requires-2 c κs = search needs
-
 returns-2 : tie.Need-returns-2
 returns-2 c =
     let s = c .before .before .before .before .before .before .before in
     let t = c .before .before .before .before .before .table-at .ensures in
     c .stopped2 .ensures ∙ found-unended (now (s .args .sheet)) (s .args .at) (s .args .least) (s .args .head) (s .pre .1) (s .pre .2) _ t
     (not-false _ (c .before .before .before .if1 .left)) (empty-line (now (s .args .sheet)) _ ∙ ne-eqb _ 10 (λ e. c .before .if2 .taken (c .before .before .byte-at .ensures .0 ∙ e)))
-
-counts-fit-requires : tie.Need-counts-fit-requires
-counts-fit-requires c κs = search needs
-
-stopped-requires-3 : tie.Need-stopped-requires-3
-stopped-requires-3 c κs = search needs
 
 returns-3 : tie.Need-returns-3
 returns-3 c =
@@ -92,9 +74,6 @@ returns-4 c =
     found-all (now (s .args .sheet)) (s .args .at) (s .args .least) (s .args .head) (s .pre .1) (s .pre .2) _ t
     fine ends fit _ (c .before .key-of .ensures .0) (search needs)
 
-stopped-requires-4 : tie.Need-stopped-requires-4
-stopped-requires-4 c κs = search needs
-
 returns-5 : tie.Need-returns-5
 returns-5 c =
     let s = c .before .before .before .before .before .before .before .before .before .before .before in
@@ -110,19 +89,19 @@ with-table-spec =
     tie.close
     (tie.spec
     add-table-at
-    table-at-requires
+    (λ c κs. search needs)
     add-end
-    stopped-requires
+    (λ c κs. search needs)
     returns
     add-byte-at
-    byte-at-requires
-    stopped-requires-2
+    (λ c κs. search needs)
+    (λ c κs. search needs)
     returns-2
-    counts-fit-requires
-    stopped-requires-3
+    (λ c κs. search needs)
+    (λ c κs. search needs)
     returns-3
     key-of-requires
     add-t15
     returns-4
-    stopped-requires-4
+    (λ c κs. search needs)
     returns-5)

@@ -18,28 +18,10 @@ Inv-loop number heads shelf wanted p₀ p =
 abbrev μ-loop : tie.MeasureT-loop
 μ-loop number heads shelf wanted p₀ p = p
 
-mul-three : tie.Need-mul-three Inv-loop μ-loop
-mul-three c = search needs
-
-three-requires : tie.Need-three-requires Inv-loop μ-loop
-three-requires c κs = search needs
-
 loop-holds : tie.Need-loop-holds Inv-loop μ-loop
 unfolding placeOf
 loop-holds c =
     let e = c .three .ensures .0 in (search needs, rw e)
-
-stands-requires : tie.Need-stands-requires Inv-loop μ-loop
-stands-requires c κs = search needs
-
-add-number-at : tie.Need-add-number-at Inv-loop μ-loop
-add-number-at c = search needs
-
-number-at-requires : tie.Need-number-at-requires Inv-loop μ-loop
-number-at-requires c κs = search needs
-
-add-result : tie.Need-add-result Inv-loop μ-loop
-add-result c = search needs
 
 returns : tie.Need-returns Inv-loop μ-loop
 returns c =
@@ -56,9 +38,6 @@ sub-three c =
     let a = c .before .before .before .before .before .before .before .before .args in
     let h = stood (l .p) (now (a .shelf)) (sym (c .before .before .before .stands .ensures) ∙ c .before .before .if1 .taken) in
     h .0
-
-three-requires-2 : tie.Need-three-requires-2 Inv-loop μ-loop
-three-requires-2 c κs = search needs
 
 returns-2 : tie.Need-returns-2 Inv-loop μ-loop
 returns-2 c =
@@ -95,16 +74,16 @@ find-spec =
     (tie.spec
     Inv-loop
     μ-loop
-    mul-three
-    three-requires
+    (λ c. search needs)
+    (λ c κs. search needs)
     loop-holds
-    stands-requires
-    add-number-at
-    number-at-requires
-    add-result
+    (λ c κs. search needs)
+    (λ c. search needs)
+    (λ c κs. search needs)
+    (λ c. search needs)
     returns
     sub-three
-    three-requires-2
+    (λ c κs. search needs)
     returns-2
     loop-less
     loop-again

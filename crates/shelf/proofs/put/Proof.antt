@@ -9,18 +9,6 @@ use Rattle.shelf.proofs.Puts.{sized, sized-true, put-unsized, put-short
 use Rattle.shelf.proofs.put.Statement.{statement}
 use Rattle.shelf.proofs.put.Tie as tie
 
-is-sized-requires : tie.Need-is-sized-requires
-is-sized-requires c κs = search needs
-
-refuse-requires : tie.Need-refuse-requires
-refuse-requires c κs = search needs
-
-same-length : tie.Need-same-length
-same-length c = search needs
-
-same-length-2 : tie.Need-same-length-2
-same-length-2 c = search needs
-
 -- the lengths passed their test
 passed :
     (c : tie.Else1)
@@ -34,37 +22,16 @@ returns c =
     put-unsized (now (a .form)) (a .used) (now (a .heads)) (now (a .shelf)) (sym (c .before .before .is-sized .ensures) ∙ not-true (c .before .before .is-sized .result) (c .before .if1 .taken))
     (c .refuse .ensures)
 
-refuse-requires-2 : tie.Need-refuse-requires-2
-refuse-requires-2 c κs = search needs
-
-same-length-3 : tie.Need-same-length-3
-same-length-3 c = search needs
-
-same-length-4 : tie.Need-same-length-4
-same-length-4 c = search needs
-
 returns-2 : tie.Need-returns-2
 returns-2 c =
     let a = c .before .before .before .before .before .before .before .before .before .args in
     put-short (now (a .form)) (a .used) (now (a .heads)) (now (a .shelf)) (passed (c .before .before)) (omega (arith, c .before .if2 .taken))
     (c .refuse2 .ensures)
 
-add-need : tie.Need-add-need
-add-need c = search needs
-
 sub-if3 : tie.Need-sub-if3
 sub-if3 c =
     let a = c .before .before .before .before .before .before .before .before .args in
     sized-true (now (a .form)) (a .used) (now (a .heads)) (now (a .shelf)) (passed (c .before)) .within
-
-refuse-requires-3 : tie.Need-refuse-requires-3
-refuse-requires-3 c κs = search needs
-
-same-length-5 : tie.Need-same-length-5
-same-length-5 c = search needs
-
-same-length-6 : tie.Need-same-length-6
-same-length-6 c = search needs
 
 returns-3 : tie.Need-returns-3
 returns-3 c =
@@ -79,12 +46,6 @@ put-entry-requires c κs =
     let e = sized-true (now (a .form)) (a .used) (now (a .heads)) (now (a .shelf)) (passed (d .before .before)) in
     (e .whole, e .most, omega (arith, d .before .if2 .left), omega (arith, e .within, d .if3 .left))
 
-same-length-7 : tie.Need-same-length-7
-same-length-7 c = search needs
-
-same-length-8 : tie.Need-same-length-8
-same-length-8 c = search needs
-
 returns-4 : tie.Need-returns-4
 returns-4 c =
     let p = c .before .before .before .before in
@@ -98,22 +59,22 @@ pub put-spec : {M : Type 1} → statement M
 put-spec =
     tie.close
     (tie.spec
-    is-sized-requires
-    refuse-requires
-    same-length
-    same-length-2
+    (λ c κs. search needs)
+    (λ c κs. search needs)
+    (λ c. search needs)
+    (λ c. search needs)
     returns
-    refuse-requires-2
-    same-length-3
-    same-length-4
+    (λ c κs. search needs)
+    (λ c. search needs)
+    (λ c. search needs)
     returns-2
-    add-need
+    (λ c. search needs)
     sub-if3
-    refuse-requires-3
-    same-length-5
-    same-length-6
+    (λ c κs. search needs)
+    (λ c. search needs)
+    (λ c. search needs)
     returns-3
     put-entry-requires
-    same-length-7
-    same-length-8
+    (λ c. search needs)
+    (λ c. search needs)
     returns-4)

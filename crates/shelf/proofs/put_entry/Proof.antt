@@ -6,36 +6,6 @@ use Rattle.shelf.proofs.Puts.{head-stored, entry-stored}
 use Rattle.shelf.proofs.put_entry.Statement.{statement}
 use Rattle.shelf.proofs.put_entry.Tie as tie
 
-number-at-requires : tie.Need-number-at-requires
-number-at-requires c κs = search needs
-
-mul-row : tie.Need-mul-row
-mul-row c = search needs
-
-three-requires : tie.Need-three-requires
-three-requires c κs = search needs
-
-add-put-three : tie.Need-add-put-three
-add-put-three c = search needs
-
-put-three-requires : tie.Need-put-three-requires
-put-three-requires c κs = search needs
-
-put-three-requires-2 : tie.Need-put-three-requires-2
-put-three-requires-2 c κs = search needs
-
-add-copy : tie.Need-add-copy
-add-copy c = search needs
-
-copy-requires : tie.Need-copy-requires
-copy-requires c κs = search needs
-
-same-length : tie.Need-same-length
-same-length c = search needs
-
-same-length-2 : tie.Need-same-length-2
-same-length-2 c = search needs
-
 returns : tie.Need-returns
 returns c =
     let w = c .before .before in
@@ -54,14 +24,14 @@ pub put-entry-spec : {M : Type 1} → statement M
 put-entry-spec =
     tie.close
     (tie.spec
-    number-at-requires
-    mul-row
-    three-requires
-    add-put-three
-    put-three-requires
-    put-three-requires-2
-    add-copy
-    copy-requires
-    same-length
-    same-length-2
+    (λ c κs. search needs)
+    (λ c. search needs)
+    (λ c κs. search needs)
+    (λ c. search needs)
+    (λ c κs. search needs)
+    (λ c κs. search needs)
+    (λ c. search needs)
+    (λ c κs. search needs)
+    (λ c. search needs)
+    (λ c. search needs)
     returns)

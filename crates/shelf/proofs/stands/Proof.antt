@@ -8,11 +8,8 @@ use Rattle.shelf.proofs.stands.Tie as tie
 returns : tie.Need-returns
 returns c = let a = c .before .args in simp (lt-leb 1 (a .p) (omega arith))
 
-add-result : tie.Need-add-result
-add-result c = search needs
-
 returns-2 : tie.Need-returns-2
 returns-2 c = let a = c .before .args in simp (le-leb 1 (a .p) (omega arith))
 
 pub stands-spec : {M : Type 1} → statement M
-stands-spec = tie.close (tie.spec returns add-result returns-2)
+stands-spec = tie.close (tie.spec returns (λ c. search needs) returns-2)

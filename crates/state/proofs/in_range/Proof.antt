@@ -18,9 +18,6 @@ page-fits c = sym (c .before .is-page .ensures) ∙ not-false _ (c .if1 .left)
 index-fits : (c : tie.Else2) → leb (c .before .before .before .before .args .index) 15 ≡ true
 index-fits c = le-leb _ _ (c .if2 .left)
 
-is-page-requires : tie.Need-is-page-requires
-is-page-requires c κs = search needs
-
 returns : tie.Need-returns
 unfolding readerInRange
 returns c = (rw (sym (c .before .is-page .ensures) ∙ not-true _ (c .if1 .taken)), λ e. untrue e)
@@ -38,15 +35,6 @@ returns-3 c =
     let run = c .before .enum-told .given in
     (rw (page-fits (c .before .before .before .before), index-fits (c .before .before .before), run .1, c .if3 .taken), λ e. untrue e)
 
-is-clear-requires : tie.Need-is-clear-requires
-is-clear-requires c κs = search needs
-
-enum-known-run : tie.Need-enum-known-run
-enum-known-run c = search needs
-
-is-head-requires : tie.Need-is-head-requires
-is-head-requires c κs = search needs
-
 returns-4 : tie.Need-returns-4
 unfolding readerInRange
 returns-4 c =
@@ -54,20 +42,11 @@ returns-4 c =
     let lost = sym (c .before .is-head .ensures) ∙ not-true _ (c .if4 .taken) in
     (rw (page-fits (c .before .before .before .before .before .before), index-fits (c .before .before .before .before .before), run .1, lost), λ e. untrue e)
 
-is-clear-requires-2 : tie.Need-is-clear-requires-2
-is-clear-requires-2 c κs = search needs
-
-enum-known-run-2 : tie.Need-enum-known-run-2
-enum-known-run-2 c = search needs
-
 returns-5 : tie.Need-returns-5
 unfolding readerInRange
 returns-5 c =
     let run = c .before .before .run2 .given in
     (rw (page-fits (c .before .before .before .before .before), index-fits (c .before .before .before .before), run .1, lt-leb (run .0 .1 .0) 5 (omega arith)), λ e. untrue e)
-
-cast-if6 : tie.Need-cast-if6
-cast-if6 c = search needs
 
 returns-6 : tie.Need-returns-6
 unfolding readerInRange
@@ -75,9 +54,6 @@ returns-6 c =
     let run = c .before .before .before .run2 .given in
     let fits = le-leb (run .0 .1 .0) 5 (omega arith) in
     (rw (page-fits (c .before .before .before .before .before .before), index-fits (c .before .before .before .before .before), run .1, fits, lt-leb (run .0 .1 .1 .0) (sizeOf (run .0 .0)) (omega arith)), λ e. untrue e)
-
-is-clear-requires-3 : tie.Need-is-clear-requires-3
-is-clear-requires-3 c κs = search needs
 
 returns-7 : tie.Need-returns-7
 unfolding readerInRange
@@ -105,21 +81,21 @@ pub in-range-spec : {M : Type 1} → statement M
 in-range-spec =
     tie.close
     (tie.spec
-    is-page-requires
+    (λ c κs. search needs)
     returns
     returns-2
     enum-told
     returns-3
-    is-clear-requires
-    enum-known-run
-    is-head-requires
+    (λ c κs. search needs)
+    (λ c. search needs)
+    (λ c κs. search needs)
     returns-4
-    is-clear-requires-2
-    enum-known-run-2
+    (λ c κs. search needs)
+    (λ c. search needs)
     returns-5
-    cast-if6
+    (λ c. search needs)
     returns-6
-    is-clear-requires-3
+    (λ c κs. search needs)
     returns-7
     returns-8
     returns-9)

@@ -16,9 +16,6 @@ part-fits c = let a = c .before .before .args in le-leb (a .part) (suc (a .got))
 returns : tie.Need-returns
 returns c = rw (lt-leb _ _ (c .if1 .taken))
 
-add-if2 : tie.Need-add-if2
-add-if2 c = search needs
-
 returns-2 : tie.Need-returns-2
 returns-2 c =
     let a = c .before .before .args in
@@ -42,4 +39,4 @@ returns-6 c =
 
 pub is-head-spec : {M : Type 1} → statement M
 is-head-spec =
-    tie.close (tie.spec returns add-if2 returns-2 returns-3 returns-4 returns-5 returns-6)
+    tie.close (tie.spec returns (λ c. search needs) returns-2 returns-3 returns-4 returns-5 returns-6)

@@ -5,12 +5,6 @@ use borrow.Author.Tests.{lt-leb, le-leb}
 use Rattle.state.proofs.is_page.Statement.{statement}
 use Rattle.state.proofs.is_page.Tie as tie
 
-enum-told : tie.Need-enum-told
-enum-told c = search needs
-
-enum-known-page : tie.Need-enum-known-page
-enum-known-page c = search needs
-
 returns : tie.Need-returns
 returns c = let page = c .before .before .page .given in rw (page .1, lt-leb (page .0 .0) 25 (omega arith))
 
@@ -21,4 +15,4 @@ returns-3 : tie.Need-returns-3
 returns-3 c = let page = c .before .before .page .given in rw (page .1, le-leb (page .0 .0) 25 (omega arith))
 
 pub is-page-spec : {M : Type 1} → statement M
-is-page-spec = tie.close (tie.spec enum-told enum-known-page returns returns-2 returns-3)
+is-page-spec = tie.close (tie.spec (λ c. search needs) (λ c. search needs) returns returns-2 returns-3)

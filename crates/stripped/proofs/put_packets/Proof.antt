@@ -25,9 +25,6 @@ loop-holds : tie.Need-loop-holds Inv-loop μ-loop
 unfolding packetsOf places
 loop-holds c = let s = c .before .before in filled-start _ _ _ (s .pre .0) (s .pre .1)
 
-unit-at-requires : tie.Need-unit-at-requires Inv-loop μ-loop
-unit-at-requires c κs = search needs
-
 enum-told : tie.Need-enum-told Inv-loop μ-loop
 enum-told c = search needs
 
@@ -40,9 +37,6 @@ returns c =
     let l = c .before .before .before .loop in
     filled-end _ _ _ _ _ _ (l .inv) (met-by _ _ (c .before .before .unit-at .ensures) (c .enum-told .given .1))
 
-enum-known-next : tie.Need-enum-known-next Inv-loop μ-loop
-enum-known-next c = search needs
-
 -- the text unit that the turn has met
 text :
     (c : tie.After-known-told Inv-loop μ-loop)
@@ -54,9 +48,6 @@ add-turn-run c =
     let t = text c in
     let u = text-unit _ _ (t .kind) (t .every) in
     omega (arith, u .ends)
-
-turn-run-requires : tie.Need-turn-run-requires Inv-loop μ-loop
-turn-run-requires c κs = search needs
 
 add-to : tie.Need-add-to Inv-loop μ-loop
 add-to c =
@@ -77,9 +68,6 @@ loop-again c =
     filled-text _ _ _ _ _ _ (l .inv) 42 (packet-length _ _) _ _ t (c .before .before .turn-run .kept .1 .1 .0)
     (c .before .before .turn-run .ensures ∙ packet-stored _ _ _ _ (u .ends) (omega arith))
 
-enum-known-next-2 : tie.Need-enum-known-next-2 Inv-loop μ-loop
-enum-known-next-2 c = search needs
-
 -- the stuffing unit
 stuffing :
     (c : tie.After-known-told2 Inv-loop μ-loop)
@@ -91,9 +79,6 @@ loop-less-2 c = omega (arith, stuffing c, whole-moves _ _ _ _ (stuffing c))
 
 loop-again-2 : tie.Need-loop-again-2 Inv-loop μ-loop
 loop-again-2 c = filled-stuffing _ _ _ _ _ _ (c .before .before .before .before .loop .inv) _ (stuffing c)
-
-enum-told-2 : tie.Need-enum-told-2 Inv-loop μ-loop
-enum-told-2 c = search needs
 
 same-length-2 : tie.Need-same-length-2 Inv-loop μ-loop
 same-length-2 c = c .before .before .before .loop .inv .long
@@ -110,19 +95,19 @@ put-packets-spec =
     Inv-loop
     μ-loop
     loop-holds
-    unit-at-requires
+    (λ c κs. search needs)
     enum-told
     same-length
     returns
-    enum-known-next
+    (λ c. search needs)
     add-turn-run
-    turn-run-requires
+    (λ c κs. search needs)
     add-to
     loop-less
     loop-again
-    enum-known-next-2
+    (λ c. search needs)
     loop-less-2
     loop-again-2
-    enum-told-2
+    (λ c. search needs)
     same-length-2
     returns-2)

@@ -10,12 +10,6 @@ use Rattle.stripped.proofs.Stripping.{Refuses, reading-refuses, Takes, 
 use Rattle.stripped.proofs.strip.Statement.{statement}
 use Rattle.stripped.proofs.strip.Tie as tie
 
-judge-requires : tie.Need-judge-requires
-judge-requires c κs = search needs
-
-enum-known-r : tie.Need-enum-known-r
-enum-known-r c = search needs
-
 -- what a refusal of judging tells, and what it tells that judging takes the packet
 refuses :
     (c : tie.After-r)
@@ -34,15 +28,6 @@ returns c =
     let g = short (now (a .pes)) (now (a .packets)) (rw (r .blank) (c .if1 .taken)) in
     (g, (after _ _ _ g, search needs))
 
-blank-requires : tie.Need-blank-requires
-blank-requires c κs = search needs
-
-enum-known-records : tie.Need-enum-known-records
-enum-known-records c = search needs
-
-mul-need : tie.Need-mul-need
-mul-need c = search needs
-
 returns-2 : tie.Need-returns-2
 returns-2 c =
     let a = c .before .before .before .before .before .before .before .args in
@@ -54,9 +39,6 @@ put-packets-requires : tie.Need-put-packets-requires
 put-packets-requires c κs =
     let t = takes (c .before .before .before) in
     (t .rules, omega (arith, t .need, c .before .if2 .left))
-
-same-length : tie.Need-same-length
-same-length c = search needs
 
 returns-3 : tie.Need-returns-3
 returns-3 c =
@@ -72,9 +54,6 @@ returns-3 c =
         omega (arith, d .if1 .left, b .blank .kept .0),
       ),
     )
-
-same-length-2 : tie.Need-same-length-2
-same-length-2 c = search needs
 
 returns-4 : tie.Need-returns-4
 returns-4 c =
@@ -96,15 +75,15 @@ pub strip-spec : {M : Type 1} → statement M
 strip-spec =
     tie.close
     (tie.spec
-    judge-requires
-    enum-known-r
+    (λ c κs. search needs)
+    (λ c. search needs)
     returns
-    blank-requires
-    enum-known-records
-    mul-need
+    (λ c κs. search needs)
+    (λ c. search needs)
+    (λ c. search needs)
     returns-2
     put-packets-requires
-    same-length
+    (λ c. search needs)
     returns-3
-    same-length-2
+    (λ c. search needs)
     returns-4)

@@ -24,28 +24,16 @@ Inv-loop head body table sum₀ i₀ sum i =
 abbrev μ-loop : tie.MeasureT-loop
 μ-loop head body table sum₀ i₀ sum i = length body - i
 
-decodings-requires : tie.Need-decodings-requires Inv-loop μ-loop
-decodings-requires c κs = search needs
-
-head-total-requires : tie.Need-head-total-requires Inv-loop μ-loop
-head-total-requires c κs = search needs
-
 loop-holds : tie.Need-loop-holds Inv-loop μ-loop
 loop-holds c =
     let s : List ℕ = now (c .before .before .before .args .body) in
     (search needs, ap (λ (x : ℕ). (x + total (map nib (drop 2 s))) % 256) (c .head-total .ensures .0) ∙ rw map-drop)
-
-shared-slice-read-total : tie.Need-shared-slice-read-total Inv-loop μ-loop
-shared-slice-read-total c = search needs
 
 cast-total : tie.Need-cast-total Inv-loop μ-loop
 cast-total c = omega (arith, c .shared-slice-known2 .given (c .before .before .loop .i))
 
 array-read-total : tie.Need-array-read-total Inv-loop μ-loop
 array-read-total c = omega (arith, c .shared-slice-known2 .given (c .before .before .loop .i))
-
-cast-total-2 : tie.Need-cast-total-2 Inv-loop μ-loop
-cast-total-2 c = search needs
 
 add-total : tie.Need-add-total Inv-loop μ-loop
 add-total c =
@@ -54,9 +42,6 @@ add-total c =
     let t = c .before .before .before .before .decodings in
     let e = entry-at (t .result) (t .ensures) (getD s (l .i) 0) (c .shared-slice-known2 .given (l .i) .fits) in
     omega (arith, e, nib-le (getD s (l .i) 0), l .inv .0)
-
-add-i : tie.Need-add-i Inv-loop μ-loop
-add-i c = search needs
 
 loop-less : tie.Need-loop-less Inv-loop μ-loop
 loop-less c = search needs
@@ -73,9 +58,6 @@ loop-again c =
           ∙ l .inv .1,
     )
 
-sub-result : tie.Need-sub-result Inv-loop μ-loop
-sub-result c = search needs
-
 returns : tie.Need-returns Inv-loop μ-loop
 returns c =
     let l = c .before .loop in
@@ -88,16 +70,16 @@ checksum-spec =
     (tie.spec
     Inv-loop
     μ-loop
-    decodings-requires
-    head-total-requires
+    (λ c κs. search needs)
+    (λ c κs. search needs)
     loop-holds
-    shared-slice-read-total
+    (λ c. search needs)
     cast-total
     array-read-total
-    cast-total-2
+    (λ c. search needs)
     add-total
-    add-i
+    (λ c. search needs)
     loop-less
     loop-again
-    sub-result
+    (λ c. search needs)
     returns)

@@ -23,39 +23,15 @@ Inv-loop head body sum₀ i₀ sum i =
 abbrev μ-loop : tie.MeasureT-loop
 μ-loop head body sum₀ i₀ sum i = length body - i
 
-head-total-requires : tie.Need-head-total-requires Inv-loop μ-loop
-head-total-requires c κs = search needs
-
-cast-sum : tie.Need-cast-sum Inv-loop μ-loop
-cast-sum c = search needs
-
 loop-holds : tie.Need-loop-holds Inv-loop μ-loop
 loop-holds c =
     let s : List ℕ = now (c .before .before .args .body) in
     (c .head-total .ensures .1, ap (λ (x : ℕ). (x + total (map nib (drop 2 s))) % 256) (c .head-total .ensures .0) ∙ rw map-drop)
 
-cast-sum-2 : tie.Need-cast-sum-2 Inv-loop μ-loop
-cast-sum-2 c = search needs
-
-shared-slice-read-image-nibble : tie.Need-shared-slice-read-image-nibble Inv-loop μ-loop
-shared-slice-read-image-nibble c = search needs
-
 image-nibble-requires : tie.Need-image-nibble-requires Inv-loop μ-loop
 image-nibble-requires c κs =
     let b = c .before .before .before .before .before in
     clean-at (now (b .args .body)) (c .before .before .loop .i) (b .pre) (search needs)
-
-cast-sum-3 : tie.Need-cast-sum-3 Inv-loop μ-loop
-cast-sum-3 c = search needs
-
-add-sum : tie.Need-add-sum Inv-loop μ-loop
-add-sum c = search needs
-
-cast-sum-4 : tie.Need-cast-sum-4 Inv-loop μ-loop
-cast-sum-4 c = search needs
-
-add-i : tie.Need-add-i Inv-loop μ-loop
-add-i c = search needs
 
 loop-less : tie.Need-loop-less Inv-loop μ-loop
 loop-less c = search needs
@@ -70,12 +46,6 @@ loop-again c =
           ∙ l .inv .1,
     )
 
-cast-result : tie.Need-cast-result Inv-loop μ-loop
-cast-result c = search needs
-
-sub-result : tie.Need-sub-result Inv-loop μ-loop
-sub-result c = search needs
-
 returns : tie.Need-returns Inv-loop μ-loop
 returns c =
     let l = c .before .loop in
@@ -88,18 +58,18 @@ clean-sum-spec =
     (tie.spec
     Inv-loop
     μ-loop
-    head-total-requires
-    cast-sum
+    (λ c κs. search needs)
+    (λ c. search needs)
     loop-holds
-    cast-sum-2
-    shared-slice-read-image-nibble
+    (λ c. search needs)
+    (λ c. search needs)
     image-nibble-requires
-    cast-sum-3
-    add-sum
-    cast-sum-4
-    add-i
+    (λ c. search needs)
+    (λ c. search needs)
+    (λ c. search needs)
+    (λ c. search needs)
     loop-less
     loop-again
-    cast-result
-    sub-result
+    (λ c. search needs)
+    (λ c. search needs)
     returns)

@@ -12,9 +12,6 @@ use Rattle.sums.proofs.harm_of.Tie as tie
 of : Bool → ℕ
 of t = pick t 0 1
 
-checks-requires : tie.Need-checks-requires
-checks-requires c κs = search needs
-
 returns : tie.Need-returns
 unfolding of
 returns c = (sym (c .before .checks .ensures ∙ ap of (eq-eqb _ 0 (c .if1 .taken))), search needs)
@@ -24,4 +21,4 @@ unfolding of
 returns-2 c = (sym (c .before .checks .ensures ∙ ap of (ne-eqb _ 0 (c .if1 .left))), search needs)
 
 pub harm-of-spec : {M : Type 1} → statement M
-harm-of-spec = tie.close (tie.spec checks-requires returns returns-2)
+harm-of-spec = tie.close (tie.spec (λ c κs. search needs) returns returns-2)

@@ -22,18 +22,6 @@ abbrev μ-loop : tie.MeasureT-loop
 loop-holds : tie.Need-loop-holds Inv-loop μ-loop
 loop-holds c = (search needs, search needs, zero-add _)
 
-shared-slice-read-harm-of : tie.Need-shared-slice-read-harm-of Inv-loop μ-loop
-shared-slice-read-harm-of c = search needs
-
-harm-of-requires : tie.Need-harm-of-requires Inv-loop μ-loop
-harm-of-requires c κs = search needs
-
-add-count : tie.Need-add-count Inv-loop μ-loop
-add-count c = search needs
-
-add-i : tie.Need-add-i Inv-loop μ-loop
-add-i c = search needs
-
 loop-less : tie.Need-loop-less Inv-loop μ-loop
 loop-less c = search needs
 
@@ -56,10 +44,10 @@ harms-in-spec =
     Inv-loop
     μ-loop
     loop-holds
-    shared-slice-read-harm-of
-    harm-of-requires
-    add-count
-    add-i
+    (λ c. search needs)
+    (λ c κs. search needs)
+    (λ c. search needs)
+    (λ c. search needs)
     loop-less
     loop-again
     returns)

@@ -21,15 +21,6 @@ abbrev μ-loop : tie.MeasureT-loop
 loop-holds : tie.Need-loop-holds Inv-loop μ-loop
 loop-holds c = refl
 
-shared-slice-read-checks : tie.Need-shared-slice-read-checks Inv-loop μ-loop
-shared-slice-read-checks c = search needs
-
-checks-requires : tie.Need-checks-requires Inv-loop μ-loop
-checks-requires c κs = search needs
-
-add-i : tie.Need-add-i Inv-loop μ-loop
-add-i c = search needs
-
 loop-less : tie.Need-loop-less Inv-loop μ-loop
 loop-less c = search needs
 
@@ -45,4 +36,4 @@ returns c =
     sym (checked-end (now (c .before .before .before .args .s)) (l .i) (l .mix) (search needs)) ∙ l .inv
 
 pub is-clean-spec : {M : Type 1} → statement M
-is-clean-spec = tie.close (tie.spec Inv-loop μ-loop loop-holds shared-slice-read-checks checks-requires add-i loop-less loop-again returns)
+is-clean-spec = tie.close (tie.spec Inv-loop μ-loop loop-holds (λ c. search needs) (λ c κs. search needs) (λ c. search needs) loop-less loop-again returns)

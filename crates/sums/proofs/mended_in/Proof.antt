@@ -20,33 +20,12 @@ Inv-loop rec count₀ i₀ count i = (count ≤ 255 + i) × (count + harms (drop
 abbrev μ-loop : tie.MeasureT-loop
 μ-loop rec count₀ i₀ count i = length rec - i
 
-byte-at-requires : tie.Need-byte-at-requires Inv-loop μ-loop
-byte-at-requires c κs = search needs
-
 loop-holds : tie.Need-loop-holds Inv-loop μ-loop
 unfolding mendedIn harms
 loop-holds c = search needs
 
-run-end-requires : tie.Need-run-end-requires Inv-loop μ-loop
-run-end-requires c κs = search needs
-
-sub-harms-in : tie.Need-sub-harms-in Inv-loop μ-loop
-sub-harms-in c = search needs
-
-part-harms-in-start : tie.Need-part-harms-in-start Inv-loop μ-loop
-part-harms-in-start c = search needs
-
-part-harms-in-end : tie.Need-part-harms-in-end Inv-loop μ-loop
-part-harms-in-end c = search needs
-
 harms-in-requires : tie.Need-harms-in-requires Inv-loop μ-loop
 harms-in-requires c κs = rw length-take (omega (arith, c .before .run-end .ensures .2))
-
-cast-count : tie.Need-cast-count Inv-loop μ-loop
-cast-count c = search needs
-
-add-count : tie.Need-add-count Inv-loop μ-loop
-add-count c = search needs
 
 loop-less : tie.Need-loop-less Inv-loop μ-loop
 loop-less c = search needs
@@ -73,15 +52,15 @@ mended-in-spec =
     (tie.spec
     Inv-loop
     μ-loop
-    byte-at-requires
+    (λ c κs. search needs)
     loop-holds
-    run-end-requires
-    sub-harms-in
-    part-harms-in-start
-    part-harms-in-end
+    (λ c κs. search needs)
+    (λ c. search needs)
+    (λ c. search needs)
+    (λ c. search needs)
     harms-in-requires
-    cast-count
-    add-count
+    (λ c. search needs)
+    (λ c. search needs)
     loop-less
     loop-again
     returns)

@@ -28,16 +28,10 @@ Inv-loop head body table sum₀ i₀ sum i =
 abbrev μ-loop : tie.MeasureT-loop
 μ-loop head body table sum₀ i₀ sum i = length body - i
 
-sound-requires : tie.Need-sound-requires Inv-loop μ-loop
-sound-requires c κs = search needs
-
 returns : tie.Need-returns Inv-loop μ-loop
 returns c =
     let e = c .before .sound .ensures in
     ((λ _. omega (arith, e, c .if2 .taken)), ((λ h. absurd (omega (arith, h))), search needs))
-
-checksum-requires : tie.Need-checksum-requires Inv-loop μ-loop
-checksum-requires c κs = search needs
 
 returns-2 : tie.Need-returns-2 Inv-loop μ-loop
 returns-2 c =
@@ -49,23 +43,11 @@ returns-2 c =
     omega (arith, c .before .if2 .left, c .before .before .sound .ensures, sound-le s, length-map (now (a .body)) nib) in
     ((λ h. absurd (omega (arith, h, e, small))), ((λ _. (all, e)), omega (arith, e, small)))
 
-shared-slice-read-decode : tie.Need-shared-slice-read-decode Inv-loop μ-loop
-shared-slice-read-decode c = search needs
-
-decode-requires : tie.Need-decode-requires Inv-loop μ-loop
-decode-requires c κs = search needs
-
 returns-3 : tie.Need-returns-3 Inv-loop μ-loop
 returns-3 c =
     let s : List ℕ = now (c .before .before .before .before .before .args .body) in
     let e : 15 < nib (getD s 0 0) = omega (arith, c .before .decode .ensures, c .if3 .taken) in
     ((λ _. sound-short s 0 (zero-add _) (search needs) e), ((λ h. absurd (omega (arith, h))), search needs))
-
-shared-slice-read-decode-2 : tie.Need-shared-slice-read-decode-2 Inv-loop μ-loop
-shared-slice-read-decode-2 c = search needs
-
-decode-requires-2 : tie.Need-decode-requires-2 Inv-loop μ-loop
-decode-requires-2 c κs = search needs
 
 returns-4 : tie.Need-returns-4 Inv-loop μ-loop
 returns-4 c =
@@ -73,12 +55,6 @@ returns-4 c =
     let d : nib (getD s 0 0) < 16 = omega (arith, c .before .before .before .before .decode .ensures, c .before .before .before .if3 .left) in
     let e : 15 < nib (getD s 1 0) = omega (arith, c .before .decode2 .ensures, c .if4 .taken) in
     ((λ _. sound-short s 1 (sound-step s 0 (search needs) d ∙ zero-add _) (search needs) e), ((λ h. absurd (omega (arith, h))), search needs))
-
-decodings-requires : tie.Need-decodings-requires Inv-loop μ-loop
-decodings-requires c κs = search needs
-
-head-total-requires : tie.Need-head-total-requires Inv-loop μ-loop
-head-total-requires c κs = search needs
 
 loop-holds : tie.Need-loop-holds Inv-loop μ-loop
 loop-holds c =
@@ -90,9 +66,6 @@ loop-holds c =
       ap (λ (x : ℕ). (x + total (map nib (drop 2 s))) % 256) (c .head-total .ensures .0) ∙ rw map-drop,
       sound-two s (search needs) d e,
     )
-
-shared-slice-read-n : tie.Need-shared-slice-read-n Inv-loop μ-loop
-shared-slice-read-n c = search needs
 
 cast-n : tie.Need-cast-n Inv-loop μ-loop
 cast-n c = omega (arith, c .shared-slice-known4 .given (c .before .before .loop .i))
@@ -108,15 +81,6 @@ returns-5 c =
     let n = entry-at (t .result) (t .ensures) (getD s (l .i) 0) (c .before .shared-slice-known4 .given (l .i) .fits) in
     let e : 15 < nib (getD s (l .i) 0) = omega (arith, n, c .if5 .taken) in
     ((λ _. sound-short s (l .i) (l .inv .3) (search needs) e), ((λ h. absurd (omega (arith, h))), search needs))
-
-cast-sum : tie.Need-cast-sum Inv-loop μ-loop
-cast-sum c = search needs
-
-add-sum : tie.Need-add-sum Inv-loop μ-loop
-add-sum c = search needs
-
-add-i : tie.Need-add-i Inv-loop μ-loop
-add-i c = search needs
 
 loop-less : tie.Need-loop-less Inv-loop μ-loop
 loop-less c = search needs
@@ -135,9 +99,6 @@ loop-again c =
           ∙ l .inv .2,
       sound-step s (l .i) (search needs) e ∙ l .inv .3,
     )
-
-sub-result : tie.Need-sub-result Inv-loop μ-loop
-sub-result c = search needs
 
 returns-6 : tie.Need-returns-6 Inv-loop μ-loop
 returns-6 c =
@@ -159,27 +120,27 @@ mended-sum-spec =
     (tie.spec
     Inv-loop
     μ-loop
-    sound-requires
+    (λ c κs. search needs)
     returns
-    checksum-requires
+    (λ c κs. search needs)
     returns-2
-    shared-slice-read-decode
-    decode-requires
+    (λ c. search needs)
+    (λ c κs. search needs)
     returns-3
-    shared-slice-read-decode-2
-    decode-requires-2
+    (λ c. search needs)
+    (λ c κs. search needs)
     returns-4
-    decodings-requires
-    head-total-requires
+    (λ c κs. search needs)
+    (λ c κs. search needs)
     loop-holds
-    shared-slice-read-n
+    (λ c. search needs)
     cast-n
     array-read-n
     returns-5
-    cast-sum
-    add-sum
-    add-i
+    (λ c. search needs)
+    (λ c. search needs)
+    (λ c. search needs)
     loop-less
     loop-again
-    sub-result
+    (λ c. search needs)
     returns-6)

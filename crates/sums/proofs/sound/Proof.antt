@@ -21,14 +21,8 @@ Inv-loop s table i₀ i = (i ≤ length s) × (i + sound (map nib (drop i s)) �
 abbrev μ-loop : tie.MeasureT-loop
 μ-loop s table i₀ i = length s - i
 
-decodings-requires : tie.Need-decodings-requires Inv-loop μ-loop
-decodings-requires c κs = search needs
-
 loop-holds : tie.Need-loop-holds Inv-loop μ-loop
 loop-holds c = (search needs, zero-add _)
-
-shared-slice-read-if1 : tie.Need-shared-slice-read-if1 Inv-loop μ-loop
-shared-slice-read-if1 c = search needs
 
 cast-if1 : tie.Need-cast-if1 Inv-loop μ-loop
 cast-if1 c = omega (arith, c .shared-slice-known2 .given (c .before .before .loop .i))
@@ -43,9 +37,6 @@ returns c =
     let t = c .before .before .before .before .decodings in
     let e = entry-at (t .result) (t .ensures) (getD s (l .i) 0) (c .before .shared-slice-known2 .given (l .i) .fits) in
     sound-stop s (l .i) (search needs) (omega (arith, e, c .if1 .taken)) ∙ l .inv .1
-
-add-i : tie.Need-add-i Inv-loop μ-loop
-add-i c = search needs
 
 loop-less : tie.Need-loop-less Inv-loop μ-loop
 loop-less c = search needs
@@ -67,13 +58,13 @@ sound-spec =
     (tie.spec
     Inv-loop
     μ-loop
-    decodings-requires
+    (λ c κs. search needs)
     loop-holds
-    shared-slice-read-if1
+    (λ c. search needs)
     cast-if1
     array-read-if1
     returns
-    add-i
+    (λ c. search needs)
     loop-less
     loop-again
     returns-2)

@@ -12,9 +12,6 @@ use Rattle.sums.proofs.Summing.{checksum-lt}
 use Rattle.sums.proofs.sum_of.Statement.{statement}
 use Rattle.sums.proofs.sum_of.Tie as tie
 
-is-clean-requires : tie.Need-is-clean-requires
-is-clean-requires c κs = search needs
-
 clean-sum-requires : tie.Need-clean-sum-requires
 clean-sum-requires c κs = eqb-true _ 0 (sym (c .before .is-clean .ensures) ∙ c .if1 .taken)
 
@@ -27,12 +24,9 @@ returns c =
     let all = clean-sound s (eqb-true _ 0 (sym (c .before .before .is-clean .ensures) ∙ c .before .if1 .taken)) in
     ((λ h. absurd (omega (arith, h, e, small))), ((λ _. (all, e)), omega (arith, e, small)))
 
-mended-sum-requires : tie.Need-mended-sum-requires
-mended-sum-requires c κs = search needs
-
 returns-2 : tie.Need-returns-2
 returns-2 c = search needs
 
 pub sum-of-spec : {M : Type 1} → statement M
 sum-of-spec =
-    tie.close (tie.spec is-clean-requires clean-sum-requires returns mended-sum-requires returns-2)
+    tie.close (tie.spec (λ c κs. search needs) clean-sum-requires returns (λ c κs. search needs) returns-2)

@@ -7,16 +7,10 @@ use borrow.Author.Needs.{needs}
 use Rattle.survey.proofs.ask.Statement.{statement}
 use Rattle.survey.proofs.ask.Tie as tie
 
-address-requires : tie.Need-address-requires
-address-requires c κs = search needs
-
-judge-requires : tie.Need-judge-requires
-judge-requires c κs = search needs
-
 returns : tie.Need-returns
 returns c =
     let a = c .before .before .before .args in
     c .judge .ensures ∙ ap (asked (a .most)) (seen-in (a .setting) (now (a .packet)) (c .before .address .ensures))
 
 pub ask-spec : {M : Type 1} → statement M
-ask-spec = tie.close (tie.spec address-requires judge-requires returns)
+ask-spec = tie.close (tie.spec (λ c κs. search needs) (λ c κs. search needs) returns)

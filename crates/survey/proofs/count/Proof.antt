@@ -8,16 +8,10 @@ use borrow.Author.Needs.{needs}
 use Rattle.survey.proofs.count.Statement.{statement}
 use Rattle.survey.proofs.count.Tie as tie
 
-ask-requires : tie.Need-ask-requires
-ask-requires c κs = search needs
-
-heed-requires : tie.Need-heed-requires
-heed-requires c κs = search needs
-
 returns : tie.Need-returns
 returns c =
     let a = c .before .before .before .args in
     c .heed .ensures ∙ ap (heeded (a .counts)) (c .before .ask .ensures) ∙ heeds (now (a .packet)) (a .counts) (see (a .setting) (now (a .packet))) (shaped-in (a .setting) (now (a .packet)))
 
 pub count-spec : {M : Type 1} → statement M
-count-spec = tie.close (tie.spec ask-requires heed-requires returns)
+count-spec = tie.close (tie.spec (λ c κs. search needs) (λ c κs. search needs) returns)

@@ -20,27 +20,12 @@ abbrev μ-loop : tie.MeasureT-loop
 loop-holds : tie.Need-loop-holds Inv-loop μ-loop
 loop-holds c = refl
 
-sub-stands : tie.Need-sub-stands Inv-loop μ-loop
-sub-stands c = search needs
-
-part-stands-start : tie.Need-part-stands-start Inv-loop μ-loop
-part-stands-start c = search needs
-
-part-stands-end : tie.Need-part-stands-end Inv-loop μ-loop
-part-stands-end c = search needs
-
-stands-requires : tie.Need-stands-requires Inv-loop μ-loop
-stands-requires c κs = search needs
-
 returns : tie.Need-returns Inv-loop μ-loop
 returns c =
     let l = c .before .before .before .before in
     let a = l .before .before .args in
     let e = sym (ap (fits (a .setting)) (part-rest (l .loop .at) (now (a .bytes)))) ∙ sym (c .before .stands .ensures) ∙ c .if1 .taken in
     sym (first-here (a .setting) (now (a .bytes)) (l .loop .at) (search needs) e) ∙ l .loop .inv
-
-add-at : tie.Need-add-at Inv-loop μ-loop
-add-at c = search needs
 
 loop-less : tie.Need-loop-less Inv-loop μ-loop
 loop-less c = search needs
@@ -65,12 +50,12 @@ find-spec =
     Inv-loop
     μ-loop
     loop-holds
-    sub-stands
-    part-stands-start
-    part-stands-end
-    stands-requires
+    (λ c. search needs)
+    (λ c. search needs)
+    (λ c. search needs)
+    (λ c κs. search needs)
     returns
-    add-at
+    (λ c. search needs)
     loop-less
     loop-again
     returns-2)

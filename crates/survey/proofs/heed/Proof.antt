@@ -4,15 +4,6 @@ use borrow.Author.Needs.{needs}
 use Rattle.survey.proofs.heed.Statement.{statement}
 use Rattle.survey.proofs.heed.Tie as tie
 
-one-more-requires : tie.Need-one-more-requires
-one-more-requires c κs = search needs
-
-one-more-requires-2 : tie.Need-one-more-requires-2
-one-more-requires-2 c κs = search needs
-
-most-of-requires : tie.Need-most-of-requires
-most-of-requires c κs = search needs
-
 returns : tie.Need-returns
 returns c =
     let d = c .before .before in
@@ -20,15 +11,6 @@ returns c =
 
 enum-told : tie.Need-enum-told
 enum-told c = search needs
-
-more-if-requires : tie.Need-more-if-requires
-more-if-requires c κs = search needs
-
-enum-told-2 : tie.Need-enum-told-2
-enum-told-2 c = search needs
-
-more-if-requires-2 : tie.Need-more-if-requires-2
-more-if-requires-2 c κs = search needs
 
 returns-2 : tie.Need-returns-2
 returns-2 c =
@@ -44,13 +26,13 @@ pub heed-spec : {M : Type 1} → statement M
 heed-spec =
     tie.close
     (tie.spec
-    one-more-requires
-    one-more-requires-2
-    most-of-requires
+    (λ c κs. search needs)
+    (λ c κs. search needs)
+    (λ c κs. search needs)
     returns
     enum-told
-    more-if-requires
-    enum-told-2
-    more-if-requires-2
+    (λ c κs. search needs)
+    (λ c. search needs)
+    (λ c κs. search needs)
     returns-2
     returns-3)

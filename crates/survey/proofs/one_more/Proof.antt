@@ -4,9 +4,6 @@ use borrow.Author.Needs.{needs}
 use Rattle.survey.proofs.one_more.Statement.{statement}
 use Rattle.survey.proofs.one_more.Tie as tie
 
-add-result : tie.Need-add-result
-add-result c = search needs
-
 returns : tie.Need-returns
 returns c = rw (lt-ltb _ _ (c .if1 .taken))
 
@@ -14,4 +11,4 @@ returns-2 : tie.Need-returns-2
 returns-2 c = rw (le-ltb _ _ (c .if1 .left))
 
 pub one-more-spec : {M : Type 1} → statement M
-one-more-spec = tie.close (tie.spec add-result returns returns-2)
+one-more-spec = tie.close (tie.spec (λ c. search needs) returns returns-2)

@@ -17,18 +17,6 @@ use Rattle.survey.proofs.stands.Tie as tie
 returns : tie.Need-returns
 returns c = fits-short _ _ (c .if1 .taken)
 
-sub-ask : tie.Need-sub-ask
-sub-ask c = search needs
-
-part-ask-start : tie.Need-part-ask-start
-part-ask-start c = search needs
-
-part-ask-end : tie.Need-part-ask-end
-part-ask-end c = search needs
-
-ask-requires : tie.Need-ask-requires
-ask-requires c κs = search needs
-
 returns-2 : tie.Need-returns-2
 unfolding fits
 returns-2 c =
@@ -38,4 +26,4 @@ returns-2 c =
 
 pub stands-spec : {M : Type 1} → statement M
 stands-spec =
-    tie.close (tie.spec returns sub-ask part-ask-start part-ask-end ask-requires returns-2)
+    tie.close (tie.spec returns (λ c. search needs) (λ c. search needs) (λ c. search needs) (λ c κs. search needs) returns-2)

@@ -6,42 +6,18 @@ use Rattle.symbols.proofs.Sending.{byte-start, byte-bits, byte-raw, byt
 use Rattle.symbols.proofs.byte_at.Statement.{statement}
 use Rattle.symbols.proofs.byte_at.Tie as tie
 
-image-requires : tie.Need-image-requires
-image-requires c κs = search needs
-
 returns : tie.Need-returns
 returns c = c .image .ensures ∙ byte-start _ _ (c .before .if1 .taken)
-
-sub-nibble : tie.Need-sub-nibble
-sub-nibble c = search needs
-
-nibble-requires : tie.Need-nibble-requires
-nibble-requires c κs = search needs
-
-image-requires-2 : tie.Need-image-requires-2
-image-requires-2 c κs = search needs
 
 returns-2 : tie.Need-returns-2
 returns-2 c =
     c .image2 .ensures ∙ ap image (c .before .nibble .ensures)
     ∙ byte-bits _ _ (search needs) (search needs)
 
-sub-if3 : tie.Need-sub-if3
-sub-if3 c = search needs
-
-add-result : tie.Need-add-result
-add-result c = search needs
-
-shared-slice-read-result : tie.Need-shared-slice-read-result
-shared-slice-read-result c = search needs
-
 returns-3 : tie.Need-returns-3
 returns-3 c =
     let a = c .before .before .before .before .before .args in
     byte-raw (a .records .now) (a .head) (a .raw) (a .next) (a .i) (search needs) (search needs) (search needs)
-
-image-requires-3 : tie.Need-image-requires-3
-image-requires-3 c κs = search needs
 
 returns-4 : tie.Need-returns-4
 returns-4 c =
@@ -53,15 +29,15 @@ pub byte-at-spec : {M : Type 1} → statement M
 byte-at-spec =
     tie.close
     (tie.spec
-    image-requires
+    (λ c κs. search needs)
     returns
-    sub-nibble
-    nibble-requires
-    image-requires-2
+    (λ c. search needs)
+    (λ c κs. search needs)
+    (λ c κs. search needs)
     returns-2
-    sub-if3
-    add-result
-    shared-slice-read-result
+    (λ c. search needs)
+    (λ c. search needs)
+    (λ c. search needs)
     returns-3
-    image-requires-3
+    (λ c κs. search needs)
     returns-4)

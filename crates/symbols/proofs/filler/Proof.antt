@@ -6,11 +6,8 @@ use Prim.Native.Nat.{ℕ}
 use Rattle.symbols.proofs.filler.Statement.{statement}
 use Rattle.symbols.proofs.filler.Tie as tie
 
-image-requires : tie.Need-image-requires
-image-requires c κs = search needs
-
 returns : tie.Need-returns
 returns c = ap (λ (b : ℕ). record { byte = b; starts = false; pen = c .before .args .pen }) (c .image .ensures)
 
 pub filler-spec : {M : Type 1} → statement M
-filler-spec = tie.close (tie.spec image-requires returns)
+filler-spec = tie.close (tie.spec (λ c κs. search needs) returns)

@@ -5,18 +5,6 @@ use borrow.Author.Tests.{lt-ltb, le-ltb}
 use Rattle.symbols.proofs.moved.Statement.{statement}
 use Rattle.symbols.proofs.moved.Tie as tie
 
-cells-of-requires : tie.Need-cells-of-requires
-cells-of-requires c κs = search needs
-
-mul-if1 : tie.Need-mul-if1
-mul-if1 c = search needs
-
-sub-if1 : tie.Need-sub-if1
-sub-if1 c = search needs
-
-add-t8 : tie.Need-add-t8
-add-t8 c = search needs
-
 returns : tie.Need-returns
 returns c = let a = c .before .before .before .before .args in let h : a .pen .sent + 1 < (a .size + 7) / 3 * 3 = search needs in rw (lt-ltb _ _ h)
 
@@ -24,4 +12,4 @@ returns-2 : tie.Need-returns-2
 returns-2 c = let a = c .before .before .before .args in let h : (a .size + 7) / 3 * 3 ≤ a .pen .sent + 1 = search needs in rw (le-ltb _ _ h)
 
 pub moved-spec : {M : Type 1} → statement M
-moved-spec = tie.close (tie.spec cells-of-requires mul-if1 sub-if1 add-t8 returns returns-2)
+moved-spec = tie.close (tie.spec (λ c κs. search needs) (λ c. search needs) (λ c. search needs) (λ c. search needs) returns returns-2)

@@ -7,12 +7,6 @@ use Rattle.symbols.proofs.Sending.{end-not, sent-symbol, sent-filler}
 use Rattle.symbols.proofs.step.Statement.{statement}
 use Rattle.symbols.proofs.step.Tie as tie
 
-record-at-requires : tie.Need-record-at-requires
-record-at-requires c κs = search needs
-
-enum-known-head : tie.Need-enum-known-head
-enum-known-head c = search needs
-
 -- a whole record stands at the pen's place where one was found
 stands :
     (c : tie.After-known-told)
@@ -32,15 +26,6 @@ moved-requires c κs = let s = stands (c .before) in omega arith
 enum-told : tie.Need-enum-told
 enum-told c = search needs
 
-filler-requires : tie.Need-filler-requires
-filler-requires c κs = search needs
-
-enum-told-2 : tie.Need-enum-told-2
-enum-told-2 c = search needs
-
-filler-requires-2 : tie.Need-filler-requires-2
-filler-requires-2 c κs = search needs
-
 returns : tie.Need-returns
 returns c = sent-symbol _ _ _ _ _ (stands (c .before .before)) (c .before .byte-at .result) (c .moved .result) (c .before .byte-at .ensures) (c .moved .ensures)
 
@@ -54,15 +39,15 @@ pub step-spec : {M : Type 1} → statement M
 step-spec =
     tie.close
     (tie.spec
-    record-at-requires
-    enum-known-head
+    (λ c κs. search needs)
+    (λ c. search needs)
     byte-at-requires
     sub-moved
     moved-requires
     enum-told
-    filler-requires
-    enum-told-2
-    filler-requires-2
+    (λ c κs. search needs)
+    (λ c. search needs)
+    (λ c κs. search needs)
     returns
     returns-2
     returns-3)

@@ -22,31 +22,16 @@ use Rattle.table.proofs.judge_front.Tie as tie
 slice-aggregate-sound : tie.Need-slice-aggregate-sound
 slice-aggregate-sound c = sym (length-take-le 8 (now (c .before .before .args .body)) (c .before .before .pre .0))
 
-sound-requires : tie.Need-sound-requires
-sound-requires c κs = search needs
-
 add-refuse : tie.Need-add-refuse
 add-refuse c =
     let s : List ℕ = take 8 (now (c .before .before .before .before .args .body)) in
     omega (arith, c .before .sound .ensures, sound-le (map nib s), length-map s nib, length-take-le 8 (now (c .before .before .before .before .args .body)) (c .before .before .before .before .pre .0))
-
-refuse-requires : tie.Need-refuse-requires
-refuse-requires c κs = search needs
 
 returns : tie.Need-returns
 returns c =
     let s : List ℕ = now (c .before .before .before .before .before .args .body) in
     let e : c .before .before .sound .result ≡ sound (take 8 (map nib s)) = c .before .before .sound .ensures ∙ ap sound (map-take nib 8 s) in
     rw e at (c .refuse .ensures) ∙ sym (front-10 _ (map nib s) _ (rw e at (c .before .if1 .taken)))
-
-cast-known : tie.Need-cast-known
-cast-known c = search needs
-
-known-requires : tie.Need-known-requires
-known-requires c κs = search needs
-
-refuse-requires-2 : tie.Need-refuse-requires-2
-refuse-requires-2 c κs = search needs
 
 returns-2 : tie.Need-returns-2
 returns-2 c =
@@ -55,9 +40,6 @@ returns-2 c =
     let e : c .before .before .before .before .before .sound .result ≡ sound (take 8 (map nib s)) = c .before .before .before .before .before .sound .ensures ∙ ap sound (map-take nib 8 s) in
     let k = c .before .before .known .ensures ∙ ap (λ (o : Opening). known (o .kind)) p in
     c .refuse2 .ensures ∙ sym (front-12 _ (map nib s) _ (sym e ∙ c .before .before .before .before .if1 .left) (sym k ∙ not-true _ (c .before .if2 .taken)))
-
-refuse-requires-3 : tie.Need-refuse-requires-3
-refuse-requires-3 c κs = search needs
 
 returns-3 : tie.Need-returns-3
 returns-3 c =
@@ -69,9 +51,6 @@ returns-3 c =
     let eight = sym e ∙ c .before .before .before .before .before .before .if1 .left in
     let kind = sym k ∙ not-false _ (c .before .before .before .if2 .left) in
     c .refuse3 .ensures ∙ sym (front-12′ _ (map nib s) _ eight kind (λ q. omega (arith, ap (λ (o : Opening). o .access) p, q)))
-
-refuse-requires-4 : tie.Need-refuse-requires-4
-refuse-requires-4 c κs = search needs
 
 returns-4 : tie.Need-returns-4
 returns-4 c =
@@ -102,16 +81,16 @@ judge-front-spec =
     tie.close
     (tie.spec
     slice-aggregate-sound
-    sound-requires
+    (λ c κs. search needs)
     add-refuse
-    refuse-requires
+    (λ c κs. search needs)
     returns
-    cast-known
-    known-requires
-    refuse-requires-2
+    (λ c. search needs)
+    (λ c κs. search needs)
+    (λ c κs. search needs)
     returns-2
-    refuse-requires-3
+    (λ c κs. search needs)
     returns-3
-    refuse-requires-4
+    (λ c κs. search needs)
     returns-4
     returns-5)

@@ -15,31 +15,16 @@ use Rattle.sums.proofs.Summing.{sound-le}
 use Rattle.table.proofs.judge_whole.Statement.{statement}
 use Rattle.table.proofs.judge_whole.Tie as tie
 
-sum-of-requires : tie.Need-sum-of-requires
-sum-of-requires c κs = search needs
-
-sound-requires : tie.Need-sound-requires
-sound-requires c κs = search needs
-
 add-refuse : tie.Need-add-refuse
 add-refuse c =
     let s : List ℕ = now (c .before .before .before .before .args .body) in
     omega (arith, c .sound .ensures, sound-le (map nib s), length-map s nib, c .before .before .before .before .good)
-
-refuse-requires : tie.Need-refuse-requires
-refuse-requires c κs = search needs
 
 returns : tie.Need-returns
 returns c =
     let s : List ℕ = now (c .before .before .before .before .before .args .body) in
     rw (c .before .sound .ensures) at (c .refuse .ensures)
     ∙ sym (whole-10 _ (map nib s) _ (λ e. absurd (omega (arith, c .before .before .before .sum-of .ensures .0 (c .before .before .if1 .taken), e, length-map s nib))))
-
-cast-if2 : tie.Need-cast-if2
-cast-if2 c = search needs
-
-refuse-requires-2 : tie.Need-refuse-requires-2
-refuse-requires-2 c κs = search needs
 
 returns-2 : tie.Need-returns-2
 returns-2 c =
@@ -59,12 +44,12 @@ pub judge-whole-spec : {M : Type 1} → statement M
 judge-whole-spec =
     tie.close
     (tie.spec
-    sum-of-requires
-    sound-requires
+    (λ c κs. search needs)
+    (λ c κs. search needs)
     add-refuse
-    refuse-requires
+    (λ c κs. search needs)
     returns
-    cast-if2
-    refuse-requires-2
+    (λ c. search needs)
+    (λ c κs. search needs)
     returns-2
     returns-3)

@@ -15,18 +15,6 @@ use Rattle.table.proofs.Exact.{mended-most}
 use Rattle.table.proofs.read_block.Statement.{statement}
 use Rattle.table.proofs.read_block.Tie as tie
 
-read-form-requires : tie.Need-read-form-requires
-read-form-requires c κs = search needs
-
-enum-known-why : tie.Need-enum-known-why
-enum-known-why c = search needs
-
-enum-known-written : tie.Need-enum-known-written
-enum-known-written c = search needs
-
-mended-in-requires : tie.Need-mended-in-requires
-mended-in-requires c κs = search needs
-
 cast-mended : tie.Need-cast-mended
 cast-mended c =
     let a = c .before .before .before .before .before .before .before .before .before .before .args in
@@ -35,16 +23,10 @@ cast-mended c =
     let all = lent-all (readRules (a .application) r) (form (tableRead r)) (now (a .out)) _ d in
     omega (arith, c .mended-in .ensures, mended-most (a .application) r (all .0))
 
-same-length : tie.Need-same-length
-same-length c = search needs
-
 returns : tie.Need-returns
 returns c =
     let b = c .before .before .before .before .before in
     (sym (ap (counted (mendedIn _)) (sym (b .read-form .ensures .0) ∙ c .before .why .given .1)), b .read-form .ensures .1)
-
-same-length-2 : tie.Need-same-length-2
-same-length-2 c = search needs
 
 returns-2 : tie.Need-returns-2
 returns-2 c =
@@ -58,12 +40,12 @@ pub read-block-spec : {M : Type 1} → statement M
 read-block-spec =
     tie.close
     (tie.spec
-    read-form-requires
-    enum-known-why
-    enum-known-written
-    mended-in-requires
+    (λ c κs. search needs)
+    (λ c. search needs)
+    (λ c. search needs)
+    (λ c κs. search needs)
     cast-mended
-    same-length
+    (λ c. search needs)
     returns
-    same-length-2
+    (λ c. search needs)
     returns-2)

@@ -17,21 +17,6 @@ use Rattle.table.specs.Reading.{bodyRules}
 use Rattle.table.proofs.read_body.Statement.{statement}
 use Rattle.table.proofs.read_body.Tie as tie
 
-opening-of-requires : tie.Need-opening-of-requires
-opening-of-requires c κs = search needs
-
-judge-body-requires : tie.Need-judge-body-requires
-judge-body-requires c κs = search needs
-
-enum-known-why : tie.Need-enum-known-why
-enum-known-why c = search needs
-
-enum-known-need : tie.Need-enum-known-need
-enum-known-need c = search needs
-
-refuse-requires : tie.Need-refuse-requires
-refuse-requires c κs = search needs
-
 returns : tie.Need-returns
 returns c =
     let a = c .before .before .before .before .before .before .before .before .before .args in
@@ -43,9 +28,6 @@ returns c =
     let p = lent-short rules (form (tableOf n)) (now (a .out)) _ j d (omega (arith, e)) in
     (c .refuse .ensures ∙ p .0, p .1)
 
-write-form-requires : tie.Need-write-form-requires
-write-form-requires c κs = search needs
-
 returns-2 : tie.Need-returns-2
 returns-2 c =
     let a = c .before .before .before .before .before .before .before .args in
@@ -53,9 +35,6 @@ returns-2 c =
     let rules = bodyRules (a .head) (map nib (now (a .body))) in
     let j = c .before .before .before .judge-body .ensures in
     lent-refused rules (form (tableOf n)) (now (a .out)) _ j (c .before .why .given .1)
-
-same-length : tie.Need-same-length
-same-length c = search needs
 
 returns-3 : tie.Need-returns-3
 unfolding tableOf
@@ -77,13 +56,13 @@ pub read-body-spec : {M : Type 1} → statement M
 read-body-spec =
     tie.close
     (tie.spec
-    opening-of-requires
-    judge-body-requires
-    enum-known-why
-    enum-known-need
-    refuse-requires
+    (λ c κs. search needs)
+    (λ c κs. search needs)
+    (λ c. search needs)
+    (λ c. search needs)
+    (λ c κs. search needs)
     returns
-    write-form-requires
+    (λ c κs. search needs)
     returns-2
-    same-length
+    (λ c. search needs)
     returns-3)

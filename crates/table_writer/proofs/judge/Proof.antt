@@ -8,11 +8,8 @@ use Rattle.table_writer.proofs.judge.Tie as tie
 returns : tie.Need-returns
 returns c = rw (le-ltb _ 32 (c .if1 .taken)) refl
 
-judge-form-requires : tie.Need-judge-form-requires
-judge-form-requires c κs = search needs
-
 returns-2 : tie.Need-returns-2
 returns-2 c = rw (lt-ltb _ 32 (c .before .if1 .left)) (c .judge-form .ensures)
 
 pub judge-spec : {M : Type 1} → statement M
-judge-spec = tie.close (tie.spec returns judge-form-requires returns-2)
+judge-spec = tie.close (tie.spec returns (λ c κs. search needs) returns-2)

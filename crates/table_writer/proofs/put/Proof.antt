@@ -39,18 +39,6 @@ loop-holds c =
     let s = c .before .before .before .before in
     (refl, omega (arith, s .pre .3, width-one (s .args .w) (s .args .v)), refl, refl, refl, refl)
 
-cast-image : tie.Need-cast-image Inv-loop μ-loop
-cast-image c = search needs
-
-image-requires : tie.Need-image-requires Inv-loop μ-loop
-image-requires c κs = search needs
-
-slice-write-out : tie.Need-slice-write-out Inv-loop μ-loop
-slice-write-out c = search needs
-
-add-at : tie.Need-add-at Inv-loop μ-loop
-add-at c = search needs
-
 loop-less : tie.Need-loop-less Inv-loop μ-loop
 loop-less c = search needs
 
@@ -86,10 +74,10 @@ put-spec =
     shl-bits
     add-bits
     loop-holds
-    cast-image
-    image-requires
-    slice-write-out
-    add-at
+    (λ c. search needs)
+    (λ c κs. search needs)
+    (λ c. search needs)
+    (λ c. search needs)
     loop-less
     loop-again
     same-length

@@ -31,12 +31,6 @@ Inv-loop table out₀ kind left₀ p₀ i₀ out left p i =
 abbrev μ-loop : tie.MeasureT-loop
 μ-loop table out₀ kind left₀ p₀ i₀ out left p i = left
 
-byte-at-requires : tie.Need-byte-at-requires Inv-loop μ-loop
-byte-at-requires c κs = search needs
-
-byte-at-requires-2 : tie.Need-byte-at-requires-2 Inv-loop μ-loop
-byte-at-requires-2 c κs = search needs
-
 loop-holds : tie.Need-loop-holds Inv-loop μ-loop
 unfolding tableIn
 loop-holds c =
@@ -44,18 +38,6 @@ loop-holds c =
     let e = c .before .byte-at .ensures .0 in
     let n = c .byte-at2 .ensures .0 in
     (s .pre .0, refl, omega (arith, c .byte-at2 .ensures .1), rw (e, n) (s .pre .1), rw (e, n) refl, rw (e, n) refl)
-
-byte-at-requires-3 : tie.Need-byte-at-requires-3 Inv-loop μ-loop
-byte-at-requires-3 c κs = search needs
-
-add-byte-at : tie.Need-add-byte-at Inv-loop μ-loop
-add-byte-at c = search needs
-
-byte-at-requires-4 : tie.Need-byte-at-requires-4 Inv-loop μ-loop
-byte-at-requires-4 c κs = search needs
-
-words-of-requires : tie.Need-words-of-requires Inv-loop μ-loop
-words-of-requires c κs = search needs
 
 mul-put : tie.Need-mul-put Inv-loop μ-loop
 mul-put c = omega (arith, c .before .byte-at4 .ensures .1)
@@ -131,9 +113,6 @@ add-i-2 c =
     let w = c .before .before .before .before .before .before .before .before in
     omega (arith, w .words-of .ensures .1, w .before .before .before .before .loop .inv .2)
 
-sub-left : tie.Need-sub-left Inv-loop μ-loop
-sub-left c = search needs
-
 loop-less : tie.Need-loop-less Inv-loop μ-loop
 loop-less c = search needs
 
@@ -188,13 +167,13 @@ put-descriptors-spec =
     (tie.spec
     Inv-loop
     μ-loop
-    byte-at-requires
-    byte-at-requires-2
+    (λ c κs. search needs)
+    (λ c κs. search needs)
     loop-holds
-    byte-at-requires-3
-    add-byte-at
-    byte-at-requires-4
-    words-of-requires
+    (λ c κs. search needs)
+    (λ c. search needs)
+    (λ c κs. search needs)
+    (λ c κs. search needs)
     mul-put
     add-put
     put-requires
@@ -203,7 +182,7 @@ put-descriptors-spec =
     mul-i
     add-i
     add-i-2
-    sub-left
+    (λ c. search needs)
     loop-less
     loop-again
     same-length

@@ -28,9 +28,6 @@ abbrev μ-loop : tie.MeasureT-loop
 loop-holds : tie.Need-loop-holds Inv-loop μ-loop
 loop-holds c = (c .before .before .pre .0, refl, search needs, refl, refl)
 
-word-at-requires : tie.Need-word-at-requires Inv-loop μ-loop
-word-at-requires c κs = search needs
-
 put-requires : tie.Need-put-requires Inv-loop μ-loop
 put-requires c κs =
     let l = c .before .before .before .loop in
@@ -46,12 +43,6 @@ put-requires c κs =
       w .ensures .1,
       room-first (l .p) ((24, w .result) ∷ []) rest _ (rw (← e) (rw (l .inv .1) room)),
     )
-
-add-i : tie.Need-add-i Inv-loop μ-loop
-add-i c = search needs
-
-sub-left : tie.Need-sub-left Inv-loop μ-loop
-sub-left c = search needs
 
 loop-less : tie.Need-loop-less Inv-loop μ-loop
 loop-less c = search needs
@@ -94,10 +85,10 @@ put-words-spec =
     Inv-loop
     μ-loop
     loop-holds
-    word-at-requires
+    (λ c κs. search needs)
     put-requires
-    add-i
-    sub-left
+    (λ c. search needs)
+    (λ c. search needs)
     loop-less
     loop-again
     same-length

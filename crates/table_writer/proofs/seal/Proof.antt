@@ -14,44 +14,8 @@ use Rattle.table_writer.specs.Internal.{sealed}
 use Rattle.table_writer.proofs.seal.Statement.{statement}
 use Rattle.table_writer.proofs.seal.Tie as tie
 
-add-end : tie.Need-add-end
-add-end c = search needs
-
-sub-checksum : tie.Need-sub-checksum
-sub-checksum c = search needs
-
-part-checksum-start : tie.Need-part-checksum-start
-part-checksum-start c = search needs
-
-part-checksum-end : tie.Need-part-checksum-end
-part-checksum-end c = search needs
-
-checksum-requires : tie.Need-checksum-requires
-checksum-requires c κs = search needs
-
-cast-image : tie.Need-cast-image
-cast-image c = search needs
-
-image-requires : tie.Need-image-requires
-image-requires c κs = search needs
-
-cast-image-2 : tie.Need-cast-image-2
-cast-image-2 c = search needs
-
-image-requires-2 : tie.Need-image-requires-2
-image-requires-2 c κs = search needs
-
-slice-write-out : tie.Need-slice-write-out
-slice-write-out c = search needs
-
-add-out : tie.Need-add-out
-add-out c = search needs
-
 slice-write-out-2 : tie.Need-slice-write-out-2
 slice-write-out-2 c = simp length-set (omega arith)
-
-same-length : tie.Need-same-length
-same-length c = search needs
 
 returns : tie.Need-returns
 unfolding sealed
@@ -67,17 +31,17 @@ pub seal-spec : {M : Type 1} → statement M
 seal-spec =
     tie.close
     (tie.spec
-    add-end
-    sub-checksum
-    part-checksum-start
-    part-checksum-end
-    checksum-requires
-    cast-image
-    image-requires
-    cast-image-2
-    image-requires-2
-    slice-write-out
-    add-out
+    (λ c. search needs)
+    (λ c. search needs)
+    (λ c. search needs)
+    (λ c. search needs)
+    (λ c κs. search needs)
+    (λ c. search needs)
+    (λ c κs. search needs)
+    (λ c. search needs)
+    (λ c κs. search needs)
+    (λ c. search needs)
+    (λ c. search needs)
     slice-write-out-2
-    same-length
+    (λ c. search needs)
     returns)

@@ -5,36 +5,6 @@ use Rattle.table_writer.proofs.Whole.{second-of}
 use Rattle.table_writer.proofs.second_fields.Statement.{statement}
 use Rattle.table_writer.proofs.second_fields.Tie as tie
 
-byte-at-requires : tie.Need-byte-at-requires
-byte-at-requires c κs = search needs
-
-byte-at-requires-2 : tie.Need-byte-at-requires-2
-byte-at-requires-2 c κs = search needs
-
-mul-block : tie.Need-mul-block
-mul-block c = search needs
-
-add-block : tie.Need-add-block
-add-block c = search needs
-
-byte-at-requires-3 : tie.Need-byte-at-requires-3
-byte-at-requires-3 c κs = search needs
-
-byte-at-requires-4 : tie.Need-byte-at-requires-4
-byte-at-requires-4 c κs = search needs
-
-mul-result : tie.Need-mul-result
-mul-result c = search needs
-
-add-result : tie.Need-add-result
-add-result c = search needs
-
-mul-result-2 : tie.Need-mul-result-2
-mul-result-2 c = search needs
-
-add-result-2 : tie.Need-add-result-2
-add-result-2 c = search needs
-
 returns : tie.Need-returns
 returns c =
     let s = c .before .before .before .before .before in
@@ -47,14 +17,14 @@ pub second-fields-spec : {M : Type 1} → statement M
 second-fields-spec =
     tie.close
     (tie.spec
-    byte-at-requires
-    byte-at-requires-2
-    mul-block
-    add-block
-    byte-at-requires-3
-    byte-at-requires-4
-    mul-result
-    add-result
-    mul-result-2
-    add-result-2
+    (λ c κs. search needs)
+    (λ c κs. search needs)
+    (λ c. search needs)
+    (λ c. search needs)
+    (λ c κs. search needs)
+    (λ c κs. search needs)
+    (λ c. search needs)
+    (λ c. search needs)
+    (λ c. search needs)
+    (λ c. search needs)
     returns)

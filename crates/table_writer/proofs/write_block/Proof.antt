@@ -18,15 +18,6 @@ use Rattle.table_writer.proofs.Sealing.{writable, length-record}
 use Rattle.table_writer.proofs.write_block.Statement.{statement}
 use Rattle.table_writer.proofs.write_block.Tie as tie
 
-judge-requires : tie.Need-judge-requires
-judge-requires c κs = search needs
-
-enum-known-why : tie.Need-enum-known-why
-enum-known-why c = search needs
-
-enum-known-bits : tie.Need-enum-known-bits
-enum-known-bits c = search needs
-
 -- a table that is taken is within 8,184 bits
 short : (c : tie.After-known-told2) → c .before .bits .given .0 .0 ≤ 8184
 short c =
@@ -72,9 +63,6 @@ returns-2 c =
     let f : List ℕ = now (a .table) in
     lent-refused (writeRules (a .application) f) (recordOf (a .application) (tableIn f)) (now (a .out)) _ (c .before .before .before .judge .ensures) (c .before .why .given .1)
 
-same-length : tie.Need-same-length
-same-length c = search needs
-
 returns-3 : tie.Need-returns-3
 returns-3 c =
     let a = c .before .before .before .before .before .before .before .before .before .before .before .args in
@@ -91,14 +79,14 @@ pub write-block-spec : {M : Type 1} → statement M
 write-block-spec =
     tie.close
     (tie.spec
-    judge-requires
-    enum-known-why
-    enum-known-bits
+    (λ c κs. search needs)
+    (λ c. search needs)
+    (λ c. search needs)
     add-need
     mul-need
     add-need-2
     returns
     write-record-requires
     returns-2
-    same-length
+    (λ c. search needs)
     returns-3)

@@ -27,9 +27,6 @@ first-fields-requires c κs =
     let s = c .before .before in
     (s .pre .0, omega (arith, s .pre .1, sendable (tableIn (now (s .args .table))) (s .pre .0) .control-fits))
 
-second-fields-requires : tie.Need-second-fields-requires
-second-fields-requires c κs = search needs
-
 put-requires : tie.Need-put-requires
 put-requires c κs =
     let s = c .before .before .before .before .before in
@@ -71,9 +68,6 @@ mul-put c =
     let s = c .before .before .before .before .before .before .before .before .before .before .before .before .before .before .before .before in
     omega (arith, s .pre .1, sendable (tableIn (now (s .args .table))) (s .pre .0) .control-fits)
 
-sub-put : tie.Need-sub-put
-sub-put c = search needs
-
 put-requires-3 : tie.Need-put-requires-3
 put-requires-3 c κs =
     let s = c .before .before .before .before .before .before .before .before .before .before .before .before .before .before .before .before .before in
@@ -93,9 +87,6 @@ put-requires-3 c κs =
           (le-trans (le-of-eq (ap (λ (n : ℕ). d .result .at + n) ef)) (room-4 t _ (s .pre .2) (x .result) ex (a .ensures .0) (y .result) (y .ensures .0) (b .ensures .0) (d .ensures .0)))
           (le-of-eq (sym (d .kept .1 .1 .0 ∙ b .kept .1 .1 .1 .0 ∙ a .kept .1 .1 .1 .0))),
     )
-
-same-length : tie.Need-same-length
-same-length c = search needs
 
 returns : tie.Need-returns
 returns c =
@@ -118,12 +109,12 @@ write-fields-spec =
     (tie.spec
     add-control
     first-fields-requires
-    second-fields-requires
+    (λ c κs. search needs)
     put-requires
     put-requires-2
     put-descriptors-requires
     mul-put
-    sub-put
+    (λ c. search needs)
     put-requires-3
-    same-length
+    (λ c. search needs)
     returns)

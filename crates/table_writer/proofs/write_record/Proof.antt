@@ -19,9 +19,6 @@ add-size c =
     let s = c .before .before in
     omega (arith, s .pre .2, sendable (tableIn (now (s .args .table))) (s .pre .1) .control-fits)
 
-mul-size : tie.Need-mul-size
-mul-size c = search needs
-
 mul-head : tie.Need-mul-head
 mul-head c =
     let s = c .before .before in
@@ -32,16 +29,10 @@ add-head c =
     let s = c .before .before in
     omega (arith, s .pre .0, s .pre .2, sendable (tableIn (now (s .args .table))) (s .pre .1) .control-fits)
 
-cast-low : tie.Need-cast-low
-cast-low c = search needs
-
 cast-high : tie.Need-cast-high
 cast-high c =
     let s = c .before .before in
     omega (arith, s .pre .0, s .pre .2, sendable (tableIn (now (s .args .table))) (s .pre .1) .control-fits)
-
-slice-write-out : tie.Need-slice-write-out
-slice-write-out c = search needs
 
 slice-write-out-2 : tie.Need-slice-write-out-2
 slice-write-out-2 c = simp length-set (omega arith)
@@ -83,12 +74,12 @@ write-record-spec =
     tie.close
     (tie.spec
     add-size
-    mul-size
+    (λ c. search needs)
     mul-head
     add-head
-    cast-low
+    (λ c. search needs)
     cast-high
-    slice-write-out
+    (λ c. search needs)
     slice-write-out-2
     slice-write-out-3
     slice-write-out-4

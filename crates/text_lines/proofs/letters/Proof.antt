@@ -6,22 +6,13 @@ use Rattle.text_lines.proofs.Spelling.{letters-1, letters-2, letters-3}
 use Rattle.text_lines.proofs.letters.Statement.{statement}
 use Rattle.text_lines.proofs.letters.Tie as tie
 
-letter-requires : tie.Need-letter-requires
-letter-requires c κs = search needs
-
 returns : tie.Need-returns
 returns c = sym (letters-1 (c .before .before .args .w) (sym (c .before .letter .ensures) ∙ not-true _ (c .if1 .taken)))
-
-letter-requires-2 : tie.Need-letter-requires-2
-letter-requires-2 c κs = search needs
 
 returns-2 : tie.Need-returns-2
 returns-2 c =
     let w = c .before .before .before .before .args .w in
     sym (letters-2 w (sym (c .before .before .before .letter .ensures) ∙ not-false _ (c .before .before .if1 .left)) (sym (c .before .letter2 .ensures) ∙ not-true _ (c .if2 .taken)))
-
-letter-requires-3 : tie.Need-letter-requires-3
-letter-requires-3 c κs = search needs
 
 returns-3 : tie.Need-returns-3
 returns-3 c =
@@ -33,4 +24,4 @@ returns-3 c =
 pub letters-spec : {M : Type 1} → statement M
 letters-spec =
     tie.close
-    (tie.spec letter-requires returns letter-requires-2 returns-2 letter-requires-3 returns-3)
+    (tie.spec (λ c κs. search needs) returns (λ c κs. search needs) returns-2 (λ c κs. search needs) returns-3)

@@ -10,15 +10,6 @@ use Rattle.text_lines.proofs.put_number.Tie as tie
 returns : tie.Need-returns
 returns c = (put-past _ _ _ (c .if1 .taken), search needs)
 
-put-requires : tie.Need-put-requires
-put-requires c κs = search needs
-
-put-decimal-requires : tie.Need-put-decimal-requires
-put-decimal-requires c κs = search needs
-
-same-length : tie.Need-same-length
-same-length c = search needs
-
 returns-2 : tie.Need-returns-2
 unfolding numberLine
 returns-2 c =
@@ -29,4 +20,4 @@ returns-2 c =
 
 pub put-number-spec : {M : Type 1} → statement M
 put-number-spec =
-    tie.close (tie.spec returns put-requires put-decimal-requires same-length returns-2)
+    tie.close (tie.spec returns (λ c κs. search needs) (λ c κs. search needs) (λ c. search needs) returns-2)

@@ -10,18 +10,6 @@ use Rattle.text_lines.proofs.put_page.Tie as tie
 returns : tie.Need-returns
 returns c = (put-past _ _ _ (c .if1 .taken), search needs)
 
-slice-aggregate-put : tie.Need-slice-aggregate-put
-slice-aggregate-put c = search needs
-
-put-requires : tie.Need-put-requires
-put-requires c κs = search needs
-
-put-hex-requires : tie.Need-put-hex-requires
-put-hex-requires c κs = search needs
-
-same-length : tie.Need-same-length
-same-length c = search needs
-
 returns-2 : tie.Need-returns-2
 unfolding pageLine
 returns-2 c =
@@ -35,8 +23,8 @@ put-page-spec =
     tie.close
     (tie.spec
     returns
-    slice-aggregate-put
-    put-requires
-    put-hex-requires
-    same-length
+    (λ c. search needs)
+    (λ c κs. search needs)
+    (λ c κs. search needs)
+    (λ c. search needs)
     returns-2)

@@ -18,24 +18,9 @@ abbrev μ-loop : tie.MeasureT-loop
 loop-holds : tie.Need-loop-holds Inv-loop μ-loop
 loop-holds c = search needs
 
-sub-begins : tie.Need-sub-begins Inv-loop μ-loop
-sub-begins c = search needs
-
-part-begins-start : tie.Need-part-begins-start Inv-loop μ-loop
-part-begins-start c = search needs
-
-part-begins-end : tie.Need-part-begins-end Inv-loop μ-loop
-part-begins-end c = search needs
-
-begins-requires : tie.Need-begins-requires Inv-loop μ-loop
-begins-requires c κs = search needs
-
 returns : tie.Need-returns Inv-loop μ-loop
 returns c = let l = c .before .before .before .before .loop in
     stands-here _ _ (l .i) (omega arith) (c .before .begins .ensures) (c .if1 .taken) ∙ l .inv .1
-
-add-i : tie.Need-add-i Inv-loop μ-loop
-add-i c = search needs
 
 loop-less : tie.Need-loop-less Inv-loop μ-loop
 loop-less c = search needs
@@ -55,12 +40,12 @@ holds-spec =
     Inv-loop
     μ-loop
     loop-holds
-    sub-begins
-    part-begins-start
-    part-begins-end
-    begins-requires
+    (λ c. search needs)
+    (λ c. search needs)
+    (λ c. search needs)
+    (λ c κs. search needs)
     returns
-    add-i
+    (λ c. search needs)
     loop-less
     loop-again
     returns-2)

@@ -7,11 +7,8 @@ use Rattle.texts.proofs.same.Tie as tie
 returns : tie.Need-returns
 returns c = simp (ne-eqb _ _ (c .if1 .taken))
 
-begins-requires : tie.Need-begins-requires
-begins-requires c κs = search needs
-
 returns-2 : tie.Need-returns-2
 returns-2 c = simp (eq-eqb _ _ (c .before .if1 .left)) (c .begins .ensures)
 
 pub same-spec : {M : Type 1} → statement M
-same-spec = tie.close (tie.spec returns begins-requires returns-2)
+same-spec = tie.close (tie.spec returns (λ c κs. search needs) returns-2)

@@ -6,23 +6,11 @@ use lib.Seq.{length-take-le}
 use Rattle.told.proofs.argument.Statement.{statement}
 use Rattle.told.proofs.argument.Tie as tie
 
-arg-requires : tie.Need-arg-requires
-arg-requires c κs = search needs
-
-errno-requires : tie.Need-errno-requires
-errno-requires c κs = search needs
-
-same-length : tie.Need-same-length
-same-length c = search needs
-
 returns : tie.Need-returns
 returns c = (search needs, sym (length-take-le _ _ (search needs)))
-
-same-length-2 : tie.Need-same-length-2
-same-length-2 c = search needs
 
 returns-2 : tie.Need-returns-2
 returns-2 c = search needs
 
 pub argument-spec : {M : Type 1} → statement M
-argument-spec = tie.close (tie.spec arg-requires errno-requires same-length returns same-length-2 returns-2)
+argument-spec = tie.close (tie.spec (λ c κs. search needs) (λ c κs. search needs) (λ c. search needs) returns (λ c. search needs) returns-2)

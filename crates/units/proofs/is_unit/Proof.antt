@@ -3,9 +3,6 @@ use borrow.Author.Needs.{needs}
 use Rattle.units.proofs.is_unit.Statement.{statement}
 use Rattle.units.proofs.is_unit.Tie as tie
 
-is-text-requires : tie.Need-is-text-requires
-is-text-requires c κs = search needs
-
 returns : tie.Need-returns
 returns c = rw (← (c .before .is-text .ensures), c .if1 .taken)
 
@@ -13,4 +10,4 @@ returns-2 : tie.Need-returns-2
 returns-2 c = rw (← (c .before .is-text .ensures), c .if1 .left)
 
 pub is-unit-spec : {M : Type 1} → statement M
-is-unit-spec = tie.close (tie.spec is-text-requires returns returns-2)
+is-unit-spec = tie.close (tie.spec (λ c κs. search needs) returns returns-2)

@@ -13,9 +13,6 @@ returns : tie.Need-returns
 unfolding unitAt
 returns c = rw (le-ltb _ _ (c .if1 .taken))
 
-sub-if2 : tie.Need-sub-if2
-sub-if2 c = search needs
-
 returns-2 : tie.Need-returns-2
 unfolding unitAt unitRules
 returns-2 c =
@@ -23,26 +20,11 @@ returns-2 c =
     let n = length (now (a .pes)) in
     rw (lt-ltb (a .at) n (c .before .if1 .left), lt-leb (a .at + 2) n (omega arith))
 
-shared-slice-read-id : tie.Need-shared-slice-read-id
-shared-slice-read-id c = search needs
-
-add-next : tie.Need-add-next
-add-next c = search needs
-
-add-next-2 : tie.Need-add-next-2
-add-next-2 c = search needs
-
-shared-slice-read-next : tie.Need-shared-slice-read-next
-shared-slice-read-next c = search needs
-
 cast-next : tie.Need-cast-next
 cast-next c = omega (arith, c .shared-slice-known3 .given (c .before .before .before .before .before .args .at + 1))
 
 add-next-3 : tie.Need-add-next-3
 add-next-3 c = omega (arith, c .shared-slice-known3 .given (c .before .before .before .before .before .args .at + 1))
-
-is-unit-requires : tie.Need-is-unit-requires
-is-unit-requires c κs = search needs
 
 returns-3 : tie.Need-returns-3
 unfolding unitAt unitRules
@@ -86,9 +68,6 @@ returns-5 c =
       eq-eqb _ _ (c .if5 .taken),
     )
 
-text-at-requires : tie.Need-text-at-requires
-text-at-requires c κs = search needs
-
 returns-6 : tie.Need-returns-6
 unfolding unitAt unitRules
 returns-6 c =
@@ -109,17 +88,17 @@ unit-at-spec =
     tie.close
     (tie.spec
     returns
-    sub-if2
+    (λ c. search needs)
     returns-2
-    shared-slice-read-id
-    add-next
-    add-next-2
-    shared-slice-read-next
+    (λ c. search needs)
+    (λ c. search needs)
+    (λ c. search needs)
+    (λ c. search needs)
     cast-next
     add-next-3
-    is-unit-requires
+    (λ c κs. search needs)
     returns-3
     returns-4
     returns-5
-    text-at-requires
+    (λ c κs. search needs)
     returns-6)

@@ -30,12 +30,6 @@ returns c =
     let a = c .before .before .before .before .args in
     (sym (l .inv .4) ∙ head-cut (now (a .s)) (l .i) (l .g) (l .v) (l .p) (omega arith) (omega arith), (search needs, search needs))
 
-shared-slice-read-mark : tie.Need-shared-slice-read-mark Inv-loop μ-loop
-shared-slice-read-mark c = search needs
-
-mark-requires : tie.Need-mark-requires Inv-loop μ-loop
-mark-requires c κs = search needs
-
 returns-2 : tie.Need-returns-2 Inv-loop μ-loop
 returns-2 c =
     let l = c .before .before .before .before .before .loop in
@@ -43,9 +37,6 @@ returns-2 c =
     let b = getD (now (a .s)) (l .i) 0 in
     let n = mark-nib (c .before .mark .result) b (c .before .mark .ensures) in
     (sym (l .inv .4) ∙ head-broken (now (a .s)) (l .i) (l .g) (l .v) (l .p) (omega arith) (omega arith) (sym n ∙ c .if2 .taken), (search needs, search needs))
-
-cast-v : tie.Need-cast-v Inv-loop μ-loop
-cast-v c = search needs
 
 -- a byte decodes to 16 at most, and past the test to less; and it adds one to the part at most
 is-nibble : (c : tie.Else2 Inv-loop μ-loop) → (c .before .mark .result % 32 ≤ 16) × (c .before .mark .result / 32 ≤ 1)
@@ -61,17 +52,8 @@ mul-v c = omega (arith, is-nibble c .0)
 add-v : tie.Need-add-v Inv-loop μ-loop
 add-v c = omega (arith, is-nibble c .0)
 
-cast-p : tie.Need-cast-p Inv-loop μ-loop
-cast-p c = search needs
-
 add-p : tie.Need-add-p Inv-loop μ-loop
 add-p c = omega (arith, is-nibble c .1)
-
-add-g : tie.Need-add-g Inv-loop μ-loop
-add-g c = search needs
-
-add-i : tie.Need-add-i Inv-loop μ-loop
-add-i c = search needs
 
 loop-less : tie.Need-loop-less Inv-loop μ-loop
 loop-less c = search needs
@@ -102,16 +84,16 @@ head-on-spec =
     μ-loop
     loop-holds
     returns
-    shared-slice-read-mark
-    mark-requires
+    (λ c. search needs)
+    (λ c κs. search needs)
     returns-2
-    cast-v
+    (λ c. search needs)
     mul-v
     add-v
-    cast-p
+    (λ c. search needs)
     add-p
-    add-g
-    add-i
+    (λ c. search needs)
+    (λ c. search needs)
     loop-less
     loop-again
     returns-3)

@@ -5,15 +5,6 @@ use borrow.Author.Tests.{le-leb, lt-leb, eq-eqb, ne-eqb}
 use Rattle.walk.proofs.pointed.Statement.{statement}
 use Rattle.walk.proofs.pointed.Tie as tie
 
-decode-requires : tie.Need-decode-requires
-decode-requires c κs = search needs
-
-cast-p : tie.Need-cast-p
-cast-p c = search needs
-
-mul-result : tie.Need-mul-result
-mul-result c = search needs
-
 returns : tie.Need-returns
 returns c = rw (← c .before .decode .ensures, le-leb (c .before .decode .result) 12 (omega arith))
 
@@ -24,4 +15,4 @@ returns-3 : tie.Need-returns-3
 returns-3 c = rw (← c .before .before .decode .ensures, lt-leb (c .before .before .decode .result) 12 (omega arith), ne-eqb _ _ (c .if2 .left))
 
 pub pointed-spec : {M : Type 1} → statement M
-pointed-spec = tie.close (tie.spec decode-requires cast-p mul-result returns returns-2 returns-3)
+pointed-spec = tie.close (tie.spec (λ c κs. search needs) (λ c. search needs) (λ c. search needs) returns returns-2 returns-3)

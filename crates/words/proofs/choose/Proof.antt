@@ -4,12 +4,6 @@ use borrow.Author.Needs.{needs}
 use Rattle.words.proofs.choose.Statement.{statement}
 use Rattle.words.proofs.choose.Tie as tie
 
-row-of-requires : tie.Need-row-of-requires
-row-of-requires c κs = search needs
-
-bad-requires : tie.Need-bad-requires
-bad-requires c κs = search needs
-
 returns : tie.Need-returns
 returns c = no-task _ (c .before .before .before .before .before .args .said) _ (c .before .before .row-of .ensures) (c .before .if1 .taken) (c .bad .ensures)
 
@@ -17,4 +11,4 @@ returns-2 : tie.Need-returns-2
 returns-2 c = a-task _ (c .before .before .before .before .before .before .args .said) _ (c .before .before .before .row-of .ensures) (c .before .before .if1 .left)
 
 pub choose-spec : {M : Type 1} → statement M
-choose-spec = tie.close (tie.spec row-of-requires bad-requires returns returns-2)
+choose-spec = tie.close (tie.spec (λ c κs. search needs) (λ c κs. search needs) returns returns-2)

@@ -4,35 +4,14 @@ use borrow.Author.Needs.{needs}
 use Rattle.words.proofs.hear.Statement.{statement}
 use Rattle.words.proofs.hear.Tie as tie
 
-hear-last-requires : tie.Need-hear-last-requires
-hear-last-requires c κs = search needs
-
 returns : tie.Need-returns
 returns c = not-two (c .before .before .before .before .before .args .options .now) (c .before .before .before .before .before .args .tasks .now) (c .before .before .before .before .before .args .said) (c .before .before .before .before .before .args .word .now) (c .before .if1 .taken) (c .hear-last .ensures)
-
-shared-slice-read-if2 : tie.Need-shared-slice-read-if2
-shared-slice-read-if2 c = search needs
-
-hear-last-requires-2 : tie.Need-hear-last-requires-2
-hear-last-requires-2 c κs = search needs
 
 returns-2 : tie.Need-returns-2
 returns-2 c = not-dash (c .before .before .before .before .before .before .before .args .options .now) (c .before .before .before .before .before .before .before .args .tasks .now) (c .before .before .before .before .before .before .before .args .said) (c .before .before .before .before .before .before .before .args .word .now) (c .before .before .before .if1 .left) (c .before .if2 .taken) (c .hear-last2 .ensures)
 
-shared-slice-read-if3 : tie.Need-shared-slice-read-if3
-shared-slice-read-if3 c = search needs
-
-hear-last-requires-3 : tie.Need-hear-last-requires-3
-hear-last-requires-3 c κs = search needs
-
 returns-3 : tie.Need-returns-3
 returns-3 c = two-dashes (c .before .before .before .before .before .before .before .before .before .args .options .now) (c .before .before .before .before .before .before .before .before .before .args .tasks .now) (c .before .before .before .before .before .before .before .before .before .args .said) (c .before .before .before .before .before .before .before .before .before .args .word .now) (c .before .before .before .before .before .if1 .left) (c .before .before .before .if2 .left) (c .before .if3 .taken) (c .hear-last3 .ensures)
-
-shared-slice-read-hear-letter : tie.Need-shared-slice-read-hear-letter
-shared-slice-read-hear-letter c = search needs
-
-hear-letter-requires : tie.Need-hear-letter-requires
-hear-letter-requires c κs = search needs
 
 returns-4 : tie.Need-returns-4
 returns-4 c = an-option (c .before .before .before .before .before .before .before .before .before .before .args .options .now) (c .before .before .before .before .before .before .before .before .before .before .args .tasks .now) (c .before .before .before .before .before .before .before .before .before .before .args .said) (c .before .before .before .before .before .before .before .before .before .before .args .word .now) (c .before .before .before .before .before .before .if1 .left) (c .before .before .before .before .if2 .left) (c .before .before .if3 .left) (c .hear-letter .ensures)
@@ -41,14 +20,14 @@ pub hear-spec : {M : Type 1} → statement M
 hear-spec =
     tie.close
     (tie.spec
-    hear-last-requires
+    (λ c κs. search needs)
     returns
-    shared-slice-read-if2
-    hear-last-requires-2
+    (λ c. search needs)
+    (λ c κs. search needs)
     returns-2
-    shared-slice-read-if3
-    hear-last-requires-3
+    (λ c. search needs)
+    (λ c κs. search needs)
     returns-3
-    shared-slice-read-hear-letter
-    hear-letter-requires
+    (λ c. search needs)
+    (λ c κs. search needs)
     returns-4)

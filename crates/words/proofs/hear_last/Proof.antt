@@ -5,29 +5,11 @@ use borrow.Author.Needs.{needs}
 use Rattle.words.proofs.hear_last.Statement.{statement}
 use Rattle.words.proofs.hear_last.Tie as tie
 
-looks-like-name-requires : tie.Need-looks-like-name-requires
-looks-like-name-requires c κs = search needs
-
-name-requires : tie.Need-name-requires
-name-requires c κs = search needs
-
 returns : tie.Need-returns
 returns c = last-name _ (c .before .before .before .before .before .args .said) _ (c .before .before .looks-like-name .ensures) (c .before .if1 .taken) (c .name .ensures)
 
-slice-aggregate-same : tie.Need-slice-aggregate-same
-slice-aggregate-same c = search needs
-
-same-requires : tie.Need-same-requires
-same-requires c κs = search needs
-
-bad-requires : tie.Need-bad-requires
-bad-requires c κs = search needs
-
 returns-2 : tie.Need-returns-2
 returns-2 c = last-bad _ (c .before .before .before .before .before .before .before .before .args .said) _ (c .before .before .before .before .before .looks-like-name .ensures) (c .before .before .before .before .if1 .left) (c .before .before .same .ensures) (not-true _ (c .before .if2 .taken)) (c .bad .ensures)
-
-to-stage-requires : tie.Need-to-stage-requires
-to-stage-requires c κs = search needs
 
 returns-3 : tie.Need-returns-3
 returns-3 c = last-dashes _ (c .before .before .before .before .before .before .before .before .args .said) _ (c .before .before .before .before .before .looks-like-name .ensures) (c .before .before .before .before .if1 .left) (c .before .before .same .ensures) (not-false _ (c .before .if2 .left)) (c .to-stage .ensures)
@@ -36,12 +18,12 @@ pub hear-last-spec : {M : Type 1} → statement M
 hear-last-spec =
     tie.close
     (tie.spec
-    looks-like-name-requires
-    name-requires
+    (λ c κs. search needs)
+    (λ c κs. search needs)
     returns
-    slice-aggregate-same
-    same-requires
-    bad-requires
+    (λ c. search needs)
+    (λ c κs. search needs)
+    (λ c κs. search needs)
     returns-2
-    to-stage-requires
+    (λ c κs. search needs)
     returns-3)

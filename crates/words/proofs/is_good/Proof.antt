@@ -5,33 +5,6 @@ use borrow.Author.Needs.{needs}
 use Rattle.words.proofs.is_good.Statement.{statement}
 use Rattle.words.proofs.is_good.Tie as tie
 
-enum-told : tie.Need-enum-told
-enum-told c = search needs
-
-enum-told-2 : tie.Need-enum-told-2
-enum-told-2 c = search needs
-
-is-whole-requires : tie.Need-is-whole-requires
-is-whole-requires c κs = search needs
-
-enum-told-3 : tie.Need-enum-told-3
-enum-told-3 c = search needs
-
-enum-told-4 : tie.Need-enum-told-4
-enum-told-4 c = search needs
-
-is-whole-requires-2 : tie.Need-is-whole-requires-2
-is-whole-requires-2 c κs = search needs
-
-enum-told-5 : tie.Need-enum-told-5
-enum-told-5 c = search needs
-
-is-whole-requires-3 : tie.Need-is-whole-requires-3
-is-whole-requires-3 c κs = search needs
-
-enum-told-6 : tie.Need-enum-told-6
-enum-told-6 c = search needs
-
 returns : tie.Need-returns
 returns c = search needs
 
@@ -54,15 +27,15 @@ pub is-good-spec : {M : Type 1} → statement M
 is-good-spec =
     tie.close
     (tie.spec
-    enum-told
-    enum-told-2
-    is-whole-requires
-    enum-told-3
-    enum-told-4
-    is-whole-requires-2
-    enum-told-5
-    is-whole-requires-3
-    enum-told-6
+    (λ c. search needs)
+    (λ c. search needs)
+    (λ c κs. search needs)
+    (λ c. search needs)
+    (λ c. search needs)
+    (λ c κs. search needs)
+    (λ c. search needs)
+    (λ c κs. search needs)
+    (λ c. search needs)
     returns
     returns-2
     returns-3

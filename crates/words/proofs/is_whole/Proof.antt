@@ -7,14 +7,8 @@ use borrow.Author.Needs.{needs}
 use Rattle.words.proofs.is_whole.Statement.{statement}
 use Rattle.words.proofs.is_whole.Tie as tie
 
-places-requires : tie.Need-places-requires
-places-requires c κs = search needs
-
-may-end-requires : tie.Need-may-end-requires
-may-end-requires c κs = search needs
-
 returns : tie.Need-returns
 returns c = c .may-end .ensures ∙ ap (λ (p : List ℕ). mayEnd p (c .before .before .before .args .said .spot)) (c .before .places .ensures)
 
 pub is-whole-spec : {M : Type 1} → statement M
-is-whole-spec = tie.close (tie.spec places-requires may-end-requires returns)
+is-whole-spec = tie.close (tie.spec (λ c κs. search needs) (λ c κs. search needs) returns)

@@ -9,9 +9,6 @@ use Rattle.words.proofs.looks_like_name.Tie as tie
 returns : tie.Need-returns
 returns c = empty-name _ (c .if1 .taken)
 
-shared-slice-read-if2 : tie.Need-shared-slice-read-if2
-shared-slice-read-if2 c = search needs
-
 returns-2 : tie.Need-returns-2
 unfolding isName
 returns-2 c = simp (eq-eqb _ _ (c .if2 .taken))
@@ -21,4 +18,4 @@ unfolding isName
 returns-3 c = simp (ne-eqb _ _ (c .if2 .left))
 
 pub looks-like-name-spec : {M : Type 1} → statement M
-looks-like-name-spec = tie.close (tie.spec returns shared-slice-read-if2 returns-2 returns-3)
+looks-like-name-spec = tie.close (tie.spec returns (λ c. search needs) returns-2 returns-3)

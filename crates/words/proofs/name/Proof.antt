@@ -5,23 +5,8 @@ use borrow.Author.Needs.{needs}
 use Rattle.words.proofs.name.Statement.{statement}
 use Rattle.words.proofs.name.Tie as tie
 
-places-requires : tie.Need-places-requires
-places-requires c κs = search needs
-
-letter-at-requires : tie.Need-letter-at-requires
-letter-at-requires c κs = search needs
-
-fits-requires : tie.Need-fits-requires
-fits-requires c κs = search needs
-
-bad-requires : tie.Need-bad-requires
-bad-requires c κs = search needs
-
 returns : tie.Need-returns
 returns c = no-fit _ (c .before .before .before .before .before .before .before .before .args .said) _ (c .before .before .before .before .before .before .before .before .args .stage) (c .before .before .before .before .places .ensures) (c .before .before .before .letter-at .ensures) (c .before .before .fits2 .ensures) (not-true _ (c .before .if1 .taken)) (c .bad .ensures)
-
-after-requires : tie.Need-after-requires
-after-requires c κs = search needs
 
 returns-2 : tie.Need-returns-2
 returns-2 c = a-fit _ (c .before .before .before .before .before .before .before .before .before .args .said) _ (c .before .before .before .before .before .before .before .before .before .args .stage) (c .before .before .before .before .before .places .ensures) (c .before .before .before .before .letter-at .ensures) (c .before .before .before .fits2 .ensures) (not-false _ (c .before .before .if1 .left)) (c .before .after .ensures)
@@ -30,10 +15,10 @@ pub name-spec : {M : Type 1} → statement M
 name-spec =
     tie.close
     (tie.spec
-    places-requires
-    letter-at-requires
-    fits-requires
-    bad-requires
+    (λ c κs. search needs)
+    (λ c κs. search needs)
+    (λ c κs. search needs)
+    (λ c κs. search needs)
     returns
-    after-requires
+    (λ c κs. search needs)
     returns-2)

@@ -8,36 +8,6 @@ use Rattle.words.proofs.next.Tie as tie
 enum-told : tie.Need-enum-told
 enum-told c = search needs
 
-choose-requires : tie.Need-choose-requires
-choose-requires c κs = search needs
-
-enum-told-2 : tie.Need-enum-told-2
-enum-told-2 c = search needs
-
-hear-requires : tie.Need-hear-requires
-hear-requires c κs = search needs
-
-enum-known-stage : tie.Need-enum-known-stage
-enum-known-stage c = search needs
-
-say-requires : tie.Need-say-requires
-say-requires c κs = search needs
-
-enum-told-3 : tie.Need-enum-told-3
-enum-told-3 c = search needs
-
-hear-last-requires : tie.Need-hear-last-requires
-hear-last-requires c κs = search needs
-
-enum-told-4 : tie.Need-enum-told-4
-enum-told-4 c = search needs
-
-name-requires : tie.Need-name-requires
-name-requires c κs = search needs
-
-enum-told-5 : tie.Need-enum-told-5
-enum-told-5 c = search needs
-
 returns : tie.Need-returns
 returns c = heard-at (c .before .before .before .before .before .before .args .tasks .now) (c .before .before .before .before .before .before .args .said) (c .before .before .before .before .before .before .args .word .now) (c .before .enum-told .given .1) (c .before .before .before .before .before .before .args .options .now) (c .choose .ensures)
 
@@ -61,16 +31,16 @@ next-spec =
     tie.close
     (tie.spec
     enum-told
-    choose-requires
-    enum-told-2
-    hear-requires
-    enum-known-stage
-    say-requires
-    enum-told-3
-    hear-last-requires
-    enum-told-4
-    name-requires
-    enum-told-5
+    (λ c κs. search needs)
+    (λ c. search needs)
+    (λ c κs. search needs)
+    (λ c. search needs)
+    (λ c κs. search needs)
+    (λ c. search needs)
+    (λ c κs. search needs)
+    (λ c. search needs)
+    (λ c κs. search needs)
+    (λ c. search needs)
     returns
     returns-2
     returns-3

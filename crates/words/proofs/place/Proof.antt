@@ -4,33 +4,6 @@ use borrow.Author.Needs.{needs}
 use Rattle.words.proofs.place.Statement.{statement}
 use Rattle.words.proofs.place.Tie as tie
 
-enum-told : tie.Need-enum-told
-enum-told c = search needs
-
-enum-told-2 : tie.Need-enum-told-2
-enum-told-2 c = search needs
-
-place-of-name-requires : tie.Need-place-of-name-requires
-place-of-name-requires c κs = search needs
-
-enum-told-3 : tie.Need-enum-told-3
-enum-told-3 c = search needs
-
-enum-told-4 : tie.Need-enum-told-4
-enum-told-4 c = search needs
-
-place-of-name-requires-2 : tie.Need-place-of-name-requires-2
-place-of-name-requires-2 c κs = search needs
-
-enum-told-5 : tie.Need-enum-told-5
-enum-told-5 c = search needs
-
-letter-requires : tie.Need-letter-requires
-letter-requires c κs = search needs
-
-enum-told-6 : tie.Need-enum-told-6
-enum-told-6 c = search needs
-
 returns : tie.Need-returns
 returns c = search needs
 
@@ -53,15 +26,15 @@ pub place-spec : {M : Type 1} → statement M
 place-spec =
     tie.close
     (tie.spec
-    enum-told
-    enum-told-2
-    place-of-name-requires
-    enum-told-3
-    enum-told-4
-    place-of-name-requires-2
-    enum-told-5
-    letter-requires
-    enum-told-6
+    (λ c. search needs)
+    (λ c. search needs)
+    (λ c κs. search needs)
+    (λ c. search needs)
+    (λ c. search needs)
+    (λ c κs. search needs)
+    (λ c. search needs)
+    (λ c κs. search needs)
+    (λ c. search needs)
     returns
     returns-2
     returns-3

@@ -4,12 +4,6 @@ use borrow.Author.Needs.{needs}
 use Rattle.words.proofs.place_of_name.Statement.{statement}
 use Rattle.words.proofs.place_of_name.Tie as tie
 
-looks-like-name-requires : tie.Need-looks-like-name-requires
-looks-like-name-requires c κs = search needs
-
-letter-requires : tie.Need-letter-requires
-letter-requires c κs = search needs
-
 returns : tie.Need-returns
 returns c = simp (sym (c .before .before .looks-like-name .ensures) ∙ c .before .if1 .taken) (c .letter .ensures)
 
@@ -18,4 +12,4 @@ returns-2 c = simp (sym (c .before .looks-like-name .ensures) ∙ c .if1 .left)
 
 pub place-of-name-spec : {M : Type 1} → statement M
 place-of-name-spec =
-    tie.close (tie.spec looks-like-name-requires letter-requires returns returns-2)
+    tie.close (tie.spec (λ c κs. search needs) (λ c κs. search needs) returns returns-2)

@@ -9,21 +9,9 @@ returns : tie.Need-returns
 unfolding secondAt
 returns c = simp (le-ltb _ _ (c .if1 .taken))
 
-mul-i : tie.Need-mul-i
-mul-i c = search needs
-
-add-i : tie.Need-add-i
-add-i c = search needs
-
-mul-result : tie.Need-mul-result
-mul-result c = search needs
-
-element-copy-out-result : tie.Need-element-copy-out-result
-element-copy-out-result c = search needs
-
 returns-2 : tie.Need-returns-2
 unfolding secondAt
 returns-2 c = simp (lt-ltb _ _ (c .before .if1 .left))
 
 pub second-spec : {M : Type 1} → statement M
-second-spec = tie.close (tie.spec returns mul-i add-i mul-result element-copy-out-result returns-2)
+second-spec = tie.close (tie.spec returns (λ c. search needs) (λ c. search needs) (λ c. search needs) (λ c. search needs) returns-2)

@@ -5,9 +5,6 @@ use borrow.Author.Needs.{needs}
 use Rattle.words.proofs.start.Statement.{statement}
 use Rattle.words.proofs.start.Tie as tie
 
-byte-at-requires : tie.Need-byte-at-requires
-byte-at-requires c κs = search needs
-
 returns : tie.Need-returns
 unfolding startSaid
 returns c = simp (← (c .before .byte-at .ensures), eq-eqb _ _ (c .if1 .taken))
@@ -17,4 +14,4 @@ unfolding startSaid
 returns-2 c = simp (← (c .before .byte-at .ensures), ne-eqb _ _ (c .if1 .left))
 
 pub start-spec : {M : Type 1} → statement M
-start-spec = tie.close (tie.spec byte-at-requires returns returns-2)
+start-spec = tie.close (tie.spec (λ c κs. search needs) returns returns-2)

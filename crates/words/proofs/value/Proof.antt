@@ -9,27 +9,9 @@ returns : tie.Need-returns
 unfolding valueAt
 returns c = simp (le-ltb _ _ (c .if1 .taken))
 
-mul-i : tie.Need-mul-i
-mul-i c = search needs
-
-mul-value : tie.Need-mul-value
-mul-value c = search needs
-
-element-copy-out-value : tie.Need-element-copy-out-value
-element-copy-out-value c = search needs
-
 returns-2 : tie.Need-returns-2
 unfolding valueAt
 returns-2 c = simp (lt-ltb _ _ (c .before .before .if1 .left), ne-eqb _ _ (c .if2 .taken))
-
-mul-entry : tie.Need-mul-entry
-mul-entry c = search needs
-
-add-entry : tie.Need-add-entry
-add-entry c = search needs
-
-entry-requires : tie.Need-entry-requires
-entry-requires c κs = search needs
 
 returns-3 : tie.Need-returns-3
 unfolding valueAt
@@ -40,11 +22,11 @@ value-spec =
     tie.close
     (tie.spec
     returns
-    mul-i
-    mul-value
-    element-copy-out-value
+    (λ c. search needs)
+    (λ c. search needs)
+    (λ c. search needs)
     returns-2
-    mul-entry
-    add-entry
-    entry-requires
+    (λ c. search needs)
+    (λ c. search needs)
+    (λ c κs. search needs)
     returns-3)

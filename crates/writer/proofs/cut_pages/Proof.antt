@@ -31,22 +31,13 @@ counted c =
     measured-cells (c .before .before .before .before .before .before .before .before .args .records .now) _
     (sym (c .before .before .before .measure .ensures) ∙ c .before .cells .given .1)
 
-takes-requires : tie.Need-takes-requires
-takes-requires c κs = search needs
-
 returns : tie.Need-returns
 returns c =
     let a = c .before .before .before .before .args in
     cut-out-of-range (a .s) (a .index) (a .k) (a .records .now) (a .out .now) (sym (c .before .takes .ensures) ∙ not-true _ (c .if1 .taken))
 
-measure-requires : tie.Need-measure-requires
-measure-requires c κs = search needs
-
 enum-told : tie.Need-enum-told
 enum-told c = search needs
-
-enum-known-cells : tie.Need-enum-known-cells
-enum-known-cells c = search needs
 
 pages-for-requires : tie.Need-pages-for-requires
 pages-for-requires c κs =
@@ -66,9 +57,6 @@ returns-2 c =
     cut-broken (a .s) (a .index) (a .k) (a .records .now) (a .out .now) (in-range (c .before .before .before))
     (measured-broken (a .records .now) (sym (c .before .before .measure .ensures) ∙ c .enum-told .given .1))
 
-same-length : tie.Need-same-length
-same-length c = search needs
-
 returns-3 : tie.Need-returns-3
 returns-3 c =
     let w = c .before .before .write-all in
@@ -84,13 +72,13 @@ pub cut-pages-spec : {M : Type 1} → statement M
 cut-pages-spec =
     tie.close
     (tie.spec
-    takes-requires
+    (λ c κs. search needs)
     returns
-    measure-requires
+    (λ c κs. search needs)
     enum-told
-    enum-known-cells
+    (λ c. search needs)
     pages-for-requires
     write-all-requires
     returns-2
-    same-length
+    (λ c. search needs)
     returns-3)

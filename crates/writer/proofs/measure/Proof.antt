@@ -21,9 +21,6 @@ abbrev μ-loop : tie.MeasureT-loop
 loop-holds : tie.Need-loop-holds Inv-loop μ-loop
 loop-holds c = (search needs, search needs, measure-start (c .before .args .records .now))
 
-record-at-requires : tie.Need-record-at-requires Inv-loop μ-loop
-record-at-requires c κs = search needs
-
 enum-told : tie.Need-enum-told Inv-loop μ-loop
 enum-told c = search needs
 
@@ -32,17 +29,11 @@ returns c =
     let w = c .before .before in
     measure-end _ _ _ (ended _ _ (sym (w .record-at .ensures) ∙ c .enum-told .given .1)) ∙ w .before .loop .inv .2
 
-enum-told-2 : tie.Need-enum-told-2 Inv-loop μ-loop
-enum-told-2 c = search needs
-
 returns-2 : tie.Need-returns-2 Inv-loop μ-loop
 returns-2 c =
     let w = c .before .before in
     measure-broken _ _ _ (w .before .loop .inv .0) (broken _ _ (sym (w .record-at .ensures) ∙ c .enum-told2 .given .1))
     ∙ w .before .loop .inv .2
-
-enum-known-raw : tie.Need-enum-known-raw Inv-loop μ-loop
-enum-known-raw c = search needs
 
 -- a whole record stands at the place where one was found
 stands :
@@ -76,12 +67,12 @@ measure-spec =
     Inv-loop
     μ-loop
     loop-holds
-    record-at-requires
+    (λ c κs. search needs)
     enum-told
     returns
-    enum-told-2
+    (λ c. search needs)
     returns-2
-    enum-known-raw
+    (λ c. search needs)
     sub-cells-of
     cells-of-requires
     add-cells

@@ -4,9 +4,6 @@ use borrow.Author.Tests.{not-true, not-false, le-leb, lt-leb}
 use Rattle.writer.proofs.takes.Statement.{statement}
 use Rattle.writer.proofs.takes.Tie as tie
 
-is-in-range-requires : tie.Need-is-in-range-requires
-is-in-range-requires c κs = search needs
-
 returns : tie.Need-returns
 returns c = rw (← c .before .is-in-range .ensures, not-true (c .before .is-in-range .result) (c .if1 .taken))
 
@@ -30,4 +27,4 @@ returns-4 c =
     rw (← r .ensures, set, le-leb (a .index) 15 (c .before .if2 .left), le-leb 1 (a .k) (c .if3 .left))
 
 pub takes-spec : {M : Type 1} → statement M
-takes-spec = tie.close (tie.spec is-in-range-requires returns returns-2 returns-3 returns-4)
+takes-spec = tie.close (tie.spec (λ c κs. search needs) returns returns-2 returns-3 returns-4)

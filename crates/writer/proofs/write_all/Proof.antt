@@ -10,15 +10,6 @@ use Rattle.writer.proofs.Answering.{short-of-room, fits-room, room-enou
 use Rattle.writer.proofs.write_all.Statement.{statement}
 use Rattle.writer.proofs.write_all.Tie as tie
 
-add-size : tie.Need-add-size
-add-size c = search needs
-
-mul-size : tie.Need-mul-size
-mul-size c = search needs
-
-div-if1 : tie.Need-div-if1
-div-if1 c = search needs
-
 returns : tie.Need-returns
 returns c =
     let a = c .before .before .before .args in
@@ -36,9 +27,6 @@ mul-t8 c =
     let a = e .before .before .before .args in
     omega (arith, fits-room (length (a .out .now)) (a .count) (pageLength (a .k)) (omega arith) (e .if1 .left))
 
-same-length : tie.Need-same-length
-same-length c = search needs
-
 returns-2 : tie.Need-returns-2
 returns-2 c =
     let w = c .before .before .write-pages in
@@ -50,4 +38,4 @@ returns-2 c =
 pub write-all-spec : {M : Type 1} → statement M
 write-all-spec =
     tie.close
-    (tie.spec add-size mul-size div-if1 returns write-pages-requires mul-t8 same-length returns-2)
+    (tie.spec (λ c. search needs) (λ c. search needs) (λ c. search needs) returns write-pages-requires mul-t8 (λ c. search needs) returns-2)

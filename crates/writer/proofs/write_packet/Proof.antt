@@ -11,30 +11,12 @@ use Rattle.writer.proofs.Laying.{packet-laid}
 use Rattle.writer.proofs.write_packet.Statement.{statement}
 use Rattle.writer.proofs.write_packet.Tie as tie
 
-write-address-requires : tie.Need-write-address-requires
-write-address-requires c κs = search needs
-
-add-write-symbols : tie.Need-add-write-symbols
-add-write-symbols c = search needs
-
-write-symbols-requires : tie.Need-write-symbols-requires
-write-symbols-requires c κs = search needs
-
 cast-image : tie.Need-cast-image
 cast-image c =
     let w = c .before .before .before in
     let a = w .before .before .before .before .before .before .before .before .args in
     let ss = grab perPacket (restOf (a .records .now) (a .pen)) in
     omega (arith, w .write-symbols .ensures .1 .0, before-le ss, length-grab perPacket (restOf (a .records .now) (a .pen)))
-
-image-requires : tie.Need-image-requires
-image-requires c κs = search needs
-
-add-out : tie.Need-add-out
-add-out c = search needs
-
-slice-write-out : tie.Need-slice-write-out
-slice-write-out c = search needs
 
 same-length : tie.Need-same-length
 same-length c =
@@ -57,12 +39,12 @@ pub write-packet-spec : {M : Type 1} → statement M
 write-packet-spec =
     tie.close
     (tie.spec
-    write-address-requires
-    add-write-symbols
-    write-symbols-requires
+    (λ c κs. search needs)
+    (λ c. search needs)
+    (λ c κs. search needs)
     cast-image
-    image-requires
-    add-out
-    slice-write-out
+    (λ c κs. search needs)
+    (λ c. search needs)
+    (λ c. search needs)
     same-length
     returns)

@@ -16,23 +16,8 @@ Inv-loop s index k records out₀ q at₀ to₀ y₀ out at to y = Rowed s k rec
 abbrev μ-loop : tie.MeasureT-loop
 μ-loop s index k records out₀ q at₀ to₀ y₀ out at to y = suc k - y
 
-write-zero-requires : tie.Need-write-zero-requires Inv-loop μ-loop
-write-zero-requires c κs = search needs
-
-add-to : tie.Need-add-to Inv-loop μ-loop
-add-to c = search needs
-
 loop-holds : tie.Need-loop-holds Inv-loop μ-loop
 loop-holds c = rowed-none _ _ _ _ _ _ (search needs)
-
-write-packet-requires : tie.Need-write-packet-requires Inv-loop μ-loop
-write-packet-requires c κs = search needs
-
-add-to-2 : tie.Need-add-to-2 Inv-loop μ-loop
-add-to-2 c = search needs
-
-add-y : tie.Need-add-y Inv-loop μ-loop
-add-y c = search needs
 
 loop-less : tie.Need-loop-less Inv-loop μ-loop
 loop-less c = search needs
@@ -42,9 +27,6 @@ loop-again c =
     let w = c .before .before .write-packet in
     rowed-more (c .before .before .before .before .before .loop .inv) (c .before .before .before .before .loop-test .taken)
     (w .last .1 .1 .1 .1 .0) (w .result) (w .ensures .0) (w .ensures .1)
-
-same-length : tie.Need-same-length Inv-loop μ-loop
-same-length c = search needs
 
 returns : tie.Need-returns Inv-loop μ-loop
 returns c =
@@ -62,13 +44,13 @@ write-page-spec =
     (tie.spec
     Inv-loop
     μ-loop
-    write-zero-requires
-    add-to
+    (λ c κs. search needs)
+    (λ c. search needs)
     loop-holds
-    write-packet-requires
-    add-to-2
-    add-y
+    (λ c κs. search needs)
+    (λ c. search needs)
+    (λ c. search needs)
     loop-less
     loop-again
-    same-length
+    (λ c. search needs)
     returns)

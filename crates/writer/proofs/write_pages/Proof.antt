@@ -13,12 +13,6 @@ Inv-loop s index k count records out₀ size at₀ next₀ to₀ left₀ out at 
 abbrev μ-loop : tie.MeasureT-loop
 μ-loop s index k count records out₀ size at₀ next₀ to₀ left₀ out at next to left = left
 
-add-size : tie.Need-add-size Inv-loop μ-loop
-add-size c = search needs
-
-mul-size : tie.Need-mul-size Inv-loop μ-loop
-mul-size c = search needs
-
 loop-holds : tie.Need-loop-holds Inv-loop μ-loop
 loop-holds c = paged-none _ _ _ _ _ _ (search needs) (search needs)
 
@@ -26,15 +20,6 @@ write-page-requires : tie.Need-write-page-requires Inv-loop μ-loop
 write-page-requires c κs =
     let p = c .before .before .loop .inv in
     (search needs, page-room p (c .before .loop-test .taken), p .stands)
-
-add-next : tie.Need-add-next Inv-loop μ-loop
-add-next c = search needs
-
-add-to : tie.Need-add-to Inv-loop μ-loop
-add-to c = search needs
-
-sub-left : tie.Need-sub-left Inv-loop μ-loop
-sub-left c = search needs
 
 loop-less : tie.Need-loop-less Inv-loop μ-loop
 loop-less c = search needs
@@ -45,9 +30,6 @@ loop-again c =
     paged-more (c .before .before .before .before .before .loop .inv) (c .before .before .before .before .loop-test .taken)
     (w .last .1 .1 .1 .1 .1 .0) (w .result) (w .ensures .0) (w .ensures .1)
 
-same-length : tie.Need-same-length Inv-loop μ-loop
-same-length c = search needs
-
 returns : tie.Need-returns Inv-loop μ-loop
 returns c = paged-all (c .before .loop .inv) (search needs)
 
@@ -57,14 +39,14 @@ write-pages-spec =
     (tie.spec
     Inv-loop
     μ-loop
-    add-size
-    mul-size
+    (λ c. search needs)
+    (λ c. search needs)
     loop-holds
     write-page-requires
-    add-next
-    add-to
-    sub-left
+    (λ c. search needs)
+    (λ c. search needs)
+    (λ c. search needs)
     loop-less
     loop-again
-    same-length
+    (λ c. search needs)
     returns)

@@ -17,21 +17,6 @@ abbrev μ-loop : tie.MeasureT-loop
 loop-holds : tie.Need-loop-holds Inv-loop μ-loop
 loop-holds c = stored-none _ _ _ _ _ (search needs)
 
-step-requires : tie.Need-step-requires Inv-loop μ-loop
-step-requires c κs = search needs
-
-add-out : tie.Need-add-out Inv-loop μ-loop
-add-out c = search needs
-
-slice-write-out : tie.Need-slice-write-out Inv-loop μ-loop
-slice-write-out c = search needs
-
-first-requires : tie.Need-first-requires Inv-loop μ-loop
-first-requires c κs = search needs
-
-add-i : tie.Need-add-i Inv-loop μ-loop
-add-i c = search needs
-
 loop-less : tie.Need-loop-less Inv-loop μ-loop
 loop-less c = search needs
 
@@ -41,9 +26,6 @@ loop-again c =
     let inv = c .before .before .before .before .loop .inv in
     let sent = sends _ _ (inv .goes .stands) (s .result) (s .ensures) in
     stored-more inv (c .before .before .before .loop-test .taken) (s .result) sent (c .before .first .result) (c .before .first .ensures)
-
-same-length : tie.Need-same-length Inv-loop μ-loop
-same-length c = search needs
 
 returns : tie.Need-returns Inv-loop μ-loop
 returns c = stored-all (c .before .loop .inv) (c .loop-test .left)
@@ -55,12 +37,12 @@ write-symbols-spec =
     Inv-loop
     μ-loop
     loop-holds
-    step-requires
-    add-out
-    slice-write-out
-    first-requires
-    add-i
+    (λ c κs. search needs)
+    (λ c. search needs)
+    (λ c. search needs)
+    (λ c κs. search needs)
+    (λ c. search needs)
     loop-less
     loop-again
-    same-length
+    (λ c. search needs)
     returns)

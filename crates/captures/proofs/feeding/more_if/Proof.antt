@@ -4,9 +4,6 @@ use borrow.Author.Needs.{needs}
 use Rattle.captures.proofs.feeding.more_if.Statement.{statement}
 use Rattle.captures.proofs.feeding.more_if.Tie as tie
 
-add-result : tie.Need-add-result
-add-result c = search needs
-
 returns : tie.Need-returns
 returns c = rw (c .before .if1 .taken, lt-ltb _ _ (c .if2 .taken))
 
@@ -17,4 +14,4 @@ returns-3 : tie.Need-returns-3
 returns-3 c = rw (c .if1 .left)
 
 pub more-if-spec : {M : Type 1} → statement M
-more-if-spec = tie.close (tie.spec add-result returns returns-2 returns-3)
+more-if-spec = tie.close (tie.spec (λ c. search needs) returns returns-2 returns-3)

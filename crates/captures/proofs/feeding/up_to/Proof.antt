@@ -5,23 +5,11 @@ use borrow.Author.Needs.{needs}
 use Rattle.captures.proofs.feeding.up_to.Statement.{statement}
 use Rattle.captures.proofs.feeding.up_to.Tie as tie
 
-whole-end-requires : tie.Need-whole-end-requires
-whole-end-requires c κs = search needs
-
-step-of-requires : tie.Need-step-of-requires
-step-of-requires c κs = search needs
-
 returns : tie.Need-returns
 returns c = up-to-end _ _ _ (c .before .before .whole-end .ensures) (c .before .step-of .ensures) (omega (arith, c .if1 .taken))
 
-sub-if2 : tie.Need-sub-if2
-sub-if2 c = search needs
-
 returns-2 : tie.Need-returns-2
 returns-2 c = up-to-end _ _ _ (c .before .before .before .whole-end .ensures) (c .before .before .step-of .ensures) (c .if2 .taken)
-
-add-result : tie.Need-add-result
-add-result c = search needs
 
 returns-3 : tie.Need-returns-3
 returns-3 c = up-to-step _ _ _ (c .before .before .before .whole-end .ensures) (c .before .before .step-of .ensures) (c .if2 .left)
@@ -29,4 +17,4 @@ returns-3 c = up-to-step _ _ _ (c .before .before .before .whole-end .ensures) (
 pub up-to-spec : {M : Type 1} → statement M
 up-to-spec =
     tie.close
-    (tie.spec whole-end-requires step-of-requires returns sub-if2 returns-2 add-result returns-3)
+    (tie.spec (λ c κs. search needs) (λ c κs. search needs) returns (λ c. search needs) returns-2 (λ c. search needs) returns-3)

@@ -6,11 +6,8 @@ use Rattle.captures.proofs.sight.begin.Tie as tie
 returns : tie.Need-returns
 returns c = search needs
 
-has-code-requires : tie.Need-has-code-requires
-has-code-requires c κs = search needs
-
 returns-2 : tie.Need-returns-2
 returns-2 c = rw (c .has-code .ensures, c .before .if1 .left)
 
 pub begin-spec : {M : Type 1} → statement M
-begin-spec = tie.close (tie.spec returns has-code-requires returns-2)
+begin-spec = tie.close (tie.spec returns (λ c κs. search needs) returns-2)

@@ -26,36 +26,6 @@ loop-holds c =
     let e : n - 0 ≡ n = omega arith in
     (omega arith, refl, rw e, rw e)
 
-sub-loop : tie.Need-sub-loop Inv-loop μ-loop
-sub-loop c = search needs
-
-add-next : tie.Need-add-next Inv-loop μ-loop
-add-next c = search needs
-
-sub-count : tie.Need-sub-count Inv-loop μ-loop
-sub-count c = search needs
-
-part-count-start : tie.Need-part-count-start Inv-loop μ-loop
-part-count-start c = search needs
-
-part-count-end : tie.Need-part-count-end Inv-loop μ-loop
-part-count-end c = search needs
-
-count-requires : tie.Need-count-requires Inv-loop μ-loop
-count-requires c κs = search needs
-
-sub-note : tie.Need-sub-note Inv-loop μ-loop
-sub-note c = search needs
-
-part-note-start : tie.Need-part-note-start Inv-loop μ-loop
-part-note-start c = search needs
-
-part-note-end : tie.Need-part-note-end Inv-loop μ-loop
-part-note-end c = search needs
-
-note-requires : tie.Need-note-requires Inv-loop μ-loop
-note-requires c κs = search needs
-
 loop-less : tie.Need-loop-less Inv-loop μ-loop
 loop-less c = search needs
 
@@ -69,9 +39,6 @@ loop-again c =
       count-on (now (a .bytes)) (l .at) (a .setting) (l .counts) h (c .before .before .before .before .before .count .ensures) ∙ l .inv .2,
       note-on (now (a .bytes)) (l .at) (l .pages) h (c .before .before .note .ensures) ∙ l .inv .3,
     )
-
-same-length : tie.Need-same-length Inv-loop μ-loop
-same-length c = search needs
 
 returns : tie.Need-returns Inv-loop μ-loop
 returns c =
@@ -88,17 +55,17 @@ count-all-spec =
     Inv-loop
     μ-loop
     loop-holds
-    sub-loop
-    add-next
-    sub-count
-    part-count-start
-    part-count-end
-    count-requires
-    sub-note
-    part-note-start
-    part-note-end
-    note-requires
+    (λ c. search needs)
+    (λ c. search needs)
+    (λ c. search needs)
+    (λ c. search needs)
+    (λ c. search needs)
+    (λ c κs. search needs)
+    (λ c. search needs)
+    (λ c. search needs)
+    (λ c. search needs)
+    (λ c κs. search needs)
     loop-less
     loop-again
-    same-length
+    (λ c. search needs)
     returns)

@@ -7,9 +7,6 @@ use Rattle.captures.proofs.sight.fit_from.Tie as tie
 returns : tie.Need-returns
 returns c = rw (lt-ltb _ _ (c .if1 .taken))
 
-enum-known-place : tie.Need-enum-known-place
-enum-known-place c = search needs
-
 enum-told : tie.Need-enum-told
 enum-told c = search needs
 
@@ -20,4 +17,4 @@ returns-3 : tie.Need-returns-3
 returns-3 c = rw (le-ltb _ _ (c .before .before .if1 .left), c .enum-told .given .1)
 
 pub fit-from-spec : {M : Type 1} → statement M
-fit-from-spec = tie.close (tie.spec returns enum-known-place enum-told returns-2 returns-3)
+fit-from-spec = tie.close (tie.spec returns (λ c. search needs) enum-told returns-2 returns-3)

@@ -5,18 +5,6 @@ use borrow.Author.Needs.{needs}
 use Rattle.captures.proofs.sight.look.Statement.{statement}
 use Rattle.captures.proofs.sight.look.Tie as tie
 
-is-looked-requires : tie.Need-is-looked-requires
-is-looked-requires c κs = search needs
-
-look-on-requires : tie.Need-look-on-requires
-look-on-requires c κs = search needs
-
-same-length : tie.Need-same-length
-same-length c = search needs
-
-same-length-2 : tie.Need-same-length-2
-same-length-2 c = search needs
-
 returns : tie.Need-returns
 returns c =
     let a = c .before .before .before .before .before .before .before .before .before .before .before .args in
@@ -30,4 +18,4 @@ returns-2 c =
 pub look-spec : {M : Type 1} → statement M
 look-spec =
     tie.close
-    (tie.spec is-looked-requires look-on-requires same-length same-length-2 returns returns-2)
+    (tie.spec (λ c κs. search needs) (λ c κs. search needs) (λ c. search needs) (λ c. search needs) returns returns-2)

@@ -7,24 +7,6 @@ use borrow.Author.Needs.{needs}
 use Rattle.captures.proofs.sight.look_on.Statement.{statement}
 use Rattle.captures.proofs.sight.look_on.Tie as tie
 
-front-requires : tie.Need-front-requires
-front-requires c κs = search needs
-
-begin-requires : tie.Need-begin-requires
-begin-requires c κs = search needs
-
-front-requires-2 : tie.Need-front-requires-2
-front-requires-2 c κs = search needs
-
-count-all-requires : tie.Need-count-all-requires
-count-all-requires c κs = search needs
-
-same-length : tie.Need-same-length
-same-length c = search needs
-
-same-length-2 : tie.Need-same-length-2
-same-length-2 c = search needs
-
 returns : tie.Need-returns
 returns c =
     let a = c .before .before .before .before .before .before .before .before .before .before .before .before .args in
@@ -33,33 +15,6 @@ returns c =
     looked-came (a .setting) (a .sight) (a .n) (now (a .piece)) (c .before .before .before .before .before .before .before .before .front .ensures) (c .before .before .before .before .before .before .before .begin .ensures)
     (c .before .before .before .before .before .front2 .ensures) (k .0) (c .if1 .taken) in
     (w .0, (w .1, noted-front (a .n) (now (a .piece)) (now (a .pages)) (c .before .before .before .before .before .front2 .ensures) (k .1)))
-
-front-requires-3 : tie.Need-front-requires-3
-front-requires-3 c κs = search needs
-
-find-requires : tie.Need-find-requires
-find-requires c κs = search needs
-
-fit-from-requires : tie.Need-fit-from-requires
-fit-from-requires c κs = search needs
-
-turn-all-requires : tie.Need-turn-all-requires
-turn-all-requires c κs = search needs
-
-front-requires-4 : tie.Need-front-requires-4
-front-requires-4 c κs = search needs
-
-find-requires-2 : tie.Need-find-requires-2
-find-requires-2 c κs = search needs
-
-fit-from-requires-2 : tie.Need-fit-from-requires-2
-fit-from-requires-2 c κs = search needs
-
-same-length-3 : tie.Need-same-length-3
-same-length-3 c = search needs
-
-same-length-4 : tie.Need-same-length-4
-same-length-4 c = search needs
 
 returns-2 : tie.Need-returns-2
 returns-2 c =
@@ -76,20 +31,20 @@ pub look-on-spec : {M : Type 1} → statement M
 look-on-spec =
     tie.close
     (tie.spec
-    front-requires
-    begin-requires
-    front-requires-2
-    count-all-requires
-    same-length
-    same-length-2
+    (λ c κs. search needs)
+    (λ c κs. search needs)
+    (λ c κs. search needs)
+    (λ c κs. search needs)
+    (λ c. search needs)
+    (λ c. search needs)
     returns
-    front-requires-3
-    find-requires
-    fit-from-requires
-    turn-all-requires
-    front-requires-4
-    find-requires-2
-    fit-from-requires-2
-    same-length-3
-    same-length-4
+    (λ c κs. search needs)
+    (λ c κs. search needs)
+    (λ c κs. search needs)
+    (λ c κs. search needs)
+    (λ c κs. search needs)
+    (λ c κs. search needs)
+    (λ c κs. search needs)
+    (λ c. search needs)
+    (λ c. search needs)
     returns-2)

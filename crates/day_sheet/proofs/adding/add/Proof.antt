@@ -17,18 +17,6 @@ use Rattle.day_sheet.proofs.Added.{all-held, add-answers, add-leaves, a
 use Rattle.day_sheet.proofs.adding.add.Statement.{statement}
 use Rattle.day_sheet.proofs.adding.add.Tie as tie
 
-slice-aggregate-write-entry : tie.Need-slice-aggregate-write-entry
-slice-aggregate-write-entry c = search needs
-
-write-entry-requires : tie.Need-write-entry-requires
-write-entry-requires c κs = search needs
-
-enum-known-why : tie.Need-enum-known-why
-enum-known-why c = search needs
-
-enum-known-n : tie.Need-enum-known-n
-enum-known-n c = search needs
-
 array-share-prefix-text : tie.Need-array-share-prefix-text
 array-share-prefix-text c =
     let s = c .before .before .before .before .before .before .before .before .before in
@@ -41,9 +29,6 @@ slice-aggregate-join c =
     let w = c .before .before .before .before .before .write-entry in
     all-held (now (s .args .table)) (entryText (stamped (s .args .stamp) (now (s .args .table)))) (replicate entryMost 0) (w .ensures .0) (c .before .before .n .given .1) (w .ensures .1) .2
 
-join-requires : tie.Need-join-requires
-join-requires c κs = search needs
-
 returns : tie.Need-returns
 returns c =
     let s = c .before .before .before .before .before .before .before .before .before in
@@ -52,9 +37,6 @@ returns c =
     let w = c .before .before .before .before .write-entry in
     add-refused (s .args .stamp) (now (s .args .sheet)) (now (s .args .table)) (now (s .args .out)) _
     (w .ensures .0 ∙ entry-answers (s .args .stamp) (now (s .args .table)) (replicate entryMost 0) h (omega arith)) (c .before .why .given .1)
-
-same-length : tie.Need-same-length
-same-length c = search needs
 
 returns-2 : tie.Need-returns-2
 returns-2 c =
@@ -83,13 +65,13 @@ pub add-spec : {M : Type 1} → statement M
 add-spec =
     tie.close
     (tie.spec
-    slice-aggregate-write-entry
-    write-entry-requires
-    enum-known-why
-    enum-known-n
+    (λ c. search needs)
+    (λ c κs. search needs)
+    (λ c. search needs)
+    (λ c. search needs)
     array-share-prefix-text
     slice-aggregate-join
-    join-requires
+    (λ c κs. search needs)
     returns
-    same-length
+    (λ c. search needs)
     returns-2)

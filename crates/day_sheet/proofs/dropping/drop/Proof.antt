@@ -12,26 +12,11 @@ use Rattle.day_sheet.proofs.Asked.{drop-long, drop-bad, drop-fine, drop
 use Rattle.day_sheet.proofs.dropping.drop.Statement.{statement}
 use Rattle.day_sheet.proofs.dropping.drop.Tie as tie
 
-refuse-requires : tie.Need-refuse-requires
-refuse-requires c κs = search needs
-
 returns : tie.Need-returns
 returns c =
     let s = c .before .before .before .before in
     let d = drop-long (s .args .network) (s .args .kind) (s .args .block) (search needs) (now (s .args .sheet)) (now (s .args .out)) (search needs) in
     (c .refuse .ensures ∙ d .0, d .1)
-
-judge-lines-requires : tie.Need-judge-lines-requires
-judge-lines-requires c κs = search needs
-
-enum-known-why : tie.Need-enum-known-why
-enum-known-why c = search needs
-
-enum-known-count : tie.Need-enum-known-count
-enum-known-count c = search needs
-
-key-asked-requires : tie.Need-key-asked-requires
-key-asked-requires c κs = search needs
 
 drop-key-requires : tie.Need-drop-key-requires
 drop-key-requires c κs =
@@ -48,9 +33,6 @@ returns-2 c =
     let s = c .before .before .before .before .before .before .before in
     drop-bad (s .args .network) (s .args .kind) (s .args .block) (search needs) (now (s .args .sheet)) (now (s .args .out)) (search needs) (c .before .before .before .judge-lines .ensures) (c .before .why .given .1)
 
-same-length : tie.Need-same-length
-same-length c = search needs
-
 returns-3 : tie.Need-returns-3
 returns-3 c =
     let s = c .before .before .before .before .before .before .before .before .before .before .before .before in
@@ -66,13 +48,13 @@ pub drop-spec : {M : Type 1} → statement M
 drop-spec =
     tie.close
     (tie.spec
-    refuse-requires
+    (λ c κs. search needs)
     returns
-    judge-lines-requires
-    enum-known-why
-    enum-known-count
-    key-asked-requires
+    (λ c κs. search needs)
+    (λ c. search needs)
+    (λ c. search needs)
+    (λ c κs. search needs)
     drop-key-requires
     returns-2
-    same-length
+    (λ c. search needs)
     returns-3)

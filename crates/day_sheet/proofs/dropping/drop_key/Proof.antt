@@ -9,15 +9,6 @@ use Rattle.day_sheet.proofs.Around.{drop-inside, drop-many, drop-short,
 use Rattle.day_sheet.proofs.dropping.drop_key.Statement.{statement}
 use Rattle.day_sheet.proofs.dropping.drop_key.Tie as tie
 
-find-requires : tie.Need-find-requires
-find-requires c κs = search needs
-
-most-with-requires : tie.Need-most-with-requires
-most-with-requires c κs = search needs
-
-refuse-requires : tie.Need-refuse-requires
-refuse-requires c κs = search needs
-
 returns : tie.Need-returns
 returns c =
     let s = c .before .before .before .before .before .before in
@@ -28,9 +19,6 @@ returns c =
 sub-n : tie.Need-sub-n
 sub-n c = let s = c .before .before .before .before .before in omega (arith, drop-inside (s .args .key) (now (s .args .sheet)) (now (s .args .out)) (s .pre .0) (s .pre .1) (s .args .count) (s .pre .2) _ (c .before .before .find .ensures))
 
-refuse-requires-2 : tie.Need-refuse-requires-2
-refuse-requires-2 c κs = search needs
-
 returns-2 : tie.Need-returns-2
 returns-2 c =
     let s = c .before .before .before .before .before .before .before in
@@ -38,20 +26,11 @@ returns-2 c =
     let d = drop-short (s .args .key) (now (s .args .sheet)) (now (s .args .out)) (s .pre .0) (s .pre .1) (s .args .count) (s .pre .2) _ (c .before .before .before .before .find .ensures) m (search needs) in
     (c .refuse2 .ensures ∙ d .0, d .1)
 
-copy-requires : tie.Need-copy-requires
-copy-requires c κs = search needs
-
 add-copy : tie.Need-add-copy
 add-copy c = let s = c .before .before .before .before .before .before .before .before .before .before in omega (arith, drop-inside (s .args .key) (now (s .args .sheet)) (now (s .args .out)) (s .pre .0) (s .pre .1) (s .args .count) (s .pre .2) _ (c .before .before .before .before .before .before .before .find .ensures))
 
 sub-copy : tie.Need-sub-copy
 sub-copy c = let s = c .before .before .before .before .before .before .before .before .before .before in omega (arith, drop-inside (s .args .key) (now (s .args .sheet)) (now (s .args .out)) (s .pre .0) (s .pre .1) (s .args .count) (s .pre .2) _ (c .before .before .before .before .before .before .before .find .ensures))
-
-copy-requires-2 : tie.Need-copy-requires-2
-copy-requires-2 c κs = search needs
-
-same-length : tie.Need-same-length
-same-length c = search needs
 
 returns-3 : tie.Need-returns-3
 returns-3 c =
@@ -63,16 +42,16 @@ pub drop-key-spec : {M : Type 1} → statement M
 drop-key-spec =
     tie.close
     (tie.spec
-    find-requires
-    most-with-requires
-    refuse-requires
+    (λ c κs. search needs)
+    (λ c κs. search needs)
+    (λ c κs. search needs)
     returns
     sub-n
-    refuse-requires-2
+    (λ c κs. search needs)
     returns-2
-    copy-requires
+    (λ c κs. search needs)
     add-copy
     sub-copy
-    copy-requires-2
-    same-length
+    (λ c κs. search needs)
+    (λ c. search needs)
     returns-3)

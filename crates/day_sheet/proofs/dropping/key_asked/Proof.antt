@@ -5,29 +5,8 @@ use native.Mathlib.Omega.{arith}
 use Rattle.day_sheet.proofs.dropping.key_asked.Statement.{statement}
 use Rattle.day_sheet.proofs.dropping.key_asked.Tie as tie
 
-mul-result : tie.Need-mul-result
-mul-result c = search needs
-
-add-result : tie.Need-add-result
-add-result c = search needs
-
-mul-result-2 : tie.Need-mul-result-2
-mul-result-2 c = search needs
-
-add-result-2 : tie.Need-add-result-2
-add-result-2 c = search needs
-
 returns : tie.Need-returns
 returns c = rw (eq-eqb (c .before .args .kind) 8 (omega arith))
-
-mul-result-3 : tie.Need-mul-result-3
-mul-result-3 c = search needs
-
-mul-result-4 : tie.Need-mul-result-4
-mul-result-4 c = search needs
-
-add-result-3 : tie.Need-add-result-3
-add-result-3 c = search needs
 
 returns-2 : tie.Need-returns-2
 returns-2 c = let a = c .before .before .args in rw (ne-eqb (a .kind) 8 (λ e. omega arith), eq-eqb (a .kind) 7 (omega arith)) (omega arith)
@@ -39,13 +18,13 @@ pub key-asked-spec : {M : Type 1} → statement M
 key-asked-spec =
     tie.close
     (tie.spec
-    mul-result
-    add-result
-    mul-result-2
-    add-result-2
+    (λ c. search needs)
+    (λ c. search needs)
+    (λ c. search needs)
+    (λ c. search needs)
     returns
-    mul-result-3
-    mul-result-4
-    add-result-3
+    (λ c. search needs)
+    (λ c. search needs)
+    (λ c. search needs)
     returns-2
     returns-3)

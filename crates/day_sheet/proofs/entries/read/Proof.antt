@@ -21,9 +21,6 @@ abbrev μ-loop : tie.MeasureT-loop
 loop-holds : tie.Need-loop-holds Inv-loop μ-loop
 loop-holds c = (omega arith, omega arith, sheet-start (sheetOf (now (c .before .args .sheet))))
 
-entry-at-requires : tie.Need-entry-at-requires Inv-loop μ-loop
-entry-at-requires c κs = search needs
-
 add-t8 : tie.Need-add-t8 Inv-loop μ-loop
 add-t8 c =
     let s = c .before .before .before .before .before in
@@ -86,7 +83,7 @@ read-spec =
     Inv-loop
     μ-loop
     loop-holds
-    entry-at-requires
+    (λ c κs. search needs)
     add-t8
     returns
     add-at

@@ -13,18 +13,6 @@ use Rattle.day_sheet.proofs.Judged.{judged-halves}
 use Rattle.day_sheet.proofs.joining.join.Statement.{statement}
 use Rattle.day_sheet.proofs.joining.join.Tie as tie
 
-judge-join-requires : tie.Need-judge-join-requires
-judge-join-requires c κs = search needs
-
-enum-known-why : tie.Need-enum-known-why
-enum-known-why c = search needs
-
-enum-known-n : tie.Need-enum-known-n
-enum-known-n c = search needs
-
-refuse-requires : tie.Need-refuse-requires
-refuse-requires c κs = search needs
-
 returns : tie.Need-returns
 returns c =
     let s = c .before .before .before .before .before .before .before .before .before in
@@ -52,9 +40,6 @@ returns-2 c =
     let j = c .before .before .before .judge-join .ensures in
     lent-refused (joinRules f g) (sheetText (joinResult f g)) (now (s .args .out)) _ j (c .before .why .given .1)
 
-same-length : tie.Need-same-length
-same-length c = search needs
-
 returns-3 : tie.Need-returns-3
 returns-3 c =
     let s = c .before .before .before .before .before .before .before .before .before .before .before .before in
@@ -73,12 +58,12 @@ pub join-spec : {M : Type 1} → statement M
 join-spec =
     tie.close
     (tie.spec
-    judge-join-requires
-    enum-known-why
-    enum-known-n
-    refuse-requires
+    (λ c κs. search needs)
+    (λ c. search needs)
+    (λ c. search needs)
+    (λ c κs. search needs)
     returns
     put-joined-requires
     returns-2
-    same-length
+    (λ c. search needs)
     returns-3)

@@ -15,9 +15,6 @@ use Rattle.day_sheet.proofs.Judged.{first-long, second-long, first-bad,
 use Rattle.day_sheet.proofs.joining.judge_join.Statement.{statement}
 use Rattle.day_sheet.proofs.joining.judge_join.Tie as tie
 
-refuse-requires : tie.Need-refuse-requires
-refuse-requires c κs = search needs
-
 returns : tie.Need-returns
 returns c =
     let s = c .before .before .before .before in
@@ -25,21 +22,12 @@ returns c =
     let g : List ℕ = now (s .args .second) in
     c .refuse .ensures ∙ first-long f g (Done (length (sheetText (joinResult f g)))) (search needs)
 
-refuse-requires-2 : tie.Need-refuse-requires-2
-refuse-requires-2 c κs = search needs
-
 returns-2 : tie.Need-returns-2
 returns-2 c =
     let s = c .before .before .before .before .before in
     let f : List ℕ = now (s .args .first) in
     let g : List ℕ = now (s .args .second) in
     c .refuse2 .ensures ∙ second-long f g (Done (length (sheetText (joinResult f g)))) (search needs) (search needs)
-
-read-requires : tie.Need-read-requires
-read-requires c κs = search needs
-
-refuse-requires-3 : tie.Need-refuse-requires-3
-refuse-requires-3 c κs = search needs
 
 returns-3 : tie.Need-returns-3
 returns-3 c =
@@ -51,12 +39,6 @@ returns-3 c =
     c .refuse3 .ensures
     ∙ ap (λ (x : Sheet). refused 20 (x .long)) (r .ensures)
     ∙ first-bad f g (Done (length (sheetText (joinResult f g)))) (search needs) (search needs) bad
-
-read-requires-2 : tie.Need-read-requires-2
-read-requires-2 c κs = search needs
-
-refuse-requires-4 : tie.Need-refuse-requires-4
-refuse-requires-4 c κs = search needs
 
 returns-4 : tie.Need-returns-4
 returns-4 c =
@@ -82,9 +64,6 @@ measure-requires c κs =
       halfway g (c .before .before .before .before .if2 .left) (sym (ap (λ (x : Sheet). x .fine) (t .ensures)) ∙ not-false (t .result .fine) (c .if4 .left)),
     )
 
-judge-size-requires : tie.Need-judge-size-requires
-judge-size-requires c κs = search needs
-
 returns-5 : tie.Need-returns-5
 returns-5 c =
     let s = c .before .before .before .before .before .before .before .before .before .before in
@@ -100,16 +79,16 @@ pub judge-join-spec : {M : Type 1} → statement M
 judge-join-spec =
     tie.close
     (tie.spec
-    refuse-requires
+    (λ c κs. search needs)
     returns
-    refuse-requires-2
+    (λ c κs. search needs)
     returns-2
-    read-requires
-    refuse-requires-3
+    (λ c κs. search needs)
+    (λ c κs. search needs)
     returns-3
-    read-requires-2
-    refuse-requires-4
+    (λ c κs. search needs)
+    (λ c κs. search needs)
     returns-4
     measure-requires
-    judge-size-requires
+    (λ c κs. search needs)
     returns-5)

@@ -5,16 +5,10 @@ use Rattle.day_sheet.proofs.Judged.{sized-many, sized-long, sized-done}
 use Rattle.day_sheet.proofs.joining.judge_size.Statement.{statement}
 use Rattle.day_sheet.proofs.joining.judge_size.Tie as tie
 
-refuse-requires : tie.Need-refuse-requires
-refuse-requires c κs = search needs
-
 returns : tie.Need-returns
 returns c =
     let a = c .before .before .args in
     c .refuse .ensures ∙ sized-many (a .entries) (a .long) (search needs)
-
-refuse-requires-2 : tie.Need-refuse-requires-2
-refuse-requires-2 c κs = search needs
 
 returns-2 : tie.Need-returns-2
 returns-2 c =
@@ -28,4 +22,4 @@ returns-3 c =
 
 pub judge-size-spec : {M : Type 1} → statement M
 judge-size-spec =
-    tie.close (tie.spec refuse-requires returns refuse-requires-2 returns-2 returns-3)
+    tie.close (tie.spec (λ c κs. search needs) returns (λ c κs. search needs) returns-2 returns-3)

@@ -11,12 +11,6 @@ use Rattle.day_sheet.proofs.Turning.{by-first, by-second, by-less, by-m
 use Rattle.day_sheet.proofs.joining.next_turn.Statement.{statement}
 use Rattle.day_sheet.proofs.joining.next_turn.Tie as tie
 
-entry-at-requires : tie.Need-entry-at-requires
-entry-at-requires c κs = search needs
-
-entry-at-requires-2 : tie.Need-entry-at-requires-2
-entry-at-requires-2 c κs = search needs
-
 returns : tie.Need-returns
 returns c =
     let s = c .before .before .before .before .before .before in
@@ -35,9 +29,6 @@ returns-2 c =
     let g = c .before .before .before .before .entry-at2 in
     by-first (f .result) (g .result) (not-false (f .result .more) (c .before .before .if1 .left)) (not-true (g .result .more) (c .if2 .taken)) ∙ turn-found x y (f .ensures) (g .ensures)
 
-nothing-requires : tie.Need-nothing-requires
-nothing-requires c κs = search needs
-
 returns-3 : tie.Need-returns-3
 returns-3 c =
     let s = c .before .before .before .before .before .before .before .before .before .before .before .before in
@@ -46,9 +37,6 @@ returns-3 c =
     let f = c .before .before .before .before .before .before .before .before .before .entry-at in
     let g = c .before .before .before .before .before .before .before .before .entry-at2 in
     ap (turn (f .result)) (c .nothing .ensures) ∙ by-less (f .result) (g .result) (not-false (f .result .more) (c .before .before .before .before .before .before .if1 .left)) (not-false (g .result .more) (c .before .before .before .before .if2 .left)) (omega (arith, c .before .if3 .taken)) ∙ turn-found x y (f .ensures) (g .ensures)
-
-nothing-requires-2 : tie.Need-nothing-requires-2
-nothing-requires-2 c κs = search needs
 
 returns-4 : tie.Need-returns-4
 returns-4 c =
@@ -72,12 +60,12 @@ pub next-turn-spec : {M : Type 1} → statement M
 next-turn-spec =
     tie.close
     (tie.spec
-    entry-at-requires
-    entry-at-requires-2
+    (λ c κs. search needs)
+    (λ c κs. search needs)
     returns
     returns-2
-    nothing-requires
+    (λ c κs. search needs)
     returns-3
-    nothing-requires-2
+    (λ c κs. search needs)
     returns-4
     returns-5)

@@ -33,9 +33,6 @@ add-loop c =
     let g = c .loop .inv .0 .in-second .within in
     omega arith
 
-next-turn-requires : tie.Need-next-turn-requires Inv-loop μ-loop
-next-turn-requires c κs = search needs
-
 put-turn-requires : tie.Need-put-turn-requires Inv-loop μ-loop
 put-turn-requires c κs =
     let l = c .before .before .before .loop in
@@ -103,9 +100,6 @@ loop-again c =
       ap length (e .0) ∙ length-sets (l .out) (l .q) (turnText (next-turn .result) (drop (l .i) first) (drop (l .j) second)) ∙ l .inv .1,
     )
 
-same-length : tie.Need-same-length Inv-loop μ-loop
-same-length c = search needs
-
 returns : tie.Need-returns Inv-loop μ-loop
 returns c =
     let l = c .before .loop in
@@ -121,12 +115,12 @@ put-joined-spec =
     add-whole
     loop-holds
     add-loop
-    next-turn-requires
+    (λ c κs. search needs)
     put-turn-requires
     add-i
     add-j
     add-n
     loop-less
     loop-again
-    same-length
+    (λ c. search needs)
     returns)

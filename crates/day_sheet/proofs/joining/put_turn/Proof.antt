@@ -9,18 +9,6 @@ use Rattle.day_sheet.proofs.Turning.{later-text, first-text, part-lengt
 use Rattle.day_sheet.proofs.joining.put_turn.Statement.{statement}
 use Rattle.day_sheet.proofs.joining.put_turn.Tie as tie
 
-second-put-requires : tie.Need-second-put-requires
-second-put-requires c κs = search needs
-
-copy-requires : tie.Need-copy-requires
-copy-requires c κs = search needs
-
-add-result : tie.Need-add-result
-add-result c = search needs
-
-same-length : tie.Need-same-length
-same-length c = search needs
-
 returns : tie.Need-returns
 returns c =
     let a = c .before .before .before .before .before .before .before .before .before .args in
@@ -28,15 +16,6 @@ returns c =
       c .before .before .copy .ensures ∙ ap (sets (now (a .out)) (a .q)) e,
       ap (λ (n : ℕ). a .q + n) (sym (part-length (a .t .second .long) (a .j) (now (a .second)) (search needs)) ∙ ap length e),
     )
-
-copy-requires-2 : tie.Need-copy-requires-2
-copy-requires-2 c κs = search needs
-
-add-result-2 : tie.Need-add-result-2
-add-result-2 c = search needs
-
-same-length-2 : tie.Need-same-length-2
-same-length-2 c = search needs
 
 returns-2 : tie.Need-returns-2
 returns-2 c =
@@ -50,12 +29,12 @@ pub put-turn-spec : {M : Type 1} → statement M
 put-turn-spec =
     tie.close
     (tie.spec
-    second-put-requires
-    copy-requires
-    add-result
-    same-length
+    (λ c κs. search needs)
+    (λ c κs. search needs)
+    (λ c. search needs)
+    (λ c. search needs)
     returns
-    copy-requires-2
-    add-result-2
-    same-length-2
+    (λ c κs. search needs)
+    (λ c. search needs)
+    (λ c. search needs)
     returns-2)

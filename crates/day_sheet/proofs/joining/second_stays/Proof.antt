@@ -18,45 +18,6 @@ returns-2 c =
     let a = c .before .before .before .before .before .before .before .before .args in
     stays-more (drop (a .i) (now (a .first))) (a .a) (drop (a .j) (now (a .second))) (a .b) (omega (arith, c .if2 .taken))
 
-add-from : tie.Need-add-from
-add-from c = search needs
-
-sub-to : tie.Need-sub-to
-sub-to c = search needs
-
-add-to : tie.Need-add-to
-add-to c = search needs
-
-add-begin : tie.Need-add-begin
-add-begin c = search needs
-
-sub-end : tie.Need-sub-end
-sub-end c = search needs
-
-add-end : tie.Need-add-end
-add-end c = search needs
-
-sub-is-before : tie.Need-sub-is-before
-sub-is-before c = search needs
-
-part-is-before-start : tie.Need-part-is-before-start
-part-is-before-start c = search needs
-
-part-is-before-end : tie.Need-part-is-before-end
-part-is-before-end c = search needs
-
-sub-is-before-2 : tie.Need-sub-is-before-2
-sub-is-before-2 c = search needs
-
-part-is-before-start-2 : tie.Need-part-is-before-start-2
-part-is-before-start-2 c = search needs
-
-part-is-before-end-2 : tie.Need-part-is-before-end-2
-part-is-before-end-2 c = search needs
-
-is-before-requires : tie.Need-is-before-requires
-is-before-requires c κs = search needs
-
 returns-3 : tie.Need-returns-3
 returns-3 c =
     let s = c .before .before .before .before .before .before .before .before .before .before .before .before .before .before .before in
@@ -71,17 +32,17 @@ second-stays-spec =
     (tie.spec
     returns
     returns-2
-    add-from
-    sub-to
-    add-to
-    add-begin
-    sub-end
-    add-end
-    sub-is-before
-    part-is-before-start
-    part-is-before-end
-    sub-is-before-2
-    part-is-before-start-2
-    part-is-before-end-2
-    is-before-requires
+    (λ c. search needs)
+    (λ c. search needs)
+    (λ c. search needs)
+    (λ c. search needs)
+    (λ c. search needs)
+    (λ c. search needs)
+    (λ c. search needs)
+    (λ c. search needs)
+    (λ c. search needs)
+    (λ c. search needs)
+    (λ c. search needs)
+    (λ c. search needs)
+    (λ c κs. search needs)
     returns-3)

@@ -18,9 +18,6 @@ abbrev μ-loop : tie.MeasureT-loop
 loop-holds : tie.Need-loop-holds Inv-loop μ-loop
 loop-holds c = search needs
 
-after-requires : tie.Need-after-requires Inv-loop μ-loop
-after-requires c κs = search needs
-
 -- the next record begins further on, and not past the end
 goes-on :
     (c : tie.After-after Inv-loop μ-loop)
@@ -39,20 +36,11 @@ part-list-record-start c = omega (arith, goes-on c)
 part-list-record-end : tie.Need-part-list-record-end Inv-loop μ-loop
 part-list-record-end c = omega (arith, goes-on c)
 
-list-record-requires : tie.Need-list-record-requires Inv-loop μ-loop
-list-record-requires c κs = search needs
-
 loop-less : tie.Need-loop-less Inv-loop μ-loop
 loop-less c = omega (arith, goes-on (c .before .before .before .before .before .before .before .before))
 
 loop-again : tie.Need-loop-again Inv-loop μ-loop
 loop-again c = let g = goes-on (c .before .before .before .before .before .before .before .before) in search needs
-
-same-length : tie.Need-same-length Inv-loop μ-loop
-same-length c = search needs
-
-same-length-2 : tie.Need-same-length-2 Inv-loop μ-loop
-same-length-2 c = search needs
 
 returns : tie.Need-returns Inv-loop μ-loop
 returns c = search needs
@@ -64,13 +52,13 @@ list-records-spec =
     Inv-loop
     μ-loop
     loop-holds
-    after-requires
+    (λ c κs. search needs)
     sub-list-record
     part-list-record-start
     part-list-record-end
-    list-record-requires
+    (λ c κs. search needs)
     loop-less
     loop-again
-    same-length
-    same-length-2
+    (λ c. search needs)
+    (λ c. search needs)
     returns)

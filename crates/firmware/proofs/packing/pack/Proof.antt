@@ -8,24 +8,6 @@ use Rattle.firmware.proofs.packing.pack.Tie as tie
 enum-told : tie.Need-enum-told
 enum-told c = search needs
 
-enum-known-unit : tie.Need-enum-known-unit
-enum-known-unit c = search needs
-
-joined-requires : tie.Need-joined-requires
-joined-requires c κs = search needs
-
-enum-known-unit-2 : tie.Need-enum-known-unit-2
-enum-known-unit-2 c = search needs
-
-joined-requires-2 : tie.Need-joined-requires-2
-joined-requires-2 c κs = search needs
-
-enum-known-unit-3 : tie.Need-enum-known-unit-3
-enum-known-unit-3 c = search needs
-
-joined-requires-3 : tie.Need-joined-requires-3
-joined-requires-3 c κs = search needs
-
 returns : tie.Need-returns
 unfolding packed
 returns c = ap packed (sym (c .enum-told .given .1))
@@ -47,12 +29,12 @@ pack-spec =
     tie.close
     (tie.spec
     enum-told
-    enum-known-unit
-    joined-requires
-    enum-known-unit-2
-    joined-requires-2
-    enum-known-unit-3
-    joined-requires-3
+    (λ c. search needs)
+    (λ c κs. search needs)
+    (λ c. search needs)
+    (λ c κs. search needs)
+    (λ c. search needs)
+    (λ c κs. search needs)
     returns
     returns-2
     returns-3

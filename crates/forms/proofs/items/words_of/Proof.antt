@@ -7,9 +7,6 @@ use mathlib.Core.Path.{refl, sym}
 use Rattle.forms.proofs.items.words_of.Statement.{statement}
 use Rattle.forms.proofs.items.words_of.Tie as tie
 
-mul-result : tie.Need-mul-result
-mul-result c = search needs
-
 returns : tie.Need-returns
 unfolding per
 returns c = (rw (eq-eqb _ _ (c .if1 .taken)) refl, search needs)
@@ -19,4 +16,4 @@ unfolding per
 returns-2 c = (rw (ne-eqb _ _ (c .if1 .left)) (sym (one-mul _)), search needs)
 
 pub words-of-spec : {M : Type 1} → statement M
-words-of-spec = tie.close (tie.spec mul-result returns returns-2)
+words-of-spec = tie.close (tie.spec (λ c. search needs) returns returns-2)

@@ -5,20 +5,8 @@ use Rattle.listing_reader.proofs.Matching.{kind-ti, kind-li}
 use Rattle.listing_reader.proofs.lines.kind_at.Statement.{statement}
 use Rattle.listing_reader.proofs.lines.kind_at.Tie as tie
 
-slice-aggregate-starts-at : tie.Need-slice-aggregate-starts-at
-slice-aggregate-starts-at c = search needs
-
-starts-at-requires : tie.Need-starts-at-requires
-starts-at-requires c κs = search needs
-
 returns : tie.Need-returns
 returns c = kind-ti _ (sym (c .before .starts-at .ensures) ∙ c .if1 .taken)
-
-slice-aggregate-line-of : tie.Need-slice-aggregate-line-of
-slice-aggregate-line-of c = search needs
-
-line-of-requires : tie.Need-line-of-requires
-line-of-requires c κs = search needs
 
 returns-2 : tie.Need-returns-2
 returns-2 c = c .line-of .ensures ∙ kind-li _ (sym (c .before .before .before .starts-at .ensures) ∙ c .before .before .if1 .left)
@@ -27,9 +15,9 @@ pub kind-at-spec : {M : Type 1} → statement M
 kind-at-spec =
     tie.close
     (tie.spec
-    slice-aggregate-starts-at
-    starts-at-requires
+    (λ c. search needs)
+    (λ c κs. search needs)
     returns
-    slice-aggregate-line-of
-    line-of-requires
+    (λ c. search needs)
+    (λ c κs. search needs)
     returns-2)

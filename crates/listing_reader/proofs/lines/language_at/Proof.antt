@@ -7,26 +7,8 @@ use Rattle.listing_reader.proofs.Matching.{language-place, spelled-in, 
 use Rattle.listing_reader.proofs.lines.language_at.Statement.{statement}
 use Rattle.listing_reader.proofs.lines.language_at.Tie as tie
 
-add-language-in : tie.Need-add-language-in
-add-language-in c = search needs
-
-language-in-requires : tie.Need-language-in-requires
-language-in-requires c κs = search needs
-
-slice-aggregate-put-language : tie.Need-slice-aggregate-put-language
-slice-aggregate-put-language c = search needs
-
-put-language-requires : tie.Need-put-language-requires
-put-language-requires c κs = search needs
-
-array-share-prefix-text : tie.Need-array-share-prefix-text
-array-share-prefix-text c = search needs
-
 slice-aggregate-line-of : tie.Need-slice-aggregate-line-of
 slice-aggregate-line-of c = let p = c .before .before .put-language .ensures in spelled-in 16 (p .0) (omega (arith, p .1)) .1
-
-line-of-requires : tie.Need-line-of-requires
-line-of-requires c κs = search needs
 
 returns : tie.Need-returns
 returns c =
@@ -39,11 +21,11 @@ pub language-at-spec : {M : Type 1} → statement M
 language-at-spec =
     tie.close
     (tie.spec
-    add-language-in
-    language-in-requires
-    slice-aggregate-put-language
-    put-language-requires
-    array-share-prefix-text
+    (λ c. search needs)
+    (λ c κs. search needs)
+    (λ c. search needs)
+    (λ c κs. search needs)
+    (λ c. search needs)
     slice-aggregate-line-of
-    line-of-requires
+    (λ c κs. search needs)
     returns)

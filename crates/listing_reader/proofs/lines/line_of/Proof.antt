@@ -4,9 +4,6 @@ use mathlib.Core.Path.{_∙_, sym}
 use Rattle.listing_reader.proofs.lines.line_of.Statement.{statement}
 use Rattle.listing_reader.proofs.lines.line_of.Tie as tie
 
-starts-at-requires : tie.Need-starts-at-requires
-starts-at-requires c κs = search needs
-
 returns : tie.Need-returns
 returns c = rw (sym (c .before .starts-at .ensures) ∙ c .if1 .taken)
 
@@ -14,4 +11,4 @@ returns-2 : tie.Need-returns-2
 returns-2 c = rw (sym (c .before .starts-at .ensures) ∙ c .if1 .left)
 
 pub line-of-spec : {M : Type 1} → statement M
-line-of-spec = tie.close (tie.spec starts-at-requires returns returns-2)
+line-of-spec = tie.close (tie.spec (λ c κs. search needs) returns returns-2)

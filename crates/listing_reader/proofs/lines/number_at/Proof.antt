@@ -13,19 +13,10 @@ use Rattle.listing_reader.proofs.lines.number_at.Tie as tie
 returns : tie.Need-returns
 returns c = let a = c .before .before .before .args in number-nowhere (now (a .sheet)) (now (a .name)) (a .at) (a .most) (search needs)
 
-add-from : tie.Need-add-from
-add-from c = search needs
-
-number-from-requires : tie.Need-number-from-requires
-number-from-requires c κs = search needs
-
 returns-2 : tie.Need-returns-2
 returns-2 c =
     let a = c .before .before .before .before .before .args in
     number-past (now (a .sheet)) (now (a .name)) (a .at) (a .most) _ (c .before .number-from .ensures) (c .if2 .taken)
-
-starts-at-requires : tie.Need-starts-at-requires
-starts-at-requires c κs = search needs
 
 returns-3 : tie.Need-returns-3
 returns-3 c =
@@ -33,23 +24,8 @@ returns-3 c =
     number-unnamed (now (a .sheet)) (now (a .name)) (a .at) (a .most) _ (c .before .before .before .number-from .ensures) (search needs)
     (sym (c .before .starts-at .ensures) ∙ not-true _ (c .if3 .taken))
 
-slice-aggregate-put-number : tie.Need-slice-aggregate-put-number
-slice-aggregate-put-number c = search needs
-
-slice-aggregate-put-number-2 : tie.Need-slice-aggregate-put-number-2
-slice-aggregate-put-number-2 c = search needs
-
-put-number-requires : tie.Need-put-number-requires
-put-number-requires c κs = search needs
-
-array-share-prefix-text : tie.Need-array-share-prefix-text
-array-share-prefix-text c = search needs
-
 slice-aggregate-starts-at : tie.Need-slice-aggregate-starts-at
 slice-aggregate-starts-at c = let p = c .before .before .put-number .ensures in spelled-in 32 (p .0) (omega (arith, p .1)) .1
-
-starts-at-requires-2 : tie.Need-starts-at-requires-2
-starts-at-requires-2 c κs = search needs
 
 returns-4 : tie.Need-returns-4
 returns-4 c =
@@ -59,9 +35,6 @@ returns-4 c =
     number-unspelled (now (a .sheet)) (now (a .name)) (a .at) (a .most) _ (c .before .before .before .before .before .before .before .before .before .before .number-from .ensures) (search needs)
     (sym (c .before .before .before .before .before .before .before .before .starts-at .ensures) ∙ not-false _ (c .before .before .before .before .before .before .before .if3 .left)) (s .0)
     (sym (c .before .starts-at2 .ensures) ∙ not-true _ (c .if4 .taken))
-
-add-t19 : tie.Need-add-t19
-add-t19 c = search needs
 
 returns-5 : tie.Need-returns-5
 returns-5 c =
@@ -79,17 +52,17 @@ number-at-spec =
     tie.close
     (tie.spec
     returns
-    add-from
-    number-from-requires
+    (λ c. search needs)
+    (λ c κs. search needs)
     returns-2
-    starts-at-requires
+    (λ c κs. search needs)
     returns-3
-    slice-aggregate-put-number
-    slice-aggregate-put-number-2
-    put-number-requires
-    array-share-prefix-text
+    (λ c. search needs)
+    (λ c. search needs)
+    (λ c κs. search needs)
+    (λ c. search needs)
     slice-aggregate-starts-at
-    starts-at-requires-2
+    (λ c κs. search needs)
     returns-4
-    add-t19
+    (λ c. search needs)
     returns-5)

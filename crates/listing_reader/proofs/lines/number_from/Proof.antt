@@ -24,20 +24,11 @@ returns c = rw (drop-of-length-le (now (c .before .before .args .sheet)) (c .if1
 loop-holds : tie.Need-loop-holds Inv-loop μ-loop
 loop-holds c = (search needs, search needs, search needs, rw add-zero)
 
-add-if2 : tie.Need-add-if2 Inv-loop μ-loop
-add-if2 c = search needs
-
 returns-2 : tie.Need-returns-2 Inv-loop μ-loop
 returns-2 c =
     let l = c .before .before .loop in
     let a = c .before .before .before .before .before .args in
     sym (number-out (now (a .sheet)) (a .from) (l .seen) (l .n) (search needs)) ∙ l .inv .3
-
-add-byte-at : tie.Need-add-byte-at Inv-loop μ-loop
-add-byte-at c = search needs
-
-byte-at-requires : tie.Need-byte-at-requires Inv-loop μ-loop
-byte-at-requires c κs = search needs
 
 returns-3 : tie.Need-returns-3 Inv-loop μ-loop
 returns-3 c =
@@ -56,9 +47,6 @@ mul-n c = let l = c .before .before .before .before .before .loop in omega (arit
 
 add-n : tie.Need-add-n Inv-loop μ-loop
 add-n c = let l = c .before .before .before .before .before .loop in omega (arith, powers (l .seen) (omega arith), l .inv .2)
-
-add-seen : tie.Need-add-seen Inv-loop μ-loop
-add-seen c = search needs
 
 loop-less : tie.Need-loop-less Inv-loop μ-loop
 loop-less c = search needs
@@ -86,15 +74,15 @@ number-from-spec =
     μ-loop
     returns
     loop-holds
-    add-if2
+    (λ c. search needs)
     returns-2
-    add-byte-at
-    byte-at-requires
+    (λ c. search needs)
+    (λ c κs. search needs)
     returns-3
     returns-4
     mul-n
     add-n
-    add-seen
+    (λ c. search needs)
     loop-less
     loop-again
     returns-5)

@@ -7,26 +7,8 @@ use Rattle.listing_reader.proofs.Matching.{hex-place, spelled-in, page-
 use Rattle.listing_reader.proofs.lines.page_at.Statement.{statement}
 use Rattle.listing_reader.proofs.lines.page_at.Tie as tie
 
-add-hex-word : tie.Need-add-hex-word
-add-hex-word c = search needs
-
-hex-word-requires : tie.Need-hex-word-requires
-hex-word-requires c κs = search needs
-
-slice-aggregate-put-page : tie.Need-slice-aggregate-put-page
-slice-aggregate-put-page c = search needs
-
-put-page-requires : tie.Need-put-page-requires
-put-page-requires c κs = search needs
-
-array-share-prefix-text : tie.Need-array-share-prefix-text
-array-share-prefix-text c = search needs
-
 slice-aggregate-line-of : tie.Need-slice-aggregate-line-of
 slice-aggregate-line-of c = let p = c .before .before .put-page .ensures in spelled-in 12 (p .0) (omega (arith, p .1)) .1
-
-line-of-requires : tie.Need-line-of-requires
-line-of-requires c κs = search needs
 
 returns : tie.Need-returns
 returns c =
@@ -39,11 +21,11 @@ pub page-at-spec : {M : Type 1} → statement M
 page-at-spec =
     tie.close
     (tie.spec
-    add-hex-word
-    hex-word-requires
-    slice-aggregate-put-page
-    put-page-requires
-    array-share-prefix-text
+    (λ c. search needs)
+    (λ c κs. search needs)
+    (λ c. search needs)
+    (λ c κs. search needs)
+    (λ c. search needs)
     slice-aggregate-line-of
-    line-of-requires
+    (λ c κs. search needs)
     returns)

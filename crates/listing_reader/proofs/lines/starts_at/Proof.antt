@@ -15,18 +15,6 @@ returns c =
     let a = c .before .before .before .args in
     rw (drop-of-length-le (now (a .sheet)) {i = a .at} (omega arith)) (sym (begins-none (now (a .text))))
 
-sub-begins : tie.Need-sub-begins
-sub-begins c = search needs
-
-part-begins-start : tie.Need-part-begins-start
-part-begins-start c = search needs
-
-part-begins-end : tie.Need-part-begins-end
-part-begins-end c = search needs
-
-begins-requires : tie.Need-begins-requires
-begins-requires c κs = search needs
-
 returns-2 : tie.Need-returns-2
 returns-2 c =
     let a = c .before .before .before .before .before .args in
@@ -35,4 +23,4 @@ returns-2 c =
 pub starts-at-spec : {M : Type 1} → statement M
 starts-at-spec =
     tie.close
-    (tie.spec returns sub-begins part-begins-start part-begins-end begins-requires returns-2)
+    (tie.spec returns (λ c. search needs) (λ c. search needs) (λ c. search needs) (λ c κs. search needs) returns-2)

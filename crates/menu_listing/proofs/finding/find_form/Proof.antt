@@ -10,29 +10,17 @@ use Rattle.menu_listing.specs.declared.Source.{Source}
 use Rattle.menu_listing.proofs.finding.find_form.Statement.{statement}
 use Rattle.menu_listing.proofs.finding.find_form.Tie as tie
 
-enum-known-source : tie.Need-enum-known-source
-enum-known-source c = search needs
-
 find-menu-requires : tie.Need-find-menu-requires
 find-menu-requires c κs = ap length (c .before .before .before .before .before .before .before .pre .1) ∙ length-replicate {A = ℕ} formMost 0
 
 enum-told : tie.Need-enum-told
 enum-told c = search needs
 
-find-kept-requires : tie.Need-find-kept-requires
-find-kept-requires c κs = search needs
-
-same-length : tie.Need-same-length
-same-length c = search needs
-
 returns : tie.Need-returns
 returns c =
     let s = c .before .before .before .before .before .before .before .before .before .before .args in
     let w = c .before .before .find-menu in
     subst (λ (x : Source). Held (menusFrom x (now (s .list)) (now (s .heads)) (s .number)) (w .last .1 .1 .1 .0) (w .result)) (sym (c .before .before .before .before .before .source .given .1)) (w .ensures)
-
-same-length-2 : tie.Need-same-length-2
-same-length-2 c = search needs
 
 returns-2 : tie.Need-returns-2
 returns-2 c =
@@ -44,11 +32,11 @@ pub find-form-spec : {M : Type 1} → statement M
 find-form-spec =
     tie.close
     (tie.spec
-    enum-known-source
+    (λ c. search needs)
     find-menu-requires
     enum-told
-    find-kept-requires
-    same-length
+    (λ c κs. search needs)
+    (λ c. search needs)
     returns
-    same-length-2
+    (λ c. search needs)
     returns-2)

@@ -12,22 +12,10 @@ use Rattle.menu_listing.proofs.Shelves.{none-kept, one-kept}
 use Rattle.menu_listing.proofs.finding.find_kept.Statement.{statement}
 use Rattle.menu_listing.proofs.finding.find_kept.Tie as tie
 
-cast-find : tie.Need-cast-find
-cast-find c = search needs
-
-find-requires : tie.Need-find-requires
-find-requires c κs = search needs
-
 returns : tie.Need-returns
 returns c =
     let s = c .before .before .before .before .before .args in
     none-kept (s .number) _ (now (s .heads)) (now (s .shelf)) _ (c .before .find .ensures .0) (omega (arith, c .if1 .taken))
-
-copy-requires : tie.Need-copy-requires
-copy-requires c κs = search needs
-
-same-length : tie.Need-same-length
-same-length c = search needs
 
 returns-2 : tie.Need-returns-2
 returns-2 c =
@@ -39,4 +27,4 @@ returns-2 c =
 
 pub find-kept-spec : {M : Type 1} → statement M
 find-kept-spec =
-    tie.close (tie.spec cast-find find-requires returns copy-requires same-length returns-2)
+    tie.close (tie.spec (λ c. search needs) (λ c κs. search needs) returns (λ c κs. search needs) (λ c. search needs) returns-2)

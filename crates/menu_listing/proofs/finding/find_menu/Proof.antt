@@ -25,9 +25,6 @@ abbrev μ-loop : tie.MeasureT-loop
 loop-holds : tie.Need-loop-holds Inv-loop μ-loop
 loop-holds c = (search needs, c .before .before .pre, refl)
 
-record-at-requires : tie.Need-record-at-requires Inv-loop μ-loop
-record-at-requires c κs = search needs
-
 enum-told : tie.Need-enum-told Inv-loop μ-loop
 enum-told c = search needs
 
@@ -41,9 +38,6 @@ returns c =
     let e = none-ended (s .application) (s .number) _ _ (ended _ _ (sym (w .record-at .ensures) ∙ c .enum-told .given .1)) in
     none-held _ (sym e ∙ w .before .loop .inv .2)
 
-enum-told-2 : tie.Need-enum-told-2 Inv-loop μ-loop
-enum-told-2 c = search needs
-
 same-length-2 : tie.Need-same-length-2 Inv-loop μ-loop
 same-length-2 c = c .before .before .before .loop .inv .1 ∙ sym (c .before .before .before .before .before .before .pre)
 
@@ -53,9 +47,6 @@ returns-2 c =
     let s = c .before .before .before .before .before .before .args in
     let e = none-broken (s .application) (s .number) (drop (w .before .loop .at) (now (s .records))) (broken _ _ (sym (w .record-at .ensures) ∙ c .enum-told2 .given .1) .1) in
     none-held _ (sym e ∙ w .before .loop .inv .2)
-
-enum-known-next : tie.Need-enum-known-next Inv-loop μ-loop
-enum-known-next c = search needs
 
 -- a whole record stands at the place where one was found
 stands :
@@ -81,9 +72,6 @@ judge-requires c κs =
     let n = c .before .before .before .next .given .0 .1 .1 .0 in
     let e = length-take-le (n - l .at) g (omega (arith, s .within, length-drop (l .at) (now (c .before .before .before .before .before .before .before .before .before .args .records)))) in
     (omega (arith, e, s .its-next), l .inv .1)
-
-same-length-3 : tie.Need-same-length-3 Inv-loop μ-loop
-same-length-3 c = search needs
 
 returns-3 : tie.Need-returns-3 Inv-loop μ-loop
 returns-3 c =
@@ -111,19 +99,19 @@ find-menu-spec =
     Inv-loop
     μ-loop
     loop-holds
-    record-at-requires
+    (λ c κs. search needs)
     enum-told
     same-length
     returns
-    enum-told-2
+    (λ c. search needs)
     same-length-2
     returns-2
-    enum-known-next
+    (λ c. search needs)
     sub-judge
     part-judge-start
     part-judge-end
     judge-requires
-    same-length-3
+    (λ c. search needs)
     returns-3
     loop-less
     loop-again)

@@ -19,9 +19,6 @@ abbrev μ-loop : tie.MeasureT-loop
 loop-holds : tie.Need-loop-holds Inv-loop μ-loop
 loop-holds c = (search needs, refl)
 
-record-at-requires : tie.Need-record-at-requires Inv-loop μ-loop
-record-at-requires c κs = search needs
-
 enum-told : tie.Need-enum-told Inv-loop μ-loop
 enum-told c = search needs
 
@@ -30,16 +27,10 @@ returns c =
     let w = c .before .before in
     whole-ended _ _ (ended _ _ (sym (w .record-at .ensures) ∙ c .enum-told .given .1)) ∙ w .before .loop .inv .1
 
-enum-told-2 : tie.Need-enum-told-2 Inv-loop μ-loop
-enum-told-2 c = search needs
-
 returns-2 : tie.Need-returns-2 Inv-loop μ-loop
 returns-2 c =
     let w = c .before .before in
     whole-broken _ _ (w .before .loop .inv .0) (broken _ _ (sym (w .record-at .ensures) ∙ c .enum-told2 .given .1)) ∙ w .before .loop .inv .1
-
-enum-known-next : tie.Need-enum-known-next Inv-loop μ-loop
-enum-known-next c = search needs
 
 -- a whole record stands at the place where one was found
 stands :
@@ -63,11 +54,11 @@ is-whole-spec =
     Inv-loop
     μ-loop
     loop-holds
-    record-at-requires
+    (λ c κs. search needs)
     enum-told
     returns
-    enum-told-2
+    (λ c. search needs)
     returns-2
-    enum-known-next
+    (λ c. search needs)
     loop-less
     loop-again)

@@ -14,18 +14,6 @@ use Rattle.menu_listing.proofs.Records.{judged-other, judged-taken, jud
 use Rattle.menu_listing.proofs.finding.judge.Statement.{statement}
 use Rattle.menu_listing.proofs.finding.judge.Tie as tie
 
-sub-field-of : tie.Need-sub-field-of
-sub-field-of c = search needs
-
-part-field-of-start : tie.Need-part-field-of-start
-part-field-of-start c = search needs
-
-part-field-of-end : tie.Need-part-field-of-end
-part-field-of-end c = search needs
-
-field-of-requires : tie.Need-field-of-requires
-field-of-requires c κs = search needs
-
 returns : tie.Need-returns
 returns c =
     let s = c .before .before .before .before .before .args in
@@ -34,17 +22,8 @@ returns c =
     let n = c .before .field-of .ensures .0 ∙ ap (λ (l : List ℕ). field 28 16 (compound l)) (part-rest 4 r) in
     judged-other (s .application) (s .number) r _ bytes (λ e. c .if1 .taken (n ∙ e))
 
-read-menu-requires : tie.Need-read-menu-requires
-read-menu-requires c κs = search needs
-
 enum-told : tie.Need-enum-told
 enum-told c = search needs
-
-enum-told-2 : tie.Need-enum-told-2
-enum-told-2 c = search needs
-
-same-length : tie.Need-same-length
-same-length c = search needs
 
 returns-2 : tie.Need-returns-2
 returns-2 c =
@@ -56,9 +35,6 @@ returns-2 c =
     let n = b .before .field-of .ensures .0 ∙ ap (λ (l : List ℕ). field 28 16 (compound l)) (part-rest 4 r) in
     let taken = sym (w .0) ∙ c .enum-told .given .1 in
     judged-taken (s .application) (s .number) r _ bytes (now (s .form)) (mendedIn r) (sym n ∙ b .if1 .left) taken (w .1)
-
-same-length-2 : tie.Need-same-length-2
-same-length-2 c = search needs
 
 returns-3 : tie.Need-returns-3
 returns-3 c =
@@ -74,15 +50,15 @@ pub judge-spec : {M : Type 1} → statement M
 judge-spec =
     tie.close
     (tie.spec
-    sub-field-of
-    part-field-of-start
-    part-field-of-end
-    field-of-requires
+    (λ c. search needs)
+    (λ c. search needs)
+    (λ c. search needs)
+    (λ c κs. search needs)
     returns
-    read-menu-requires
+    (λ c κs. search needs)
     enum-told
-    enum-told-2
-    same-length
+    (λ c. search needs)
+    (λ c. search needs)
     returns-2
-    same-length-2
+    (λ c. search needs)
     returns-3)

@@ -5,15 +5,6 @@ use Rattle.menu_listing.proofs.Bytes.{event-next}
 use Rattle.menu_listing.proofs.lines.next_event.Statement.{statement}
 use Rattle.menu_listing.proofs.lines.next_event.Tie as tie
 
-text-place-requires : tie.Need-text-place-requires
-text-place-requires c κs = search needs
-
-string-length-requires : tie.Need-string-length-requires
-string-length-requires c κs = search needs
-
-add-result : tie.Need-add-result
-add-result c = search needs
-
 returns : tie.Need-returns
 returns c =
     let s = c .before .before .before .args in
@@ -21,4 +12,4 @@ returns c =
 
 pub next-event-spec : {M : Type 1} → statement M
 next-event-spec =
-    tie.close (tie.spec text-place-requires string-length-requires add-result returns)
+    tie.close (tie.spec (λ c κs. search needs) (λ c κs. search needs) (λ c. search needs) returns)

@@ -12,27 +12,12 @@ use Rattle.menu_listing.proofs.Prints.{line-put}
 use Rattle.menu_listing.proofs.lines.put_line.Statement.{statement}
 use Rattle.menu_listing.proofs.lines.put_line.Tie as tie
 
-slice-aggregate-put-number : tie.Need-slice-aggregate-put-number
-slice-aggregate-put-number c = search needs
-
-put-number-requires : tie.Need-put-number-requires
-put-number-requires c κs = search needs
-
-array-share-prefix-line : tie.Need-array-share-prefix-line
-array-share-prefix-line c = search needs
-
 slice-aggregate-put : tie.Need-slice-aggregate-put
 slice-aggregate-put c =
     let w = c .before .before .put-number in
     let s = c .before .before .before .before .before .before in
     let k : length (w .last .1 .1 .0) ≡ 60 = w .kept .1 .1 .0 in
     sym (length-take-le (w .result) (w .last .1 .1 .0) (omega (arith, k, w .ensures .1, s .pre .0)))
-
-put-requires : tie.Need-put-requires
-put-requires c κs = search needs
-
-same-length : tie.Need-same-length
-same-length c = search needs
 
 returns : tie.Need-returns
 returns c =
@@ -49,10 +34,10 @@ pub put-line-spec : {M : Type 1} → statement M
 put-line-spec =
     tie.close
     (tie.spec
-    slice-aggregate-put-number
-    put-number-requires
-    array-share-prefix-line
+    (λ c. search needs)
+    (λ c κs. search needs)
+    (λ c. search needs)
     slice-aggregate-put
-    put-requires
-    same-length
+    (λ c κs. search needs)
+    (λ c. search needs)
     returns)

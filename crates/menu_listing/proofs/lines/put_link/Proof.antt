@@ -13,23 +13,11 @@ use Rattle.menu_listing.proofs.Prints.{number-some, ends-otherwise}
 use Rattle.menu_listing.proofs.lines.put_link.Statement.{statement}
 use Rattle.menu_listing.proofs.lines.put_link.Tie as tie
 
-slice-aggregate-put-number : tie.Need-slice-aggregate-put-number
-slice-aggregate-put-number c = search needs
-
-slice-aggregate-put-number-2 : tie.Need-slice-aggregate-put-number-2
-slice-aggregate-put-number-2 c = search needs
-
-put-number-requires : tie.Need-put-number-requires
-put-number-requires c κs = search needs
-
 sub-name : tie.Need-sub-name
 sub-name c =
     let w = c .before .put-number in
     let a = put-there {xs = numberLine linkName (c .before .before .before .before .before .args .kind)} (search needs) (w .ensures .0) in
     omega (arith, a .moved, number-some linkName (c .before .before .before .before .before .args .kind))
-
-array-write-name : tie.Need-array-write-name
-array-write-name c = search needs
 
 array-share-prefix-name : tie.Need-array-share-prefix-name
 array-share-prefix-name c =
@@ -52,9 +40,6 @@ put-line-requires c κs =
     let e = length-take-le (w .result) (set l (w .result - 1) 44) (rw length-set (omega (arith, k, w .ensures .1))) in
     (omega (arith, e, w .ensures .1), omega (arith, c .before .before .before .before .before .before .before .pre))
 
-same-length : tie.Need-same-length
-same-length c = search needs
-
 returns : tie.Need-returns
 unfolding numberLine linkLine
 returns c =
@@ -74,13 +59,13 @@ pub put-link-spec : {M : Type 1} → statement M
 put-link-spec =
     tie.close
     (tie.spec
-    slice-aggregate-put-number
-    slice-aggregate-put-number-2
-    put-number-requires
+    (λ c. search needs)
+    (λ c. search needs)
+    (λ c κs. search needs)
     sub-name
-    array-write-name
+    (λ c. search needs)
     array-share-prefix-name
     slice-aggregate-put-line
     put-line-requires
-    same-length
+    (λ c. search needs)
     returns)

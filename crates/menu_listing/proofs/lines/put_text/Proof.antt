@@ -11,39 +11,6 @@ use Rattle.menu_listing.proofs.Bytes.{codes-at}
 use Rattle.menu_listing.proofs.lines.put_text.Statement.{statement}
 use Rattle.menu_listing.proofs.lines.put_text.Tie as tie
 
-byte-at-requires : tie.Need-byte-at-requires
-byte-at-requires c κs = search needs
-
-add-byte-at : tie.Need-add-byte-at
-add-byte-at c = search needs
-
-byte-at-requires-2 : tie.Need-byte-at-requires-2
-byte-at-requires-2 c κs = search needs
-
-put-requires : tie.Need-put-requires
-put-requires c κs = search needs
-
-mul-put-codes : tie.Need-mul-put-codes
-mul-put-codes c = search needs
-
-add-put-codes : tie.Need-add-put-codes
-add-put-codes c = search needs
-
-add-put-codes-2 : tie.Need-add-put-codes-2
-add-put-codes-2 c = search needs
-
-put-codes-requires : tie.Need-put-codes-requires
-put-codes-requires c κs = search needs
-
-slice-aggregate-put : tie.Need-slice-aggregate-put
-slice-aggregate-put c = search needs
-
-put-requires-2 : tie.Need-put-requires-2
-put-requires-2 c κs = search needs
-
-same-length : tie.Need-same-length
-same-length c = search needs
-
 returns : tie.Need-returns
 unfolding textLine
 returns c =
@@ -59,15 +26,15 @@ pub put-text-spec : {M : Type 1} → statement M
 put-text-spec =
     tie.close
     (tie.spec
-    byte-at-requires
-    add-byte-at
-    byte-at-requires-2
-    put-requires
-    mul-put-codes
-    add-put-codes
-    add-put-codes-2
-    put-codes-requires
-    slice-aggregate-put
-    put-requires-2
-    same-length
+    (λ c κs. search needs)
+    (λ c. search needs)
+    (λ c κs. search needs)
+    (λ c κs. search needs)
+    (λ c. search needs)
+    (λ c. search needs)
+    (λ c. search needs)
+    (λ c κs. search needs)
+    (λ c. search needs)
+    (λ c κs. search needs)
+    (λ c. search needs)
     returns)

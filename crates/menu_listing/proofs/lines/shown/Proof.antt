@@ -13,12 +13,9 @@ returns-2 : tie.Need-returns-2
 unfolding shown
 returns-2 c = simp (le-ltb _ _ (c .before .if1 .left), eq-eqb _ _ (c .if2 .taken))
 
-cast-result : tie.Need-cast-result
-cast-result c = search needs
-
 returns-3 : tie.Need-returns-3
 unfolding shown
 returns-3 c = simp (le-ltb _ _ (c .before .if1 .left), ne-eqb _ _ (c .if2 .left))
 
 pub shown-spec : {M : Type 1} → statement M
-shown-spec = tie.close (tie.spec returns returns-2 cast-result returns-3)
+shown-spec = tie.close (tie.spec returns returns-2 (λ c. search needs) returns-3)

@@ -16,32 +16,14 @@ Inv-loop form i left₀ at₀ left at = (at + 5 * left ≤ i + 1279) × (at + at
 abbrev μ-loop : tie.MeasureT-loop
 μ-loop form i left₀ at₀ left at = left
 
-add-byte-at : tie.Need-add-byte-at Inv-loop μ-loop
-add-byte-at c = search needs
-
-byte-at-requires : tie.Need-byte-at-requires Inv-loop μ-loop
-byte-at-requires c κs = search needs
-
-add-at : tie.Need-add-at Inv-loop μ-loop
-add-at c = search needs
-
 loop-holds : tie.Need-loop-holds Inv-loop μ-loop
 loop-holds c = (omega (arith, c .byte-at .ensures .1), text-start _ _ _ (c .byte-at .ensures .0))
-
-byte-at-requires-2 : tie.Need-byte-at-requires-2 Inv-loop μ-loop
-byte-at-requires-2 c κs = search needs
-
-info-bytes-requires : tie.Need-info-bytes-requires Inv-loop μ-loop
-info-bytes-requires c κs = search needs
 
 add-at-2 : tie.Need-add-at-2 Inv-loop μ-loop
 add-at-2 c = omega (arith, c .info-bytes .ensures .2)
 
 add-at-3 : tie.Need-add-at-3 Inv-loop μ-loop
 add-at-3 c = omega (arith, c .info-bytes .ensures .2)
-
-sub-left : tie.Need-sub-left Inv-loop μ-loop
-sub-left c = search needs
 
 loop-less : tie.Need-loop-less Inv-loop μ-loop
 loop-less c = search needs
@@ -65,15 +47,15 @@ text-place-spec =
     (tie.spec
     Inv-loop
     μ-loop
-    add-byte-at
-    byte-at-requires
-    add-at
+    (λ c. search needs)
+    (λ c κs. search needs)
+    (λ c. search needs)
     loop-holds
-    byte-at-requires-2
-    info-bytes-requires
+    (λ c κs. search needs)
+    (λ c κs. search needs)
     add-at-2
     add-at-3
-    sub-left
+    (λ c. search needs)
     loop-less
     loop-again
     returns)

@@ -12,15 +12,6 @@ use Rattle.menu_reader.proofs.Places.{bits-drop}
 use Rattle.menu_reader.proofs.spelling.bits.Statement.{statement}
 use Rattle.menu_reader.proofs.spelling.bits.Tie as tie
 
-mul-field-of : tie.Need-mul-field-of
-mul-field-of c = search needs
-
-add-field-of : tie.Need-add-field-of
-add-field-of c = search needs
-
-field-of-requires : tie.Need-field-of-requires
-field-of-requires c κs = search needs
-
 returns : tie.Need-returns
 returns c =
     let a = c .before .before .args in
@@ -32,4 +23,4 @@ returns c =
     )
 
 pub bits-spec : {M : Type 1} → statement M
-bits-spec = tie.close (tie.spec mul-field-of add-field-of field-of-requires returns)
+bits-spec = tie.close (tie.spec (λ c. search needs) (λ c. search needs) (λ c κs. search needs) returns)

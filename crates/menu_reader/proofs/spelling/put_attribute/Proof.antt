@@ -10,39 +10,6 @@ use Rattle.menu_reader.proofs.Entries.{attribute-put}
 use Rattle.menu_reader.proofs.spelling.put_attribute.Statement.{statement}
 use Rattle.menu_reader.proofs.spelling.put_attribute.Tie as tie
 
-bits-requires : tie.Need-bits-requires
-bits-requires c κs = search needs
-
-info-bytes-requires : tie.Need-info-bytes-requires
-info-bytes-requires c κs = search needs
-
-put-bytes-requires : tie.Need-put-bytes-requires
-put-bytes-requires c κs = search needs
-
-add-put-info : tie.Need-add-put-info
-add-put-info c = search needs
-
-put-info-requires : tie.Need-put-info-requires
-put-info-requires c κs = search needs
-
-add-t11 : tie.Need-add-t11
-add-t11 c = search needs
-
-mul-t12 : tie.Need-mul-t12
-mul-t12 c = search needs
-
-add-t13 : tie.Need-add-t13
-add-t13 c = search needs
-
-add-t14 : tie.Need-add-t14
-add-t14 c = search needs
-
-add-t15 : tie.Need-add-t15
-add-t15 c = search needs
-
-same-length : tie.Need-same-length
-same-length c = search needs
-
 returns : tie.Need-returns
 returns c =
     let a = c .before .before .before .before .before .before .before .before .before .before .before .before .before .before .before .args in
@@ -59,15 +26,15 @@ pub put-attribute-spec : {M : Type 1} → statement M
 put-attribute-spec =
     tie.close
     (tie.spec
-    bits-requires
-    info-bytes-requires
-    put-bytes-requires
-    add-put-info
-    put-info-requires
-    add-t11
-    mul-t12
-    add-t13
-    add-t14
-    add-t15
-    same-length
+    (λ c κs. search needs)
+    (λ c κs. search needs)
+    (λ c κs. search needs)
+    (λ c. search needs)
+    (λ c κs. search needs)
+    (λ c. search needs)
+    (λ c. search needs)
+    (λ c. search needs)
+    (λ c. search needs)
+    (λ c. search needs)
+    (λ c. search needs)
     returns)

@@ -20,18 +20,6 @@ abbrev μ-loop : tie.MeasureT-loop
 loop-holds : tie.Need-loop-holds Inv-loop μ-loop
 loop-holds c = (refl, search needs, refl)
 
-cast-put : tie.Need-cast-put Inv-loop μ-loop
-cast-put c = search needs
-
-put-requires : tie.Need-put-requires Inv-loop μ-loop
-put-requires c κs = search needs
-
-add-q : tie.Need-add-q Inv-loop μ-loop
-add-q c = search needs
-
-sub-left : tie.Need-sub-left Inv-loop μ-loop
-sub-left c = search needs
-
 loop-less : tie.Need-loop-less Inv-loop μ-loop
 loop-less c = search needs
 
@@ -44,9 +32,6 @@ loop-again c =
       bytes-on (l .left) (l .q) (l .rest) _ (l .out) (p .last .1 .0) _ (search needs) refl (p .ensures) (l .inv .2),
     )
 
-same-length : tie.Need-same-length Inv-loop μ-loop
-same-length c = search needs
-
 returns : tie.Need-returns Inv-loop μ-loop
 returns c = let l = c .before .loop in bytes-end (l .left) (l .q) (l .rest) (l .out) _ (search needs) (l .inv .2)
 
@@ -57,11 +42,11 @@ put-bytes-spec =
     Inv-loop
     μ-loop
     loop-holds
-    cast-put
-    put-requires
-    add-q
-    sub-left
+    (λ c. search needs)
+    (λ c κs. search needs)
+    (λ c. search needs)
+    (λ c. search needs)
     loop-less
     loop-again
-    same-length
+    (λ c. search needs)
     returns)

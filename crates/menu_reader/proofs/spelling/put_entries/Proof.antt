@@ -26,12 +26,6 @@ abbrev μ-loop : tie.MeasureT-loop
 loop-holds : tie.Need-loop-holds Inv-loop μ-loop
 loop-holds c = (refl, omega arith, omega arith, omega arith, ahead-start _ _ _ _ _)
 
-put-entry-requires : tie.Need-put-entry-requires Inv-loop μ-loop
-put-entry-requires c κs = search needs
-
-sub-left : tie.Need-sub-left Inv-loop μ-loop
-sub-left c = search needs
-
 loop-less : tie.Need-loop-less Inv-loop μ-loop
 loop-less c = search needs
 
@@ -50,9 +44,6 @@ loop-again c =
       ahead-on (l .inv .4) w (nibbles-on ns (l .p .at) (l .left) (a .what) some (w .passes)) refl (form-on ns (l .p .at) (l .left) (a .what) some (w .passes)),
     )
 
-same-length : tie.Need-same-length Inv-loop μ-loop
-same-length c = search needs
-
 returns : tie.Need-returns Inv-loop μ-loop
 returns c =
     let a = c .before .before .before .before .args in
@@ -69,9 +60,9 @@ put-entries-spec =
     Inv-loop
     μ-loop
     loop-holds
-    put-entry-requires
-    sub-left
+    (λ c κs. search needs)
+    (λ c. search needs)
     loop-less
     loop-again
-    same-length
+    (λ c. search needs)
     returns)

@@ -14,24 +14,6 @@ use Rattle.menu_reader.proofs.spelling.put_entry.Tie as tie
 enum-told : tie.Need-enum-told
 enum-told c = search needs
 
-put-descriptor-requires : tie.Need-put-descriptor-requires
-put-descriptor-requires c κs = search needs
-
-enum-told-2 : tie.Need-enum-told-2
-enum-told-2 c = search needs
-
-put-escape-requires : tie.Need-put-escape-requires
-put-escape-requires c κs = search needs
-
-enum-told-3 : tie.Need-enum-told-3
-enum-told-3 c = search needs
-
-put-attribute-requires : tie.Need-put-attribute-requires
-put-attribute-requires c κs = search needs
-
-same-length : tie.Need-same-length
-same-length c = search needs
-
 returns : tie.Need-returns
 returns c =
     let a = c .before .before .before .before .before .before .before .before .args in
@@ -42,9 +24,6 @@ returns c =
       p .ensures .1,
     )
 
-same-length-2 : tie.Need-same-length-2
-same-length-2 c = search needs
-
 returns-2 : tie.Need-returns-2
 returns-2 c =
     let a = c .before .before .before .before .before .before .before .before .args in
@@ -54,9 +33,6 @@ returns-2 c =
           (sym (c .before .before .before .before .enum-told2 .given .1)) (p .ensures .0),
       p .ensures .1,
     )
-
-same-length-3 : tie.Need-same-length-3
-same-length-3 c = search needs
 
 returns-3 : tie.Need-returns-3
 returns-3 c =
@@ -73,14 +49,14 @@ put-entry-spec =
     tie.close
     (tie.spec
     enum-told
-    put-descriptor-requires
-    enum-told-2
-    put-escape-requires
-    enum-told-3
-    put-attribute-requires
-    same-length
+    (λ c κs. search needs)
+    (λ c. search needs)
+    (λ c κs. search needs)
+    (λ c. search needs)
+    (λ c κs. search needs)
+    (λ c. search needs)
     returns
-    same-length-2
+    (λ c. search needs)
     returns-2
-    same-length-3
+    (λ c. search needs)
     returns-3)

@@ -24,18 +24,6 @@ abbrev μ-loop : tie.MeasureT-loop
 loop-holds : tie.Need-loop-holds Inv-loop μ-loop
 loop-holds c = (refl, search needs, search needs, refl)
 
-info-at-requires : tie.Need-info-at-requires Inv-loop μ-loop
-info-at-requires c κs = search needs
-
-put-requires : tie.Need-put-requires Inv-loop μ-loop
-put-requires c κs = search needs
-
-add-q : tie.Need-add-q Inv-loop μ-loop
-add-q c = search needs
-
-sub-left : tie.Need-sub-left Inv-loop μ-loop
-sub-left c = search needs
-
 loop-less : tie.Need-loop-less Inv-loop μ-loop
 loop-less c = search needs
 
@@ -50,9 +38,6 @@ loop-again c =
       info-on _ _ (l .left) (l .q) (b .result) (l .out) (p .last .1 .0) _ (search needs) (search needs) (b .ensures) (p .ensures) (l .inv .3),
     )
 
-same-length : tie.Need-same-length Inv-loop μ-loop
-same-length c = search needs
-
 returns : tie.Need-returns Inv-loop μ-loop
 returns c = let l = c .before .loop in info-end (l .left) (l .q) _ (l .out) _ (search needs) (l .inv .3)
 
@@ -63,11 +48,11 @@ put-info-spec =
     Inv-loop
     μ-loop
     loop-holds
-    info-at-requires
-    put-requires
-    add-q
-    sub-left
+    (λ c κs. search needs)
+    (λ c κs. search needs)
+    (λ c. search needs)
+    (λ c. search needs)
     loop-less
     loop-again
-    same-length
+    (λ c. search needs)
     returns)

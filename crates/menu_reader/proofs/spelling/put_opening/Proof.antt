@@ -7,69 +7,6 @@ use Rattle.menu_reader.proofs.Entries.{opening-put}
 use Rattle.menu_reader.proofs.spelling.put_opening.Statement.{statement}
 use Rattle.menu_reader.proofs.spelling.put_opening.Tie as tie
 
-bits-requires : tie.Need-bits-requires
-bits-requires c κs = search needs
-
-bits-requires-2 : tie.Need-bits-requires-2
-bits-requires-2 c κs = search needs
-
-bits-requires-3 : tie.Need-bits-requires-3
-bits-requires-3 c κs = search needs
-
-bits-requires-4 : tie.Need-bits-requires-4
-bits-requires-4 c κs = search needs
-
-bits-requires-5 : tie.Need-bits-requires-5
-bits-requires-5 c κs = search needs
-
-bits-requires-6 : tie.Need-bits-requires-6
-bits-requires-6 c κs = search needs
-
-mul-put-bytes : tie.Need-mul-put-bytes
-mul-put-bytes c = search needs
-
-add-put-bytes : tie.Need-add-put-bytes
-add-put-bytes c = search needs
-
-mul-put-bytes-2 : tie.Need-mul-put-bytes-2
-mul-put-bytes-2 c = search needs
-
-add-put-bytes-2 : tie.Need-add-put-bytes-2
-add-put-bytes-2 c = search needs
-
-put-bytes-requires : tie.Need-put-bytes-requires
-put-bytes-requires c κs = search needs
-
-mul-put-bytes-3 : tie.Need-mul-put-bytes-3
-mul-put-bytes-3 c = search needs
-
-add-put-bytes-3 : tie.Need-add-put-bytes-3
-add-put-bytes-3 c = search needs
-
-mul-put-bytes-4 : tie.Need-mul-put-bytes-4
-mul-put-bytes-4 c = search needs
-
-add-put-bytes-4 : tie.Need-add-put-bytes-4
-add-put-bytes-4 c = search needs
-
-mul-put-bytes-5 : tie.Need-mul-put-bytes-5
-mul-put-bytes-5 c = search needs
-
-add-put-bytes-5 : tie.Need-add-put-bytes-5
-add-put-bytes-5 c = search needs
-
-mul-put-bytes-6 : tie.Need-mul-put-bytes-6
-mul-put-bytes-6 c = search needs
-
-add-put-bytes-6 : tie.Need-add-put-bytes-6
-add-put-bytes-6 c = search needs
-
-put-bytes-requires-2 : tie.Need-put-bytes-requires-2
-put-bytes-requires-2 c κs = search needs
-
-same-length : tie.Need-same-length
-same-length c = search needs
-
 returns : tie.Need-returns
 returns c =
     let start = c .before .before .before .before .before .before .before .before .before .before .before .before .before .before .before .before in
@@ -89,25 +26,25 @@ pub put-opening-spec : {M : Type 1} → statement M
 put-opening-spec =
     tie.close
     (tie.spec
-    bits-requires
-    bits-requires-2
-    bits-requires-3
-    bits-requires-4
-    bits-requires-5
-    bits-requires-6
-    mul-put-bytes
-    add-put-bytes
-    mul-put-bytes-2
-    add-put-bytes-2
-    put-bytes-requires
-    mul-put-bytes-3
-    add-put-bytes-3
-    mul-put-bytes-4
-    add-put-bytes-4
-    mul-put-bytes-5
-    add-put-bytes-5
-    mul-put-bytes-6
-    add-put-bytes-6
-    put-bytes-requires-2
-    same-length
+    (λ c κs. search needs)
+    (λ c κs. search needs)
+    (λ c κs. search needs)
+    (λ c κs. search needs)
+    (λ c κs. search needs)
+    (λ c κs. search needs)
+    (λ c. search needs)
+    (λ c. search needs)
+    (λ c. search needs)
+    (λ c. search needs)
+    (λ c κs. search needs)
+    (λ c. search needs)
+    (λ c. search needs)
+    (λ c. search needs)
+    (λ c. search needs)
+    (λ c. search needs)
+    (λ c. search needs)
+    (λ c. search needs)
+    (λ c. search needs)
+    (λ c κs. search needs)
+    (λ c. search needs)
     returns)

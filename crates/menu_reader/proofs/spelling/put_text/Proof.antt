@@ -9,42 +9,6 @@ use Rattle.menu_reader.proofs.Entries.{text-put}
 use Rattle.menu_reader.proofs.spelling.put_text.Statement.{statement}
 use Rattle.menu_reader.proofs.spelling.put_text.Tie as tie
 
-bits-requires : tie.Need-bits-requires
-bits-requires c κs = search needs
-
-add-bits : tie.Need-add-bits
-add-bits c = search needs
-
-mul-bits : tie.Need-mul-bits
-mul-bits c = search needs
-
-add-bits-2 : tie.Need-add-bits-2
-add-bits-2 c = search needs
-
-bits-requires-2 : tie.Need-bits-requires-2
-bits-requires-2 c κs = search needs
-
-mul-put-bytes : tie.Need-mul-put-bytes
-mul-put-bytes c = search needs
-
-add-put-bytes : tie.Need-add-put-bytes
-add-put-bytes c = search needs
-
-put-bytes-requires : tie.Need-put-bytes-requires
-put-bytes-requires c κs = search needs
-
-add-t9 : tie.Need-add-t9
-add-t9 c = search needs
-
-add-t10 : tie.Need-add-t10
-add-t10 c = search needs
-
-put-entries-requires : tie.Need-put-entries-requires
-put-entries-requires c κs = search needs
-
-put-codes-requires : tie.Need-put-codes-requires
-put-codes-requires c κs = search needs
-
 add-t8 : tie.Need-add-t8
 add-t8 c =
     let e = c .before .before .before .before .before .before .before in
@@ -62,9 +26,6 @@ add-t10-2 c =
     let e = c .before .before .before .before .before .before .before .before .before in
     let x = e .before .before .before .before .before .before .before .before .before .before in
     omega (arith, e .put-entries .ensures .1, e .before .before .before .before .before .before .before .before .bits2 .ensures .1, x .bits .ensures .1, x .before .before .before .before .pre)
-
-same-length : tie.Need-same-length
-same-length c = search needs
 
 returns : tie.Need-returns
 returns c =
@@ -84,20 +45,20 @@ pub put-text-spec : {M : Type 1} → statement M
 put-text-spec =
     tie.close
     (tie.spec
-    bits-requires
-    add-bits
-    mul-bits
-    add-bits-2
-    bits-requires-2
-    mul-put-bytes
-    add-put-bytes
-    put-bytes-requires
-    add-t9
-    add-t10
-    put-entries-requires
-    put-codes-requires
+    (λ c κs. search needs)
+    (λ c. search needs)
+    (λ c. search needs)
+    (λ c. search needs)
+    (λ c κs. search needs)
+    (λ c. search needs)
+    (λ c. search needs)
+    (λ c κs. search needs)
+    (λ c. search needs)
+    (λ c. search needs)
+    (λ c κs. search needs)
+    (λ c κs. search needs)
     add-t8
     add-t9-2
     add-t10-2
-    same-length
+    (λ c. search needs)
     returns)

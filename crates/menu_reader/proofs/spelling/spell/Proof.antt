@@ -10,51 +10,6 @@ use Rattle.menu_reader.proofs.Found.{spelled-all}
 use Rattle.menu_reader.proofs.spelling.spell.Statement.{statement}
 use Rattle.menu_reader.proofs.spelling.spell.Tie as tie
 
-bits-requires : tie.Need-bits-requires
-bits-requires c κs = search needs
-
-bits-requires-2 : tie.Need-bits-requires-2
-bits-requires-2 c κs = search needs
-
-mul-behind : tie.Need-mul-behind
-mul-behind c = search needs
-
-add-behind : tie.Need-add-behind
-add-behind c = search needs
-
-add-behind-2 : tie.Need-add-behind-2
-add-behind-2 c = search needs
-
-add-behind-3 : tie.Need-add-behind-3
-add-behind-3 c = search needs
-
-add-bits : tie.Need-add-bits
-add-bits c = search needs
-
-bits-requires-3 : tie.Need-bits-requires-3
-bits-requires-3 c κs = search needs
-
-mul-bits : tie.Need-mul-bits
-mul-bits c = search needs
-
-add-bits-2 : tie.Need-add-bits-2
-add-bits-2 c = search needs
-
-bits-requires-4 : tie.Need-bits-requires-4
-bits-requires-4 c κs = search needs
-
-put-opening-requires : tie.Need-put-opening-requires
-put-opening-requires c κs = search needs
-
-put-entries-requires : tie.Need-put-entries-requires
-put-entries-requires c κs = search needs
-
-put-text-requires : tie.Need-put-text-requires
-put-text-requires c κs = search needs
-
-add-t10 : tie.Need-add-t10
-add-t10 c = search needs
-
 put-events-requires : tie.Need-put-events-requires
 put-events-requires c κs =
     let put = c .before .before .before .before .before .before .before .before in
@@ -63,9 +18,6 @@ put-events-requires c κs =
     let x = put .before .before .before .before .before .before .before .before .before .bits .ensures .1 in
     let y = put .before .before .before .before .before .before .before .before .bits2 .ensures .1 in
     ((omega (arith, d, h, x), omega (arith, h), omega (arith, d, h, x)), y)
-
-same-length : tie.Need-same-length
-same-length c = search needs
 
 returns : tie.Need-returns
 returns c =
@@ -94,21 +46,21 @@ pub spell-spec : {M : Type 1} → statement M
 spell-spec =
     tie.close
     (tie.spec
-    bits-requires
-    bits-requires-2
-    mul-behind
-    add-behind
-    add-behind-2
-    add-behind-3
-    add-bits
-    bits-requires-3
-    mul-bits
-    add-bits-2
-    bits-requires-4
-    put-opening-requires
-    put-entries-requires
-    put-text-requires
-    add-t10
+    (λ c κs. search needs)
+    (λ c κs. search needs)
+    (λ c. search needs)
+    (λ c. search needs)
+    (λ c. search needs)
+    (λ c. search needs)
+    (λ c. search needs)
+    (λ c κs. search needs)
+    (λ c. search needs)
+    (λ c. search needs)
+    (λ c κs. search needs)
+    (λ c κs. search needs)
+    (λ c κs. search needs)
+    (λ c κs. search needs)
+    (λ c. search needs)
     put-events-requires
-    same-length
+    (λ c. search needs)
     returns)

@@ -9,26 +9,11 @@ use Rattle.menu_writer.proofs.Entries.{descriptor-fits}
 use Rattle.menu_writer.proofs.loops.descriptor_fine.Statement.{statement}
 use Rattle.menu_writer.proofs.loops.descriptor_fine.Tie as tie
 
-add-byte-at : tie.Need-add-byte-at
-add-byte-at c = search needs
-
-byte-at-requires : tie.Need-byte-at-requires
-byte-at-requires c κs = search needs
-
-byte-at-requires-2 : tie.Need-byte-at-requires-2
-byte-at-requires-2 c κs = search needs
-
 returns : tie.Need-returns
 returns c =
     let a = c .before .before .before .before .args in
     let w = c .before .byte-at2 in
     sym (descriptor-fits (now (a .form)) (a .at) (w .result) _ _ (w .ensures .0) refl refl ∙ (rw (le-ltb (w .result) 64 (omega arith))))
-
-add-byte-at-2 : tie.Need-add-byte-at-2
-add-byte-at-2 c = search needs
-
-byte-at-requires-3 : tie.Need-byte-at-requires-3
-byte-at-requires-3 c κs = search needs
 
 returns-2 : tie.Need-returns-2
 returns-2 c =
@@ -53,11 +38,11 @@ pub descriptor-fine-spec : {M : Type 1} → statement M
 descriptor-fine-spec =
     tie.close
     (tie.spec
-    add-byte-at
-    byte-at-requires
-    byte-at-requires-2
+    (λ c. search needs)
+    (λ c κs. search needs)
+    (λ c κs. search needs)
     returns
-    add-byte-at-2
-    byte-at-requires-3
+    (λ c. search needs)
+    (λ c κs. search needs)
     returns-2
     returns-3)

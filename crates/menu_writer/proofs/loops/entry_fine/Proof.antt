@@ -15,27 +15,6 @@ use Rattle.menu_writer.proofs.loops.entry_fine.Tie as tie
 enum-told : tie.Need-enum-told
 enum-told c = search needs
 
-byte-at-requires : tie.Need-byte-at-requires
-byte-at-requires c κs = search needs
-
-enum-told-2 : tie.Need-enum-told-2
-enum-told-2 c = search needs
-
-descriptor-fine-requires : tie.Need-descriptor-fine-requires
-descriptor-fine-requires c κs = search needs
-
-enum-told-3 : tie.Need-enum-told-3
-enum-told-3 c = search needs
-
-escape-fine-requires : tie.Need-escape-fine-requires
-escape-fine-requires c κs = search needs
-
-enum-told-4 : tie.Need-enum-told-4
-enum-told-4 c = search needs
-
-byte-at-requires-2 : tie.Need-byte-at-requires-2
-byte-at-requires-2 c κs = search needs
-
 returns : tie.Need-returns
 returns c =
     let a = c .before .before .before .before .args in
@@ -65,13 +44,13 @@ entry-fine-spec =
     tie.close
     (tie.spec
     enum-told
-    byte-at-requires
-    enum-told-2
-    descriptor-fine-requires
-    enum-told-3
-    escape-fine-requires
-    enum-told-4
-    byte-at-requires-2
+    (λ c κs. search needs)
+    (λ c. search needs)
+    (λ c κs. search needs)
+    (λ c. search needs)
+    (λ c κs. search needs)
+    (λ c. search needs)
+    (λ c κs. search needs)
     returns
     returns-2
     returns-3

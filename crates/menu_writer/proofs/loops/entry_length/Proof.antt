@@ -13,27 +13,6 @@ use Rattle.menu_writer.proofs.Entries.{byte-front}
 use Rattle.menu_writer.proofs.loops.entry_length.Statement.{statement}
 use Rattle.menu_writer.proofs.loops.entry_length.Tie as tie
 
-enum-told : tie.Need-enum-told
-enum-told c = search needs
-
-enum-told-2 : tie.Need-enum-told-2
-enum-told-2 c = search needs
-
-enum-told-3 : tie.Need-enum-told-3
-enum-told-3 c = search needs
-
-enum-told-4 : tie.Need-enum-told-4
-enum-told-4 c = search needs
-
-byte-at-requires : tie.Need-byte-at-requires
-byte-at-requires c κs = search needs
-
-info-bytes-requires : tie.Need-info-bytes-requires
-info-bytes-requires c κs = search needs
-
-add-result : tie.Need-add-result
-add-result c = search needs
-
 returns : tie.Need-returns
 returns c = search needs
 
@@ -56,13 +35,13 @@ pub entry-length-spec : {M : Type 1} → statement M
 entry-length-spec =
     tie.close
     (tie.spec
-    enum-told
-    enum-told-2
-    enum-told-3
-    enum-told-4
-    byte-at-requires
-    info-bytes-requires
-    add-result
+    (λ c. search needs)
+    (λ c. search needs)
+    (λ c. search needs)
+    (λ c. search needs)
+    (λ c κs. search needs)
+    (λ c κs. search needs)
+    (λ c. search needs)
     returns
     returns-2
     returns-3

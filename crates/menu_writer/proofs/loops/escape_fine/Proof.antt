@@ -10,27 +10,6 @@ use Rattle.menu_writer.proofs.Entries.{escape-fits}
 use Rattle.menu_writer.proofs.loops.escape_fine.Statement.{statement}
 use Rattle.menu_writer.proofs.loops.escape_fine.Tie as tie
 
-add-byte-at : tie.Need-add-byte-at
-add-byte-at c = search needs
-
-byte-at-requires : tie.Need-byte-at-requires
-byte-at-requires c κs = search needs
-
-byte-at-requires-2 : tie.Need-byte-at-requires-2
-byte-at-requires-2 c κs = search needs
-
-add-byte-at-2 : tie.Need-add-byte-at-2
-add-byte-at-2 c = search needs
-
-byte-at-requires-3 : tie.Need-byte-at-requires-3
-byte-at-requires-3 c κs = search needs
-
-mul-position : tie.Need-mul-position
-mul-position c = search needs
-
-add-position : tie.Need-add-position
-add-position c = search needs
-
 returns : tie.Need-returns
 returns c =
     let p = c .before .before in
@@ -40,12 +19,6 @@ returns c =
     sym
     (escape-fits (now (a .form)) (a .at) (x .result) (y .result) _ _ (x .ensures .0) (y .ensures .0) refl refl (x .ensures .1) (y .ensures .1)
     ∙ (rw (le-ltb (x .result + 256 * y .result) 1024 (omega arith))))
-
-add-byte-at-3 : tie.Need-add-byte-at-3
-add-byte-at-3 c = search needs
-
-byte-at-requires-4 : tie.Need-byte-at-requires-4
-byte-at-requires-4 c κs = search needs
 
 returns-2 : tie.Need-returns-2
 returns-2 c =
@@ -75,15 +48,15 @@ pub escape-fine-spec : {M : Type 1} → statement M
 escape-fine-spec =
     tie.close
     (tie.spec
-    add-byte-at
-    byte-at-requires
-    byte-at-requires-2
-    add-byte-at-2
-    byte-at-requires-3
-    mul-position
-    add-position
+    (λ c. search needs)
+    (λ c κs. search needs)
+    (λ c κs. search needs)
+    (λ c. search needs)
+    (λ c κs. search needs)
+    (λ c. search needs)
+    (λ c. search needs)
     returns
-    add-byte-at-3
-    byte-at-requires-4
+    (λ c. search needs)
+    (λ c κs. search needs)
     returns-2
     returns-3)

@@ -25,21 +25,6 @@ abbrev μ-loop : tie.MeasureT-loop
 loop-holds : tie.Need-loop-holds Inv-loop μ-loop
 loop-holds c = (search needs, refl, refl)
 
-entry-fine-requires : tie.Need-entry-fine-requires Inv-loop μ-loop
-entry-fine-requires c κs = search needs
-
-both-requires : tie.Need-both-requires Inv-loop μ-loop
-both-requires c κs = search needs
-
-entry-length-requires : tie.Need-entry-length-requires Inv-loop μ-loop
-entry-length-requires c κs = search needs
-
-add-at : tie.Need-add-at Inv-loop μ-loop
-add-at c = search needs
-
-sub-left : tie.Need-sub-left Inv-loop μ-loop
-sub-left c = search needs
-
 loop-less : tie.Need-loop-less Inv-loop μ-loop
 loop-less c = search needs
 
@@ -76,11 +61,11 @@ pass-spec =
     Inv-loop
     μ-loop
     loop-holds
-    entry-fine-requires
-    both-requires
-    entry-length-requires
-    add-at
-    sub-left
+    (λ c κs. search needs)
+    (λ c κs. search needs)
+    (λ c κs. search needs)
+    (λ c. search needs)
+    (λ c. search needs)
     loop-less
     loop-again
     returns)

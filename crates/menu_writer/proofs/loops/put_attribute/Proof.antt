@@ -12,42 +12,6 @@ use Rattle.menu_writer.proofs.Entries.{attribute-number, sent-length}
 use Rattle.menu_writer.proofs.loops.put_attribute.Statement.{statement}
 use Rattle.menu_writer.proofs.loops.put_attribute.Tie as tie
 
-byte-at-requires : tie.Need-byte-at-requires
-byte-at-requires c κs = search needs
-
-info-bytes-requires : tie.Need-info-bytes-requires
-info-bytes-requires c κs = search needs
-
-add-number-at : tie.Need-add-number-at
-add-number-at c = search needs
-
-number-at-requires : tie.Need-number-at-requires
-number-at-requires c κs = search needs
-
-mul-put-nibbles : tie.Need-mul-put-nibbles
-mul-put-nibbles c = search needs
-
-add-put-nibbles : tie.Need-add-put-nibbles
-add-put-nibbles c = search needs
-
-mul-put-nibbles-2 : tie.Need-mul-put-nibbles-2
-mul-put-nibbles-2 c = search needs
-
-add-put-nibbles-2 : tie.Need-add-put-nibbles-2
-add-put-nibbles-2 c = search needs
-
-put-nibbles-requires : tie.Need-put-nibbles-requires
-put-nibbles-requires c κs = search needs
-
-mul-result : tie.Need-mul-result
-mul-result c = search needs
-
-add-result : tie.Need-add-result
-add-result c = search needs
-
-same-length : tie.Need-same-length
-same-length c = search needs
-
 returns : tie.Need-returns
 returns c =
     let a = c .before .before .before .before .before .before .before .before .before .args in
@@ -65,16 +29,16 @@ pub put-attribute-spec : {M : Type 1} → statement M
 put-attribute-spec =
     tie.close
     (tie.spec
-    byte-at-requires
-    info-bytes-requires
-    add-number-at
-    number-at-requires
-    mul-put-nibbles
-    add-put-nibbles
-    mul-put-nibbles-2
-    add-put-nibbles-2
-    put-nibbles-requires
-    mul-result
-    add-result
-    same-length
+    (λ c κs. search needs)
+    (λ c κs. search needs)
+    (λ c. search needs)
+    (λ c κs. search needs)
+    (λ c. search needs)
+    (λ c. search needs)
+    (λ c. search needs)
+    (λ c. search needs)
+    (λ c κs. search needs)
+    (λ c. search needs)
+    (λ c. search needs)
+    (λ c. search needs)
     returns)

@@ -10,21 +10,6 @@ use Rattle.menu_writer.proofs.Entries.{byte-front}
 use Rattle.menu_writer.proofs.loops.put_code.Statement.{statement}
 use Rattle.menu_writer.proofs.loops.put_code.Tie as tie
 
-byte-at-requires : tie.Need-byte-at-requires
-byte-at-requires c κs = search needs
-
-cast-code : tie.Need-cast-code
-cast-code c = search needs
-
-letter-requires : tie.Need-letter-requires
-letter-requires c κs = search needs
-
-put-requires : tie.Need-put-requires
-put-requires c κs = search needs
-
-same-length : tie.Need-same-length
-same-length c = search needs
-
 returns : tie.Need-returns
 returns c =
     let a = c .before .before .before .before .before .before .before .before .args in
@@ -35,4 +20,4 @@ returns c =
 pub put-code-spec : {M : Type 1} → statement M
 put-code-spec =
     tie.close
-    (tie.spec byte-at-requires cast-code letter-requires put-requires same-length returns)
+    (tie.spec (λ c κs. search needs) (λ c. search needs) (λ c κs. search needs) (λ c κs. search needs) (λ c. search needs) returns)

@@ -10,39 +10,6 @@ use Rattle.menu_writer.proofs.Entries.{descriptor-number}
 use Rattle.menu_writer.proofs.loops.put_descriptor.Statement.{statement}
 use Rattle.menu_writer.proofs.loops.put_descriptor.Tie as tie
 
-byte-at-requires : tie.Need-byte-at-requires
-byte-at-requires c κs = search needs
-
-add-byte-at : tie.Need-add-byte-at
-add-byte-at c = search needs
-
-byte-at-requires-2 : tie.Need-byte-at-requires-2
-byte-at-requires-2 c κs = search needs
-
-add-byte-at-2 : tie.Need-add-byte-at-2
-add-byte-at-2 c = search needs
-
-byte-at-requires-3 : tie.Need-byte-at-requires-3
-byte-at-requires-3 c κs = search needs
-
-mul-put-nibbles : tie.Need-mul-put-nibbles
-mul-put-nibbles c = search needs
-
-add-put-nibbles : tie.Need-add-put-nibbles
-add-put-nibbles c = search needs
-
-mul-put-nibbles-2 : tie.Need-mul-put-nibbles-2
-mul-put-nibbles-2 c = search needs
-
-add-put-nibbles-2 : tie.Need-add-put-nibbles-2
-add-put-nibbles-2 c = search needs
-
-put-nibbles-requires : tie.Need-put-nibbles-requires
-put-nibbles-requires c κs = search needs
-
-same-length : tie.Need-same-length
-same-length c = search needs
-
 returns : tie.Need-returns
 returns c =
     let a = c .before .before .before .before .before .before .before .before .before .args in
@@ -56,15 +23,15 @@ pub put-descriptor-spec : {M : Type 1} → statement M
 put-descriptor-spec =
     tie.close
     (tie.spec
-    byte-at-requires
-    add-byte-at
-    byte-at-requires-2
-    add-byte-at-2
-    byte-at-requires-3
-    mul-put-nibbles
-    add-put-nibbles
-    mul-put-nibbles-2
-    add-put-nibbles-2
-    put-nibbles-requires
-    same-length
+    (λ c κs. search needs)
+    (λ c. search needs)
+    (λ c κs. search needs)
+    (λ c. search needs)
+    (λ c κs. search needs)
+    (λ c. search needs)
+    (λ c. search needs)
+    (λ c. search needs)
+    (λ c. search needs)
+    (λ c κs. search needs)
+    (λ c. search needs)
     returns)

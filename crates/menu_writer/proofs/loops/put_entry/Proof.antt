@@ -17,30 +17,6 @@ use Rattle.menu_writer.proofs.loops.put_entry.Tie as tie
 enum-told : tie.Need-enum-told
 enum-told c = search needs
 
-put-code-requires : tie.Need-put-code-requires
-put-code-requires c κs = search needs
-
-enum-told-2 : tie.Need-enum-told-2
-enum-told-2 c = search needs
-
-put-descriptor-requires : tie.Need-put-descriptor-requires
-put-descriptor-requires c κs = search needs
-
-enum-told-3 : tie.Need-enum-told-3
-enum-told-3 c = search needs
-
-put-escape-requires : tie.Need-put-escape-requires
-put-escape-requires c κs = search needs
-
-enum-told-4 : tie.Need-enum-told-4
-enum-told-4 c = search needs
-
-put-attribute-requires : tie.Need-put-attribute-requires
-put-attribute-requires c κs = search needs
-
-same-length : tie.Need-same-length
-same-length c = search needs
-
 returns : tie.Need-returns
 returns c =
     let a = c .before .before .before .before .before .before .before .before .args in
@@ -51,9 +27,6 @@ returns c =
       search needs,
       p .1 ∙ ap (λ (x : Loop). sets (now (a .out)) (a .to) (entryBytes x f)) w,
     )
-
-same-length-2 : tie.Need-same-length-2
-same-length-2 c = search needs
 
 returns-2 : tie.Need-returns-2
 unfolding inNibbles width
@@ -67,9 +40,6 @@ returns-2 c =
       p .1 ∙ ap (λ (x : Loop). sets (now (a .out)) (a .to) (entryBytes x f)) w,
     )
 
-same-length-3 : tie.Need-same-length-3
-same-length-3 c = search needs
-
 returns-3 : tie.Need-returns-3
 unfolding inNibbles width
 returns-3 c =
@@ -81,9 +51,6 @@ returns-3 c =
       search needs,
       p .1 ∙ ap (λ (x : Loop). sets (now (a .out)) (a .to) (entryBytes x f)) w,
     )
-
-same-length-4 : tie.Need-same-length-4
-same-length-4 c = search needs
 
 returns-4 : tie.Need-returns-4
 returns-4 c =
@@ -101,18 +68,18 @@ put-entry-spec =
     tie.close
     (tie.spec
     enum-told
-    put-code-requires
-    enum-told-2
-    put-descriptor-requires
-    enum-told-3
-    put-escape-requires
-    enum-told-4
-    put-attribute-requires
-    same-length
+    (λ c κs. search needs)
+    (λ c. search needs)
+    (λ c κs. search needs)
+    (λ c. search needs)
+    (λ c κs. search needs)
+    (λ c. search needs)
+    (λ c κs. search needs)
+    (λ c. search needs)
     returns
-    same-length-2
+    (λ c. search needs)
     returns-2
-    same-length-3
+    (λ c. search needs)
     returns-3
-    same-length-4
+    (λ c. search needs)
     returns-4)

@@ -23,21 +23,6 @@ abbrev μ-loop : tie.MeasureT-loop
 loop-holds : tie.Need-loop-holds Inv-loop μ-loop
 loop-holds c = (refl, search needs, refl)
 
-cast-image : tie.Need-cast-image Inv-loop μ-loop
-cast-image c = search needs
-
-image-requires : tie.Need-image-requires Inv-loop μ-loop
-image-requires c κs = search needs
-
-put-requires : tie.Need-put-requires Inv-loop μ-loop
-put-requires c κs = search needs
-
-add-q : tie.Need-add-q Inv-loop μ-loop
-add-q c = search needs
-
-sub-left : tie.Need-sub-left Inv-loop μ-loop
-sub-left c = search needs
-
 loop-less : tie.Need-loop-less Inv-loop μ-loop
 loop-less c = search needs
 
@@ -51,9 +36,6 @@ loop-again c =
           (c .before .before .before .before .image .ensures) (p .ensures) (l .inv .2),
     )
 
-same-length : tie.Need-same-length Inv-loop μ-loop
-same-length c = search needs
-
 returns : tie.Need-returns Inv-loop μ-loop
 returns c = let l = c .before .loop in nibble-end (l .left) (l .q) (l .bits) (l .out) _ (search needs) (l .inv .2)
 
@@ -64,12 +46,12 @@ put-nibbles-spec =
     Inv-loop
     μ-loop
     loop-holds
-    cast-image
-    image-requires
-    put-requires
-    add-q
-    sub-left
+    (λ c. search needs)
+    (λ c κs. search needs)
+    (λ c κs. search needs)
+    (λ c. search needs)
+    (λ c. search needs)
     loop-less
     loop-again
-    same-length
+    (λ c. search needs)
     returns)

@@ -10,48 +10,6 @@ use Rattle.menu_writer.proofs.Events.{event-told}
 use Rattle.menu_writer.proofs.measuring.measure_event.Statement.{statement}
 use Rattle.menu_writer.proofs.measuring.measure_event.Tie as tie
 
-add-byte-at : tie.Need-add-byte-at
-add-byte-at c = search needs
-
-byte-at-requires : tie.Need-byte-at-requires
-byte-at-requires c κs = search needs
-
-add-byte-at-2 : tie.Need-add-byte-at-2
-add-byte-at-2 c = search needs
-
-byte-at-requires-2 : tie.Need-byte-at-requires-2
-byte-at-requires-2 c κs = search needs
-
-add-pass : tie.Need-add-pass
-add-pass c = search needs
-
-pass-requires : tie.Need-pass-requires
-pass-requires c κs = search needs
-
-measure-text-requires : tie.Need-measure-text-requires
-measure-text-requires c κs = search needs
-
-add-t7 : tie.Need-add-t7
-add-t7 c = search needs
-
-sub-t9 : tie.Need-sub-t9
-sub-t9 c = search needs
-
-add-t10 : tie.Need-add-t10
-add-t10 c = search needs
-
-add-t11 : tie.Need-add-t11
-add-t11 c = search needs
-
-both-requires : tie.Need-both-requires
-both-requires c κs = search needs
-
-both-requires-2 : tie.Need-both-requires-2
-both-requires-2 c κs = search needs
-
-both-requires-3 : tie.Need-both-requires-3
-both-requires-3 c κs = search needs
-
 returns : tie.Need-returns
 returns c =
     let a = c .before .before .before .before .before .before .before .before .before .before .args in
@@ -70,18 +28,18 @@ pub measure-event-spec : {M : Type 1} → statement M
 measure-event-spec =
     tie.close
     (tie.spec
-    add-byte-at
-    byte-at-requires
-    add-byte-at-2
-    byte-at-requires-2
-    add-pass
-    pass-requires
-    measure-text-requires
-    add-t7
-    sub-t9
-    add-t10
-    add-t11
-    both-requires
-    both-requires-2
-    both-requires-3
+    (λ c. search needs)
+    (λ c κs. search needs)
+    (λ c. search needs)
+    (λ c κs. search needs)
+    (λ c. search needs)
+    (λ c κs. search needs)
+    (λ c κs. search needs)
+    (λ c. search needs)
+    (λ c. search needs)
+    (λ c. search needs)
+    (λ c. search needs)
+    (λ c κs. search needs)
+    (λ c κs. search needs)
+    (λ c κs. search needs)
     returns)

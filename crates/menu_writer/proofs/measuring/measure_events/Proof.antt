@@ -32,21 +32,6 @@ abbrev μ-loop : tie.MeasureT-loop
 loop-holds : tie.Need-loop-holds Inv-loop μ-loop
 loop-holds c = (search needs, search needs, search needs, refl, zero-add _, zero-add _, refl)
 
-measure-event-requires : tie.Need-measure-event-requires Inv-loop μ-loop
-measure-event-requires c κs = search needs
-
-add-control : tie.Need-add-control Inv-loop μ-loop
-add-control c = search needs
-
-add-strings : tie.Need-add-strings Inv-loop μ-loop
-add-strings c = search needs
-
-both-requires : tie.Need-both-requires Inv-loop μ-loop
-both-requires c κs = search needs
-
-sub-left : tie.Need-sub-left Inv-loop μ-loop
-sub-left c = search needs
-
 loop-less : tie.Need-loop-less Inv-loop μ-loop
 loop-less c = search needs
 
@@ -90,11 +75,11 @@ measure-events-spec =
     Inv-loop
     μ-loop
     loop-holds
-    measure-event-requires
-    add-control
-    add-strings
-    both-requires
-    sub-left
+    (λ c κs. search needs)
+    (λ c. search needs)
+    (λ c. search needs)
+    (λ c κs. search needs)
+    (λ c. search needs)
     loop-less
     loop-again
     returns)

@@ -8,39 +8,6 @@ use Rattle.laws.specs.Pick.{both}
 use Rattle.menu_writer.proofs.measuring.opening_fine.Statement.{statement}
 use Rattle.menu_writer.proofs.measuring.opening_fine.Tie as tie
 
-byte-at-requires : tie.Need-byte-at-requires
-byte-at-requires c κs = search needs
-
-byte-at-requires-2 : tie.Need-byte-at-requires-2
-byte-at-requires-2 c κs = search needs
-
-both-requires : tie.Need-both-requires
-both-requires c κs = search needs
-
-byte-at-requires-3 : tie.Need-byte-at-requires-3
-byte-at-requires-3 c κs = search needs
-
-byte-at-requires-4 : tie.Need-byte-at-requires-4
-byte-at-requires-4 c κs = search needs
-
-both-requires-2 : tie.Need-both-requires-2
-both-requires-2 c κs = search needs
-
-byte-at-requires-5 : tie.Need-byte-at-requires-5
-byte-at-requires-5 c κs = search needs
-
-byte-at-requires-6 : tie.Need-byte-at-requires-6
-byte-at-requires-6 c κs = search needs
-
-both-requires-3 : tie.Need-both-requires-3
-both-requires-3 c κs = search needs
-
-both-requires-4 : tie.Need-both-requires-4
-both-requires-4 c κs = search needs
-
-both-requires-5 : tie.Need-both-requires-5
-both-requires-5 c κs = search needs
-
 returns : tie.Need-returns
 returns c =
     c .both5 .ensures
@@ -55,15 +22,15 @@ pub opening-fine-spec : {M : Type 1} → statement M
 opening-fine-spec =
     tie.close
     (tie.spec
-    byte-at-requires
-    byte-at-requires-2
-    both-requires
-    byte-at-requires-3
-    byte-at-requires-4
-    both-requires-2
-    byte-at-requires-5
-    byte-at-requires-6
-    both-requires-3
-    both-requires-4
-    both-requires-5
+    (λ c κs. search needs)
+    (λ c κs. search needs)
+    (λ c κs. search needs)
+    (λ c κs. search needs)
+    (λ c κs. search needs)
+    (λ c κs. search needs)
+    (λ c κs. search needs)
+    (λ c κs. search needs)
+    (λ c κs. search needs)
+    (λ c κs. search needs)
+    (λ c κs. search needs)
     returns)

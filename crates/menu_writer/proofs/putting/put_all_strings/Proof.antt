@@ -16,24 +16,6 @@ use Rattle.menu_writer.proofs.Wholes.{all-codes}
 use Rattle.menu_writer.proofs.putting.put_all_strings.Statement.{statement}
 use Rattle.menu_writer.proofs.putting.put_all_strings.Tie as tie
 
-byte-at-requires : tie.Need-byte-at-requires
-byte-at-requires c κs = search needs
-
-byte-at-requires-2 : tie.Need-byte-at-requires-2
-byte-at-requires-2 c κs = search needs
-
-pass-requires : tie.Need-pass-requires
-pass-requires c κs = search needs
-
-put-string-requires : tie.Need-put-string-requires
-put-string-requires c κs = search needs
-
-put-strings-requires : tie.Need-put-strings-requires
-put-strings-requires c κs = search needs
-
-same-length : tie.Need-same-length
-same-length c = search needs
-
 returns : tie.Need-returns
 returns c =
     let a = c .before .before .before .before .before .before .before .before .before .before .before .before .before .args in
@@ -52,10 +34,10 @@ pub put-all-strings-spec : {M : Type 1} → statement M
 put-all-strings-spec =
     tie.close
     (tie.spec
-    byte-at-requires
-    byte-at-requires-2
-    pass-requires
-    put-string-requires
-    put-strings-requires
-    same-length
+    (λ c κs. search needs)
+    (λ c κs. search needs)
+    (λ c κs. search needs)
+    (λ c κs. search needs)
+    (λ c κs. search needs)
+    (λ c. search needs)
     returns)

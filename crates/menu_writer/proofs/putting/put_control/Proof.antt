@@ -22,33 +22,6 @@ use Rattle.menu_writer.proofs.Wholes.{control-sent, opening-long}
 use Rattle.menu_writer.proofs.putting.put_control.Statement.{statement}
 use Rattle.menu_writer.proofs.putting.put_control.Tie as tie
 
-byte-at-requires : tie.Need-byte-at-requires
-byte-at-requires c κs = search needs
-
-byte-at-requires-2 : tie.Need-byte-at-requires-2
-byte-at-requires-2 c κs = search needs
-
-put-opening-requires : tie.Need-put-opening-requires
-put-opening-requires c κs = search needs
-
-add-put-entries : tie.Need-add-put-entries
-add-put-entries c = search needs
-
-put-entries-requires : tie.Need-put-entries-requires
-put-entries-requires c κs = search needs
-
-put-fill-requires : tie.Need-put-fill-requires
-put-fill-requires c κs = search needs
-
-put-text-requires : tie.Need-put-text-requires
-put-text-requires c κs = search needs
-
-byte-at-requires-3 : tie.Need-byte-at-requires-3
-byte-at-requires-3 c κs = search needs
-
-put-nibbles-requires : tie.Need-put-nibbles-requires
-put-nibbles-requires c κs = search needs
-
 add-put-events : tie.Need-add-put-events
 add-put-events c = omega (arith, c .before .before .before .before .before .before .before .before .before .before .before .before .before .before .before .before .before .before .before .before .before .before .before .before .byte-at .ensures .1, c .before .before .before .before .before .before .before .before .before .before .before .before .before .before .before .before .before .put-entries .ensures .3, c .before .before .before .before .before .before .before .before .before .before .before .before .before .put-fill .ensures .1, c .before .before .before .before .before .before .before .before .before .put-text .ensures .3)
 
@@ -102,15 +75,15 @@ pub put-control-spec : {M : Type 1} → statement M
 put-control-spec =
     tie.close
     (tie.spec
-    byte-at-requires
-    byte-at-requires-2
-    put-opening-requires
-    add-put-entries
-    put-entries-requires
-    put-fill-requires
-    put-text-requires
-    byte-at-requires-3
-    put-nibbles-requires
+    (λ c κs. search needs)
+    (λ c κs. search needs)
+    (λ c κs. search needs)
+    (λ c. search needs)
+    (λ c κs. search needs)
+    (λ c κs. search needs)
+    (λ c κs. search needs)
+    (λ c κs. search needs)
+    (λ c κs. search needs)
     add-put-events
     put-events-requires
     same-length

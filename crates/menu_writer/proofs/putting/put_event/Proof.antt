@@ -20,63 +20,6 @@ use Rattle.menu_writer.proofs.Events.{event-past, event-sent}
 use Rattle.menu_writer.proofs.putting.put_event.Statement.{statement}
 use Rattle.menu_writer.proofs.putting.put_event.Tie as tie
 
-byte-at-requires : tie.Need-byte-at-requires
-byte-at-requires c κs = search needs
-
-add-byte-at : tie.Need-add-byte-at
-add-byte-at c = search needs
-
-byte-at-requires-2 : tie.Need-byte-at-requires-2
-byte-at-requires-2 c κs = search needs
-
-add-byte-at-2 : tie.Need-add-byte-at-2
-add-byte-at-2 c = search needs
-
-byte-at-requires-3 : tie.Need-byte-at-requires-3
-byte-at-requires-3 c κs = search needs
-
-add-byte-at-3 : tie.Need-add-byte-at-3
-add-byte-at-3 c = search needs
-
-byte-at-requires-4 : tie.Need-byte-at-requires-4
-byte-at-requires-4 c κs = search needs
-
-mul-heading : tie.Need-mul-heading
-mul-heading c = search needs
-
-add-heading : tie.Need-add-heading
-add-heading c = search needs
-
-mul-heading-2 : tie.Need-mul-heading-2
-mul-heading-2 c = search needs
-
-add-heading-2 : tie.Need-add-heading-2
-add-heading-2 c = search needs
-
-mul-heading-3 : tie.Need-mul-heading-3
-mul-heading-3 c = search needs
-
-add-heading-3 : tie.Need-add-heading-3
-add-heading-3 c = search needs
-
-put-nibbles-requires : tie.Need-put-nibbles-requires
-put-nibbles-requires c κs = search needs
-
-add-put-entries : tie.Need-add-put-entries
-add-put-entries c = search needs
-
-add-put-entries-2 : tie.Need-add-put-entries-2
-add-put-entries-2 c = search needs
-
-put-entries-requires : tie.Need-put-entries-requires
-put-entries-requires c κs = search needs
-
-put-text-requires : tie.Need-put-text-requires
-put-text-requires c κs = search needs
-
-same-length : tie.Need-same-length
-same-length c = search needs
-
 returns : tie.Need-returns
 returns c =
     let a = c .before .before .before .before .before .before .before .before .before .before .before .before .before .before .before .before .before .before .args in
@@ -112,23 +55,23 @@ pub put-event-spec : {M : Type 1} → statement M
 put-event-spec =
     tie.close
     (tie.spec
-    byte-at-requires
-    add-byte-at
-    byte-at-requires-2
-    add-byte-at-2
-    byte-at-requires-3
-    add-byte-at-3
-    byte-at-requires-4
-    mul-heading
-    add-heading
-    mul-heading-2
-    add-heading-2
-    mul-heading-3
-    add-heading-3
-    put-nibbles-requires
-    add-put-entries
-    add-put-entries-2
-    put-entries-requires
-    put-text-requires
-    same-length
+    (λ c κs. search needs)
+    (λ c. search needs)
+    (λ c κs. search needs)
+    (λ c. search needs)
+    (λ c κs. search needs)
+    (λ c. search needs)
+    (λ c κs. search needs)
+    (λ c. search needs)
+    (λ c. search needs)
+    (λ c. search needs)
+    (λ c. search needs)
+    (λ c. search needs)
+    (λ c. search needs)
+    (λ c κs. search needs)
+    (λ c. search needs)
+    (λ c. search needs)
+    (λ c κs. search needs)
+    (λ c κs. search needs)
+    (λ c. search needs)
     returns)

@@ -12,15 +12,6 @@ use Rattle.menu_writer.proofs.Wholes.{even-fill, odd-fill}
 use Rattle.menu_writer.proofs.putting.put_fill.Statement.{statement}
 use Rattle.menu_writer.proofs.putting.put_fill.Tie as tie
 
-put-nibbles-requires : tie.Need-put-nibbles-requires
-put-nibbles-requires c κs = search needs
-
-add-result : tie.Need-add-result
-add-result c = search needs
-
-same-length : tie.Need-same-length
-same-length c = search needs
-
 returns : tie.Need-returns
 returns c =
     let a = c .before .before .before .before .before .before .args in
@@ -40,4 +31,4 @@ returns-2 c =
     )
 
 pub put-fill-spec : {M : Type 1} → statement M
-put-fill-spec = tie.close (tie.spec put-nibbles-requires add-result same-length returns returns-2)
+put-fill-spec = tie.close (tie.spec (λ c κs. search needs) (λ c. search needs) (λ c. search needs) returns returns-2)

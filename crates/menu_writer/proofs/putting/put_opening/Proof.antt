@@ -14,84 +14,6 @@ use Rattle.menu_writer.proofs.Wholes.{opening-numbers}
 use Rattle.menu_writer.proofs.putting.put_opening.Statement.{statement}
 use Rattle.menu_writer.proofs.putting.put_opening.Tie as tie
 
-byte-at-requires : tie.Need-byte-at-requires
-byte-at-requires c κs = search needs
-
-mul-first : tie.Need-mul-first
-mul-first c = search needs
-
-add-first : tie.Need-add-first
-add-first c = search needs
-
-mul-first-2 : tie.Need-mul-first-2
-mul-first-2 c = search needs
-
-add-first-2 : tie.Need-add-first-2
-add-first-2 c = search needs
-
-mul-first-3 : tie.Need-mul-first-3
-mul-first-3 c = search needs
-
-byte-at-requires-2 : tie.Need-byte-at-requires-2
-byte-at-requires-2 c κs = search needs
-
-byte-at-requires-3 : tie.Need-byte-at-requires-3
-byte-at-requires-3 c κs = search needs
-
-mul-block : tie.Need-mul-block
-mul-block c = search needs
-
-add-block : tie.Need-add-block
-add-block c = search needs
-
-byte-at-requires-4 : tie.Need-byte-at-requires-4
-byte-at-requires-4 c κs = search needs
-
-byte-at-requires-5 : tie.Need-byte-at-requires-5
-byte-at-requires-5 c κs = search needs
-
-byte-at-requires-6 : tie.Need-byte-at-requires-6
-byte-at-requires-6 c κs = search needs
-
-byte-at-requires-7 : tie.Need-byte-at-requires-7
-byte-at-requires-7 c κs = search needs
-
-mul-second : tie.Need-mul-second
-mul-second c = search needs
-
-add-second : tie.Need-add-second
-add-second c = search needs
-
-mul-second-2 : tie.Need-mul-second-2
-mul-second-2 c = search needs
-
-add-second-2 : tie.Need-add-second-2
-add-second-2 c = search needs
-
-mul-second-3 : tie.Need-mul-second-3
-mul-second-3 c = search needs
-
-add-second-3 : tie.Need-add-second-3
-add-second-3 c = search needs
-
-mul-second-4 : tie.Need-mul-second-4
-mul-second-4 c = search needs
-
-add-second-4 : tie.Need-add-second-4
-add-second-4 c = search needs
-
-put-nibbles-requires : tie.Need-put-nibbles-requires
-put-nibbles-requires c κs = search needs
-
-add-put-nibbles : tie.Need-add-put-nibbles
-add-put-nibbles c = search needs
-
-put-nibbles-requires-2 : tie.Need-put-nibbles-requires-2
-put-nibbles-requires-2 c κs = search needs
-
-same-length : tie.Need-same-length
-same-length c = search needs
-
 returns : tie.Need-returns
 returns c =
     let a = c .before .before .before .before .before .before .before .before .before .before .before .before .before .before .before .before .before .args in
@@ -119,30 +41,30 @@ pub put-opening-spec : {M : Type 1} → statement M
 put-opening-spec =
     tie.close
     (tie.spec
-    byte-at-requires
-    mul-first
-    add-first
-    mul-first-2
-    add-first-2
-    mul-first-3
-    byte-at-requires-2
-    byte-at-requires-3
-    mul-block
-    add-block
-    byte-at-requires-4
-    byte-at-requires-5
-    byte-at-requires-6
-    byte-at-requires-7
-    mul-second
-    add-second
-    mul-second-2
-    add-second-2
-    mul-second-3
-    add-second-3
-    mul-second-4
-    add-second-4
-    put-nibbles-requires
-    add-put-nibbles
-    put-nibbles-requires-2
-    same-length
+    (λ c κs. search needs)
+    (λ c. search needs)
+    (λ c. search needs)
+    (λ c. search needs)
+    (λ c. search needs)
+    (λ c. search needs)
+    (λ c κs. search needs)
+    (λ c κs. search needs)
+    (λ c. search needs)
+    (λ c. search needs)
+    (λ c κs. search needs)
+    (λ c κs. search needs)
+    (λ c κs. search needs)
+    (λ c κs. search needs)
+    (λ c. search needs)
+    (λ c. search needs)
+    (λ c. search needs)
+    (λ c. search needs)
+    (λ c. search needs)
+    (λ c. search needs)
+    (λ c. search needs)
+    (λ c. search needs)
+    (λ c κs. search needs)
+    (λ c. search needs)
+    (λ c κs. search needs)
+    (λ c. search needs)
     returns)

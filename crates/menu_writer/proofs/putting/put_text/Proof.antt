@@ -17,39 +17,6 @@ use Rattle.menu_writer.proofs.Texts.{text-end, text-sent}
 use Rattle.menu_writer.proofs.putting.put_text.Statement.{statement}
 use Rattle.menu_writer.proofs.putting.put_text.Tie as tie
 
-byte-at-requires : tie.Need-byte-at-requires
-byte-at-requires c κs = search needs
-
-add-byte-at : tie.Need-add-byte-at
-add-byte-at c = search needs
-
-byte-at-requires-2 : tie.Need-byte-at-requires-2
-byte-at-requires-2 c κs = search needs
-
-put-nibbles-requires : tie.Need-put-nibbles-requires
-put-nibbles-requires c κs = search needs
-
-add-put-entries : tie.Need-add-put-entries
-add-put-entries c = search needs
-
-add-put-entries-2 : tie.Need-add-put-entries-2
-add-put-entries-2 c = search needs
-
-put-entries-requires : tie.Need-put-entries-requires
-put-entries-requires c κs = search needs
-
-put-nibbles-requires-2 : tie.Need-put-nibbles-requires-2
-put-nibbles-requires-2 c κs = search needs
-
-add-t15 : tie.Need-add-t15
-add-t15 c = search needs
-
-add-t8 : tie.Need-add-t8
-add-t8 c = search needs
-
-same-length : tie.Need-same-length
-same-length c = search needs
-
 returns : tie.Need-returns
 returns c =
     let a = c .before .before .before .before .before .before .before .before .before .before .before .before .before .before .before .before .before .before .args in
@@ -80,15 +47,15 @@ pub put-text-spec : {M : Type 1} → statement M
 put-text-spec =
     tie.close
     (tie.spec
-    byte-at-requires
-    add-byte-at
-    byte-at-requires-2
-    put-nibbles-requires
-    add-put-entries
-    add-put-entries-2
-    put-entries-requires
-    put-nibbles-requires-2
-    add-t15
-    add-t8
-    same-length
+    (λ c κs. search needs)
+    (λ c. search needs)
+    (λ c κs. search needs)
+    (λ c κs. search needs)
+    (λ c. search needs)
+    (λ c. search needs)
+    (λ c κs. search needs)
+    (λ c κs. search needs)
+    (λ c. search needs)
+    (λ c. search needs)
+    (λ c. search needs)
     returns)

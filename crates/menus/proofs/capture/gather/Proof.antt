@@ -10,35 +10,11 @@ Inv-loop fd name asked heads₀ store₀ piece₀ records₀ pages₀ form₀ nu
 abbrev μ-loop : tie.MeasureT-loop
 μ-loop fd name asked heads₀ store₀ piece₀ records₀ pages₀ form₀ numbers₀ capture₀ kept₀ turns₀ heads store piece records pages form numbers capture kept turns = turns
 
-pages-requires : tie.Need-pages-requires Inv-loop μ-loop
-pages-requires c κs = search needs
-
-start-requires : tie.Need-start-requires Inv-loop μ-loop
-start-requires c κs = search needs
-
-none-requires : tie.Need-none-requires Inv-loop μ-loop
-none-requires c κs = search needs
-
 loop-holds : tie.Need-loop-holds Inv-loop μ-loop
 loop-holds c = search needs
 
-sub-turns : tie.Need-sub-turns Inv-loop μ-loop
-sub-turns c = search needs
-
-next-requires : tie.Need-next-requires Inv-loop μ-loop
-next-requires c κs = search needs
-
-enum-known-came : tie.Need-enum-known-came Inv-loop μ-loop
-enum-known-came c = search needs
-
-end-requires : tie.Need-end-requires Inv-loop μ-loop
-end-requires c κs = search needs
-
 returns : tie.Need-returns Inv-loop μ-loop
 returns c = search needs
-
-keep-all-requires : tie.Need-keep-all-requires Inv-loop μ-loop
-keep-all-requires c κs = search needs
 
 loop-less : tie.Need-loop-less Inv-loop μ-loop
 loop-less c = search needs
@@ -55,16 +31,16 @@ gather-spec =
     (tie.spec
     Inv-loop
     μ-loop
-    pages-requires
-    start-requires
-    none-requires
+    (λ c κs. search needs)
+    (λ c κs. search needs)
+    (λ c κs. search needs)
     loop-holds
-    sub-turns
-    next-requires
-    enum-known-came
-    end-requires
+    (λ c. search needs)
+    (λ c κs. search needs)
+    (λ c. search needs)
+    (λ c κs. search needs)
     returns
-    keep-all-requires
+    (λ c κs. search needs)
     loop-less
     loop-again
     returns-2)

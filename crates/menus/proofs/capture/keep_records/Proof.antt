@@ -20,9 +20,6 @@ abbrev μ-loop : tie.MeasureT-loop
 loop-holds : tie.Need-loop-holds Inv-loop μ-loop
 loop-holds c = search needs
 
-after-requires : tie.Need-after-requires Inv-loop μ-loop
-after-requires c κs = search needs
-
 -- the next record begins further on, and not past the end
 goes-on :
     (c : tie.After-after Inv-loop μ-loop)
@@ -41,26 +38,11 @@ part-keep-record-start c = omega (arith, goes-on c)
 part-keep-record-end : tie.Need-part-keep-record-end Inv-loop μ-loop
 part-keep-record-end c = omega (arith, goes-on c)
 
-keep-record-requires : tie.Need-keep-record-requires Inv-loop μ-loop
-keep-record-requires c κs = search needs
-
 loop-less : tie.Need-loop-less Inv-loop μ-loop
 loop-less c = omega (arith, goes-on (c .before .before .before .before .before .before .before .before .before .before .before .before .before .before))
 
 loop-again : tie.Need-loop-again Inv-loop μ-loop
 loop-again c = let g = goes-on (c .before .before .before .before .before .before .before .before .before .before .before .before .before .before) in search needs
-
-same-length : tie.Need-same-length Inv-loop μ-loop
-same-length c = search needs
-
-same-length-2 : tie.Need-same-length-2 Inv-loop μ-loop
-same-length-2 c = search needs
-
-same-length-3 : tie.Need-same-length-3 Inv-loop μ-loop
-same-length-3 c = search needs
-
-same-length-4 : tie.Need-same-length-4 Inv-loop μ-loop
-same-length-4 c = search needs
 
 returns : tie.Need-returns Inv-loop μ-loop
 returns c = search needs
@@ -72,15 +54,15 @@ keep-records-spec =
     Inv-loop
     μ-loop
     loop-holds
-    after-requires
+    (λ c κs. search needs)
     sub-keep-record
     part-keep-record-start
     part-keep-record-end
-    keep-record-requires
+    (λ c κs. search needs)
     loop-less
     loop-again
-    same-length
-    same-length-2
-    same-length-3
-    same-length-4
+    (λ c. search needs)
+    (λ c. search needs)
+    (λ c. search needs)
+    (λ c. search needs)
     returns)

@@ -16,18 +16,6 @@ loop-holds c = search needs
 returns : tie.Need-returns Inv-loop μ-loop
 returns c = search needs
 
-mul-say-word : tie.Need-mul-say-word Inv-loop μ-loop
-mul-say-word c = search needs
-
-shared-slice-read-say-word : tie.Need-shared-slice-read-say-word Inv-loop μ-loop
-shared-slice-read-say-word c = search needs
-
-say-word-requires : tie.Need-say-word-requires Inv-loop μ-loop
-say-word-requires c κs = search needs
-
-add-i : tie.Need-add-i Inv-loop μ-loop
-add-i c = search needs
-
 loop-less : tie.Need-loop-less Inv-loop μ-loop
 loop-less c = search needs
 
@@ -45,10 +33,10 @@ say-first-spec =
     μ-loop
     loop-holds
     returns
-    mul-say-word
-    shared-slice-read-say-word
-    say-word-requires
-    add-i
+    (λ c. search needs)
+    (λ c. search needs)
+    (λ c κs. search needs)
+    (λ c. search needs)
     loop-less
     loop-again
     returns-2)

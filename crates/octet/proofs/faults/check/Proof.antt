@@ -6,18 +6,9 @@ use Rattle.octet.proofs.Rows.{row-bit}
 use Rattle.octet.proofs.faults.check.Statement.{statement}
 use Rattle.octet.proofs.faults.check.Tie as tie
 
-mul-result : tie.Need-mul-result
-mul-result c = search needs
-
-index-1-result : tie.Need-index-1-result
-index-1-result c = search needs
-
-index-2-result : tie.Need-index-2-result
-index-2-result c = search needs
-
 returns : tie.Need-returns
 unfolding checks
 returns c = (refl, row-bit _ _ (c .before .pre .0) (c .before .pre .1))
 
 pub check-spec : {M : Type 1} → statement M
-check-spec = tie.close (tie.spec mul-result index-1-result index-2-result returns)
+check-spec = tie.close (tie.spec (λ c. search needs) (λ c. search needs) (λ c. search needs) returns)

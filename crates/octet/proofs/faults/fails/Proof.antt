@@ -20,17 +20,11 @@ loop-holds : tie.Need-loop-holds Inv-loop μ-loop
 unfolding fails
 loop-holds c = (search needs, search needs, refl)
 
-check-requires : tie.Need-check-requires Inv-loop μ-loop
-check-requires c κs = search needs
-
 mul-sum : tie.Need-mul-sum Inv-loop μ-loop
 mul-sum c = omega (arith, bit-product _ (c .before .before .loop .rest) (c .check .ensures .1))
 
 add-sum : tie.Need-add-sum Inv-loop μ-loop
 add-sum c = omega (arith, bit-product _ (c .before .before .loop .rest) (c .check .ensures .1))
-
-add-i : tie.Need-add-i Inv-loop μ-loop
-add-i c = search needs
 
 loop-less : tie.Need-loop-less Inv-loop μ-loop
 loop-less c = search needs
@@ -59,10 +53,10 @@ fails-spec =
     Inv-loop
     μ-loop
     loop-holds
-    check-requires
+    (λ c κs. search needs)
     mul-sum
     add-sum
-    add-i
+    (λ c. search needs)
     loop-less
     loop-again
     returns)

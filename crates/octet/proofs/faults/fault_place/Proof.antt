@@ -31,29 +31,17 @@ some-fails : (b s : ℕ) → s ≡ failing b → (s ≡ 0 → ⊥) → placeFrom
 unfolding faultPlace
 some-fails b s e z = rw (ne-eqb (failing b) 0 (λ q. z (e ∙ q)), e)
 
-fails-requires : tie.Need-fails-requires Inv-loop μ-loop
-fails-requires c κs = search needs
-
-fails-requires-2 : tie.Need-fails-requires-2 Inv-loop μ-loop
-fails-requires-2 c κs = search needs
-
 mul-failing : tie.Need-mul-failing Inv-loop μ-loop
 mul-failing c = omega arith
 
 add-failing : tie.Need-add-failing Inv-loop μ-loop
 add-failing c = omega arith
 
-fails-requires-3 : tie.Need-fails-requires-3 Inv-loop μ-loop
-fails-requires-3 c κs = search needs
-
 mul-failing-2 : tie.Need-mul-failing-2 Inv-loop μ-loop
 mul-failing-2 c = omega arith
 
 add-failing-2 : tie.Need-add-failing-2 Inv-loop μ-loop
 add-failing-2 c = omega arith
-
-fails-requires-4 : tie.Need-fails-requires-4 Inv-loop μ-loop
-fails-requires-4 c κs = search needs
 
 mul-failing-3 : tie.Need-mul-failing-3 Inv-loop μ-loop
 mul-failing-3 c = omega arith
@@ -76,9 +64,6 @@ loop-holds c =
           (gathered _ _ _ _ _ (first .before .fails .ensures .0) (first .fails2 .ensures .0) (c .before .before .fails3 .ensures .0) (c .before .fails4 .ensures .0))
           (c .if1 .left),
     )
-
-column-requires : tie.Need-column-requires Inv-loop μ-loop
-column-requires c κs = search needs
 
 returns-2 : tie.Need-returns-2 Inv-loop μ-loop
 returns-2 c =
@@ -107,19 +92,19 @@ fault-place-spec =
     (tie.spec
     Inv-loop
     μ-loop
-    fails-requires
-    fails-requires-2
+    (λ c κs. search needs)
+    (λ c κs. search needs)
     mul-failing
     add-failing
-    fails-requires-3
+    (λ c κs. search needs)
     mul-failing-2
     add-failing-2
-    fails-requires-4
+    (λ c κs. search needs)
     mul-failing-3
     add-failing-3
     returns
     loop-holds
-    column-requires
+    (λ c κs. search needs)
     returns-2
     add-i
     loop-less

@@ -10,24 +10,9 @@ use Rattle.octet.proofs.Eights.{entry-at}
 use Rattle.octet.proofs.quick.mark.Statement.{statement}
 use Rattle.octet.proofs.quick.mark.Tie as tie
 
-eight-marks-requires : tie.Need-eight-marks-requires
-eight-marks-requires c κs = search needs
-
-mul-result : tie.Need-mul-result
-mul-result c = search needs
-
-cast-result : tie.Need-cast-result
-cast-result c = search needs
-
-shr-result : tie.Need-shr-result
-shr-result c = search needs
-
-cast-result-2 : tie.Need-cast-result-2
-cast-result-2 c = search needs
-
 returns : tie.Need-returns
 unfolding packed mark harm nib nibbleFrom image withParity differing number
 returns c = entry-at mark tt (c .eight-marks .result) (c .before .args .b) (search needs) (c .eight-marks .ensures)
 
 pub mark-spec : {M : Type 1} → statement M
-mark-spec = tie.close (tie.spec eight-marks-requires mul-result cast-result shr-result cast-result-2 returns)
+mark-spec = tie.close (tie.spec (λ c κs. search needs) (λ c. search needs) (λ c. search needs) (λ c. search needs) (λ c. search needs) returns)

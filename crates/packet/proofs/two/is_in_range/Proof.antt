@@ -15,21 +15,9 @@ first-told c = ap inRange (sym (c .before .first .ensures)) ∙ sym (c .is-in-ra
 second-told : (c : tie.After-is-in-range2) → inRange (secondOf (c .before .before .before .before .before .args .s)) ≡ c .is-in-range2 .result
 second-told c = ap inRange (sym (c .before .second .ensures)) ∙ sym (c .is-in-range2 .ensures)
 
-first-requires : tie.Need-first-requires
-first-requires c κs = search needs
-
-is-in-range-requires : tie.Need-is-in-range-requires
-is-in-range-requires c κs = search needs
-
 returns : tie.Need-returns
 unfolding inRangeOfTwo
 returns c = rw (first-told (c .before) ∙ not-true _ (c .if1 .taken))
-
-second-requires : tie.Need-second-requires
-second-requires c κs = search needs
-
-is-in-range-requires-2 : tie.Need-is-in-range-requires-2
-is-in-range-requires-2 c κs = search needs
 
 returns-2 : tie.Need-returns-2
 unfolding inRangeOfTwo
@@ -45,4 +33,4 @@ returns-3 c =
 pub is-in-range-spec : {M : Type 1} → statement M
 is-in-range-spec =
     tie.close
-    (tie.spec first-requires is-in-range-requires returns second-requires is-in-range-requires-2 returns-2 returns-3)
+    (tie.spec (λ c κs. search needs) (λ c κs. search needs) returns (λ c κs. search needs) (λ c κs. search needs) returns-2 returns-3)

@@ -3,12 +3,6 @@ use borrow.Author.Needs.{needs}
 use Rattle.pages.proofs.headers.is_incomplete.Statement.{statement}
 use Rattle.pages.proofs.headers.is_incomplete.Tie as tie
 
-enum-told : tie.Need-enum-told
-enum-told c = search needs
-
-enum-known-page : tie.Need-enum-known-page
-enum-known-page c = search needs
-
 returns : tie.Need-returns
 returns c = search needs
 
@@ -16,4 +10,4 @@ returns-2 : tie.Need-returns-2
 returns-2 c = rw (c .before .page .given .1)
 
 pub is-incomplete-spec : {M : Type 1} → statement M
-is-incomplete-spec = tie.close (tie.spec enum-told enum-known-page returns returns-2)
+is-incomplete-spec = tie.close (tie.spec (λ c. search needs) (λ c. search needs) returns returns-2)

@@ -46,12 +46,6 @@ is-ours c =
 
 -- ---- the needs
 
-readable-requires : tie.Need-readable-requires
-readable-requires c κs = search needs
-
-shut-requires : tie.Need-shut-requires
-shut-requires c κs = search needs
-
 returns : tie.Need-returns
 returns c =
     let a = c .before .before .before .before .args in
@@ -60,14 +54,8 @@ returns c =
 shared-slice-read-decode : tie.Need-shared-slice-read-decode
 shared-slice-read-decode c = let long = is-long (c .before) in search needs
 
-decode-requires : tie.Need-decode-requires
-decode-requires c κs = search needs
-
 shared-slice-read-decode-2 : tie.Need-shared-slice-read-decode-2
 shared-slice-read-decode-2 c = let long = is-long (c .before .before .before) in search needs
-
-decode-requires-2 : tie.Need-decode-requires-2
-decode-requires-2 c κs = search needs
 
 mul-number : tie.Need-mul-number
 mul-number c = omega (arith, page-nibbles c)
@@ -77,15 +65,6 @@ add-number c = omega (arith, page-nibbles c)
 
 shared-slice-read-decode-3 : tie.Need-shared-slice-read-decode-3
 shared-slice-read-decode-3 c = let long = is-long (c .before .before .before .before .before) in search needs
-
-decode-requires-3 : tie.Need-decode-requires-3
-decode-requires-3 c κs = search needs
-
-is-ours-requires : tie.Need-is-ours-requires
-is-ours-requires c κs = search needs
-
-is-incomplete-requires : tie.Need-is-incomplete-requires
-is-incomplete-requires c κs = search needs
 
 returns-2 : tie.Need-returns-2
 returns-2 c =
@@ -98,37 +77,16 @@ returns-2 c =
 shared-slice-read-decode-4 : tie.Need-shared-slice-read-decode-4
 shared-slice-read-decode-4 c = let long = is-long (c .before .before .before .before .before .before .before .before .before) in search needs
 
-decode-requires-4 : tie.Need-decode-requires-4
-decode-requires-4 c κs = search needs
-
 shared-slice-read-decode-5 : tie.Need-shared-slice-read-decode-5
 shared-slice-read-decode-5 c = let long = is-long (c .before .before .before .before .before .before .before .before .before .before .before) in search needs
 
-decode-requires-5 : tie.Need-decode-requires-5
-decode-requires-5 c κs = search needs
-
 shared-slice-read-decode-6 : tie.Need-shared-slice-read-decode-6
 shared-slice-read-decode-6 c = let long = is-long (c .before .before .before .before .before .before .before .before .before .before .before .before .before) in search needs
-
-decode-requires-6 : tie.Need-decode-requires-6
-decode-requires-6 c κs = search needs
-
-mul-n : tie.Need-mul-n
-mul-n c = search needs
-
-add-n : tie.Need-add-n
-add-n c = search needs
-
-shut-requires-2 : tie.Need-shut-requires-2
-shut-requires-2 c κs = search needs
 
 returns-3 : tie.Need-returns-3
 returns-3 c =
     let a = c .before .before .before .before .before .before .before .before .before .before .before .before .before .before .before .before .before .before .before .args in
     as-many (a .page) (a .last) (c .shut2 .ensures) (omega arith) (is-ours (c .before .before))
-
-is-break-requires : tie.Need-is-break-requires
-is-break-requires c κs = search needs
 
 returns-4 : tie.Need-returns-4
 returns-4 c =
@@ -139,29 +97,29 @@ pub judge-zero-spec : {M : Type 1} → statement M
 judge-zero-spec =
     tie.close
     (tie.spec
-    readable-requires
-    shut-requires
+    (λ c κs. search needs)
+    (λ c κs. search needs)
     returns
     shared-slice-read-decode
-    decode-requires
+    (λ c κs. search needs)
     shared-slice-read-decode-2
-    decode-requires-2
+    (λ c κs. search needs)
     mul-number
     add-number
     shared-slice-read-decode-3
-    decode-requires-3
-    is-ours-requires
-    is-incomplete-requires
+    (λ c κs. search needs)
+    (λ c κs. search needs)
+    (λ c κs. search needs)
     returns-2
     shared-slice-read-decode-4
-    decode-requires-4
+    (λ c κs. search needs)
     shared-slice-read-decode-5
-    decode-requires-5
+    (λ c κs. search needs)
     shared-slice-read-decode-6
-    decode-requires-6
-    mul-n
-    add-n
-    shut-requires-2
+    (λ c κs. search needs)
+    (λ c. search needs)
+    (λ c. search needs)
+    (λ c κs. search needs)
     returns-3
-    is-break-requires
+    (λ c κs. search needs)
     returns-4)

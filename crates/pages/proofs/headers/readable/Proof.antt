@@ -23,20 +23,11 @@ returns c = rw (ne-eqb _ _ (c .if1 .taken))
 loop-holds : tie.Need-loop-holds Inv-loop μ-loop
 loop-holds c = search needs
 
-shared-slice-read-decode : tie.Need-shared-slice-read-decode Inv-loop μ-loop
-shared-slice-read-decode c = search needs
-
-decode-requires : tie.Need-decode-requires Inv-loop μ-loop
-decode-requires c κs = search needs
-
 returns-2 : tie.Need-returns-2 Inv-loop μ-loop
 returns-2 c =
     let l = c .before .before .before .before .loop in
     let p = now (c .before .before .before .before .before .before .before .args .packet) in
     rw (eq-eqb (length p) 42 (omega arith)) (sym (unreadable p 8 (l .i) (omega arith) (omega arith) (omega arith)) ∙ l .inv .1)
-
-add-i : tie.Need-add-i Inv-loop μ-loop
-add-i c = search needs
 
 loop-less : tie.Need-loop-less Inv-loop μ-loop
 loop-less c = search needs
@@ -61,10 +52,10 @@ readable-spec =
     μ-loop
     returns
     loop-holds
-    shared-slice-read-decode
-    decode-requires
+    (λ c. search needs)
+    (λ c κs. search needs)
     returns-2
-    add-i
+    (λ c. search needs)
     loop-less
     loop-again
     returns-3)

@@ -5,27 +5,6 @@ use Rattle.pages.proofs.Beside.{judged-beside}
 use Rattle.pages.proofs.two.judge.Statement.{statement}
 use Rattle.pages.proofs.two.judge.Tie as tie
 
-first-requires : tie.Need-first-requires
-first-requires c κs = search needs
-
-second-only-requires : tie.Need-second-only-requires
-second-only-requires c κs = search needs
-
-page-of-requires : tie.Need-page-of-requires
-page-of-requires c κs = search needs
-
-page-of-requires-2 : tie.Need-page-of-requires-2
-page-of-requires-2 c κs = search needs
-
-judge-requires : tie.Need-judge-requires
-judge-requires c κs = search needs
-
-judge-requires-2 : tie.Need-judge-requires-2
-judge-requires-2 c κs = search needs
-
-shared-requires : tie.Need-shared-requires
-shared-requires c κs = search needs
-
 returns : tie.Need-returns
 returns c =
     let pages = c .before .before .before in
@@ -39,11 +18,11 @@ pub judge-spec : {M : Type 1} → statement M
 judge-spec =
     tie.close
     (tie.spec
-    first-requires
-    second-only-requires
-    page-of-requires
-    page-of-requires-2
-    judge-requires
-    judge-requires-2
-    shared-requires
+    (λ c κs. search needs)
+    (λ c κs. search needs)
+    (λ c κs. search needs)
+    (λ c κs. search needs)
+    (λ c κs. search needs)
+    (λ c κs. search needs)
+    (λ c κs. search needs)
     returns)

@@ -7,11 +7,8 @@ use Rattle.pages.proofs.two.second_only.Tie as tie
 returns : tie.Need-returns
 returns c = rw (eq-eqb _ _ (c .if1 .taken))
 
-second-requires : tie.Need-second-requires
-second-requires c κs = search needs
-
 returns-2 : tie.Need-returns-2
 returns-2 c = rw (c .second .ensures, ne-eqb _ _ (c .before .if1 .left))
 
 pub second-only-spec : {M : Type 1} → statement M
-second-only-spec = tie.close (tie.spec returns second-requires returns-2)
+second-only-spec = tie.close (tie.spec returns (λ c κs. search needs) returns-2)

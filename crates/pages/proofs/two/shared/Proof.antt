@@ -3,17 +3,8 @@ use borrow.Author.Needs.{needs}
 use Rattle.pages.proofs.two.shared.Statement.{statement}
 use Rattle.pages.proofs.two.shared.Tie as tie
 
-enum-known-first : tie.Need-enum-known-first
-enum-known-first c = search needs
-
 enum-told : tie.Need-enum-told
 enum-told c = search needs
-
-enum-known-second : tie.Need-enum-known-second
-enum-known-second c = search needs
-
-enum-told-2 : tie.Need-enum-told-2
-enum-told-2 c = search needs
 
 returns : tie.Need-returns
 returns c = rw (c .before .first .given .1)
@@ -27,4 +18,4 @@ returns-3 c = search needs
 pub shared-spec : {M : Type 1} → statement M
 shared-spec =
     tie.close
-    (tie.spec enum-known-first enum-told enum-known-second enum-told-2 returns returns-2 returns-3)
+    (tie.spec (λ c. search needs) enum-told (λ c. search needs) (λ c. search needs) returns returns-2 returns-3)

@@ -24,41 +24,17 @@ abbrev μ-loop : tie.MeasureT-loop
 returns : tie.Need-returns Inv-loop μ-loop
 returns c = sym (text-short _ _ _ _ (omega arith))
 
-sub-if2 : tie.Need-sub-if2 Inv-loop μ-loop
-sub-if2 c = search needs
-
 returns-2 : tie.Need-returns-2 Inv-loop μ-loop
 returns-2 c = sym (text-short _ _ _ _ (omega arith))
 
 returns-3 : tie.Need-returns-3 Inv-loop μ-loop
 returns-3 c = sym (text-no-room _ _ _ _ (omega arith) (omega arith))
 
-sub-if4 : tie.Need-sub-if4 Inv-loop μ-loop
-sub-if4 c = search needs
-
 returns-4 : tie.Need-returns-4 Inv-loop μ-loop
 returns-4 c = sym (text-no-room _ _ _ _ (omega arith) (omega arith))
 
 loop-holds : tie.Need-loop-holds Inv-loop μ-loop
 loop-holds c = search needs
-
-add-turn : tie.Need-add-turn Inv-loop μ-loop
-add-turn c = search needs
-
-shared-slice-read-turn : tie.Need-shared-slice-read-turn Inv-loop μ-loop
-shared-slice-read-turn c = search needs
-
-turn-requires : tie.Need-turn-requires Inv-loop μ-loop
-turn-requires c κs = search needs
-
-add-out : tie.Need-add-out Inv-loop μ-loop
-add-out c = search needs
-
-slice-write-out : tie.Need-slice-write-out Inv-loop μ-loop
-slice-write-out c = search needs
-
-add-i : tie.Need-add-i Inv-loop μ-loop
-add-i c = search needs
 
 loop-less : tie.Need-loop-less Inv-loop μ-loop
 loop-less c = search needs
@@ -75,9 +51,6 @@ loop-again c =
       l .inv .4,
     )
 
-same-length : tie.Need-same-length Inv-loop μ-loop
-same-length c = search needs
-
 returns-5 : tie.Need-returns-5 Inv-loop μ-loop
 returns-5 c =
     let l = c .before .loop in
@@ -92,19 +65,19 @@ turn-run-spec =
     Inv-loop
     μ-loop
     returns
-    sub-if2
+    (λ c. search needs)
     returns-2
     returns-3
-    sub-if4
+    (λ c. search needs)
     returns-4
     loop-holds
-    add-turn
-    shared-slice-read-turn
-    turn-requires
-    add-out
-    slice-write-out
-    add-i
+    (λ c. search needs)
+    (λ c. search needs)
+    (λ c κs. search needs)
+    (λ c. search needs)
+    (λ c. search needs)
+    (λ c. search needs)
     loop-less
     loop-again
-    same-length
+    (λ c. search needs)
     returns-5)

@@ -5,9 +5,6 @@ use Rattle.pes_writer.specs.Records.{writeRules}
 use Rattle.pes_writer.proofs.writable.judge_records.Statement.{statement}
 use Rattle.pes_writer.proofs.writable.judge_records.Tie as tie
 
-is-ebu-requires : tie.Need-is-ebu-requires
-is-ebu-requires c κs = search needs
-
 returns : tie.Need-returns
 unfolding writeRules
 returns c = rw (← (c .before .is-ebu .ensures), not-true (c .before .is-ebu .result) (c .if1 .taken))
@@ -24,9 +21,6 @@ returns-3 c =
     let d = c .before .before in
     rw (← (d .before .is-ebu .ensures), not-false (d .before .is-ebu .result) (d .if1 .left), eq-eqb _ _ (c .before .if2 .left), lt-leb _ _ (c .if3 .taken))
 
-records-fit-requires : tie.Need-records-fit-requires
-records-fit-requires c κs = search needs
-
 returns-4 : tie.Need-returns-4
 unfolding writeRules
 returns-4 c =
@@ -40,12 +34,6 @@ returns-4 c =
       ← (c .before .records-fit .ensures),
       not-true (c .before .records-fit .result) (c .if4 .taken),
     )
-
-add-t8 : tie.Need-add-t8
-add-t8 c = search needs
-
-mul-t12 : tie.Need-mul-t12
-mul-t12 c = search needs
 
 returns-5 : tie.Need-returns-5
 unfolding writeRules
@@ -64,4 +52,4 @@ returns-5 c =
 pub judge-records-spec : {M : Type 1} → statement M
 judge-records-spec =
     tie.close
-    (tie.spec is-ebu-requires returns returns-2 returns-3 records-fit-requires returns-4 add-t8 mul-t12 returns-5)
+    (tie.spec (λ c κs. search needs) returns returns-2 returns-3 (λ c κs. search needs) returns-4 (λ c. search needs) (λ c. search needs) returns-5)

@@ -4,14 +4,8 @@ use borrow.Author.Tests.{not-true, not-false}
 use Rattle.pes_writer.proofs.writable.record_fits.Statement.{statement}
 use Rattle.pes_writer.proofs.writable.record_fits.Tie as tie
 
-is-text-requires : tie.Need-is-text-requires
-is-text-requires c κs = search needs
-
 returns : tie.Need-returns
 returns c = rw (← (c .before .is-text .ensures), not-true (c .before .is-text .result) (c .if1 .taken))
-
-line-fits-requires : tie.Need-line-fits-requires
-line-fits-requires c κs = search needs
 
 returns-2 : tie.Need-returns-2
 returns-2 c =
@@ -19,4 +13,4 @@ returns-2 c =
     rw (← (d .before .is-text .ensures), not-false (d .before .is-text .result) (d .if1 .left)) (c .line-fits .ensures)
 
 pub record-fits-spec : {M : Type 1} → statement M
-record-fits-spec = tie.close (tie.spec is-text-requires returns line-fits-requires returns-2)
+record-fits-spec = tie.close (tie.spec (λ c κs. search needs) returns (λ c κs. search needs) returns-2)

@@ -24,29 +24,11 @@ abbrev μ-loop : tie.MeasureT-loop
 loop-holds : tie.Need-loop-holds Inv-loop μ-loop
 loop-holds c = search needs
 
-shared-slice-read-record-fits : tie.Need-shared-slice-read-record-fits Inv-loop μ-loop
-shared-slice-read-record-fits c = search needs
-
-add-record-fits : tie.Need-add-record-fits Inv-loop μ-loop
-add-record-fits c = search needs
-
-shared-slice-read-record-fits-2 : tie.Need-shared-slice-read-record-fits-2 Inv-loop μ-loop
-shared-slice-read-record-fits-2 c = search needs
-
-record-fits-requires : tie.Need-record-fits-requires Inv-loop μ-loop
-record-fits-requires c κs = search needs
-
 returns : tie.Need-returns Inv-loop μ-loop
 returns c =
     let l = c .before .before .before .before .before .loop in
     let f = c .before .record-fits in
     sym (fit-stops (l .more) _ (l .at) (search needs) (sym (f .ensures) ∙ not-true (f .result) (c .if1 .taken))) ∙ l .inv .1
-
-add-at : tie.Need-add-at Inv-loop μ-loop
-add-at c = search needs
-
-sub-more : tie.Need-sub-more Inv-loop μ-loop
-sub-more c = search needs
 
 loop-less : tie.Need-loop-less Inv-loop μ-loop
 loop-less c = search needs
@@ -71,13 +53,13 @@ records-fit-spec =
     Inv-loop
     μ-loop
     loop-holds
-    shared-slice-read-record-fits
-    add-record-fits
-    shared-slice-read-record-fits-2
-    record-fits-requires
+    (λ c. search needs)
+    (λ c. search needs)
+    (λ c. search needs)
+    (λ c κs. search needs)
     returns
-    add-at
-    sub-more
+    (λ c. search needs)
+    (λ c. search needs)
     loop-less
     loop-again
     returns-2)

@@ -12,35 +12,14 @@ use Rattle.walk.proofs.Keeping.{body-fits, body-took}
 use Rattle.reader.proofs.held.body_in.Statement.{statement}
 use Rattle.reader.proofs.held.body_in.Tie as tie
 
-cast-need : tie.Need-cast-need
-cast-need c = search needs
-
 sub-need : tie.Need-sub-need
 sub-need c = body-fits (c .before .pre .0)
-
-sub-there : tie.Need-sub-there
-sub-there c = search needs
-
-copy-requires : tie.Need-copy-requires
-copy-requires c κs = search needs
-
-add-t15 : tie.Need-add-t15
-add-t15 c = search needs
-
-add-t17 : tie.Need-add-t17
-add-t17 c = search needs
 
 returns : tie.Need-returns
 returns c =
     let a = c .before .before .before .before .args in
     let k = c .before .before .before .before .pre .0 in
     body-took (now (a .s)) (a .from) (a .head / 32 - a .held) k (omega arith) (omega (arith, body-fits k)) (inl (omega (arith, body-fits k))) (c .before .copy .ensures)
-
-add-t10 : tie.Need-add-t10
-add-t10 c = search needs
-
-add-t19 : tie.Need-add-t19
-add-t19 c = search needs
 
 returns-2 : tie.Need-returns-2
 returns-2 c =
@@ -55,13 +34,13 @@ pub body-in-spec : {M : Type 1} → statement M
 body-in-spec =
     tie.close
     (tie.spec
-    cast-need
+    (λ c. search needs)
     sub-need
-    sub-there
-    copy-requires
-    add-t15
-    add-t17
+    (λ c. search needs)
+    (λ c κs. search needs)
+    (λ c. search needs)
+    (λ c. search needs)
     returns
-    add-t10
-    add-t19
+    (λ c. search needs)
+    (λ c. search needs)
     returns-2)

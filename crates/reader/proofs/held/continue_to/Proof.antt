@@ -7,28 +7,10 @@ use Rattle.walk.proofs.Adding.{continued-to}
 use Rattle.reader.proofs.held.continue_to.Statement.{statement}
 use Rattle.reader.proofs.held.continue_to.Tie as tie
 
-falls-requires : tie.Need-falls-requires
-falls-requires c κs = search needs
-
-drop-if-requires : tie.Need-drop-if-requires
-drop-if-requires c κs = search needs
-
-is-running-requires : tie.Need-is-running-requires
-is-running-requires c κs = search needs
-
-both-requires : tie.Need-both-requires
-both-requires c κs = search needs
-
-either-requires : tie.Need-either-requires
-either-requires c κs = search needs
-
 finish-requires : tie.Need-finish-requires
 finish-requires c κs =
     let p = c .before .before .before .before .before .before .before .before .before .before .pre in
     (holds-kept _ (c .before .before .before .before .before .drop-if .ensures), record { long = p .1 .long; few = p .1 .few })
-
-same-length : tie.Need-same-length
-same-length c = search needs
 
 returns : tie.Need-returns
 returns c m e t =
@@ -42,11 +24,11 @@ pub continue-to-spec : {M : Type 1} → statement M
 continue-to-spec =
     tie.close
     (tie.spec
-    falls-requires
-    drop-if-requires
-    is-running-requires
-    both-requires
-    either-requires
+    (λ c κs. search needs)
+    (λ c κs. search needs)
+    (λ c κs. search needs)
+    (λ c κs. search needs)
+    (λ c κs. search needs)
     finish-requires
-    same-length
+    (λ c. search needs)
     returns)

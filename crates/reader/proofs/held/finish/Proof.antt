@@ -10,15 +10,6 @@ use Rattle.reader.proofs.held.finish.Tie as tie
 enum-told : tie.Need-enum-told
 enum-told c = search needs
 
-enum-told-2 : tie.Need-enum-told-2
-enum-told-2 c = search needs
-
-enum-known-run : tie.Need-enum-known-run
-enum-known-run c = search needs
-
-cast-if1 : tie.Need-cast-if1
-cast-if1 c = search needs
-
 returns : tie.Need-returns
 returns c =
     let a = c .before .before .before .before .before .args in
@@ -29,12 +20,6 @@ hand-out-requires : tie.Need-hand-out-requires
 hand-out-requires c κs =
     let k = kept-body (c .before .before .before .before .before .before .before .pre .0) (c .before .before .before .before .run .given .1) in
     (k, omega (arith, body-fits k, body-size k))
-
-add-t13 : tie.Need-add-t13
-add-t13 c = search needs
-
-add-t20 : tie.Need-add-t20
-add-t20 c = search needs
 
 add-t21 : tie.Need-add-t21
 add-t21 c =
@@ -52,9 +37,6 @@ returns-3 c =
     let a = c .before .before .before .args in
     stays-running (a .got) (a .joined) (now (a .out)) (c .before .before .before .pre .0) (rw (c .enum-told2 .given .1))
 
-same-length : tie.Need-same-length
-same-length c = search needs
-
 returns-4 : tie.Need-returns-4
 returns-4 c =
     let b = c .before .before .before .before .before .before .before in
@@ -67,15 +49,15 @@ finish-spec =
     tie.close
     (tie.spec
     enum-told
-    enum-told-2
-    enum-known-run
-    cast-if1
+    (λ c. search needs)
+    (λ c. search needs)
+    (λ c. search needs)
     returns
     hand-out-requires
-    add-t13
-    add-t20
+    (λ c. search needs)
+    (λ c. search needs)
     add-t21
     returns-2
     returns-3
-    same-length
+    (λ c. search needs)
     returns-4)

@@ -49,17 +49,8 @@ past-header c =
 
 -- ---- the needs
 
-find-requires : tie.Need-find-requires Inv-loop μ-loop
-find-requires c κs = search needs
-
 enum-told : tie.Need-enum-told Inv-loop μ-loop
 enum-told c = search needs
-
-so-far-requires : tie.Need-so-far-requires Inv-loop μ-loop
-so-far-requires c κs = search needs
-
-same-length : tie.Need-same-length Inv-loop μ-loop
-same-length c = search needs
 
 returns : tie.Need-returns Inv-loop μ-loop
 returns c =
@@ -72,15 +63,6 @@ returns c =
     (c .before .before .before .find .ensures .0 ∙ ap (aheadIn (now (a .s))) (c .before .enum-told .given .1))
     (l .inv .4))))
 
-enum-told-2 : tie.Need-enum-told-2 Inv-loop μ-loop
-enum-told-2 c = search needs
-
-so-far-requires-2 : tie.Need-so-far-requires-2 Inv-loop μ-loop
-so-far-requires-2 c κs = search needs
-
-same-length-2 : tie.Need-same-length-2 Inv-loop μ-loop
-same-length-2 c = search needs
-
 returns-2 : tie.Need-returns-2 Inv-loop μ-loop
 returns-2 c =
     let a = c .before .before .before .before .before .before .before .args in
@@ -92,9 +74,6 @@ returns-2 c =
     (c .before .before .before .find .ensures .0 ∙ ap (aheadIn (now (a .s))) (c .before .enum-told2 .given .1))
     (l .inv .4))))
 
-enum-known-g : tie.Need-enum-known-g Inv-loop μ-loop
-enum-known-g c = search needs
-
 cast-t23 : tie.Need-cast-t23 Inv-loop μ-loop
 cast-t23 c =
     let s = now (c .before .before .before .before .before .before .before .args .s) in
@@ -102,12 +81,6 @@ cast-t23 c =
     let x = c .before .before .before .find .ensures .0 ∙ ap (aheadIn s) (c .before .g .given .1) in
     let b = found-bits (drop (l .at) s) x in
     omega (arith, b .counted, b .got)
-
-so-far-requires-3 : tie.Need-so-far-requires-3 Inv-loop μ-loop
-so-far-requires-3 c κs = search needs
-
-same-length-3 : tie.Need-same-length-3 Inv-loop μ-loop
-same-length-3 c = search needs
 
 returns-3 : tie.Need-returns-3 Inv-loop μ-loop
 returns-3 c =
@@ -121,29 +94,14 @@ returns-3 c =
     (found-bits (drop (l .at) (now (a .s))) x)
     (l .inv .4))))
 
-enum-known-head : tie.Need-enum-known-head Inv-loop μ-loop
-enum-known-head c = search needs
-
 cast-mended : tie.Need-cast-mended Inv-loop μ-loop
 cast-mended c =
     let l = c .before .before .before .before .loop in
     let p = found-part (drop (l .at) (now (c .before .before .before .before .before .before .before .args .s))) (is-whole (c .before)) in
     omega (arith, p)
 
-cast-size : tie.Need-cast-size Inv-loop μ-loop
-cast-size c = search needs
-
 sub-there : tie.Need-sub-there Inv-loop μ-loop
 sub-there c = past-header (c .before) .0
-
-copy-requires : tie.Need-copy-requires Inv-loop μ-loop
-copy-requires c κs = search needs
-
-so-far-requires-4 : tie.Need-so-far-requires-4 Inv-loop μ-loop
-so-far-requires-4 c κs = search needs
-
-same-length-4 : tie.Need-same-length-4 Inv-loop μ-loop
-same-length-4 c = search needs
 
 returns-4 : tie.Need-returns-4 Inv-loop μ-loop
 returns-4 c =
@@ -161,9 +119,6 @@ returns-4 c =
 
 emit-requires : tie.Need-emit-requires Inv-loop μ-loop
 emit-requires c κs = let n = past-header (c .before .before .before) in (omega (arith, n), omega (arith, n))
-
-add-blocks : tie.Need-add-blocks Inv-loop μ-loop
-add-blocks c = search needs
 
 add-q : tie.Need-add-q Inv-loop μ-loop
 add-q c = omega (arith, past-header (c .before .before .before .before .before .before))
@@ -200,30 +155,30 @@ flow-spec =
     Inv-loop
     μ-loop
     loop-holds
-    find-requires
+    (λ c κs. search needs)
     enum-told
-    so-far-requires
-    same-length
+    (λ c κs. search needs)
+    (λ c. search needs)
     returns
-    enum-told-2
-    so-far-requires-2
-    same-length-2
+    (λ c. search needs)
+    (λ c κs. search needs)
+    (λ c. search needs)
     returns-2
-    enum-known-g
+    (λ c. search needs)
     cast-t23
-    so-far-requires-3
-    same-length-3
+    (λ c κs. search needs)
+    (λ c. search needs)
     returns-3
-    enum-known-head
+    (λ c. search needs)
     cast-mended
-    cast-size
+    (λ c. search needs)
     sub-there
-    copy-requires
-    so-far-requires-4
-    same-length-4
+    (λ c κs. search needs)
+    (λ c κs. search needs)
+    (λ c. search needs)
     returns-4
     emit-requires
-    add-blocks
+    (λ c. search needs)
     add-q
     add-q-2
     add-at

@@ -8,15 +8,6 @@ use Rattle.reader.proofs.held.let_go.Tie as tie
 enum-told : tie.Need-enum-told
 enum-told c = search needs
 
-enum-told-2 : tie.Need-enum-told-2
-enum-told-2 c = search needs
-
-enum-known-run : tie.Need-enum-known-run
-enum-known-run c = search needs
-
-clear-requires : tie.Need-clear-requires
-clear-requires c κs = search needs
-
 returns : tie.Need-returns
 returns c = kept-idle (c .before .before .pre) (c .enum-told .given .1)
 
@@ -31,4 +22,4 @@ returns-3 c =
 pub let-go-spec : {M : Type 1} → statement M
 let-go-spec =
     tie.close
-    (tie.spec enum-told enum-told-2 enum-known-run clear-requires returns returns-2 returns-3)
+    (tie.spec enum-told (λ c. search needs) (λ c. search needs) (λ c κs. search needs) returns returns-2 returns-3)

@@ -17,58 +17,16 @@ use Rattle.walk.proofs.Adding.{runs-mode, read-pointed, read-unpointed, read-sk
 use Rattle.reader.proofs.held.read.Statement.{statement}
 use Rattle.reader.proofs.held.read.Tie as tie
 
-shared-slice-read-pointed : tie.Need-shared-slice-read-pointed
-shared-slice-read-pointed c = search needs
-
-pointed-requires : tie.Need-pointed-requires
-pointed-requires c κs = search needs
-
-lose-requires : tie.Need-lose-requires
-lose-requires c κs = search needs
-
 returns : tie.Need-returns
 returns c =
     let a = c .before .before .before .before .before .before .before .args in
     read-skipped (a .joined) (modeOf (a .got .run) (now (a .store))) (nib (getD (now (a .packet)) 2 0)) (now (a .packet)) (a .got)
     (c .before .before .before .pointed .ensures) (c .before .before .if1 .taken) (c .lose .ensures (now (a .out)))
 
-add-at : tie.Need-add-at
-add-at c = search needs
-
-sub-take-in : tie.Need-sub-take-in
-sub-take-in c = search needs
-
-part-take-in-start : tie.Need-part-take-in-start
-part-take-in-start c = search needs
-
-part-take-in-end : tie.Need-part-take-in-end
-part-take-in-end c = search needs
-
-take-in-requires : tie.Need-take-in-requires
-take-in-requires c κs = search needs
-
-sub-continue-to : tie.Need-sub-continue-to
-sub-continue-to c = search needs
-
-part-continue-to-start : tie.Need-part-continue-to-start
-part-continue-to-start c = search needs
-
-part-continue-to-end : tie.Need-part-continue-to-end
-part-continue-to-end c = search needs
-
 continue-to-requires : tie.Need-continue-to-requires
 continue-to-requires c κs =
     let r = c .before .before .before .before .before .before .before .before .before .before .before .before .pre .1 .1 in
     (holds-kept _ (c .before .before .before .before .take-in .ensures .holds), record { long = omega (arith, r .long); few = r .few })
-
-sub-flow : tie.Need-sub-flow
-sub-flow c = search needs
-
-part-flow-start : tie.Need-part-flow-start
-part-flow-start c = search needs
-
-part-flow-end : tie.Need-part-flow-end
-part-flow-end c = search needs
 
 flow-requires : tie.Need-flow-requires
 flow-requires c κs =
@@ -85,9 +43,6 @@ flow-requires c κs =
     let l : length (take (length p - n) (drop n p)) ≡ length p - n = ap length (part-rest n p) ∙ length-drop n p in
     (x .holds .kept, (omega (arith, x .written, g, l, k, q), omega (arith, x .written, x .blocks, t, q)))
 
-same-length : tie.Need-same-length
-same-length c = search needs
-
 returns-2 : tie.Need-returns-2
 returns-2 c =
     let b = c .before .before .before .before .before .before .before .before .before .before .before .before .before in
@@ -102,9 +57,6 @@ continue-on-requires c κs =
     let r = c .before .before .before .before .before .before .before .before .before .before .before .pre .1 .1 in
     (holds-kept _ (c .before .before .before .take-in .ensures .holds), record { long = omega (arith, r .long); few = r .few })
 
-same-length-2 : tie.Need-same-length-2
-same-length-2 c = search needs
-
 returns-3 : tie.Need-returns-3
 returns-3 c =
     let b = c .before .before .before .before .before .before in
@@ -117,25 +69,25 @@ pub read-spec : {M : Type 1} → statement M
 read-spec =
     tie.close
     (tie.spec
-    shared-slice-read-pointed
-    pointed-requires
-    lose-requires
+    (λ c. search needs)
+    (λ c κs. search needs)
+    (λ c κs. search needs)
     returns
-    add-at
-    sub-take-in
-    part-take-in-start
-    part-take-in-end
-    take-in-requires
-    sub-continue-to
-    part-continue-to-start
-    part-continue-to-end
+    (λ c. search needs)
+    (λ c. search needs)
+    (λ c. search needs)
+    (λ c. search needs)
+    (λ c κs. search needs)
+    (λ c. search needs)
+    (λ c. search needs)
+    (λ c. search needs)
     continue-to-requires
-    sub-flow
-    part-flow-start
-    part-flow-end
+    (λ c. search needs)
+    (λ c. search needs)
+    (λ c. search needs)
     flow-requires
-    same-length
+    (λ c. search needs)
     returns-2
     continue-on-requires
-    same-length-2
+    (λ c. search needs)
     returns-3)

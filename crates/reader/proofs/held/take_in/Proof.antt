@@ -11,21 +11,6 @@ use Rattle.reader.proofs.held.take_in.Tie as tie
 enum-told : tie.Need-enum-told
 enum-told c = search needs
 
-enum-known-run : tie.Need-enum-known-run
-enum-known-run c = search needs
-
-head-on-requires : tie.Need-head-on-requires
-head-on-requires c κs = search needs
-
-enum-told-2 : tie.Need-enum-told-2
-enum-told-2 c = search needs
-
-enum-told-3 : tie.Need-enum-told-3
-enum-told-3 c = search needs
-
-enum-known-g : tie.Need-enum-known-g
-enum-known-g c = search needs
-
 -- the part that a cut header has counted, and a whole one, is small
 cast-t22 : tie.Need-cast-t22
 cast-t22 c =
@@ -33,9 +18,6 @@ cast-t22 c =
     let b = h .before .before .before .before .before in
     let bits = head-bits (now (b .args .s)) (h .head-on .result) (b .pre) (h .before .before .run .given .1) (h .head-on .ensures .0) (c .before .g .given .1) in
     omega (arith, bits .counted, bits .got)
-
-enum-known-head : tie.Need-enum-known-head
-enum-known-head c = search needs
 
 part-few : (c : tie.After-head) → c .head .given .0 .1 .0 ≤ 5
 part-few c =
@@ -53,9 +35,6 @@ body-in-requires c κs =
     let b = c .before .before .before .before .head-on .ensures .1 .1 (omega arith) in
     let y = c .before .before .head .given .1 in
     (begun-body (omega arith) (part-few (c .before .before)) (kept-head k e), (rw y at b))
-
-enum-known-run-2 : tie.Need-enum-known-run-2
-enum-known-run-2 c = search needs
 
 body-in-requires-2 : tie.Need-body-in-requires-2
 body-in-requires-2 c κs = (kept-body (c .before .before .before .before .before .pre) (c .before .before .run2 .given .1), omega arith)
@@ -103,16 +82,16 @@ take-in-spec =
     tie.close
     (tie.spec
     enum-told
-    enum-known-run
-    head-on-requires
-    enum-told-2
-    enum-told-3
-    enum-known-g
+    (λ c. search needs)
+    (λ c κs. search needs)
+    (λ c. search needs)
+    (λ c. search needs)
+    (λ c. search needs)
     cast-t22
-    enum-known-head
+    (λ c. search needs)
     cast-body-in
     body-in-requires
-    enum-known-run-2
+    (λ c. search needs)
     body-in-requires-2
     returns
     returns-2

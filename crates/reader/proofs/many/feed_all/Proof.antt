@@ -14,30 +14,15 @@ use Rattle.reader.proofs.many.feed_all.Tie as tie
 long : (c : tie.Start) → length (c .args .reader .store) ≡ storeLength
 long c = search needs
 
-refused-requires : tie.Need-refused-requires
-refused-requires c κs = search needs
-
 returns : tie.Need-returns
 returns c =
     let a = c .before .before .before .before .args in
     not-whole-all (a .setting) (a .reader) (now (a .packets)) (now (a .out)) (λ e. omega (arith, e, c .before .if1 .taken)) (c .refused .ensures)
 
-slice-aggregate-is-ready : tie.Need-slice-aggregate-is-ready
-slice-aggregate-is-ready c = search needs
-
-is-ready-requires : tie.Need-is-ready-requires
-is-ready-requires c κs = search needs
-
-refused-requires-2 : tie.Need-refused-requires-2
-refused-requires-2 c κs = search needs
-
 returns-2 : tie.Need-returns-2
 returns-2 c =
     let a = c .before .before .before .before .before .before .before .before .args in
     not-ready-all (a .setting) (a .reader) (now (a .packets)) (now (a .out)) (c .before .before .is-ready .ensures .0) (not-true _ (c .before .if2 .taken)) (c .refused2 .ensures)
-
-refused-requires-3 : tie.Need-refused-requires-3
-refused-requires-3 c κs = search needs
 
 returns-3 : tie.Need-returns-3
 returns-3 c =
@@ -45,18 +30,12 @@ returns-3 c =
     no-room-all (a .setting) (a .reader) (now (a .packets)) (now (a .out)) (c .before .before .before .is-ready .ensures .0) (not-false _ (c .before .before .if2 .left)) (omega arith) (omega arith)
     (c .refused3 .ensures)
 
-start-requires : tie.Need-start-requires
-start-requires c κs = search needs
-
 take-all-requires : tie.Need-take-all-requires
 take-all-requires c κs =
     let b = c .before .before .before .before .before .before .before .before .before .before .before in
     let r = c .before .before .before .before .before .is-ready .ensures in
     let n = not-false _ (c .before .before .before .before .if2 .left) in
     rw (c .before .before .start .ensures) (ready-kept (b .args .setting) (b .args .reader) (r .0) n (r .1 n) (long b), (omega arith, (refl, refl, refl)))
-
-same-length : tie.Need-same-length
-same-length c = search needs
 
 returns-4 : tie.Need-returns-4
 returns-4 c =
@@ -69,4 +48,4 @@ returns-4 c =
 pub feed-all-spec : {M : Type 1} → statement M
 feed-all-spec =
     tie.close
-    (tie.spec refused-requires returns slice-aggregate-is-ready is-ready-requires refused-requires-2 returns-2 refused-requires-3 returns-3 start-requires take-all-requires same-length returns-4)
+    (tie.spec (λ c κs. search needs) returns (λ c. search needs) (λ c κs. search needs) (λ c κs. search needs) returns-2 (λ c κs. search needs) returns-3 (λ c κs. search needs) take-all-requires (λ c. search needs) returns-4)

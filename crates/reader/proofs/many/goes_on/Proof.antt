@@ -10,9 +10,6 @@ use Rattle.reader.proofs.many.goes_on.Tie as tie
 returns : tie.Need-returns
 returns c = rw (not-true (c .before .args .joined) (c .if1 .taken))
 
-decode-requires : tie.Need-decode-requires
-decode-requires c κs = search needs
-
 returns-2 : tie.Need-returns-2
 returns-2 c =
     let a = c .before .before .before .args in
@@ -20,9 +17,6 @@ returns-2 c =
       not-false (a .joined) (c .before .before .if1 .left),
       ne-eqb (nib (a .pointer)) 13 (λ e. omega arith),
     )
-
-is-running-requires : tie.Need-is-running-requires
-is-running-requires c κs = search needs
 
 returns-3 : tie.Need-returns-3
 returns-3 c =
@@ -36,4 +30,4 @@ returns-3 c =
     )
 
 pub goes-on-spec : {M : Type 1} → statement M
-goes-on-spec = tie.close (tie.spec returns decode-requires returns-2 is-running-requires returns-3)
+goes-on-spec = tie.close (tie.spec returns (λ c κs. search needs) returns-2 (λ c κs. search needs) returns-3)

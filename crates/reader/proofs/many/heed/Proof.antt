@@ -26,12 +26,6 @@ spanned c =
     ∙ ap (λ (b : Bool). pick (a .v .drops) false (either (both (a .v .opens) b) (a .a .joined)))
     (sym (runs-mode (a .a .got .run) (now (a .store))))
 
-spans-requires : tie.Need-spans-requires
-spans-requires c κs = search needs
-
-lose-requires : tie.Need-lose-requires
-lose-requires c κs = search needs
-
 read-requires : tie.Need-read-requires
 unfolding recordsOf
 read-requires c κs =
@@ -39,15 +33,6 @@ read-requires c κs =
     let w = c .before .before .before .lose .ensures (now (s .args .out)) in
     let q = s .pre .1 .1 in
     (holds-kept _ (w .holds), (s .pre .1 .0, record { long = omega (arith, w .written, q .long); few = omega (arith, w .written, w .blocks, q .few) }))
-
-shared-slice-read-goes-on : tie.Need-shared-slice-read-goes-on
-shared-slice-read-goes-on c = search needs
-
-goes-on-requires : tie.Need-goes-on-requires
-goes-on-requires c κs = search needs
-
-same-length : tie.Need-same-length
-same-length c = search needs
 
 returns : tie.Need-returns
 returns c =
@@ -67,11 +52,11 @@ pub heed-spec : {M : Type 1} → statement M
 heed-spec =
     tie.close
     (tie.spec
-    spans-requires
-    lose-requires
+    (λ c κs. search needs)
+    (λ c κs. search needs)
     read-requires
-    shared-slice-read-goes-on
-    goes-on-requires
-    same-length
+    (λ c. search needs)
+    (λ c κs. search needs)
+    (λ c. search needs)
     returns
     returns-2)

@@ -22,24 +22,6 @@ loop-holds c =
     let a = c .before .args in
     passed-none (a .setting) (now (a .packets)) (a .from) (c .before .pre .0) (c .before .pre .1)
 
-add-next : tie.Need-add-next Inv-loop μ-loop
-add-next c = search needs
-
-sub-address : tie.Need-sub-address Inv-loop μ-loop
-sub-address c = search needs
-
-part-address-start : tie.Need-part-address-start Inv-loop μ-loop
-part-address-start c = search needs
-
-part-address-end : tie.Need-part-address-end Inv-loop μ-loop
-part-address-end c = search needs
-
-address-requires : tie.Need-address-requires Inv-loop μ-loop
-address-requires c κs = search needs
-
-passes-by-requires : tie.Need-passes-by-requires Inv-loop μ-loop
-passes-by-requires c κs = search needs
-
 returns : tie.Need-returns Inv-loop μ-loop
 returns c = (c .before .before .before .before .before .loop .inv, λ h. c .before .before .address .ensures)
 
@@ -63,12 +45,12 @@ pass-on-spec =
     Inv-loop
     μ-loop
     loop-holds
-    add-next
-    sub-address
-    part-address-start
-    part-address-end
-    address-requires
-    passes-by-requires
+    (λ c. search needs)
+    (λ c. search needs)
+    (λ c. search needs)
+    (λ c. search needs)
+    (λ c κs. search needs)
+    (λ c κs. search needs)
     returns
     loop-less
     loop-again

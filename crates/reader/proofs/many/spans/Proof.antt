@@ -13,12 +13,6 @@ returns-2 c = rw (c .before .before .if1 .left, not-true (c .before .before .bef
 enum-told : tie.Need-enum-told
 enum-told c = search needs
 
-enum-told-2 : tie.Need-enum-told-2
-enum-told-2 c = search needs
-
-enum-told-3 : tie.Need-enum-told-3
-enum-told-3 c = search needs
-
 returns-3 : tie.Need-returns-3
 returns-3 c =
     let b = c .before .before in
@@ -37,4 +31,4 @@ returns-5 c =
 pub spans-spec : {M : Type 1} → statement M
 spans-spec =
     tie.close
-    (tie.spec returns returns-2 enum-told enum-told-2 enum-told-3 returns-3 returns-4 returns-5)
+    (tie.spec returns returns-2 enum-told (λ c. search needs) (λ c. search needs) returns-3 returns-4 returns-5)

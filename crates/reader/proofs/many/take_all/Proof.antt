@@ -36,12 +36,6 @@ loop-holds c =
       (begun (stateIn (a .from) (now (a .store))), begins (a .from) (now (a .out)) (p .0) (p .1 .1 .0) (p .1 .1 .1) (p .1 .1 .2), rw e),
     )
 
-sub-if1 : tie.Need-sub-if1 Inv-loop μ-loop
-sub-if1 c = search needs
-
-same-length : tie.Need-same-length Inv-loop μ-loop
-same-length c = search needs
-
 returns : tie.Need-returns Inv-loop μ-loop
 returns c =
     let a = c .before .before .before .before .before .before .args in
@@ -54,30 +48,6 @@ pass-on-requires : tie.Need-pass-on-requires Inv-loop μ-loop
 pass-on-requires c κs =
     let l = c .before .before .before .loop in
     (l .inv .0, l .inv .1)
-
-add-next : tie.Need-add-next Inv-loop μ-loop
-add-next c = search needs
-
-sub-judge : tie.Need-sub-judge Inv-loop μ-loop
-sub-judge c = search needs
-
-part-judge-start : tie.Need-part-judge-start Inv-loop μ-loop
-part-judge-start c = search needs
-
-part-judge-end : tie.Need-part-judge-end Inv-loop μ-loop
-part-judge-end c = search needs
-
-judge-requires : tie.Need-judge-requires Inv-loop μ-loop
-judge-requires c κs = search needs
-
-sub-heed : tie.Need-sub-heed Inv-loop μ-loop
-sub-heed c = search needs
-
-part-heed-start : tie.Need-part-heed-start Inv-loop μ-loop
-part-heed-start c = search needs
-
-part-heed-end : tie.Need-part-heed-end Inv-loop μ-loop
-part-heed-end c = search needs
 
 heed-requires : tie.Need-heed-requires Inv-loop μ-loop
 heed-requires c κs =
@@ -134,9 +104,6 @@ loop-again-2 c =
       m .ensures .0 .reached _ (l .a) (l .store) (now (a .out)) (l .out) _ r (l .inv .5),
     )
 
-same-length-2 : tie.Need-same-length-2 Inv-loop μ-loop
-same-length-2 c = search needs
-
 returns-2 : tie.Need-returns-2 Inv-loop μ-loop
 returns-2 c =
     let a = c .before .before .before .before .args in
@@ -152,22 +119,22 @@ take-all-spec =
     Inv-loop
     μ-loop
     loop-holds
-    sub-if1
-    same-length
+    (λ c. search needs)
+    (λ c. search needs)
     returns
     pass-on-requires
-    add-next
-    sub-judge
-    part-judge-start
-    part-judge-end
-    judge-requires
-    sub-heed
-    part-heed-start
-    part-heed-end
+    (λ c. search needs)
+    (λ c. search needs)
+    (λ c. search needs)
+    (λ c. search needs)
+    (λ c κs. search needs)
+    (λ c. search needs)
+    (λ c. search needs)
+    (λ c. search needs)
     heed-requires
     loop-less
     loop-again
     loop-less-2
     loop-again-2
-    same-length-2
+    (λ c. search needs)
     returns-2)

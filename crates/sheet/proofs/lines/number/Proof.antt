@@ -14,15 +14,6 @@ abbrev μ-loop : tie.MeasureT-loop
 loop-holds : tie.Need-loop-holds Inv-loop μ-loop
 loop-holds c = search needs
 
-shared-slice-read-one-more-if : tie.Need-shared-slice-read-one-more-if Inv-loop μ-loop
-shared-slice-read-one-more-if c = search needs
-
-one-more-if-requires : tie.Need-one-more-if-requires Inv-loop μ-loop
-one-more-if-requires c κs = search needs
-
-add-i : tie.Need-add-i Inv-loop μ-loop
-add-i c = search needs
-
 loop-less : tie.Need-loop-less Inv-loop μ-loop
 loop-less c = search needs
 
@@ -39,9 +30,9 @@ number-spec =
     Inv-loop
     μ-loop
     loop-holds
-    shared-slice-read-one-more-if
-    one-more-if-requires
-    add-i
+    (λ c. search needs)
+    (λ c κs. search needs)
+    (λ c. search needs)
     loop-less
     loop-again
     returns)

@@ -13,12 +13,6 @@ use Rattle.sheet_entry.proofs.Spelling.{form-goes-on}
 use Rattle.sheet_entry.proofs.writing.write_entry.Statement.{statement}
 use Rattle.sheet_entry.proofs.writing.write_entry.Tie as tie
 
-judge-form-requires : tie.Need-judge-form-requires
-judge-form-requires c κs = search needs
-
-enum-known-why : tie.Need-enum-known-why
-enum-known-why c = search needs
-
 enum-told : tie.Need-enum-told
 enum-told c = search needs
 
@@ -34,9 +28,6 @@ returns c =
     lent-refused (formRules (now (s .args .table))) (entryText (stamped (s .args .stamp) (now (s .args .table)))) (now (s .args .out)) _
     (c .before .before .before .judge-form .ensures) (c .before .why .given .1)
 
-same-length : tie.Need-same-length
-same-length c = search needs
-
 returns-2 : tie.Need-returns-2
 returns-2 c =
     let s = c .before .before .before .before .before .before .before .before .before in
@@ -50,10 +41,10 @@ pub write-entry-spec : {M : Type 1} → statement M
 write-entry-spec =
     tie.close
     (tie.spec
-    judge-form-requires
-    enum-known-why
+    (λ c κs. search needs)
+    (λ c. search needs)
     enum-told
     write-judged-requires
     returns
-    same-length
+    (λ c. search needs)
     returns-2)

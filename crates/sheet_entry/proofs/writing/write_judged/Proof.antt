@@ -8,30 +8,12 @@ use Rattle.sheet_entry.proofs.Spelling.{held-short, held-done}
 use Rattle.sheet_entry.proofs.writing.write_judged.Statement.{statement}
 use Rattle.sheet_entry.proofs.writing.write_judged.Tie as tie
 
-slice-aggregate-put-entry : tie.Need-slice-aggregate-put-entry
-slice-aggregate-put-entry c = search needs
-
-put-entry-requires : tie.Need-put-entry-requires
-put-entry-requires c κs = search needs
-
-refuse-requires : tie.Need-refuse-requires
-refuse-requires c κs = search needs
-
 returns : tie.Need-returns
 returns c =
     let s = c .before .before .before .before .before .before .before in
     let p = c .before .before .before .put-entry .ensures in
     let d = held-short (entryText (stamped (s .args .stamp) (now (s .args .table)))) (now (s .args .out)) (p .0) (p .1) (c .before .if1 .taken) in
     (c .refuse .ensures ∙ d .0, d .1)
-
-slice-aggregate-copy : tie.Need-slice-aggregate-copy
-slice-aggregate-copy c = search needs
-
-copy-requires : tie.Need-copy-requires
-copy-requires c κs = search needs
-
-same-length : tie.Need-same-length
-same-length c = search needs
 
 returns-2 : tie.Need-returns-2
 returns-2 c =
@@ -43,11 +25,11 @@ pub write-judged-spec : {M : Type 1} → statement M
 write-judged-spec =
     tie.close
     (tie.spec
-    slice-aggregate-put-entry
-    put-entry-requires
-    refuse-requires
+    (λ c. search needs)
+    (λ c κs. search needs)
+    (λ c κs. search needs)
     returns
-    slice-aggregate-copy
-    copy-requires
-    same-length
+    (λ c. search needs)
+    (λ c κs. search needs)
+    (λ c. search needs)
     returns-2)

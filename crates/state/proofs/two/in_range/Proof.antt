@@ -21,15 +21,9 @@ first-fits c =
     let e : c .before .is-fit .result ≡ true = not-false (c .before .is-fit .result) (c .if1 .left) in
     (rw (← (c .before .is-fit .ensures .0)) e, c .before .is-fit .ensures .1 e)
 
-is-fit-requires : tie.Need-is-fit-requires
-is-fit-requires c κs = search needs
-
 returns : tie.Need-returns
 unfolding readersInRange
 returns c = (rw (sym (c .before .is-fit .ensures .0) ∙ not-true _ (c .if1 .taken)), λ e. untrue e)
-
-is-fit-requires-2 : tie.Need-is-fit-requires-2
-is-fit-requires-2 c κs = search needs
 
 returns-2 : tie.Need-returns-2
 unfolding readersInRange
@@ -38,4 +32,4 @@ returns-2 c =
     (rw (fits .0) (c .is-fit2 .ensures .0), λ e. (fits .1, c .is-fit2 .ensures .1 e))
 
 pub in-range-spec : {M : Type 1} → statement M
-in-range-spec = tie.close (tie.spec is-fit-requires returns is-fit-requires-2 returns-2)
+in-range-spec = tie.close (tie.spec (λ c κs. search needs) returns (λ c κs. search needs) returns-2)

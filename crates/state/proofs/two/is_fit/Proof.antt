@@ -3,14 +3,8 @@ use borrow.Author.Needs.{needs}
 use Rattle.state.proofs.two.is_fit.Statement.{statement}
 use Rattle.state.proofs.two.is_fit.Tie as tie
 
-page-of-requires : tie.Need-page-of-requires
-page-of-requires c κs = search needs
-
-in-range-requires : tie.Need-in-range-requires
-in-range-requires c κs = search needs
-
 returns : tie.Need-returns
 returns c = rw (c .before .page-of .ensures) at (c .in-range .ensures)
 
 pub is-fit-spec : {M : Type 1} → statement M
-is-fit-spec = tie.close (tie.spec page-of-requires in-range-requires returns)
+is-fit-spec = tie.close (tie.spec (λ c κs. search needs) (λ c κs. search needs) returns)

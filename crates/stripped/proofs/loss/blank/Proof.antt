@@ -22,12 +22,6 @@ returns c = sym (blank-no-room _ (search needs))
 loop-holds : tie.Need-loop-holds Inv-loop μ-loop
 loop-holds c = search needs
 
-slice-write-packets : tie.Need-slice-write-packets Inv-loop μ-loop
-slice-write-packets c = search needs
-
-add-i : tie.Need-add-i Inv-loop μ-loop
-add-i c = search needs
-
 loop-less : tie.Need-loop-less Inv-loop μ-loop
 loop-less c = search needs
 
@@ -35,9 +29,6 @@ loop-again : tie.Need-loop-again Inv-loop μ-loop
 loop-again c =
     let l = c .before .loop in
     (search needs, simp length-set (l .inv .1), blank-step 42 (l .i) 0x16 (l .packets) (search needs) ∙ l .inv .2)
-
-same-length : tie.Need-same-length Inv-loop μ-loop
-same-length c = search needs
 
 returns-2 : tie.Need-returns-2 Inv-loop μ-loop
 returns-2 c =
@@ -52,9 +43,9 @@ blank-spec =
     μ-loop
     returns
     loop-holds
-    slice-write-packets
-    add-i
+    (λ c. search needs)
+    (λ c. search needs)
     loop-less
     loop-again
-    same-length
+    (λ c. search needs)
     returns-2)

@@ -17,29 +17,8 @@ Inv-loop pages₀ packet code i₀ pages i = (i ≤ length pages₀) × (length 
 abbrev μ-loop : tie.MeasureT-loop
 μ-loop pages₀ packet code i₀ pages i = length pages₀ - i
 
-code-requires : tie.Need-code-requires Inv-loop μ-loop
-code-requires c κs = search needs
-
 loop-holds : tie.Need-loop-holds Inv-loop μ-loop
 loop-holds c = (omega arith, refl, refl)
-
-mul-is-place : tie.Need-mul-is-place Inv-loop μ-loop
-mul-is-place c = search needs
-
-slice-read-is-place : tie.Need-slice-read-is-place Inv-loop μ-loop
-slice-read-is-place c = search needs
-
-is-place-requires : tie.Need-is-place-requires Inv-loop μ-loop
-is-place-requires c κs = search needs
-
-mul-pages : tie.Need-mul-pages Inv-loop μ-loop
-mul-pages c = search needs
-
-slice-write-pages : tie.Need-slice-write-pages Inv-loop μ-loop
-slice-write-pages c = search needs
-
-same-length : tie.Need-same-length Inv-loop μ-loop
-same-length c = search needs
 
 returns : tie.Need-returns Inv-loop μ-loop
 returns c =
@@ -49,9 +28,6 @@ returns c =
     ∙ l .loop .inv .2
     ∙ ap (λ (k : ℕ). noted k (now (l .before .before .before .before .args .pages))) (l .before .code .ensures)
 
-add-i : tie.Need-add-i Inv-loop μ-loop
-add-i c = search needs
-
 loop-less : tie.Need-loop-less Inv-loop μ-loop
 loop-less c = search needs
 
@@ -60,9 +36,6 @@ loop-again c =
     let l = c .before .before .before .before in
     let e = sym (c .before .is-place .ensures) ∙ c .if1 .left in
     (omega arith, l .loop .inv .1, note-later (l .before .code .result) (l .loop .pages) (l .loop .i) (omega arith) e ∙ l .loop .inv .2)
-
-same-length-2 : tie.Need-same-length-2 Inv-loop μ-loop
-same-length-2 c = search needs
 
 returns-2 : tie.Need-returns-2 Inv-loop μ-loop
 returns-2 c =
@@ -77,17 +50,17 @@ note-spec =
     (tie.spec
     Inv-loop
     μ-loop
-    code-requires
+    (λ c κs. search needs)
     loop-holds
-    mul-is-place
-    slice-read-is-place
-    is-place-requires
-    mul-pages
-    slice-write-pages
-    same-length
+    (λ c. search needs)
+    (λ c. search needs)
+    (λ c κs. search needs)
+    (λ c. search needs)
+    (λ c. search needs)
+    (λ c. search needs)
     returns
-    add-i
+    (λ c. search needs)
     loop-less
     loop-again
-    same-length-2
+    (λ c. search needs)
     returns-2)

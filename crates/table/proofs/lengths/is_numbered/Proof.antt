@@ -7,11 +7,8 @@ use Rattle.table.proofs.lengths.is_numbered.Tie as tie
 returns : tie.Need-returns
 returns c = rw (lt-ltb _ 12 (c .if1 .taken))
 
-numbered-requires : tie.Need-numbered-requires
-numbered-requires c κs = search needs
-
 returns-2 : tie.Need-returns-2
 returns-2 c = rw (le-ltb _ 12 (c .before .if1 .left)) (c .numbered .ensures)
 
 pub is-numbered-spec : {M : Type 1} → statement M
-is-numbered-spec = tie.close (tie.spec returns numbered-requires returns-2)
+is-numbered-spec = tie.close (tie.spec returns (λ c κs. search needs) returns-2)

@@ -11,38 +11,11 @@ use Rattle.table.proofs.Loops.{measured, form-need}
 use Rattle.table.proofs.lengths.judge_lengths.Statement.{statement}
 use Rattle.table.proofs.lengths.judge_lengths.Tie as tie
 
-cast-is-numbered : tie.Need-cast-is-numbered
-cast-is-numbered c = search needs
-
-is-numbered-requires : tie.Need-is-numbered-requires
-is-numbered-requires c κs = search needs
-
-refuse-requires : tie.Need-refuse-requires
-refuse-requires c κs = search needs
-
 returns : tie.Need-returns
 returns c =
     let a = c .before .before .before .before .before .args in
     let k = sym (c .before .before .is-numbered .ensures) ∙ not-true _ (c .before .if1 .taken) in
     c .refuse .ensures ∙ sym (lengths-22 _ (a .opening) (compound (now (a .body))) _ k)
-
-cast-count : tie.Need-cast-count
-cast-count c = search needs
-
-cast-measure : tie.Need-cast-measure
-cast-measure c = search needs
-
-measure-requires : tie.Need-measure-requires
-measure-requires c κs = search needs
-
-add-control : tie.Need-add-control
-add-control c = search needs
-
-cast-if2 : tie.Need-cast-if2
-cast-if2 c = search needs
-
-refuse-requires-2 : tie.Need-refuse-requires-2
-refuse-requires-2 c κs = search needs
 
 returns-2 : tie.Need-returns-2
 returns-2 c =
@@ -53,12 +26,6 @@ returns-2 c =
     let e = measured (a .opening) n _ (m .measure .ensures .0) in
     c .refuse2 .ensures ∙ sym (lengths-14 _ (a .opening) n _ k (rw e at (c .before .if2 .taken)))
 
-mul-if3 : tie.Need-mul-if3
-mul-if3 c = search needs
-
-refuse-requires-3 : tie.Need-refuse-requires-3
-refuse-requires-3 c κs = search needs
-
 returns-3 : tie.Need-returns-3
 returns-3 c =
     let m = c .before .before .before .before in
@@ -68,18 +35,6 @@ returns-3 c =
     let e = measured (a .opening) n _ (m .measure .ensures .0) in
     c .refuse3 .ensures
     ∙ sym (lengths-14′ _ (a .opening) n _ k (rw e at (c .before .before .if2 .left)) (rw e at (c .before .if3 .taken)))
-
-sub-t8 : tie.Need-sub-t8
-sub-t8 c = search needs
-
-mul-t10 : tie.Need-mul-t10
-mul-t10 c = search needs
-
-add-t11 : tie.Need-add-t11
-add-t11 c = search needs
-
-add-t13 : tie.Need-add-t13
-add-t13 c = search needs
 
 returns-4 : tie.Need-returns-4
 returns-4 c =
@@ -95,22 +50,22 @@ pub judge-lengths-spec : {M : Type 1} → statement M
 judge-lengths-spec =
     tie.close
     (tie.spec
-    cast-is-numbered
-    is-numbered-requires
-    refuse-requires
+    (λ c. search needs)
+    (λ c κs. search needs)
+    (λ c κs. search needs)
     returns
-    cast-count
-    cast-measure
-    measure-requires
-    add-control
-    cast-if2
-    refuse-requires-2
+    (λ c. search needs)
+    (λ c. search needs)
+    (λ c κs. search needs)
+    (λ c. search needs)
+    (λ c. search needs)
+    (λ c κs. search needs)
     returns-2
-    mul-if3
-    refuse-requires-3
+    (λ c. search needs)
+    (λ c κs. search needs)
     returns-3
-    sub-t8
-    mul-t10
-    add-t11
-    add-t13
+    (λ c. search needs)
+    (λ c. search needs)
+    (λ c. search needs)
+    (λ c. search needs)
     returns-4)

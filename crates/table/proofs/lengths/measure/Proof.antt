@@ -26,15 +26,6 @@ abbrev μ-loop : tie.MeasureT-loop
 loop-holds : tie.Need-loop-holds Inv-loop μ-loop
 loop-holds c = (search needs, refl)
 
-add-field-of : tie.Need-add-field-of Inv-loop μ-loop
-add-field-of c = search needs
-
-field-of-requires : tie.Need-field-of-requires Inv-loop μ-loop
-field-of-requires c κs = search needs
-
-words-of-requires : tie.Need-words-of-requires Inv-loop μ-loop
-words-of-requires c κs = search needs
-
 mul-at : tie.Need-mul-at Inv-loop μ-loop
 mul-at c = omega (arith, c .words-of .ensures .1, c .before .field-of .ensures .1)
 
@@ -43,9 +34,6 @@ add-at c = omega (arith, c .words-of .ensures .1, c .before .field-of .ensures .
 
 add-at-2 : tie.Need-add-at-2 Inv-loop μ-loop
 add-at-2 c = omega (arith, c .words-of .ensures .1, c .before .field-of .ensures .1, c .before .before .before .loop .inv .0)
-
-sub-left : tie.Need-sub-left Inv-loop μ-loop
-sub-left c = search needs
 
 loop-less : tie.Need-loop-less Inv-loop μ-loop
 loop-less c = search needs
@@ -76,13 +64,13 @@ measure-spec =
     Inv-loop
     μ-loop
     loop-holds
-    add-field-of
-    field-of-requires
-    words-of-requires
+    (λ c. search needs)
+    (λ c κs. search needs)
+    (λ c κs. search needs)
     mul-at
     add-at
     add-at-2
-    sub-left
+    (λ c. search needs)
     loop-less
     loop-again
     returns)

@@ -15,47 +15,11 @@ use Rattle.table.proofs.Written.{stored}
 use Rattle.table.proofs.spelling.write_descriptor.Statement.{statement}
 use Rattle.table.proofs.spelling.write_descriptor.Tie as tie
 
-field-of-requires : tie.Need-field-of-requires
-field-of-requires c κs = search needs
-
-add-field-of : tie.Need-add-field-of
-add-field-of c = search needs
-
-field-of-requires-2 : tie.Need-field-of-requires-2
-field-of-requires-2 c κs = search needs
-
-words-of-requires : tie.Need-words-of-requires
-words-of-requires c κs = search needs
-
-cast-put : tie.Need-cast-put
-cast-put c = search needs
-
-put-requires : tie.Need-put-requires
-put-requires c κs = search needs
-
-cast-put-2 : tie.Need-cast-put-2
-cast-put-2 c = search needs
-
-add-put : tie.Need-add-put
-add-put c = search needs
-
-put-requires-2 : tie.Need-put-requires-2
-put-requires-2 c κs = search needs
-
-add-write-words : tie.Need-add-write-words
-add-write-words c = search needs
-
-add-write-words-2 : tie.Need-add-write-words-2
-add-write-words-2 c = search needs
-
 write-words-requires : tie.Need-write-words-requires
 write-words-requires c κs =
     let each = c .before .before .before .before .before .before .before .before .before .words-of .ensures .1 in
     let many = c .before .before .before .before .before .before .before .before .before .before .field-of2 .ensures .1 in
     omega (arith, each, many, c .before .before .before .before .before .before .before .before .before .before .before .before .before .before .pre)
-
-same-length : tie.Need-same-length
-same-length c = search needs
 
 returns : tie.Need-returns
 returns c =
@@ -85,17 +49,17 @@ pub write-descriptor-spec : {M : Type 1} → statement M
 write-descriptor-spec =
     tie.close
     (tie.spec
-    field-of-requires
-    add-field-of
-    field-of-requires-2
-    words-of-requires
-    cast-put
-    put-requires
-    cast-put-2
-    add-put
-    put-requires-2
-    add-write-words
-    add-write-words-2
+    (λ c κs. search needs)
+    (λ c. search needs)
+    (λ c κs. search needs)
+    (λ c κs. search needs)
+    (λ c. search needs)
+    (λ c κs. search needs)
+    (λ c. search needs)
+    (λ c. search needs)
+    (λ c κs. search needs)
+    (λ c. search needs)
+    (λ c. search needs)
     write-words-requires
-    same-length
+    (λ c. search needs)
     returns)

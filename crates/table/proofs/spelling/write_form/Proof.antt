@@ -9,21 +9,6 @@ use Rattle.table.proofs.Written.{opened, form-stored}
 use Rattle.table.proofs.spelling.write_form.Statement.{statement}
 use Rattle.table.proofs.spelling.write_form.Tie as tie
 
-write-opening-requires : tie.Need-write-opening-requires
-write-opening-requires c κs = search needs
-
-cast-write-descriptors : tie.Need-cast-write-descriptors
-cast-write-descriptors c = search needs
-
-cast-write-descriptors-2 : tie.Need-cast-write-descriptors-2
-cast-write-descriptors-2 c = search needs
-
-write-descriptors-requires : tie.Need-write-descriptors-requires
-write-descriptors-requires c κs = search needs
-
-same-length : tie.Need-same-length
-same-length c = search needs
-
 returns : tie.Need-returns
 returns c =
     let a = c .before .before .before .before .before .before .before .before .before .before .before .before .args in
@@ -36,9 +21,9 @@ pub write-form-spec : {M : Type 1} → statement M
 write-form-spec =
     tie.close
     (tie.spec
-    write-opening-requires
-    cast-write-descriptors
-    cast-write-descriptors-2
-    write-descriptors-requires
-    same-length
+    (λ c κs. search needs)
+    (λ c. search needs)
+    (λ c. search needs)
+    (λ c κs. search needs)
+    (λ c. search needs)
     returns)

@@ -8,33 +8,6 @@ use Rattle.table.proofs.Written.{stored}
 use Rattle.table.proofs.spelling.write_opening.Statement.{statement}
 use Rattle.table.proofs.spelling.write_opening.Tie as tie
 
-cast-low : tie.Need-cast-low
-cast-low c = search needs
-
-cast-high : tie.Need-cast-high
-cast-high c = search needs
-
-put-requires : tie.Need-put-requires
-put-requires c κs = search needs
-
-put-requires-2 : tie.Need-put-requires-2
-put-requires-2 c κs = search needs
-
-put-requires-3 : tie.Need-put-requires-3
-put-requires-3 c κs = search needs
-
-put-requires-4 : tie.Need-put-requires-4
-put-requires-4 c κs = search needs
-
-put-requires-5 : tie.Need-put-requires-5
-put-requires-5 c κs = search needs
-
-put-requires-6 : tie.Need-put-requires-6
-put-requires-6 c κs = search needs
-
-same-length : tie.Need-same-length
-same-length c = search needs
-
 returns : tie.Need-returns
 returns c =
     let half = c .before .before .before .before .before .before .before .before .before .before .before .before .before .before in
@@ -64,13 +37,13 @@ pub write-opening-spec : {M : Type 1} → statement M
 write-opening-spec =
     tie.close
     (tie.spec
-    cast-low
-    cast-high
-    put-requires
-    put-requires-2
-    put-requires-3
-    put-requires-4
-    put-requires-5
-    put-requires-6
-    same-length
+    (λ c. search needs)
+    (λ c. search needs)
+    (λ c κs. search needs)
+    (λ c κs. search needs)
+    (λ c κs. search needs)
+    (λ c κs. search needs)
+    (λ c κs. search needs)
+    (λ c κs. search needs)
+    (λ c. search needs)
     returns)

@@ -10,33 +10,6 @@ use Rattle.table.proofs.Written.{stored}
 use Rattle.table.proofs.spelling.write_word.Statement.{statement}
 use Rattle.table.proofs.spelling.write_word.Tie as tie
 
-cast-high : tie.Need-cast-high
-cast-high c = search needs
-
-cast-middle : tie.Need-cast-middle
-cast-middle c = search needs
-
-cast-low : tie.Need-cast-low
-cast-low c = search needs
-
-put-requires : tie.Need-put-requires
-put-requires c κs = search needs
-
-add-put : tie.Need-add-put
-add-put c = search needs
-
-put-requires-2 : tie.Need-put-requires-2
-put-requires-2 c κs = search needs
-
-add-put-2 : tie.Need-add-put-2
-add-put-2 c = search needs
-
-put-requires-3 : tie.Need-put-requires-3
-put-requires-3 c κs = search needs
-
-same-length : tie.Need-same-length
-same-length c = search needs
-
 returns : tie.Need-returns
 unfolding spelled
 returns c =
@@ -55,13 +28,13 @@ pub write-word-spec : {M : Type 1} → statement M
 write-word-spec =
     tie.close
     (tie.spec
-    cast-high
-    cast-middle
-    cast-low
-    put-requires
-    add-put
-    put-requires-2
-    add-put-2
-    put-requires-3
-    same-length
+    (λ c. search needs)
+    (λ c. search needs)
+    (λ c. search needs)
+    (λ c κs. search needs)
+    (λ c. search needs)
+    (λ c κs. search needs)
+    (λ c. search needs)
+    (λ c κs. search needs)
+    (λ c. search needs)
     returns)

@@ -24,21 +24,6 @@ abbrev μ-loop : tie.MeasureT-loop
 loop-holds : tie.Need-loop-holds Inv-loop μ-loop
 loop-holds c = (refl, search needs, search needs, refl)
 
-field-of-requires : tie.Need-field-of-requires Inv-loop μ-loop
-field-of-requires c κs = search needs
-
-write-word-requires : tie.Need-write-word-requires Inv-loop μ-loop
-write-word-requires c κs = search needs
-
-add-at : tie.Need-add-at Inv-loop μ-loop
-add-at c = search needs
-
-add-p : tie.Need-add-p Inv-loop μ-loop
-add-p c = search needs
-
-sub-left : tie.Need-sub-left Inv-loop μ-loop
-sub-left c = search needs
-
 loop-less : tie.Need-loop-less Inv-loop μ-loop
 loop-less c = search needs
 
@@ -55,9 +40,6 @@ loop-again c =
           (f .ensures .0) (c .before .before .write-word .ensures) (l .inv .3),
     )
 
-same-length : tie.Need-same-length Inv-loop μ-loop
-same-length c = search needs
-
 returns : tie.Need-returns Inv-loop μ-loop
 returns c =
     let l = c .before .loop in
@@ -70,12 +52,12 @@ write-words-spec =
     Inv-loop
     μ-loop
     loop-holds
-    field-of-requires
-    write-word-requires
-    add-at
-    add-p
-    sub-left
+    (λ c κs. search needs)
+    (λ c κs. search needs)
+    (λ c. search needs)
+    (λ c. search needs)
+    (λ c. search needs)
     loop-less
     loop-again
-    same-length
+    (λ c. search needs)
     returns)

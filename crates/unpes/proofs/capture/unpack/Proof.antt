@@ -10,23 +10,11 @@ Inv-loop fd name seen₀ space₀ packets₀ tally₀ held₀ turns₀ seen spac
 abbrev μ-loop : tie.MeasureT-loop
 μ-loop fd name seen₀ space₀ packets₀ tally₀ held₀ turns₀ seen space packets tally held turns = turns
 
-begin-requires : tie.Need-begin-requires Inv-loop μ-loop
-begin-requires c κs = search needs
-
 returns : tie.Need-returns Inv-loop μ-loop
 returns c = search needs
 
 loop-holds : tie.Need-loop-holds Inv-loop μ-loop
 loop-holds c = search needs
-
-sub-turns : tie.Need-sub-turns Inv-loop μ-loop
-sub-turns c = search needs
-
-refill-requires : tie.Need-refill-requires Inv-loop μ-loop
-refill-requires c κs = search needs
-
-step-requires : tie.Need-step-requires Inv-loop μ-loop
-step-requires c κs = search needs
 
 returns-2 : tie.Need-returns-2 Inv-loop μ-loop
 returns-2 c = search needs
@@ -46,12 +34,12 @@ unpack-spec =
     (tie.spec
     Inv-loop
     μ-loop
-    begin-requires
+    (λ c κs. search needs)
     returns
     loop-holds
-    sub-turns
-    refill-requires
-    step-requires
+    (λ c. search needs)
+    (λ c κs. search needs)
+    (λ c κs. search needs)
     returns-2
     loop-less
     loop-again

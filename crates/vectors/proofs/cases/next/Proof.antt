@@ -32,15 +32,6 @@ returns-3 c =
       lt-leb (a .input .to) (length (now (a .space))) (c .if3 .taken),
     )
 
-add-begin : tie.Need-add-begin
-add-begin c = search needs
-
-add-capped : tie.Need-add-capped
-add-capped c = search needs
-
-capped-requires : tie.Need-capped-requires
-capped-requires c κs = search needs
-
 returns-4 : tie.Need-returns-4
 unfolding nextIn
 returns-4 c =
@@ -50,18 +41,6 @@ returns-4 c =
       le-leb (a .input .to) (length (now (a .space))) (search needs),
       lt-leb (endOf (now (a .space)) (a .input .from)) (a .input .to) (search needs),
     )
-
-add-end : tie.Need-add-end
-add-end c = search needs
-
-shared-slice-read-t13 : tie.Need-shared-slice-read-t13
-shared-slice-read-t13 c = search needs
-
-add-capped-2 : tie.Need-add-capped-2
-add-capped-2 c = search needs
-
-capped-requires-2 : tie.Need-capped-requires-2
-capped-requires-2 c κs = search needs
 
 returns-5 : tie.Need-returns-5
 unfolding nextIn
@@ -82,12 +61,12 @@ next-spec =
     returns
     returns-2
     returns-3
-    add-begin
-    add-capped
-    capped-requires
+    (λ c. search needs)
+    (λ c. search needs)
+    (λ c κs. search needs)
     returns-4
-    add-end
-    shared-slice-read-t13
-    add-capped-2
-    capped-requires-2
+    (λ c. search needs)
+    (λ c. search needs)
+    (λ c. search needs)
+    (λ c κs. search needs)
     returns-5)

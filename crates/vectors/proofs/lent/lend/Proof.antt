@@ -6,17 +6,8 @@ use borrow.Author.Needs.{needs}
 use Rattle.vectors.proofs.lent.lend.Statement.{statement}
 use Rattle.vectors.proofs.lent.lend.Tie as tie
 
-fill-requires : tie.Need-fill-requires
-fill-requires c κs = search needs
-
-least-requires : tie.Need-least-requires
-least-requires c κs = search needs
-
-same-length : tie.Need-same-length
-same-length c = search needs
-
 returns : tie.Need-returns
 returns c = (c .least .ensures, (sym (length-take-le (c .least .result) (c .before .before .before .fill .last .0) (omega (arith, c .least .ensures))), c .before .before .before .fill .ensures))
 
 pub lend-spec : {M : Type 1} → statement M
-lend-spec = tie.close (tie.spec fill-requires least-requires same-length returns)
+lend-spec = tie.close (tie.spec (λ c κs. search needs) (λ c κs. search needs) (λ c. search needs) returns)

@@ -11,26 +11,8 @@ use Rattle.vectors.proofs.lines.end.Tie as tie
 returns : tie.Need-returns
 returns c = search needs
 
-slice-write-text : tie.Need-slice-write-text
-slice-write-text c = search needs
-
-add-result : tie.Need-add-result
-add-result c = search needs
-
-same-length : tie.Need-same-length
-same-length c = search needs
-
 returns-2 : tie.Need-returns-2
 returns-2 c = let a = c .before .before .args in ends-at (a .text .now) (a .at + 1) (a .at) refl (search needs)
-
-sub-text : tie.Need-sub-text
-sub-text c = search needs
-
-slice-write-text-2 : tie.Need-slice-write-text-2
-slice-write-text-2 c = search needs
-
-same-length-2 : tie.Need-same-length-2
-same-length-2 c = search needs
 
 returns-3 : tie.Need-returns-3
 returns-3 c =
@@ -43,11 +25,11 @@ end-spec =
     tie.close
     (tie.spec
     returns
-    slice-write-text
-    add-result
-    same-length
+    (λ c. search needs)
+    (λ c. search needs)
+    (λ c. search needs)
     returns-2
-    sub-text
-    slice-write-text-2
-    same-length-2
+    (λ c. search needs)
+    (λ c. search needs)
+    (λ c. search needs)
     returns-3)

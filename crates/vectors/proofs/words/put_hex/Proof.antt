@@ -20,53 +20,20 @@ returns c = counts _ _ (search needs)
 loop-holds : tie.Need-loop-holds Inv-loop μ-loop
 loop-holds c = search needs
 
-same-length : tie.Need-same-length Inv-loop μ-loop
-same-length c = search needs
-
 returns-2 : tie.Need-returns-2 Inv-loop μ-loop
 returns-2 c = counts _ _ (search needs)
-
-sub-if3 : tie.Need-sub-if3 Inv-loop μ-loop
-sub-if3 c = search needs
-
-same-length-2 : tie.Need-same-length-2 Inv-loop μ-loop
-same-length-2 c = search needs
 
 returns-3 : tie.Need-returns-3 Inv-loop μ-loop
 returns-3 c = counts _ _ (search needs)
 
-shared-slice-read-b : tie.Need-shared-slice-read-b Inv-loop μ-loop
-shared-slice-read-b c = search needs
-
-digit-requires : tie.Need-digit-requires Inv-loop μ-loop
-digit-requires c κs = search needs
-
-slice-write-text : tie.Need-slice-write-text Inv-loop μ-loop
-slice-write-text c = search needs
-
-digit-requires-2 : tie.Need-digit-requires-2 Inv-loop μ-loop
-digit-requires-2 c κs = search needs
-
-add-text : tie.Need-add-text Inv-loop μ-loop
-add-text c = search needs
-
 slice-write-text-2 : tie.Need-slice-write-text-2 Inv-loop μ-loop
 slice-write-text-2 c = simp length-set (search needs)
-
-add-to : tie.Need-add-to Inv-loop μ-loop
-add-to c = search needs
-
-add-i : tie.Need-add-i Inv-loop μ-loop
-add-i c = search needs
 
 loop-less : tie.Need-loop-less Inv-loop μ-loop
 loop-less c = search needs
 
 loop-again : tie.Need-loop-again Inv-loop μ-loop
 loop-again c = (simp length-set (search needs), simp length-set (search needs))
-
-same-length-3 : tie.Need-same-length-3 Inv-loop μ-loop
-same-length-3 c = search needs
 
 returns-4 : tie.Need-returns-4 Inv-loop μ-loop
 returns-4 c = counts _ _ (search needs)
@@ -79,20 +46,20 @@ put-hex-spec =
     μ-loop
     returns
     loop-holds
-    same-length
+    (λ c. search needs)
     returns-2
-    sub-if3
-    same-length-2
+    (λ c. search needs)
+    (λ c. search needs)
     returns-3
-    shared-slice-read-b
-    digit-requires
-    slice-write-text
-    digit-requires-2
-    add-text
+    (λ c. search needs)
+    (λ c κs. search needs)
+    (λ c. search needs)
+    (λ c κs. search needs)
+    (λ c. search needs)
     slice-write-text-2
-    add-to
-    add-i
+    (λ c. search needs)
+    (λ c. search needs)
     loop-less
     loop-again
-    same-length-3
+    (λ c. search needs)
     returns-4)

@@ -6,23 +6,8 @@ use Rattle.walk.proofs.Stepping.{past-end}
 use Rattle.walk.proofs.starts.falls.Statement.{statement}
 use Rattle.walk.proofs.starts.falls.Tie as tie
 
-enum-told : tie.Need-enum-told
-enum-told c = search needs
-
-enum-told-2 : tie.Need-enum-told-2
-enum-told-2 c = search needs
-
-enum-known-run : tie.Need-enum-known-run
-enum-known-run c = search needs
-
-cast-if1 : tie.Need-cast-if1
-cast-if1 c = search needs
-
 returns : tie.Need-returns
 returns c = rw (c .before .before .run .given .1, lt-leb _ _ (c .if1 .taken))
-
-skip-requires : tie.Need-skip-requires
-skip-requires c κs = search needs
 
 returns-2 : tie.Need-returns-2
 returns-2 c = search needs
@@ -40,12 +25,12 @@ pub falls-spec : {M : Type 1} → statement M
 falls-spec =
     tie.close
     (tie.spec
-    enum-told
-    enum-told-2
-    enum-known-run
-    cast-if1
+    (λ c. search needs)
+    (λ c. search needs)
+    (λ c. search needs)
+    (λ c. search needs)
     returns
-    skip-requires
+    (λ c κs. search needs)
     returns-2
     returns-3
     returns-4)

@@ -10,21 +10,12 @@ use Rattle.walk.proofs.Stepping.{found-at, not-filler, found-none, foun
 use Rattle.walk.proofs.starts.find.Statement.{statement}
 use Rattle.walk.proofs.starts.find.Tie as tie
 
-skip-requires : tie.Need-skip-requires
-skip-requires c κs = search needs
-
 returns : tie.Need-returns
 returns c =
     let a = c .before .before .before .args in
     let at = c .before .skip .result in
     let e = c .before .skip .ensures in
     (found-at (now (a .s)) (a .from) at e ∙ found-none (now (a .s)) at (c .if1 .taken), (search needs, search needs))
-
-shared-slice-read-mark : tie.Need-shared-slice-read-mark
-shared-slice-read-mark c = search needs
-
-mark-requires : tie.Need-mark-requires
-mark-requires c κs = search needs
 
 returns-2 : tie.Need-returns-2
 returns-2 c =
@@ -37,12 +28,6 @@ returns-2 c =
           (λ q. c .if2 .taken (d ∙ q)),
       (search needs, search needs),
     )
-
-add-head-on : tie.Need-add-head-on
-add-head-on c = search needs
-
-head-on-requires : tie.Need-head-on-requires
-head-on-requires c κs = search needs
 
 returns-3 : tie.Need-returns-3
 returns-3 c =
@@ -62,11 +47,11 @@ pub find-spec : {M : Type 1} → statement M
 find-spec =
     tie.close
     (tie.spec
-    skip-requires
+    (λ c κs. search needs)
     returns
-    shared-slice-read-mark
-    mark-requires
+    (λ c. search needs)
+    (λ c κs. search needs)
     returns-2
-    add-head-on
-    head-on-requires
+    (λ c. search needs)
+    (λ c κs. search needs)
     returns-3)

@@ -24,29 +24,11 @@ loop-holds : tie.Need-loop-holds Inv-loop μ-loop
 unfolding decimalOf
 loop-holds c = (search needs, search needs, simp (ne-eqb _ _ (c .if1 .left)))
 
-shared-slice-read-digit : tie.Need-shared-slice-read-digit Inv-loop μ-loop
-shared-slice-read-digit c = search needs
-
-digit-requires : tie.Need-digit-requires Inv-loop μ-loop
-digit-requires c κs = search needs
-
 returns-2 : tie.Need-returns-2 Inv-loop μ-loop
 returns-2 c = sym (digit-bad _ (c .before .before .before .before .loop .i) (c .before .before .before .before .loop .number) (omega arith) (c .before .digit .ensures) (omega arith)) ∙ c .before .before .before .before .loop .inv .2
 
-mul-more : tie.Need-mul-more Inv-loop μ-loop
-mul-more c = search needs
-
-cast-more : tie.Need-cast-more Inv-loop μ-loop
-cast-more c = search needs
-
-add-more : tie.Need-add-more Inv-loop μ-loop
-add-more c = search needs
-
 returns-3 : tie.Need-returns-3 Inv-loop μ-loop
 returns-3 c = sym (too-large _ (c .before .before .before .before .before .loop .i) (c .before .before .before .before .before .loop .number) (omega arith) (c .before .before .digit .ensures) (omega arith) (c .if3 .taken)) ∙ c .before .before .before .before .before .loop .inv .2
-
-add-i : tie.Need-add-i Inv-loop μ-loop
-add-i c = search needs
 
 loop-less : tie.Need-loop-less Inv-loop μ-loop
 loop-less c = search needs
@@ -65,14 +47,14 @@ decimal-spec =
     μ-loop
     returns
     loop-holds
-    shared-slice-read-digit
-    digit-requires
+    (λ c. search needs)
+    (λ c κs. search needs)
     returns-2
-    mul-more
-    cast-more
-    add-more
+    (λ c. search needs)
+    (λ c. search needs)
+    (λ c. search needs)
     returns-3
-    add-i
+    (λ c. search needs)
     loop-less
     loop-again
     returns-4)

@@ -18,9 +18,6 @@ returns-3 : tie.Need-returns-3
 unfolding digitOf
 returns-3 c = let b = c .before .before .before .args .b in simp (le-leb 48 b (omega arith), lt-leb b 57 (omega arith), lt-leb 65 b (omega arith), lt-leb 97 b (omega arith))
 
-sub-result : tie.Need-sub-result
-sub-result c = search needs
-
 returns-4 : tie.Need-returns-4
 unfolding digitOf
 returns-4 c = let b = c .before .before .before .before .args .b in simp (le-leb 48 b (omega arith), lt-leb b 57 (omega arith), le-leb 65 b (omega arith), le-leb b 70 (omega arith))
@@ -28,9 +25,6 @@ returns-4 c = let b = c .before .before .before .before .args .b in simp (le-leb
 returns-5 : tie.Need-returns-5
 unfolding digitOf
 returns-5 c = let b = c .before .before .before .before .before .args .b in simp (le-leb 48 b (omega arith), lt-leb b 57 (omega arith), le-leb 65 b (omega arith), lt-leb b 70 (omega arith), lt-leb 97 b (omega arith))
-
-sub-result-2 : tie.Need-sub-result-2
-sub-result-2 c = search needs
 
 returns-6 : tie.Need-returns-6
 unfolding digitOf
@@ -47,9 +41,9 @@ digit-spec =
     returns
     returns-2
     returns-3
-    sub-result
+    (λ c. search needs)
     returns-4
     returns-5
-    sub-result-2
+    (λ c. search needs)
     returns-6
     returns-7)

@@ -5,20 +5,11 @@ use borrow.Author.Needs.{needs}
 use Rattle.words.proofs.numbers.number_of.Statement.{statement}
 use Rattle.words.proofs.numbers.number_of.Tie as tie
 
-decimal-requires : tie.Need-decimal-requires
-decimal-requires c κs = search needs
-
 returns : tie.Need-returns
 returns c = short-number _ (c .decimal .ensures) (c .before .if1 .taken)
 
-shared-slice-read-if2 : tie.Need-shared-slice-read-if2
-shared-slice-read-if2 c = search needs
-
 returns-2 : tie.Need-returns-2
 returns-2 c = leading-zero _ (omega arith) (c .if2 .taken)
-
-decimal-requires-2 : tie.Need-decimal-requires-2
-decimal-requires-2 c κs = search needs
 
 returns-3 : tie.Need-returns-3
 returns-3 c = other-number _ (c .decimal2 .ensures) (omega arith) (c .before .if2 .left)
@@ -27,9 +18,9 @@ pub number-of-spec : {M : Type 1} → statement M
 number-of-spec =
     tie.close
     (tie.spec
-    decimal-requires
+    (λ c κs. search needs)
     returns
-    shared-slice-read-if2
+    (λ c. search needs)
     returns-2
-    decimal-requires-2
+    (λ c κs. search needs)
     returns-3)

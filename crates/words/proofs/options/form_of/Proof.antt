@@ -9,18 +9,9 @@ returns : tie.Need-returns
 unfolding formOf
 returns c = simp (le-ltb _ _ (c .if1 .taken))
 
-mul-entry : tie.Need-mul-entry
-mul-entry c = search needs
-
-add-entry : tie.Need-add-entry
-add-entry c = search needs
-
-entry-requires : tie.Need-entry-requires
-entry-requires c κs = search needs
-
 returns-2 : tie.Need-returns-2
 unfolding formOf
 returns-2 c = simp (lt-ltb _ _ (c .before .if1 .left)) (c .entry .ensures)
 
 pub form-of-spec : {M : Type 1} → statement M
-form-of-spec = tie.close (tie.spec returns mul-entry add-entry entry-requires returns-2)
+form-of-spec = tie.close (tie.spec returns (λ c. search needs) (λ c. search needs) (λ c κs. search needs) returns-2)

@@ -17,17 +17,8 @@ abbrev μ-loop : tie.MeasureT-loop
 loop-holds : tie.Need-loop-holds Inv-loop μ-loop
 loop-holds c = search needs
 
-mul-entry : tie.Need-mul-entry Inv-loop μ-loop
-mul-entry c = search needs
-
-entry-requires : tie.Need-entry-requires Inv-loop μ-loop
-entry-requires c κs = search needs
-
 returns : tie.Need-returns Inv-loop μ-loop
 returns c = sym (option-here _ _ (c .before .before .before .loop .k) (c .before .entry .ensures) (omega arith) (c .if1 .taken)) ∙ c .before .before .before .loop .inv .1
-
-add-k : tie.Need-add-k Inv-loop μ-loop
-add-k c = search needs
 
 loop-less : tie.Need-loop-less Inv-loop μ-loop
 loop-less c = search needs
@@ -45,10 +36,10 @@ option-of-spec =
     Inv-loop
     μ-loop
     loop-holds
-    mul-entry
-    entry-requires
+    (λ c. search needs)
+    (λ c κs. search needs)
     returns
-    add-k
+    (λ c. search needs)
     loop-less
     loop-again
     returns-2)

@@ -6,12 +6,6 @@ use borrow.Author.Needs.{needs}
 use Rattle.words.proofs.options.put_one.Statement.{statement}
 use Rattle.words.proofs.options.put_one.Tie as tie
 
-is-in-requires : tie.Need-is-in-requires
-is-in-requires c κs = search needs
-
-bad-requires : tie.Need-bad-requires
-bad-requires c κs = search needs
-
 returns : tie.Need-returns
 returns c = one-out _ _ _ _ (c .before .before .is-in .ensures .0) (not-true _ (c .before .if1 .taken)) (c .bad .ensures)
 
@@ -26,4 +20,4 @@ returns-2 c = one-in _ _ _ _ (c .before .before .is-in .ensures .0) (not-false _
 
 pub put-one-spec : {M : Type 1} → statement M
 put-one-spec =
-    tie.close (tie.spec is-in-requires bad-requires returns cast-keep keep-requires returns-2)
+    tie.close (tie.spec (λ c κs. search needs) (λ c κs. search needs) returns cast-keep keep-requires returns-2)

@@ -6,26 +6,11 @@ use borrow.Author.Needs.{needs}
 use Rattle.words.proofs.options.put_two.Statement.{statement}
 use Rattle.words.proofs.options.put_two.Tie as tie
 
-is-in-requires : tie.Need-is-in-requires
-is-in-requires c κs = search needs
-
-bad-requires : tie.Need-bad-requires
-bad-requires c κs = search needs
-
 returns : tie.Need-returns
 returns c = first-out _ _ _ _ (c .before .before .is-in .ensures .0) (c .before .before .before .before .args .second) (not-true _ (c .before .if1 .taken)) (c .bad .ensures)
 
-is-in-requires-2 : tie.Need-is-in-requires-2
-is-in-requires-2 c κs = search needs
-
-bad-requires-2 : tie.Need-bad-requires-2
-bad-requires-2 c κs = search needs
-
 returns-2 : tie.Need-returns-2
 returns-2 c = second-out _ _ _ _ (c .before .before .before .before .is-in .ensures .0) _ (not-false _ (c .before .before .before .if1 .left)) (c .before .before .is-in2 .ensures .0) (not-true _ (c .before .if2 .taken)) (c .bad2 .ensures)
-
-bad-requires-3 : tie.Need-bad-requires-3
-bad-requires-3 c κs = search needs
 
 returns-3 : tie.Need-returns-3
 returns-3 c = same-twice _ _ _ _ (c .before .before .before .before .before .is-in .ensures .0) _ (not-false _ (c .before .before .before .before .if1 .left)) (c .before .before .before .is-in2 .ensures .0) (not-false _ (c .before .before .if2 .left)) (c .before .if3 .taken) (c .bad3 .ensures)
@@ -46,13 +31,13 @@ pub put-two-spec : {M : Type 1} → statement M
 put-two-spec =
     tie.close
     (tie.spec
-    is-in-requires
-    bad-requires
+    (λ c κs. search needs)
+    (λ c κs. search needs)
     returns
-    is-in-requires-2
-    bad-requires-2
+    (λ c κs. search needs)
+    (λ c κs. search needs)
     returns-2
-    bad-requires-3
+    (λ c κs. search needs)
     returns-3
     cast-keep
     cast-keep-2

@@ -5,9 +5,6 @@ use borrow.Author.Needs.{needs}
 use Rattle.words.proofs.places.is_kind.Statement.{statement}
 use Rattle.words.proofs.places.is_kind.Tie as tie
 
-kind-of-requires : tie.Need-kind-of-requires
-kind-of-requires c κs = search needs
-
 returns : tie.Need-returns
 unfolding isKind
 returns c = simp (← (c .before .kind-of .ensures), eq-eqb _ _ (c .if1 .taken))
@@ -17,4 +14,4 @@ unfolding isKind
 returns-2 c = simp (← (c .before .kind-of .ensures), ne-eqb _ _ (c .if1 .left))
 
 pub is-kind-spec : {M : Type 1} → statement M
-is-kind-spec = tie.close (tie.spec kind-of-requires returns returns-2)
+is-kind-spec = tie.close (tie.spec (λ c κs. search needs) returns returns-2)

@@ -4,14 +4,8 @@ use borrow.Author.Needs.{needs}
 use Rattle.words.proofs.places.letter_at.Statement.{statement}
 use Rattle.words.proofs.places.letter_at.Tie as tie
 
-passed-requires : tie.Need-passed-requires
-passed-requires c κs = search needs
-
-byte-at-requires : tie.Need-byte-at-requires
-byte-at-requires c κs = search needs
-
 returns : tie.Need-returns
 returns c = letter-there _ (c .before .before .before .args .spot) (c .before .passed .ensures) (c .byte-at .ensures)
 
 pub letter-at-spec : {M : Type 1} → statement M
-letter-at-spec = tie.close (tie.spec passed-requires byte-at-requires returns)
+letter-at-spec = tie.close (tie.spec (λ c κs. search needs) (λ c κs. search needs) returns)

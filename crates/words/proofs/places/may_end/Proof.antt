@@ -7,9 +7,6 @@ use Rattle.words.proofs.places.may_end.Tie as tie
 returns : tie.Need-returns
 returns c = end-all _ (c .before .args .spot) (c .if1 .taken)
 
-shared-slice-read-if2 : tie.Need-shared-slice-read-if2
-shared-slice-read-if2 c = search needs
-
 returns-2 : tie.Need-returns-2
 returns-2 c = end-any _ (c .before .before .before .args .spot) (c .before .before .if1 .left) (c .if2 .taken)
 
@@ -20,4 +17,4 @@ returns-4 : tie.Need-returns-4
 returns-4 c = end-again _ (c .before .before .before .before .args .spot) (c .before .before .before .if1 .left) (c .before .if2 .left) (c .if3 .left)
 
 pub may-end-spec : {M : Type 1} → statement M
-may-end-spec = tie.close (tie.spec returns shared-slice-read-if2 returns-2 returns-3 returns-4)
+may-end-spec = tie.close (tie.spec returns (λ c. search needs) returns-2 returns-3 returns-4)

@@ -7,15 +7,6 @@ use Rattle.words.proofs.places.passed.Tie as tie
 returns : tie.Need-returns
 returns c = passed-end _ _ _ (c .if1 .taken)
 
-shared-slice-read-is-mark : tie.Need-shared-slice-read-is-mark
-shared-slice-read-is-mark c = search needs
-
-is-mark-requires : tie.Need-is-mark-requires
-is-mark-requires c κs = search needs
-
-add-result : tie.Need-add-result
-add-result c = search needs
-
 returns-2 : tie.Need-returns-2
 returns-2 c = passed-mark _ _ (c .before .before .before .before .before .args .other) (c .before .is-mark .ensures) (c .if2 .taken)
 
@@ -25,4 +16,4 @@ returns-3 c = passed-letter _ _ _ (c .before .is-mark .ensures) (c .if2 .left)
 pub passed-spec : {M : Type 1} → statement M
 passed-spec =
     tie.close
-    (tie.spec returns shared-slice-read-is-mark is-mark-requires add-result returns-2 returns-3)
+    (tie.spec returns (λ c. search needs) (λ c κs. search needs) (λ c. search needs) returns-2 returns-3)

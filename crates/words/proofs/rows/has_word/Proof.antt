@@ -6,17 +6,8 @@ use borrow.Author.Needs.{needs}
 use Rattle.words.proofs.rows.has_word.Statement.{statement}
 use Rattle.words.proofs.rows.has_word.Tie as tie
 
-from-requires : tie.Need-from-requires
-from-requires c κs = search needs
-
-up-to-requires : tie.Need-up-to-requires
-up-to-requires c κs = search needs
-
-same-requires : tie.Need-same-requires
-same-requires c κs = search needs
-
 returns : tie.Need-returns
 returns c = c .same .ensures ∙ ap (sameText (c .before .before .before .before .before .args .word .now)) (c .before .up-to .ensures ∙ ap (upTo space) (c .before .before .from .ensures))
 
 pub has-word-spec : {M : Type 1} → statement M
-has-word-spec = tie.close (tie.spec from-requires up-to-requires same-requires returns)
+has-word-spec = tie.close (tie.spec (λ c κs. search needs) (λ c κs. search needs) (λ c κs. search needs) returns)

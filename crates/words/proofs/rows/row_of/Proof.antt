@@ -18,17 +18,8 @@ abbrev μ-loop : tie.MeasureT-loop
 loop-holds : tie.Need-loop-holds Inv-loop μ-loop
 loop-holds c = search needs
 
-is-row-requires : tie.Need-is-row-requires Inv-loop μ-loop
-is-row-requires c κs = search needs
-
 returns : tie.Need-returns Inv-loop μ-loop
 returns c = sym (row-here _ _ (c .before .before .before .loop .i) (c .before .before .before .loop .begins) (omega arith) (c .before .is-row .ensures) (c .if1 .taken)) ∙ c .before .before .before .loop .inv .1
-
-shared-slice-read-begins : tie.Need-shared-slice-read-begins Inv-loop μ-loop
-shared-slice-read-begins c = search needs
-
-add-i : tie.Need-add-i Inv-loop μ-loop
-add-i c = search needs
 
 loop-less : tie.Need-loop-less Inv-loop μ-loop
 loop-less c = search needs
@@ -46,10 +37,10 @@ row-of-spec =
     Inv-loop
     μ-loop
     loop-holds
-    is-row-requires
+    (λ c κs. search needs)
     returns
-    shared-slice-read-begins
-    add-i
+    (λ c. search needs)
+    (λ c. search needs)
     loop-less
     loop-again
     returns-2)

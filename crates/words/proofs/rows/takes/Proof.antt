@@ -7,20 +7,8 @@ use borrow.Author.Needs.{needs}
 use Rattle.words.proofs.rows.takes.Statement.{statement}
 use Rattle.words.proofs.rows.takes.Tie as tie
 
-from-requires : tie.Need-from-requires
-from-requires c κs = search needs
-
-behind-requires : tie.Need-behind-requires
-behind-requires c κs = search needs
-
-up-to-requires : tie.Need-up-to-requires
-up-to-requires c κs = search needs
-
 slice-aggregate-holds : tie.Need-slice-aggregate-holds
 slice-aggregate-holds c = search needs
-
-holds-requires : tie.Need-holds-requires
-holds-requires c κs = search needs
 
 returns : tie.Need-returns
 returns c = c .holds .ensures ∙ ap (standsIn (c .before .before .before .before .before .before .args .letter ∷ [])) (c .before .before .up-to .ensures ∙ ap (upTo space) (c .before .before .before .behind .ensures ∙ ap (behind space) (c .before .before .before .before .from .ensures)))
@@ -29,9 +17,9 @@ pub takes-spec : {M : Type 1} → statement M
 takes-spec =
     tie.close
     (tie.spec
-    from-requires
-    behind-requires
-    up-to-requires
+    (λ c κs. search needs)
+    (λ c κs. search needs)
+    (λ c κs. search needs)
     slice-aggregate-holds
-    holds-requires
+    (λ c κs. search needs)
     returns)

@@ -4,21 +4,9 @@ use borrow.Author.Needs.{needs}
 use Rattle.words.proofs.rows.up_to.Statement.{statement}
 use Rattle.words.proofs.rows.up_to.Tie as tie
 
-before-requires : tie.Need-before-requires
-before-requires c κs = search needs
-
-sub-result : tie.Need-sub-result
-sub-result c = search needs
-
-part-result-start : tie.Need-part-result-start
-part-result-start c = search needs
-
-part-result-end : tie.Need-part-result-end
-part-result-end c = search needs
-
 returns : tie.Need-returns
 returns c = part-up-to _ _ (c .before .before2 .ensures .0)
 
 pub up-to-spec : {M : Type 1} → statement M
 up-to-spec =
-    tie.close (tie.spec before-requires sub-result part-result-start part-result-end returns)
+    tie.close (tie.spec (λ c κs. search needs) (λ c. search needs) (λ c. search needs) (λ c. search needs) returns)

@@ -7,26 +7,8 @@ use Rattle.writer.proofs.zero.write_address.Tie as tie
 returns : tie.Need-returns
 returns c = unplaced _ _ _ 2 (search needs)
 
-sub-if2 : tie.Need-sub-if2
-sub-if2 c = search needs
-
 returns-2 : tie.Need-returns-2
 returns-2 c = unplaced _ _ _ 2 (search needs)
-
-mul-t11 : tie.Need-mul-t11
-mul-t11 c = search needs
-
-add-t12 : tie.Need-add-t12
-add-t12 c = search needs
-
-slice-aggregate-write-images : tie.Need-slice-aggregate-write-images
-slice-aggregate-write-images c = search needs
-
-write-images-requires : tie.Need-write-images-requires
-write-images-requires c κs = search needs
-
-same-length : tie.Need-same-length
-same-length c = search needs
 
 returns-3 : tie.Need-returns-3
 returns-3 c =
@@ -39,11 +21,11 @@ write-address-spec =
     tie.close
     (tie.spec
     returns
-    sub-if2
+    (λ c. search needs)
     returns-2
-    mul-t11
-    add-t12
-    slice-aggregate-write-images
-    write-images-requires
-    same-length
+    (λ c. search needs)
+    (λ c. search needs)
+    (λ c. search needs)
+    (λ c κs. search needs)
+    (λ c. search needs)
     returns-3)

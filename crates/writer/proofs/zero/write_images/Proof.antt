@@ -21,21 +21,6 @@ abbrev μ-loop : tie.MeasureT-loop
 loop-holds : tie.Need-loop-holds Inv-loop μ-loop
 loop-holds c = (search needs, refl, rw add-zero)
 
-shared-slice-read-image : tie.Need-shared-slice-read-image Inv-loop μ-loop
-shared-slice-read-image c = search needs
-
-image-requires : tie.Need-image-requires Inv-loop μ-loop
-image-requires c κs = search needs
-
-add-out : tie.Need-add-out Inv-loop μ-loop
-add-out c = search needs
-
-slice-write-out : tie.Need-slice-write-out Inv-loop μ-loop
-slice-write-out c = search needs
-
-add-i : tie.Need-add-i Inv-loop μ-loop
-add-i c = search needs
-
 loop-less : tie.Need-loop-less Inv-loop μ-loop
 loop-less c = search needs
 
@@ -44,9 +29,6 @@ loop-again c =
     let l = c .before .before .before .loop in
     let a = c .before .before .before .before .before .before .args in
     (search needs, length-set (l .out) (a .q + l .i) _ ∙ l .inv .1, images-more (l .out) _ (a .q) (l .i) _ (c .before .before .loop-test .taken) (c .image .ensures) ∙ l .inv .2)
-
-same-length : tie.Need-same-length Inv-loop μ-loop
-same-length c = search needs
 
 returns : tie.Need-returns Inv-loop μ-loop
 returns c = images-all _ _ _ _ _ (c .loop-test .left) (c .before .loop .inv .2)
@@ -58,12 +40,12 @@ write-images-spec =
     Inv-loop
     μ-loop
     loop-holds
-    shared-slice-read-image
-    image-requires
-    add-out
-    slice-write-out
-    add-i
+    (λ c. search needs)
+    (λ c κs. search needs)
+    (λ c. search needs)
+    (λ c. search needs)
+    (λ c. search needs)
     loop-less
     loop-again
-    same-length
+    (λ c. search needs)
     returns)

@@ -7,26 +7,8 @@ use Rattle.writer.proofs.zero.write_zero.Tie as tie
 returns : tie.Need-returns
 returns c = unplaced _ _ _ 42 (search needs)
 
-sub-if2 : tie.Need-sub-if2
-sub-if2 c = search needs
-
 returns-2 : tie.Need-returns-2
 returns-2 c = unplaced _ _ _ 42 (search needs)
-
-slice-aggregate-write-images : tie.Need-slice-aggregate-write-images
-slice-aggregate-write-images c = search needs
-
-write-images-requires : tie.Need-write-images-requires
-write-images-requires c κs = search needs
-
-add-write-blanks : tie.Need-add-write-blanks
-add-write-blanks c = search needs
-
-write-blanks-requires : tie.Need-write-blanks-requires
-write-blanks-requires c κs = search needs
-
-same-length : tie.Need-same-length
-same-length c = search needs
 
 returns-3 : tie.Need-returns-3
 returns-3 c =
@@ -41,11 +23,11 @@ write-zero-spec =
     tie.close
     (tie.spec
     returns
-    sub-if2
+    (λ c. search needs)
     returns-2
-    slice-aggregate-write-images
-    write-images-requires
-    add-write-blanks
-    write-blanks-requires
-    same-length
+    (λ c. search needs)
+    (λ c κs. search needs)
+    (λ c. search needs)
+    (λ c κs. search needs)
+    (λ c. search needs)
     returns-3)
