@@ -1,5 +1,5 @@
 -- After a cut line: packets are gone without a word, and from one of our packets 0 on all arrive again, undamaged, with nothing between but
--- packets that can be read (SCOPE 26).
+-- packets that can be read (SCOPE 26.8).
 use mathlib.Core.Path.{_≡_}
 use mathlib.Core.Bool.{Bool, true, false}
 use mathlib.Core.List.{List, [], _∷_, _++_, map}
@@ -88,7 +88,7 @@ pub data Behind (m : Mode) (bs : List Block) : List Block → Type 0 where
   alone : Behind m bs bs
   after : {b : Block} → Becomes m b → Behind m bs (spanning true b ∷ bs)
 
--- those of a list of blocks whose second byte is 0 (SCOPE 26)
+-- those of a list of blocks whose second byte is 0 (SCOPE 26.9)
 unfoldable pub unjoined : List Block → List Block
 unjoined [] = []
 unjoined (b ∷ bs) = pick (eqb (b .second) 0) (b ∷ []) [] ++ unjoined bs

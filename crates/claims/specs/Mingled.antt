@@ -1,5 +1,5 @@
 -- What may stand between packets of ours, wider than packets of other magazines: between whole pages of ours also other pages of our magazine,
--- whole or not (SCOPE 26).
+-- whole or not (SCOPE 26.7).
 use mathlib.Core.Bool.{Bool, true, false}
 use mathlib.Core.Path.{_≡_}
 use mathlib.Core.List.{List, [], _∷_, _++_, map}
