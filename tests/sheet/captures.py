@@ -87,7 +87,26 @@ def main(folder):
     (folder / "evening.pes").write_bytes(b"".join(pes.write(0x10, b"\x02\xe7" + packet) for packet in evening))
     (folder / "many.t42").write_bytes(sent(DESK, [CASE_G._replace(network=n) for n in range(65)]))      # more than a sheet holds
     (folder / "crowd").write_bytes(sheet.written([sheet.Entry(1, CASE_G._replace(network=100 + n, copyright=0)) for n in range(64)]))    # no other network has room in it
+    drops(folder, dice)
     late(folder, dice)
+
+
+def drops(folder, dice):
+    """Entries dropped: a line each of kind, network, block and a name; NAME.before, and NAME.after, or NAME.no where the sheet is refused."""
+    many = [sheet.Entry(1, CASE_G._replace(network=n, copyright=0)) for n in range(66)]
+    day = sheet.read(samples.day()["day.sheet"])
+    cases = [("d65", many[:65], many[7]), ("d64", many[:64], many[63]), ("d1", many[:1], many[0])]
+    cases += [(f"day{i}", day, entry) for i, entry in enumerate(day)]
+    lines = []
+    for name, before, entry in cases:
+        (folder / f"{name}.before").write_bytes(sheet.written(before))
+        (folder / f"{name}.after").write_bytes(sheet.written([e for e in before if e != entry]))
+        lines.append((entry, name))
+    for name, data, no in (("d66", sheet.written(many), 21), ("cut", sheet.written(many[:3])[:-1], 20), ("over", b"x" * 16385, 21)):
+        (folder / f"{name}.before").write_bytes(data)
+        (folder / f"{name}.no").write_text(str(no))
+        lines.append((many[1], name))
+    (folder / "drops").write_text("".join(f"{ {7: 'LI', 8: 'TI'}[e.table.kind] } {e.table.network} {e.table.block_no} {name}\n" for e, name in lines))
 
 
 def late(folder, dice):

@@ -166,6 +166,45 @@ fn join(name: &[u8], other: &[u8], work: Work, sheet: &mut [u8], spare: &mut [u8
     }
 }
 
+// Drops the entry of a network, kind and block. One that isn't there is told, and so is a sheet that is refused.
+pub fn drop(
+    shown: &[u8],
+    network: u8,
+    kind: u8,
+    block: u16,
+    work: Work,
+    sheet: &mut [u8],
+    spare: &mut [u8],
+) -> Work {
+    let answer = day_sheet::drop(network, kind, block, told::front(sheet, work.length), spare);
+    match answer {
+        Answer::Done(n) => dropped(shown, network, kind, block, n, work, sheet, spare),
+        Answer::Refused(r) => {
+            says::refuse_sheet(shown, r.no, r.at, told::front(sheet, work.length));
+            work::broken(work)
+        }
+    }
+}
+
+// The sheet without the entry is in the first n bytes of the spare space.
+fn dropped(
+    shown: &[u8],
+    network: u8,
+    kind: u8,
+    block: u16,
+    n: usize,
+    work: Work,
+    sheet: &mut [u8],
+    spare: &[u8],
+) -> Work {
+    if n == work.length {
+        says::no_entry(shown, network, kind, block);
+        return work::broken(work);
+    }
+    lent_bytes::copy(spare, 0, n, sheet, 0);
+    work::resized(work, n, texts::entries(told::front(spare, n)) as u64)
+}
+
 // Looks at the sheet of a name, and prints its line. Answers whether standard output took it.
 pub fn check(word: &mut [u8; 4096], n: usize) -> bool {
     let fd = kinds::open_plain(told::front(word, n));

@@ -24,12 +24,17 @@ fn print() -> bool {
         b"usage: sheet add [-m 1..8] [-p 00..FF] [-s 0..15] [-a 0..31] [--] SHEET STAMP CAPTURE [STAMP CAPTURE ...]\n",
     );
     let on = line(on, b"       sheet join [--] SHEET OTHER ...\n");
+    let on = line(on, b"       sheet drop [--] SHEET KIND NETWORK BLOCK\n");
     let on = line(on, b"       sheet check [--] SHEET ...\n");
     let on = line(
         on,
         b"  add        add the tables of captures to the sheet; a stamp is the second at which the capture behind it started\n",
     );
     let on = line(on, b"  join       join other sheets to the sheet\n");
+    let on = line(
+        on,
+        b"  drop       take one entry out of the sheet: its kind is LI or TI\n",
+    );
     let on = line(
         on,
         b"  check      print a line for each sheet, and change none\n",

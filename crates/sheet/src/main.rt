@@ -53,16 +53,31 @@ const OPTIONS: [u32; 20] = [
     1,
 ];
 
-// The tasks (SCOPE 20.12, 20.13). A name is `f` the sheet, `s` a stamp, `c` a capture or `o` another sheet.
-const TASKS: [u8; 34] = *b"add mpsa f+sc\njoin  f+o\ncheck  +f\n";
+// The rows (SCOPE 20.12, 20.13). A name is `f` the sheet, `s` a stamp, `c` a capture, `o` another sheet, or `k`, `n` and `b` an entry's kind, network and block.
+const TASKS: [u8; 45] = *b"add mpsa f+sc\njoin  f+o\ndrop  fknb\ncheck  +f\n";
+
+// The tasks that change a sheet.
+const ADD: u8 = 1;
+
+const JOIN: u8 = 2;
+
+const DROP: u8 = 3;
 
 // How often the work is done at most: once, and sixteen times anew where the sheet has changed meanwhile.
 const TURNS: usize = 17;
 
-// Where the second hearing stands: the words so far, the last stamp, and what was done.
+// What is to be done: the task, and the setting in which captures are read.
+struct Job {
+    task: u8,
+    setting: Setting,
+}
+
+// Where the second hearing stands: the words so far, the last stamp, kind and network, and what was done.
 struct Heard {
     said: Said,
     stamp: u32,
+    kind: u8,
+    network: u8,
     work: Work,
 }
 
@@ -81,7 +96,20 @@ fn main() {
         check_all();
         return;
     }
-    change(setting_of(said), words::is_task(&TASKS, said, b"add"));
+    change(Job {
+        task: task_of(said),
+        setting: setting_of(said),
+    });
+}
+
+fn task_of(said: Said) -> u8 {
+    if words::is_task(&TASKS, said, b"add") {
+        return ADD;
+    }
+    if words::is_task(&TASKS, said, b"join") {
+        return JOIN;
+    }
+    DROP
 }
 
 fn hear_all() -> Said {
@@ -144,8 +172,8 @@ fn is_bad_stamp(said: Said, i: usize) -> bool {
     true
 }
 
-// Adds captures to a sheet, or joins sheets to it: all of them, or none. A link leads to the sheet's own place.
-fn change(setting: Setting, is_add: bool) {
+// Adds captures to a sheet, or joins sheets to it, all of them or none; or drops an entry of it. A link leads to the sheet's own place.
+fn change(job: Job) {
     let named = sheet_word();
     let mut shown = io::buffer();
     let m = told::argument(named, &mut shown);
@@ -158,7 +186,7 @@ fn change(setting: Setting, is_add: bool) {
     if !is_place(way, path, shown) {
         return;
     }
-    change_at(setting, is_add, way.linked, path, shown);
+    change_at(job, way.linked, path, shown);
 }
 
 // Which word names the sheet.
@@ -202,7 +230,7 @@ fn is_place(way: Way, path: &[u8], shown: &[u8]) -> bool {
 }
 
 // Reads the sheet at its path and judges it. Where tables are added, one that is missing is empty, but for one that a link names.
-fn change_at(setting: Setting, is_add: bool, is_linked: bool, path: &[u8], shown: &[u8]) {
+fn change_at(job: Job, is_linked: bool, path: &[u8], shown: &[u8]) {
     let mut base = [0u8; SHEET];
     let mut spare = [0u8; SHEET];
     let stand = files::read(path, shown, &mut base);
@@ -217,21 +245,28 @@ fn change_at(setting: Setting, is_add: bool, is_linked: bool, path: &[u8], shown
             );
             return;
         }
-        if !is_add {
+        if job.task != ADD {
             says::fail(shown, b"it can't be opened, and stays as it was");
             return;
         }
     }
-    if !files::is_judged(shown, told::front(&base, stand.length), &mut spare) {
+    if !is_fit(job, shown, told::front(&base, stand.length), &mut spare) {
         return;
     }
-    change_all(setting, is_add, stand, path, shown, &mut base, &mut spare);
+    change_all(job, stand, path, shown, &mut base, &mut spare);
+}
+
+// Whether a sheet is one to begin with. Where an entry is dropped, the call that drops it judges that, since one entry too many may be the one.
+fn is_fit(job: Job, shown: &[u8], sheet: &[u8], spare: &mut [u8]) -> bool {
+    if job.task == DROP {
+        return true;
+    }
+    files::is_judged(shown, sheet, spare)
 }
 
 // The work, and the work anew as long as the sheet has changed meanwhile.
 fn change_all(
-    setting: Setting,
-    is_add: bool,
+    job: Job,
     stand: Stand,
     path: &[u8],
     shown: &[u8],
@@ -242,21 +277,21 @@ fn change_all(
     let mut again = [0u8; SHEET];
     let mut kept = [0u8; KEPT];
     let mut stand = stand;
-    let mut work = visit_all(setting, is_add, stand, base, &mut sheet, spare, &mut kept);
+    let mut work = visit_all(job, stand, shown, base, &mut sheet, spare, &mut kept);
     let mut left = TURNS;
     while left > 0 {
         left -= 1;
-        if is_idle(work, is_add) {
+        if is_idle(job, work) {
             return;
         }
         let placed = put(stand, work, path, shown, base, &sheet, &mut again);
         if placed.over {
+            finish(job, work, shown, placed.renamed);
             return;
         }
         stand = placed.stand;
         work = redo(
-            setting,
-            is_add,
+            job,
             stand,
             work,
             shown,
@@ -267,6 +302,10 @@ fn change_all(
             &mut kept,
         );
     }
+    give_up(work, shown);
+}
+
+fn give_up(work: Work, shown: &[u8]) {
     if work.sound {
         says::tell(
             shown,
@@ -276,11 +315,11 @@ fn change_all(
 }
 
 // Whether nothing is to be put in the sheet's place: something failed, or no table came. Then the line is all.
-fn is_idle(work: Work, is_add: bool) -> bool {
+fn is_idle(job: Job, work: Work) -> bool {
     if !work.sound {
         return true;
     }
-    if !is_add {
+    if job.task != ADD {
         return false;
     }
     if work.tables > 0 {
@@ -300,13 +339,24 @@ fn put(
     again: &mut [u8; SHEET],
 ) -> Placed {
     let sheet = told::front(sheet, work.length);
-    placing::put(stand, work, path, shown, base, sheet, again)
+    placing::put(stand, path, shown, base, sheet, again)
+}
+
+// Prints the line where the new sheet stands.
+fn finish(job: Job, work: Work, shown: &[u8], is_renamed: bool) {
+    if !is_renamed {
+        return;
+    }
+    if job.task == DROP {
+        says::put_left(shown, work);
+        return;
+    }
+    says::put_work(work, true);
 }
 
 // Does the work anew on what stands in the sheet's place now.
 fn redo(
-    setting: Setting,
-    is_add: bool,
+    job: Job,
     stand: Stand,
     work: Work,
     shown: &[u8],
@@ -317,11 +367,11 @@ fn redo(
     kept: &mut [u8; KEPT],
 ) -> Work {
     lent_bytes::copy(again, 0, SHEET, base, 0);
-    if !files::is_judged(shown, told::front(again, stand.length), spare) {
+    if !is_fit(job, shown, told::front(again, stand.length), spare) {
         return work::broken(work);
     }
-    if !is_add {
-        return visit_all(setting, is_add, stand, base, sheet, spare, kept);
+    if job.task != ADD {
+        return visit_all(job, stand, shown, base, sheet, spare, kept);
     }
     if !work.whole {
         says::tell(
@@ -337,9 +387,9 @@ fn redo(
 
 // Hears the words again, and does what each is for, beginning with the sheet that stands.
 fn visit_all(
-    setting: Setting,
-    is_add: bool,
+    job: Job,
     stand: Stand,
+    shown: &[u8],
     base: &[u8; SHEET],
     sheet: &mut [u8; SHEET],
     spare: &mut [u8; SHEET],
@@ -350,11 +400,13 @@ fn visit_all(
     let mut heard = Heard {
         said: words::start(&TASKS),
         stamp: 0,
+        kind: 0,
+        network: 0,
         work: start(stand, base),
     };
     let mut i = 1;
     while i < count {
-        heard = visit(heard, i, setting, sheet, spare, kept);
+        heard = visit(heard, i, job, shown, sheet, spare, kept);
         i += 1;
     }
     heard.work
@@ -369,21 +421,21 @@ fn start(stand: Stand, base: &[u8; SHEET]) -> Work {
 fn visit(
     heard: Heard,
     i: usize,
-    setting: Setting,
+    job: Job,
+    shown: &[u8],
     sheet: &mut [u8; SHEET],
     spare: &mut [u8; SHEET],
     kept: &mut [u8; KEPT],
 ) -> Heard {
     let mut word = io::buffer();
     let n = told::argument(i, &mut word);
-    let before = heard.said;
+    let letter = words::place(&TASKS, heard.said, told::front(&word, n));
+    let mut heard = note(heard, letter, told::front(&word, n));
     let work = heard.work;
-    let letter = words::place(&TASKS, before, told::front(&word, n));
-    let mut heard = heard;
-    heard.said = words::next(&OPTIONS, &TASKS, before, told::front(&word, n));
     match letter {
-        b's' => {
-            heard.stamp = stamp_of(told::front(&word, n));
+        b'b' => {
+            let block = block_of(told::front(&word, n));
+            heard.work = files::drop(shown, heard.network, heard.kind, block, work, sheet, spare);
             heard
         }
         b'c' => {
@@ -391,7 +443,7 @@ fn visit(
                 stamp: heard.stamp,
                 word: i,
             };
-            heard.work = capture::open(&mut word, n, source, setting, work, sheet, spare, kept);
+            heard.work = capture::open(&mut word, n, source, job.setting, work, sheet, spare, kept);
             heard
         }
         b'o' => {
@@ -402,9 +454,29 @@ fn visit(
     }
 }
 
-// The stamp that a word says; the words were judged before.
-fn stamp_of(word: &[u8]) -> u32 {
-    (words::number_of(word) % NO_NUMBER) as u32
+// Notes what a word says; the words were judged before.
+fn note(heard: Heard, letter: u8, word: &[u8]) -> Heard {
+    let mut heard = heard;
+    heard.said = words::next(&OPTIONS, &TASKS, heard.said, word);
+    match letter {
+        b's' => {
+            heard.stamp = (words::number_of(word) % NO_NUMBER) as u32;
+            heard
+        }
+        b'k' => {
+            heard.kind = words::kind_of(word);
+            heard
+        }
+        b'n' => {
+            heard.network = (words::number_of(word) % 256) as u8;
+            heard
+        }
+        _ => heard,
+    }
+}
+
+fn block_of(word: &[u8]) -> u16 {
+    (words::number_of(word) % 65536) as u16
 }
 
 // Looks at each sheet that is named, and goes on after one that is refused.

@@ -1,11 +1,10 @@
 // The new sheet takes the place of the old one, whole or not at all: it goes to a temporary file beside it, which is written, synced and closed;
-// then the old one is read once more; then the new one is renamed over it, and the folder is synced (SCOPE 20.16).
+// then the old one is read once more; then the new one is renamed over it, and the folder is synced (SCOPE 20.16). The line is the caller's to print.
 use crate::files;
 use crate::files::Stand;
 use crate::kinds;
 use crate::paths;
 use crate::says;
-use crate::work::Work;
 
 // How it went: whether it is over, done or failed and told; whether the temporary file has taken the sheet's place; and what stood there
 // when the sheet was read once more. It isn't over where that is another than it was.
@@ -18,7 +17,6 @@ pub struct Placed {
 // Puts the new sheet in the place of what was read at its path, which was the first bytes of `base`. What stands there now is left in `again`.
 pub fn put(
     stand: Stand,
-    work: Work,
     path: &[u8],
     shown: &[u8],
     base: &[u8],
@@ -36,7 +34,7 @@ pub fn put(
         return failed(stand);
     }
     let temp = told::front(&temp, paths::temp_length(path.len()));
-    let placed = put_in(fd, stand, work, path, shown, temp, base, sheet, again);
+    let placed = put_in(fd, stand, path, shown, temp, base, sheet, again);
     if placed.renamed {
         return placed;
     }
@@ -57,7 +55,6 @@ fn failed(stand: Stand) -> Placed {
 fn put_in(
     fd: i32,
     stand: Stand,
-    work: Work,
     path: &[u8],
     shown: &[u8],
     temp: &[u8],
@@ -85,7 +82,6 @@ fn put_in(
     if !paths::is_folder_synced(path) {
         says::note_unsynced(shown);
     }
-    says::put_work(work, true);
     Placed {
         over: true,
         renamed: true,

@@ -17,7 +17,9 @@ pub fn usage() {
     say(
         b"sheet: usage: sheet add [-m 1..8] [-p 00..FF] [-s 0..15] [-a 0..31] [--] SHEET STAMP CAPTURE [STAMP CAPTURE ...], ",
     );
-    say(b"sheet join [--] SHEET OTHER ..., sheet check [--] SHEET ...\n");
+    say(
+        b"sheet join [--] SHEET OTHER ..., sheet drop [--] SHEET KIND NETWORK BLOCK, sheet check [--] SHEET ...\n",
+    );
 }
 
 // A word that has to be a stamp and isn't.
@@ -44,6 +46,27 @@ pub fn tell(name: &[u8], what: &[u8]) {
     say(b": ");
     say(what);
     say(b"\n");
+}
+
+// A sheet without the entry that was to be dropped.
+pub fn no_entry(name: &[u8], network: u8, kind: u8, block: u16) {
+    told::begin(&PROGRAM);
+    say(name);
+    say(b": it has no entry of kind ");
+    say_kind(kind);
+    say(b", network ");
+    say_number(network as u64);
+    say(b", block ");
+    say_number(block as u64);
+    say(b", and stays as it was\n");
+}
+
+fn say_kind(kind: u8) {
+    if kind == 7 {
+        say(b"LI");
+        return;
+    }
+    say(b"TI");
 }
 
 // A capture that gave no table, and the desk's cause where it has one (SCOPE 13.9).
@@ -135,13 +158,26 @@ pub fn put_work(work: Work, is_new: bool) {
         return;
     }
     if is_new {
-        fail(
-            b"standard output",
-            b"it takes no more, and the new sheet stands",
-        );
+        put_late();
         return;
     }
     not_put();
+}
+
+// The line of a sheet that stands without an entry.
+pub fn put_left(name: &[u8], work: Work) {
+    let mut line = [0u8; LINE];
+    let n = sheet_line(name, work.entries, work.length as u64, &mut line);
+    if !is_put(&line, n) {
+        put_late();
+    }
+}
+
+fn put_late() {
+    fail(
+        b"standard output",
+        b"it takes no more, and the new sheet stands",
+    );
 }
 
 fn work_line(work: Work, line: &mut [u8; LINE]) -> usize {

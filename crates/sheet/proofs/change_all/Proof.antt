@@ -4,10 +4,10 @@ use Rattle.sheet.proofs.change_all.Statement.{statement}
 use Rattle.sheet.proofs.change_all.Tie as tie
 
 abbrev Inv-loop : tie.InvT-loop
-Inv-loop setting is-add path shown base₀ spare₀ sheet₀ again₀ kept₀ stand₀ work₀ left₀ t15 base spare sheet again kept stand work left = Unit {0}
+Inv-loop job path shown base₀ spare₀ sheet₀ again₀ kept₀ stand₀ work₀ left₀ base spare sheet again kept stand work left = Unit {0}
 
 abbrev μ-loop : tie.MeasureT-loop
-μ-loop setting is-add path shown base₀ spare₀ sheet₀ again₀ kept₀ stand₀ work₀ left₀ t15 base spare sheet again kept stand work left = left
+μ-loop job path shown base₀ spare₀ sheet₀ again₀ kept₀ stand₀ work₀ left₀ base spare sheet again kept stand work left = left
 
 loop-holds : tie.Need-loop-holds Inv-loop μ-loop
 loop-holds c = search needs
@@ -27,9 +27,6 @@ loop-again c = search needs
 returns-3 : tie.Need-returns-3 Inv-loop μ-loop
 returns-3 c = search needs
 
-returns-4 : tie.Need-returns-4 Inv-loop μ-loop
-returns-4 c = search needs
-
 pub change-all-spec : {M : Type 1} → statement M
 change-all-spec =
     tie.close
@@ -42,11 +39,10 @@ change-all-spec =
     (λ c κs. search needs)
     returns
     (λ c κs. search needs)
+    (λ c κs. search needs)
     returns-2
     (λ c κs. search needs)
     loop-less
     loop-again
-    (λ c. search needs)
     (λ c κs. search needs)
-    returns-3
-    returns-4)
+    returns-3)
