@@ -3,11 +3,11 @@
 use mathlib.Core.Path.{_≡_, _∙_, refl, sym}
 use mathlib.Core.Bool.{Bool, true, false, not}
 use mathlib.Core.List.{List}
-use Prim.Native.Nat.{ℕ, _+_, _*_, _/_, _%_, _<_}
+use Prim.Native.Nat.{ℕ, _+_, _*_, _/_, _%_, _≤_, _<_}
 use native.Mathlib.Omega.{arith}
 use lib.Dec.{eqb, leb, lit<}
 use lib.ListN.{length, getD, drop}
-use borrow.Author.Tests.{ne-eqb, eqb-true, eqb-false, not-true}
+use borrow.Author.Tests.{eq-eqb, ne-eqb, eqb-true, eqb-false, not-true}
 use Rattle.laws.specs.Pick.{pick, both}
 use Rattle.laws.proofs.Picks.{same}
 use Rattle.laws.proofs.Tests.{both-second}
@@ -28,8 +28,9 @@ use Rattle.pages.specs.Seen.{seeY, seenAs, see}
 use Rattle.pages.specs.Judging.{verdictOf}
 use Rattle.pages.specs.Two.{SeenByTwo, unreadable, passing, neither, header, numbered, whoseOf, seenByTwoAs, seeByTwo, seenFor, pageFor, settingFor}
 use Rattle.pages.specs.Verdicts.{openAfter, verdictFor, verdictsOf}
-use Rattle.pages.specs.Internal.{secondOnly, shared}
+use Rattle.pages.specs.Internal.{seenZero, secondOnly, shared}
 use Rattle.pages.proofs.Seeing.{decodes-at}
+use Rattle.pages.proofs.Judged.{as-zero}
 
 -- ---- the verdict
 
@@ -73,6 +74,10 @@ view-first foreign (packetY n p l) = refl
 not-and : (a : Bool) → both (not a) a ≡ false
 not-and true = refl
 not-and false = refl
+
+-- whose a packet 0 with this stream, index and count is
+abbrev pub named : Streams → ℕ → ℕ → ℕ → SeenByTwo
+named s stream index n = pick (eqb stream (s .first)) (header First index n) (pick (eqb stream (s .second)) (header Second index n) neither)
 
 -- a stream that a packet 0 can have is the second's alone where it is the second's and not the first's
 only-second : (s : Streams) (k : ℕ) → k < 16 → eqb k (secondOnly s .stream) ≡ both (not (eqb k (s .first))) (eqb k (s .second))
@@ -139,6 +144,43 @@ module _ (s : Streams) (x : ℕ) (p : List ℕ) where
   -- of two streams that differ the second's is its own
   pub seen-second : (s .first ≡ s .second → ⊥) → seenAs (secondOf s) x p ≡ seenFor Second (seenByTwoAs s x p)
   seen-second n = rw (ne-eqb _ _ n) at seen-second-only
+
+  -- a packet 0 of our magazine says whose it is: by its page's number and its stream
+  module _ (long : length p ≡ packetLength) (h : x ≤ 255) (q : x % 8 ≡ s .magazine % 8) (z : x / 8 ≡ 0) where
+    pub zero-named :
+        (let l = drop 2 p in
+        seenByTwoAs s x p
+        ≡ pick (decodes 6 l)
+        (pick (eqb (nib (getD l 0 0) + 16 * nib (getD l 1 0)) (s .page))
+        (named s (nib (getD l 4 0)) (nib (getD l 2 0)) (nib (getD l 3 0) % 8 + 8 * (nib (getD l 5 0) % 4)))
+        neither)
+        unreadable)
+    unfolding seenByTwoAs seenZero seeZero
+    zero-named =
+        rw (as-zero (firstOf s) p long h q z, as-zero (secondOf s) p long h q z, eq-eqb _ _ long)
+        (go (decodes 6 l) (eqb (nib (getD l 0 0) + 16 * nib (getD l 1 0)) (s .page)) (eqb k (s .first)) (eqb k (s .second)))
+      where
+        l : List ℕ
+        l = drop 2 p
+
+        k : ℕ
+        k = nib (getD l 4 0)
+
+        i : ℕ
+        i = nib (getD l 2 0)
+
+        n : ℕ
+        n = nib (getD l 3 0) % 8 + 8 * (nib (getD l 5 0) % 4)
+
+        go :
+            (d b f g : Bool)
+            → whoseOf (pick d (pick (both b f) (ours i n) foreign) junk) (pick d (pick (both b g) (ours i n) foreign) junk)
+            ≡ pick d (pick b (pick f (header First i n) (pick g (header Second i n) neither)) neither) unreadable
+        go false b f g = refl
+        go true false f g = refl
+        go true true true g = refl
+        go true true false true = refl
+        go true true false false = refl
 
   -- two verdicts, each of one stream alone, make up the verdict on both
   module _ (page : SharedPage) (i j : ℕ) where
