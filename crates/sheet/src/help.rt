@@ -1,24 +1,7 @@
-// What `--help` and `--version` print as the first word. The loader prints the same without a build: it takes each line of help from a
-// line of its own here.
+// What `--help` prints as the first word. Each line of it stands on a line here: `loader` prints it from here.
 pub const PROGRAM: [u8; 5] = *b"sheet";
 
-// Answers whether the first word asks for one of them, which is then printed.
-pub fn is_asked() -> bool {
-    let mut word = io::buffer();
-    let n = told::argument(1, &mut word);
-    let word = told::front(&word, n);
-    if texts::same(word, b"--help") {
-        print();
-        return true;
-    }
-    if texts::same(word, b"--version") {
-        told::put_version(&PROGRAM);
-        return true;
-    }
-    false
-}
-
-fn print() -> bool {
+pub fn put() -> bool {
     let on = line(
         true,
         b"usage: sheet add [-m 1..8] [-p 00..FF] [-s 0..15] [-a 0..31] [--] SHEET STAMP CAPTURE [STAMP CAPTURE ...]\n",

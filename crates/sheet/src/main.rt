@@ -73,7 +73,7 @@ struct Job {
 }
 
 // Where the second hearing stands: the words so far, the last stamp, kind and network, and what was done.
-struct Heard {
+struct Visited {
     said: Said,
     stamp: u32,
     kind: u8,
@@ -82,10 +82,15 @@ struct Heard {
 }
 
 fn main() {
-    if help::is_asked() {
+    if command_line::is_first(b"--help") {
+        help::put();
         return;
     }
-    let said = hear_all();
+    if command_line::is_first(b"--version") {
+        told::put_version(&help::PROGRAM);
+        return;
+    }
+    let said = command_line::hear_all(&OPTIONS, &TASKS);
     if !words::is_good(&TASKS, said) {
         if !tell_stamp() {
             says::usage();
@@ -98,7 +103,7 @@ fn main() {
     }
     change(Job {
         task: task_of(said),
-        setting: setting_of(said),
+        setting: command_line::setting(&OPTIONS, said),
     });
 }
 
@@ -112,63 +117,32 @@ fn task_of(said: Said) -> u8 {
     DROP
 }
 
-fn hear_all() -> Said {
-    let count = os::arg_count();
-    let mut said = words::start(&TASKS);
-    let mut i = 1;
-    while i < count {
-        said = hear(said, i);
-        i += 1;
-    }
-    said
-}
-
-fn hear(said: Said, i: usize) -> Said {
-    let mut word = io::buffer();
-    let n = told::argument(i, &mut word);
-    words::next(&OPTIONS, &TASKS, said, told::front(&word, n))
-}
-
-fn setting_of(said: Said) -> Setting {
-    Setting {
-        magazine: value(said, 0),
-        page: value(said, 1),
-        stream: value(said, 2),
-        application: value(said, 3),
-    }
-}
-
-// The value of an option, none of which is more than 255.
-fn value(said: Said, k: usize) -> u8 {
-    (words::value(&OPTIONS, said, k) % 256) as u8
-}
-
 // Tells of the first word that has to be a stamp and isn't. Answers whether there is one.
 fn tell_stamp() -> bool {
+    let mut word = io::buffer();
     let count = os::arg_count();
     let mut said = words::start(&TASKS);
     let mut i = 1;
     while i < count {
-        if is_bad_stamp(said, i) {
+        let heard = command_line::hear(&OPTIONS, &TASKS, said, i, &mut word);
+        if is_bad_stamp(heard.place, heard.long, &mut word) {
             return true;
         }
-        said = hear(said, i);
+        said = heard.said;
         i += 1;
     }
     false
 }
 
-fn is_bad_stamp(said: Said, i: usize) -> bool {
-    let mut word = io::buffer();
-    let n = told::argument(i, &mut word);
-    if words::place(&TASKS, said, told::front(&word, n)) != b's' {
+fn is_bad_stamp(place: u8, n: usize, word: &mut [u8; 4096]) -> bool {
+    if place != b's' {
         return false;
     }
-    if words::number_of(told::front(&word, n)) <= MOST {
+    if words::number_of(told::front(word, n)) <= MOST {
         return false;
     }
-    told::plain(&mut word);
-    says::bad_stamp(told::front(&word, n));
+    told::plain(word);
+    says::bad_stamp(told::front(word, n));
     true
 }
 
@@ -191,23 +165,19 @@ fn change(job: Job) {
 
 // Which word names the sheet.
 fn sheet_word() -> usize {
+    let mut word = io::buffer();
     let count = os::arg_count();
     let mut said = words::start(&TASKS);
     let mut i = 1;
     while i < count {
-        if place_of(said, i) == b'f' {
+        let heard = command_line::hear(&OPTIONS, &TASKS, said, i, &mut word);
+        if heard.place == b'f' {
             return i;
         }
-        said = hear(said, i);
+        said = heard.said;
         i += 1;
     }
     i
-}
-
-fn place_of(said: Said, i: usize) -> u8 {
-    let mut word = io::buffer();
-    let n = told::argument(i, &mut word);
-    words::place(&TASKS, said, told::front(&word, n))
 }
 
 // Whether a sheet can stand where a name leads to, with a temporary file beside it. What is wrong is told.
@@ -397,7 +367,7 @@ fn visit_all(
 ) -> Work {
     lent_bytes::copy(base, 0, SHEET, sheet, 0);
     let count = os::arg_count();
-    let mut heard = Heard {
+    let mut visited = Visited {
         said: words::start(&TASKS),
         stamp: 0,
         kind: 0,
@@ -406,10 +376,10 @@ fn visit_all(
     };
     let mut i = 1;
     while i < count {
-        heard = visit(heard, i, job, shown, sheet, spare, kept);
+        visited = visit(visited, i, job, shown, sheet, spare, kept);
         i += 1;
     }
-    heard.work
+    visited.work
 }
 
 fn start(stand: Stand, base: &[u8; SHEET]) -> Work {
@@ -419,87 +389,100 @@ fn start(stand: Stand, base: &[u8; SHEET]) -> Work {
 
 // Hears a word again, and does what it is for, unless something failed before.
 fn visit(
-    heard: Heard,
+    visited: Visited,
     i: usize,
     job: Job,
     shown: &[u8],
     sheet: &mut [u8; SHEET],
     spare: &mut [u8; SHEET],
     kept: &mut [u8; KEPT],
-) -> Heard {
+) -> Visited {
     let mut word = io::buffer();
-    let n = told::argument(i, &mut word);
-    let letter = words::place(&TASKS, heard.said, told::front(&word, n));
-    let mut heard = note(heard, letter, told::front(&word, n));
-    let work = heard.work;
-    match letter {
+    let heard = command_line::hear(&OPTIONS, &TASKS, visited.said, i, &mut word);
+    let n = heard.long;
+    let place = heard.place;
+    let said = heard.said;
+    let mut visited = note(visited, said, place, &word, n);
+    let work = visited.work;
+    match place {
         b'b' => {
-            let block = block_of(told::front(&word, n));
-            heard.work = files::drop(shown, heard.network, heard.kind, block, work, sheet, spare);
-            heard
+            let block = block_of(&word, n);
+            let network = visited.network;
+            visited.work = files::drop(shown, network, visited.kind, block, work, sheet, spare);
+            visited
         }
         b'c' => {
             let source = Source {
-                stamp: heard.stamp,
+                stamp: visited.stamp,
                 word: i,
             };
-            heard.work = capture::open(&mut word, n, source, job.setting, work, sheet, spare, kept);
-            heard
+            visited.work = capture::open(
+                &mut word,
+                n,
+                source,
+                job.setting,
+                work,
+                sheet,
+                spare,
+                kept,
+            );
+            visited
         }
         b'o' => {
-            heard.work = files::open_other(&mut word, n, work, sheet, spare);
-            heard
+            visited.work = files::open_other(&mut word, n, work, sheet, spare);
+            visited
         }
-        _ => heard,
+        _ => visited,
     }
 }
 
 // Notes what a word says; the words were judged before.
-fn note(heard: Heard, letter: u8, word: &[u8]) -> Heard {
-    let mut heard = heard;
-    heard.said = words::next(&OPTIONS, &TASKS, heard.said, word);
-    match letter {
+fn note(visited: Visited, said: Said, place: u8, word: &[u8; 4096], n: usize) -> Visited {
+    let word = told::front(word, n);
+    let mut visited = visited;
+    visited.said = said;
+    match place {
         b's' => {
-            heard.stamp = (words::number_of(word) % NO_NUMBER) as u32;
-            heard
+            visited.stamp = (words::number_of(word) % NO_NUMBER) as u32;
+            visited
         }
         b'k' => {
-            heard.kind = words::kind_of(word);
-            heard
+            visited.kind = words::kind_of(word);
+            visited
         }
         b'n' => {
-            heard.network = (words::number_of(word) % 256) as u8;
-            heard
+            visited.network = (words::number_of(word) % 256) as u8;
+            visited
         }
-        _ => heard,
+        _ => visited,
     }
 }
 
-fn block_of(word: &[u8]) -> u16 {
-    (words::number_of(word) % 65536) as u16
+fn block_of(word: &[u8; 4096], n: usize) -> u16 {
+    (words::number_of(told::front(word, n)) % 65536) as u16
 }
 
 // Looks at each sheet that is named, and goes on after one that is refused.
 fn check_all() {
+    let mut word = io::buffer();
     let count = os::arg_count();
     let mut said = words::start(&TASKS);
     let mut is_sound = true;
     let mut i = 1;
     while i < count {
+        let heard = command_line::hear(&OPTIONS, &TASKS, said, i, &mut word);
+        said = heard.said;
         if is_sound {
-            is_sound = check(said, i);
+            is_sound = check(heard.place, heard.long, &mut word);
         }
-        said = hear(said, i);
         i += 1;
     }
 }
 
 // Answers whether standard output still takes what is written.
-fn check(said: Said, i: usize) -> bool {
-    let mut word = io::buffer();
-    let n = told::argument(i, &mut word);
-    if words::place(&TASKS, said, told::front(&word, n)) == b'f' {
-        return files::check(&mut word, n);
+fn check(place: u8, n: usize, word: &mut [u8; 4096]) -> bool {
+    if place == b'f' {
+        return files::check(word, n);
     }
     true
 }

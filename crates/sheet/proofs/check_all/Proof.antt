@@ -5,10 +5,10 @@ use Rattle.sheet.proofs.check_all.Statement.{statement}
 use Rattle.sheet.proofs.check_all.Tie as tie
 
 abbrev Inv-loop : tie.InvT-loop
-Inv-loop count said₀ is-sound₀ i₀ said is-sound i = Unit {0}
+Inv-loop word₀ count said₀ is-sound₀ i₀ t8 t9 word said is-sound i = Unit {0}
 
 abbrev μ-loop : tie.MeasureT-loop
-μ-loop count said₀ is-sound₀ i₀ said is-sound i = count - i
+μ-loop word₀ count said₀ is-sound₀ i₀ t8 t9 word said is-sound i = count - i
 
 loop-holds : tie.Need-loop-holds Inv-loop μ-loop
 loop-holds c = search needs
@@ -29,9 +29,12 @@ check-all-spec =
     Inv-loop
     μ-loop
     (λ c κs. search needs)
+    (λ c κs. search needs)
     (λ c. search needs)
     (λ c κs. search needs)
     loop-holds
+    (λ c. search needs)
+    (λ c. search needs)
     (λ c κs. search needs)
     (λ c κs. search needs)
     (λ c. search needs)

@@ -5,10 +5,10 @@ use Rattle.sheet.proofs.tell_stamp.Statement.{statement}
 use Rattle.sheet.proofs.tell_stamp.Tie as tie
 
 abbrev Inv-loop : tie.InvT-loop
-Inv-loop count said₀ i₀ said i = Unit {0}
+Inv-loop word₀ count said₀ i₀ t7 t8 word said i = Unit {0}
 
 abbrev μ-loop : tie.MeasureT-loop
-μ-loop count said₀ i₀ said i = count - i
+μ-loop word₀ count said₀ i₀ t7 t8 word said i = count - i
 
 loop-holds : tie.Need-loop-holds Inv-loop μ-loop
 loop-holds c = search needs
@@ -32,12 +32,15 @@ tell-stamp-spec =
     Inv-loop
     μ-loop
     (λ c κs. search needs)
+    (λ c κs. search needs)
     (λ c. search needs)
     (λ c κs. search needs)
     loop-holds
+    (λ c. search needs)
+    (λ c. search needs)
+    (λ c κs. search needs)
     (λ c κs. search needs)
     returns
-    (λ c κs. search needs)
     (λ c. search needs)
     loop-less
     loop-again

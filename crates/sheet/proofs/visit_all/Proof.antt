@@ -5,10 +5,10 @@ use Rattle.sheet.proofs.visit_all.Statement.{statement}
 use Rattle.sheet.proofs.visit_all.Tie as tie
 
 abbrev Inv-loop : tie.InvT-loop
-Inv-loop job shown base sheet₀ spare₀ kept₀ count heard₀ i₀ sheet spare kept heard i = Unit {0}
+Inv-loop job shown base sheet₀ spare₀ kept₀ count visited₀ i₀ sheet spare kept visited i = Unit {0}
 
 abbrev μ-loop : tie.MeasureT-loop
-μ-loop job shown base sheet₀ spare₀ kept₀ count heard₀ i₀ sheet spare kept heard i = count - i
+μ-loop job shown base sheet₀ spare₀ kept₀ count visited₀ i₀ sheet spare kept visited i = count - i
 
 loop-holds : tie.Need-loop-holds Inv-loop μ-loop
 loop-holds c = search needs
