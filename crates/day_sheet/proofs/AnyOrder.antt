@@ -32,6 +32,7 @@ use Rattle.day_sheet.specs.Calls.{entriesOf, limited, joinRules, joinRes
 use Rattle.day_sheet.specs.AnyOrder.{joinAnswer, joinLeft, InForm, Joins, Run, lent, call, sizeOf, Room}
 use Rattle.day_sheet.proofs.Choosing.{key-only}
 use Rattle.day_sheet.proofs.Exact.{read-written, reads-exactly}
+use Rattle.day_sheet.proofs.Merged.{joined-merged}
 
 -- an entry that can stand in a sheet
 abbrev pub Fit : Entry → Type 0
@@ -118,8 +119,7 @@ pub text-of : {es : List Entry} → Sheet es → InForm (sheetText es) × (entri
 text-of {es} g = reads-exactly (sheetText es) es .1 (refl, g .rises, all-fit (g .fit))
 
 pub sheet-joined : {xs ys : List Entry} → Sheet xs → Sheet ys → Sheet (joined xs ys)
-unfolding joined
-sheet-joined g h = good-join keyOf Fit atMost decides g h
+sheet-joined {xs} {ys} g h = rw (joined-merged xs ys) (good-join keyOf Fit atMost decides g h)
 
 -- ---- the calls
 
@@ -158,8 +158,11 @@ joins {xs} {ys} g h l m a =
 -- ---- either order
 
 result-either : (first second : List ℕ) → InForm first → InForm second → joinResult first second ≡ joinResult second first
-unfolding joinResult joined
-result-either first second f g = either-order keyOf Fit atMost decides (sheet-of first f) (sheet-of second g)
+unfolding joinResult
+result-either first second f g =
+    joined-merged (entriesOf first) (entriesOf second)
+    ∙ either-order keyOf Fit atMost decides (sheet-of first f) (sheet-of second g)
+    ∙ sym (joined-merged (entriesOf second) (entriesOf first))
 
 answer-either :
     (first second out : List ℕ) → InForm first → InForm second → joinAnswer first second out ≡ joinAnswer second first out
@@ -213,7 +216,7 @@ sheet-at (two s t) e =
 
 -- where the premise holds, every call of a tree is accepted, and the last one writes the sheet of its entries
 runs : (t : Tree (List ℕ)) → Each InForm (leaves t) → Room (leaves t) → Run t (sheetText (whole t))
-unfolding leaves mapped mergeTree joined
+unfolding leaves mapped mergeTree
 runs (one sheet) (and f e) r = rw (sym (read-written sheet 0 f .0)) (lent sheet)
 runs (two s t) e r =
     let a = each-left (leaves s) (leaves t) e in
@@ -224,9 +227,11 @@ runs (two s t) e r =
     rw (sym (map-append entriesOf (leaves s) (leaves t))) (rising-leaves (sheets-of e)) in
     let p = within-left keyOf sizeOf (map entriesOf (leaves s)) (map entriesOf (leaves t)) g w in
     let q = within-right keyOf sizeOf (map entriesOf (leaves s)) (map entriesOf (leaves t)) g w in
+    let m = joined-merged (whole s) (whole t) in
     call (runs s a p) (runs t b q)
+    (subst (λ (es : List Entry). Joins (sheetText (whole s)) (sheetText (whole t)) (sheetText es)) m
     (joins (sheet-at s a) (sheet-at t b) (allowed-at s a p .length-in-all) (allowed-at t b q .length-in-all)
-    (allowed-at (two s t) e r))
+    (rw m (allowed-at (two s t) e r))))
 
 -- every tree of calls over every order of the sheets gives the same sheet, and no call of it is refused
 pub any-order :
@@ -255,12 +260,12 @@ join-either-grouping a b c f g h r =
 -- a sheet within the limits with itself
 pub join-itself :
     (sheet : List ℕ) → InForm sheet → length (entriesOf sheet) ≤ entryLimit → length sheet ≤ byteLimit → Joins sheet sheet sheet
-unfolding joined
 join-itself sheet f n l =
     let e = read-written sheet 0 f in
     let g = sheet-of sheet f in
     let k = text-length (entriesOf sheet) in
-    let i : joined (entriesOf sheet) (entriesOf sheet) ≡ entriesOf sheet = itself keyOf Fit atMost decides 0 (entriesOf sheet) (g .rises) in
+    let i : joined (entriesOf sheet) (entriesOf sheet) ≡ entriesOf sheet =
+    joined-merged (entriesOf sheet) (entriesOf sheet) ∙ itself keyOf Fit atMost decides 0 (entriesOf sheet) (g .rises) in
     let m : length (sheetText (entriesOf sheet)) ≤ byteLimit = rw (sym (e .0)) l in
     let a : Allowed sizeOf entryLimit byteLimit (entriesOf sheet) = record { entries = n; length-in-all = omega arith } in
     let j : Joins (sheetText (entriesOf sheet)) (sheetText (entriesOf sheet)) (sheetText (joined (entriesOf sheet) (entriesOf sheet))) =

@@ -38,6 +38,7 @@ use Rattle.day_sheet.proofs.Choosing.{written-sendable}
 use Rattle.day_sheet.proofs.Exact.{read-written}
 use Rattle.day_sheet.proofs.Asked.{named-known}
 use Rattle.day_sheet.proofs.OneByOne.{joins-adds}
+use Rattle.day_sheet.proofs.Merged.{joined-merged}
 
 module _ (network kind block : ℕ) where
   -- an entry that is named has that key
@@ -189,11 +190,12 @@ module _ (sheet : List ℕ) (e : Entry) (f : InForm sheet) (there : lookup keyOf
   nothing k = refl
 
   joined-again : joined rest (e ∷ []) ≡ entriesOf sheet
-  unfolding joined chosen
+  unfolding chosen
   joined-again =
       let g = sheet-of sheet f in
       let s = sheet-without (e .table .network) (e .table .kind) (e .table .block) g in
-      rising-only keyOf 0 _ (entriesOf sheet) (join-rises keyOf Fit atMost decides 0 rest (e ∷ []) (s .rises) (one .rises)) (g .rises)
+      joined-merged rest (e ∷ [])
+      ∙ rising-only keyOf 0 _ (entriesOf sheet) (join-rises keyOf Fit atMost decides 0 rest (e ∷ []) (s .rises) (one .rises)) (g .rises)
       (λ k. join-lookup keyOf Fit atMost decides 0 k rest (e ∷ []) (s .rises) (one .rises) ∙ at-key keyOf e k (here k) (other k))
     where
       here : (k : ℕ) → keyOf e ≡ k → chosen (greater atMost) (lookup keyOf k rest) (lookup keyOf k (e ∷ [])) ≡ lookup keyOf k (entriesOf sheet)

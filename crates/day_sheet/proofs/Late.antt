@@ -29,6 +29,7 @@ use Rattle.day_sheet.specs.AnyOrder.{joinAnswer, joinLeft, InForm, sizeO
 use Rattle.day_sheet.specs.Work.{bytesOf}
 use Rattle.day_sheet.proofs.Exact.{read-written}
 use Rattle.day_sheet.proofs.AnyOrder.{Fit, decides, join-either-order, sheet-of, sheets-of, text-of, text-length, sheet-joined}
+use Rattle.day_sheet.proofs.Merged.{joined-merged}
 
 -- ---- never back
 
@@ -43,21 +44,22 @@ module _ (first second : List ℕ) (f : InForm first) (g : InForm second) (k : �
   pub never-back :
       (e : Entry) → (lookup keyOf k (entriesOf first) ≡ some e) ⊎ (lookup keyOf k (entriesOf second) ≡ some e)
       → (z : Entry) × (lookup keyOf k (joinResult first second) ≡ some z) × (e .stamp ≤ z .stamp)
-  unfolding joinResult joined
+  unfolding joinResult
   never-back e (inl h) =
       let r = never-back-first keyOf Fit atMost decides 0 k (entriesOf first) (entriesOf second) (read-written first 0 f .1) (read-written second 0 g .1) h in
-      (r .0, r .1, later-stamp e (r .0) (r .2))
+      (r .0, ap (lookup keyOf k) (joined-merged (entriesOf first) (entriesOf second)) ∙ r .1, later-stamp e (r .0) (r .2))
   never-back e (inr h) =
       let r = never-back-second keyOf Fit atMost decides 0 k (entriesOf first) (entriesOf second) (read-written first 0 f .1) (read-written second 0 g .1) h in
-      (r .0, r .1, later-stamp e (r .0) (r .2))
+      (r .0, ap (lookup keyOf k) (joined-merged (entriesOf first) (entriesOf second)) ∙ r .1, later-stamp e (r .0) (r .2))
 
   -- every entry of the joined sheet is one of theirs
   pub one-of-theirs :
       (z : Entry) → lookup keyOf k (joinResult first second) ≡ some z
       → (lookup keyOf k (entriesOf first) ≡ some z) ⊎ (lookup keyOf k (entriesOf second) ≡ some z)
-  unfolding joinResult joined
+  unfolding joinResult
   one-of-theirs z h =
-      join-one keyOf Fit atMost decides 0 k (entriesOf first) (entriesOf second) (read-written first 0 f .1) (read-written second 0 g .1) h
+      join-one keyOf Fit atMost decides 0 k (entriesOf first) (entriesOf second) (read-written first 0 f .1) (read-written second 0 g .1)
+      (sym (ap (lookup keyOf k) (joined-merged (entriesOf first) (entriesOf second))) ∙ h)
 
 -- ---- either order, into outputs of one length
 
@@ -95,10 +97,10 @@ either-order-outputs first second out out′ f g l =
 pub room-joined :
     (first second : List ℕ) (others : List (List ℕ)) → InForm first → InForm second → Each InForm others → Room (first ∷ second ∷ others)
     → Room (sheetText (joinResult first second) ∷ others)
-unfolding joinResult joined
+unfolding joinResult
 room-joined first second others f g e r =
     let t = text-of (sheet-joined (sheet-of first f) (sheet-of second g)) in
-    rw (t .1) (within-joined keyOf sizeOf Fit atMost decides (sheet-of first f) (sheet-of second g) (sheets-of e) r)
+    rw (t .1, joined-merged (entriesOf first) (entriesOf second)) (within-joined keyOf sizeOf Fit atMost decides (sheet-of first f) (sheet-of second g) (sheets-of e) r)
 
 -- the sheets have at most 64 keys, and all their bytes are at most 16,384
 bytes-total : {sheets : List (List ℕ)} → Each InForm sheets → totals sizeOf (map entriesOf sheets) ≡ bytesOf sheets

@@ -13,6 +13,7 @@ pub mod Faulting
 pub mod Judged
 pub mod Late
 pub mod Members
+pub mod Merged
 pub mod Mixed
 pub mod OneByOne
 pub mod Premise

@@ -23,6 +23,7 @@ use Rattle.day_sheet.proofs.AnyOrder.{Fit, decides, sheet-of, text-of, 
 use Rattle.sheet_entry.proofs.Spelling.{stamped-written, judged-by}
 use Rattle.day_sheet.proofs.Accepting.{joins-said, adds-said}
 use Rattle.day_sheet.proofs.Members.{each-in, in-one, same-map, same-behind, same-all}
+use Rattle.day_sheet.proofs.Merged.{joined-merged}
 
 abbrev row : List (List Entry) → List Entry
 row = mergeAll keyOf (greater atMost)
@@ -40,11 +41,11 @@ made-one sheet f = record { sound = f; of = and f nil; holds = sym (merge-right 
 made-two :
     {xs ys : List (List ℕ)} {a b sheet : List ℕ} → Made xs a → Made ys b → sheet ≡ sheetText (joined (entriesOf a) (entriesOf b))
     → Made (xs ++ ys) sheet
-unfolding joined
 made-two {xs} {ys} {a} {b} m n e =
     let t = text-of (sheet-joined (sheet-of a (m .sound)) (sheet-of b (n .sound))) in
     let h : entriesOf (sheetText (joined (entriesOf a) (entriesOf b))) ≡ row (map entriesOf (xs ++ ys)) =
     t .1
+    ∙ joined-merged (entriesOf a) (entriesOf b)
     ∙ rw (m .holds, n .holds)
     (sym (all-append keyOf Fit atMost decides (map entriesOf xs) (map entriesOf ys) (sheets-of (m .of)) (sheets-of (n .of))))
     ∙ ap row (sym (map-append entriesOf xs ys)) in

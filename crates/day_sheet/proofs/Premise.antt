@@ -27,6 +27,7 @@ use Rattle.day_sheet.proofs.AnyOrder.{Fit, decides, sheet-of, sheet-joi
 use Rattle.day_sheet.proofs.OneByOne.{joins-adds}
 use Rattle.day_sheet.proofs.Members.{reordered-same}
 use Rattle.day_sheet.proofs.Mixed.{one-table, same-sheet}
+use Rattle.day_sheet.proofs.Merged.{joined-merged}
 
 -- ---- as many as there are keys
 
@@ -116,14 +117,14 @@ module _ (ks : List ℕ) (few : length ks ≤ entryLimit) where
       record { good = sheet-of sheet f; keyed = k; long = omega arith }
 
   small-two : {xs ys : List (List ℕ)} {es fs : List Entry} → Small xs es → Small ys fs → Small (xs ++ ys) (joined es fs)
-  unfolding joined NoMore
+  unfolding NoMore
   small-two {xs} {ys} {es} {fs} s t =
       let b = bytes-append xs ys in
       let n = no-more keyOf sizeOf (decides .ordered) es fs in
       record {
         good = sheet-joined (s .good) (t .good);
-        keyed = join-each keyOf Fit atMost decides (λ (e : Entry). In (keyOf e) ks) es fs (s .keyed) (t .keyed);
-        long = let p = s .long in let q = t .long in omega arith;
+        keyed = rw (joined-merged es fs) (join-each keyOf Fit atMost decides (λ (e : Entry). In (keyOf e) ks) es fs (s .keyed) (t .keyed));
+        long = let p = s .long in let q = t .long in rw (joined-merged es fs) (omega arith);
       }
 
   small-joins :

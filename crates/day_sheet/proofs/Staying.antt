@@ -6,7 +6,7 @@ use mathlib.Core.Logic.{_⊎_, inl, inr}
 use Prim.Native.Nat.{ℕ, _≤_}
 use native.Mathlib.Omega.{arith}
 use borrow.Author.Tests.{le-leb, lt-leb}
-use Rattle.laws.specs.Keyed.{lookup, chosen}
+use Rattle.laws.specs.Keyed.{lookup, chosen, merge}
 use Rattle.laws.specs.Orders.{greater}
 use Rattle.laws.proofs.Ordering.{greater-first, greater-second}
 use Rattle.laws.proofs.Joined.{join-lookup, join-one}
@@ -23,6 +23,7 @@ use Rattle.day_sheet.proofs.Late.{later-stamp}
 use Rattle.day_sheet.proofs.Accepting.{joins-said, adds-said}
 use Rattle.day_sheet.proofs.Members.{in-one}
 use Rattle.day_sheet.proofs.Mixed.{one-table}
+use Rattle.day_sheet.proofs.Merged.{joined-merged}
 
 -- ---- the greater of two
 
@@ -57,14 +58,13 @@ second-stays e (some o) = (
 joined-stays :
     {first second sheet : List ℕ} → InForm first → InForm second → sheet ≡ sheetText (joined (entriesOf first) (entriesOf second))
     → NeverBack first second sheet
-unfolding joined
 joined-stays {first} {second} {sheet} f g e =
     let xs = entriesOf first in
     let ys = entriesOf second in
     let p = read-written first 0 f .1 in
     let q = read-written second 0 g .1 in
     let t = text-of (sheet-joined (sheet-of first f) (sheet-of second g)) in
-    let r : entriesOf sheet ≡ joined xs ys = ap entriesOf e ∙ t .1 in
+    let r : entriesOf sheet ≡ merge keyOf (greater atMost) xs ys = ap entriesOf e ∙ t .1 ∙ joined-merged xs ys in
     let at : (k : ℕ) → standsAt k sheet ≡ chosen (greater atMost) (standsAt k first) (standsAt k second) =
     λ k. ap (lookup keyOf k) r ∙ join-lookup keyOf Fit atMost decides 0 k xs ys p q in
     record {

@@ -11,7 +11,6 @@ use lib.ListN.{length, take, drop, length-append, length-drop, length-take}
 use lib.Seq.{sets, take-append-seam, drop-append-seam, drop-drop, length-take-le}
 use borrow.Author.Tests.{lt-ltb, le-ltb, le-leb, lt-leb, ltb-true, ltb-false}
 use Rattle.laws.specs.Pick.{pick}
-use Rattle.laws.specs.Keyed.{merge, into}
 use Rattle.laws.proofs.Eaches.{each-first, each-rest}
 use Rattle.laws.specs.Orders.{before, greater}
 use Rattle.laws.proofs.Lists.{sets-append}
@@ -24,6 +23,7 @@ use Rattle.day_sheet.specs.Entries.{sheetText}
 use Rattle.sheet_entry.specs.Reading.{entryAt}
 use Rattle.day_sheet.specs.Reading.{sheetFrom}
 use Rattle.listing_reader.specs.Many.{many}
+use Rattle.day_sheet.specs.Along.{upTo, along}
 use Rattle.day_sheet.specs.Joining.{atMost, joined}
 use Rattle.day_sheet.specs.Calls.{entriesOf, joinResult}
 use Rattle.day_sheet.specs.AnyOrder.{InForm}
@@ -32,6 +32,7 @@ use Rattle.day_sheet.specs.Internal.{Halfway, Lies, Met, foundLines, sec
 use Rattle.day_sheet.proofs.AnyOrder.{Fit, decides, sheet-of, text-of}
 use Rattle.sheet_entry.proofs.Entered.{entry-back}
 use Rattle.day_sheet.proofs.Exact.{read-written}
+use Rattle.day_sheet.proofs.Merged.{joined-merged}
 
 abbrev pub Sheet : List Entry → Type 0
 Sheet = Good keyOf Fit atMost decides
@@ -182,7 +183,7 @@ takes-greater x xs y ys f g j =
 turned-texts :
     (xs ys : List Entry) → Sheet xs → Sheet ys → 0 < length (sheetText xs) + length (sheetText ys)
     → Turned (sheetText xs) (sheetText ys) (turnOf (sheetText xs) (sheetText ys))
-unfolding sheetText turnOf turnBy foundOf entryAt joined merge into
+unfolding sheetText turnOf turnBy foundOf entryAt joined along upTo
 turned-texts [] [] f g h = absurd (omega arith)
 turned-texts (x ∷ xs) [] f g h = rw (found-text x (sheetText xs) (sheet-rest f .0)) (takes-first x xs [] f g refl)
 turned-texts [] (y ∷ ys) f g h = rw (found-text y (sheetText ys) (sheet-rest g .0)) (takes-second [] y ys f g refl)
@@ -193,11 +194,19 @@ turned-texts (x ∷ xs) (y ∷ ys) f g h =
     go :
         (p : Bool) → ltb (keyOf x) (keyOf y) ≡ p → (q : Bool) → ltb (keyOf y) (keyOf x) ≡ q
         → Turned (sheetText (x ∷ xs)) (sheetText (y ∷ ys)) (pick p (turn (found x) absent) (pick q (turn absent (found y)) (turn (found x) (found y))))
-    go true p q₀ q = takes-first x xs (y ∷ ys) f g (merge-less keyOf (greater atMost) x xs y ys (ltb-true (keyOf x) (keyOf y) p))
-    go false p true q = takes-second (x ∷ xs) y ys f g (merge-more keyOf (greater atMost) x xs y ys (ltb-true (keyOf y) (keyOf x) q))
+    go true p q₀ q = takes-first x xs (y ∷ ys) f g
+        (joined-merged (x ∷ xs) (y ∷ ys)
+        ∙ merge-less keyOf (greater atMost) x xs y ys (ltb-true (keyOf x) (keyOf y) p)
+        ∙ ap (λ (es : List Entry). x ∷ es) (sym (joined-merged xs (y ∷ ys))))
+    go false p true q = takes-second (x ∷ xs) y ys f g
+        (joined-merged (x ∷ xs) (y ∷ ys)
+        ∙ merge-more keyOf (greater atMost) x xs y ys (ltb-true (keyOf y) (keyOf x) q)
+        ∙ ap (λ (es : List Entry). y ∷ es) (sym (joined-merged (x ∷ xs) ys)))
     go false p false q =
         takes-greater x xs y ys f g
-        (merge-same keyOf (greater atMost) x xs y ys (omega (arith, ltb-false (keyOf x) (keyOf y) p, ltb-false (keyOf y) (keyOf x) q)))
+        (joined-merged (x ∷ xs) (y ∷ ys)
+        ∙ merge-same keyOf (greater atMost) x xs y ys (omega (arith, ltb-false (keyOf x) (keyOf y) p, ltb-false (keyOf y) (keyOf x) q))
+        ∙ ap (λ (es : List Entry). greater atMost x y ∷ es) (sym (joined-merged xs ys)))
 
 pub turned : (a b : List ℕ) → InForm a → InForm b → 0 < length a + length b → Turned a b (turnOf a b)
 turned a b f g h =
@@ -209,7 +218,7 @@ turned a b f g h =
 
 -- where both are at their end nothing is left
 pub turned-out : (a b : List ℕ) → length a + length b ≤ 0 → joinResult a b ≡ []
-unfolding joinResult joined merge sheetFrom many
+unfolding joinResult joined along sheetFrom many
 turned-out [] [] h = refl
 turned-out [] (y ∷ b) h = absurd (omega arith)
 turned-out (x ∷ a) b h = absurd (omega arith)

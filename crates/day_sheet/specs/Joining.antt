@@ -1,10 +1,10 @@
 -- Two sheets joined (SCOPE 20.8).
 use mathlib.Core.Bool.{Bool}
-use mathlib.Core.List.{List}
+use mathlib.Core.List.{List, map}
 use lib.Dec.{leb}
-use Rattle.laws.specs.Keyed.{merge}
 use Rattle.laws.specs.Orders.{before, inTurn, greater}
-use Rattle.sheet_entry.specs.Entries.{Entry, keyOf, tableLines}
+use Rattle.sheet_entry.specs.Entries.{Entry, tableLines}
+use Rattle.day_sheet.specs.Along.{Stands, inFirst, inSecond, inBoth, along}
 
 -- by the stamp
 abbrev pub byStamp : Entry → Entry → Bool
@@ -18,6 +18,12 @@ byLines a b = before (tableLines a) (tableLines b)
 abbrev pub atMost : Entry → Entry → Bool
 atMost = inTurn byStamp byLines
 
--- for each key the greater of the two, in the order of keys
+-- what stays at a key: of two entries the greater
+abbrev pub staying : Stands → Entry
+staying (inFirst x) = x
+staying (inSecond y) = y
+staying (inBoth x y) = greater atMost x y
+
+-- for each key what stays, in the order of keys
 unfoldable pub joined : List Entry → List Entry → List Entry
-joined xs ys = merge keyOf (greater atMost) xs ys
+joined xs ys = map staying (along xs ys)

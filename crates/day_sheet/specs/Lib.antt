@@ -1,6 +1,7 @@
 -- The day sheet: SCOPE 20. Its entries and their text, the sheet that bytes say, joining, dropping, and what the calls owe.
 pub mod Entries
 pub mod Reading
+pub mod Along
 pub mod Joining
 pub mod Dropping
 pub mod Calls
