@@ -2,3 +2,7 @@ pub mod Answering
 pub mod AnsweringMany
 pub mod Heeding
 pub mod Running
+pub mod Tagging
+pub mod HeedingTwo
+pub mod RunningTwo
+pub mod AnsweringTwo

@@ -1,7 +1,8 @@
 // The reader of the guide page, called packet by packet; `feed_all` takes a list of packets in one call
-// (SCOPE 8 to 10).
+// (SCOPE 8 to 10). Two streams at once are module `two` (SCOPE 27).
 mod held;
 pub mod many;
+pub mod two;
 
 use answer::Refusal;
 pub use many::FedAll;
@@ -60,7 +61,7 @@ pub fn feed(setting: Setting, reader: Reader, packet: &[u8], out: &mut [u8]) -> 
 }
 
 // What one packet gave, from what a list of one gave.
-fn told(heard: HeardAll) -> Heard
+pub(crate) fn told(heard: HeardAll) -> Heard
     ensures { λ r. ⌜ r ≡ Internal·told heard ⌝ }
 {
     match heard {

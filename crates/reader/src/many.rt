@@ -44,11 +44,11 @@ pub struct FedAll {
 }
 
 // What packets taken one after the other have come to.
-struct Going {
-    page: Page,
-    index: u8,
-    joined: bool,
-    got: Got,
+pub(crate) struct Going {
+    pub page: Page,
+    pub index: u8,
+    pub joined: bool,
+    pub got: Got,
 }
 
 // The same, and how many packets.
@@ -168,7 +168,13 @@ fn pass_on(setting: Setting, packets: &[u8], from: usize) -> Met
 }
 
 // What the verdict says: the running block is dropped or not, and then the packet's bytes are read or not.
-fn heed(v: Verdict, a: Going, store: &mut [u8; STORE], packet: &[u8], out: &mut [u8]) -> Going
+pub(crate) fn heed(
+    v: Verdict,
+    a: Going,
+    store: &mut [u8; STORE],
+    packet: &[u8],
+    out: &mut [u8],
+) -> Going
     requires { ⌜ Kept (a .got .run) (now store) ⌝ }
     requires { ⌜ length (now packet) ≡ packetLength ⌝ }
     requires { ⌜ PacketRoom (a .got) (now out) ⌝ }
@@ -238,7 +244,7 @@ fn goes_on(joined: bool, pointer: u8, run: Run) -> bool
 }
 
 // No packet has come yet.
-fn start(page: Page, index: u8, run: Run, joined: bool) -> Going
+pub(crate) fn start(page: Page, index: u8, run: Run, joined: bool) -> Going
     ensures { λ r. ⌜ r ≡ started page index run joined ⌝ }
 {
     Going {

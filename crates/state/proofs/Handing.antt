@@ -101,7 +101,7 @@ module _ (P : Block → Type 0)
   ended-each j (heading g v part) r = nil
   ended-each j (body h part held) r = one-each j h part held (full h held) refl (r .2) (r .1)
 
-  read-each : (j : Bool) (m : Mode) (p : ℕ) (l : List ℕ) → Good m → Each P (readBlocks j m p l)
+  pub read-each : (j : Bool) (m : Mode) (p : ℕ) (l : List ℕ) → Good m → Each P (readBlocks j m p l)
   read-each j m p l r = go (leb p 12) (eqb p 13)
     where
       go :

@@ -57,7 +57,7 @@ run-kept (Body h part n) l e w k z =
     let a : length (take n l) ≡ n = length-take-le n l (omega arith) in
     record { good = (w, leb-true part 5 (both-first _ _ e), rw a f); run = rw a; kept = store-zeroed n l (omega arith) k z }
 
-kept-in-range :
+pub kept-in-range :
     (r : Reader) → readerInRange r ≡ true → Sixteen (r .run) → length (r .store) ≡ storeLength → Kept (r .run) (r .store)
 unfolding readerInRange
 kept-in-range r e w k =

@@ -1,0 +1,31 @@
+-- `reader::two::feed` meets its contract: the packet's length, and then what the call for a list says of a list of one. Assumes nothing.
+use native.Mathlib.Omega.{arith}
+use denote.Ref.{now}
+use borrow.Author.Needs.{needs}
+use Rattle.reader.proofs.AnsweringTwo.{other-length-two, one-two}
+use Rattle.reader.proofs.two.feed.Statement.{statement}
+use Rattle.reader.proofs.two.feed.Tie as tie
+
+returns : tie.Need-returns
+returns c =
+    let a = c .before .before .before .args in
+    other-length-two (a .setting) (a .readers) (now (a .packet)) (now (a .out)) (λ e. omega (arith, e, c .if1 .taken))
+
+feed-all-requires : tie.Need-feed-all-requires
+feed-all-requires c κs = search needs
+
+told-requires : tie.Need-told-requires
+told-requires c κs = search needs
+
+same-length : tie.Need-same-length
+same-length c = search needs
+
+returns-2 : tie.Need-returns-2
+returns-2 c =
+    let a = c .before .before .before .before .before .before .before .before .before .args in
+    let f = c .before .before .before .before .feed-all .ensures in
+    one-two (a .setting) (a .readers) (now (a .packet)) (now (a .out)) (c .before .before .before .before .before .before .if1 .left)
+    (f .0) (c .told .ensures) (f .1 .0) (f .1 .1)
+
+pub feed-spec : {M : Type 1} → statement M
+feed-spec = tie.close (tie.spec returns feed-all-requires told-requires same-length returns-2)
