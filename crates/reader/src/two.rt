@@ -2,14 +2,17 @@
 // (SCOPE 27). A packet is judged once, and each stream heeds its own verdict as a reader of that stream alone does.
 use crate::Heard;
 use crate::HeardAll;
+use crate::ROOM;
 use crate::many;
 use answer::Refusal;
 use blocks::HEAD;
+use packet::PACKET;
 use packet::two::Streams;
 use pages::Page;
 use pages::Verdict;
 use pages::two::SharedPage;
 use pages::two::Whose;
+use state::STORE;
 pub use state::two::Half;
 pub use state::two::Readers;
 pub use state::two::fresh;
@@ -30,6 +33,9 @@ ghost use Rattle.state.specs.Two.{readersInRange};
 ghost use Rattle.reader.specs.Many.{refusedAll};
 ghost use Rattle.reader.specs.Two.{roomOfTwo, feedHeardOfTwo, feedReadersOfTwo, feedOutOfTwo, feedAllHeardOfTwo, feedAllReadersOfTwo, feedAllOutOfTwo};
 ghost use Rattle.reader.specs.InternalTwo.{tagged, longAt, Laid, RoomFor, HeededFor, ActedOfTwo, startedOfTwo, ranOfTwoFrom, RanOfTwoTo, none-yet};
+
+// The bytes of output that a reader of two streams must be lent for one packet (SCOPE 27).
+pub const ROOM_OF_TWO: usize = 2176;
 
 // A state with arrays stands beside the enum.
 pub struct FedTwo {
@@ -75,7 +81,7 @@ pub fn feed(setting: Streams, readers: Readers, packet: &[u8], out: &mut [u8]) -
     ensures { λ r. ⌜ r .readers ≡ feedReadersOfTwo setting readers (now (packet .entry)) (now (out .entry)) ⌝ }
     ensures { λ r. ⌜ now (out .exit) ≡ feedOutOfTwo setting readers (now (packet .entry)) (now (out .entry)) ⌝ }
 {
-    if packet.len() != 42 {
+    if packet.len() != PACKET {
         return FedTwo {
             heard: Heard::Refused(Refusal { no: 16, at: 0 }),
             readers: readers,
@@ -98,7 +104,7 @@ pub fn feed_all(setting: Streams, readers: Readers, packets: &[u8], out: &mut [u
     ensures { λ r. ⌜ r .readers ≡ feedAllReadersOfTwo setting readers (now (packets .entry)) (now (out .entry)) ⌝ }
     ensures { λ r. ⌜ now (out .exit) ≡ feedAllOutOfTwo setting readers (now (packets .entry)) (now (out .entry)) ⌝ }
 {
-    if packets.len() % 42 != 0 {
+    if packets.len() % PACKET != 0 {
         return refused(16, readers);
     }
     let page = readers.page;
@@ -109,10 +115,10 @@ pub fn feed_all(setting: Streams, readers: Readers, packets: &[u8], out: &mut [u
     if !is_ready(setting, page, first, second, &store1, &store2) {
         return refused(16, readers);
     }
-    if out.len() < 2176 {
+    if out.len() < ROOM_OF_TWO {
         return refused(1, readers);
     }
-    let mut hold = [0u8; 2112];
+    let mut hold = [0u8; ROOM];
     let from = start(page, first, second);
     let t = take_all(
         setting,
@@ -148,8 +154,8 @@ pub fn feed_all(setting: Streams, readers: Readers, packets: &[u8], out: &mut [u
 fn take_all(
     setting: Streams,
     from: Pair,
-    store1: &mut [u8; 2047],
-    store2: &mut [u8; 2047],
+    store1: &mut [u8; STORE],
+    store2: &mut [u8; STORE],
     packets: &[u8],
     hold: &mut [u8],
     out: &mut [u8],
@@ -166,19 +172,19 @@ fn take_all(
     let mut at = 0;
     while at < packets.len() {
         let q = a.written;
-        if out.len() - q < 2176 {
+        if out.len() - q < ROOM_OF_TWO {
             return TakingTwo {
                 pair: a,
-                packets: at / 42,
+                packets: at / PACKET,
             };
         }
-        let next = at + 42;
+        let next = at + PACKET;
         a = step(setting, a, store1, store2, &packets[at..next], hold, out);
         at = next;
     }
     TakingTwo {
         pair: a,
-        packets: at / 42,
+        packets: at / PACKET,
     }
 }
 
@@ -186,8 +192,8 @@ fn take_all(
 fn step(
     setting: Streams,
     a: Pair,
-    store1: &mut [u8; 2047],
-    store2: &mut [u8; 2047],
+    store1: &mut [u8; STORE],
+    store2: &mut [u8; STORE],
     packet: &[u8],
     hold: &mut [u8],
     out: &mut [u8],
@@ -250,7 +256,7 @@ fn heed_for(
     stream: u8,
     page: Page,
     half: Half,
-    store: &mut [u8; 2047],
+    store: &mut [u8; STORE],
     packet: &[u8],
     hold: &mut [u8],
     out: &mut [u8],

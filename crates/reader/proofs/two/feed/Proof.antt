@@ -11,15 +11,6 @@ returns c =
     let a = c .before .before .before .args in
     other-length-two (a .setting) (a .readers) (now (a .packet)) (now (a .out)) (λ e. omega (arith, e, c .if1 .taken))
 
-feed-all-requires : tie.Need-feed-all-requires
-feed-all-requires c κs = search needs
-
-told-requires : tie.Need-told-requires
-told-requires c κs = search needs
-
-same-length : tie.Need-same-length
-same-length c = search needs
-
 returns-2 : tie.Need-returns-2
 returns-2 c =
     let a = c .before .before .before .before .before .before .before .before .before .args in
@@ -28,4 +19,4 @@ returns-2 c =
     (f .0) (c .told .ensures) (f .1 .0) (f .1 .1)
 
 pub feed-spec : {M : Type 1} → statement M
-feed-spec = tie.close (tie.spec returns feed-all-requires told-requires same-length returns-2)
+feed-spec = tie.close (tie.spec returns (λ c κs. search needs) (λ c κs. search needs) (λ c. search needs) returns-2)

@@ -17,45 +17,21 @@ long1 c = search needs
 long2 : (c : tie.Start) → length (c .args .readers .store2) ≡ storeLength
 long2 c = search needs
 
-refused-requires : tie.Need-refused-requires
-refused-requires c κs = search needs
-
 returns : tie.Need-returns
 returns c =
     let a = c .before .before .before .before .args in
     not-whole-two (a .setting) (a .readers) (now (a .packets)) (now (a .out)) (λ e. omega (arith, e, c .before .if1 .taken)) (c .refused .ensures)
-
-slice-aggregate-is-ready : tie.Need-slice-aggregate-is-ready
-slice-aggregate-is-ready c = search needs
-
-slice-aggregate-is-ready-2 : tie.Need-slice-aggregate-is-ready-2
-slice-aggregate-is-ready-2 c = search needs
-
-is-ready-requires : tie.Need-is-ready-requires
-is-ready-requires c κs = search needs
-
-refused-requires-2 : tie.Need-refused-requires-2
-refused-requires-2 c κs = search needs
 
 returns-2 : tie.Need-returns-2
 returns-2 c =
     let a = c .before .before .before .before .before .before .before .before .before .before .before .before .args in
     not-ready-two (a .setting) (a .readers) (now (a .packets)) (now (a .out)) (c .before .before .is-ready .ensures .0) (not-true _ (c .before .if2 .taken)) (c .refused2 .ensures)
 
-refused-requires-3 : tie.Need-refused-requires-3
-refused-requires-3 c κs = search needs
-
 returns-3 : tie.Need-returns-3
 returns-3 c =
     let a = c .before .before .before .before .before .before .before .before .before .before .before .before .before .args in
     no-room-two (a .setting) (a .readers) (now (a .packets)) (now (a .out)) (c .before .before .before .is-ready .ensures .0) (not-false _ (c .before .before .if2 .left)) (omega arith) (omega arith)
     (c .refused3 .ensures)
-
-start-requires : tie.Need-start-requires
-start-requires c κs = search needs
-
-slice-aggregate-take-all : tie.Need-slice-aggregate-take-all
-slice-aggregate-take-all c = search needs
 
 take-all-requires : tie.Need-take-all-requires
 take-all-requires c κs =
@@ -64,9 +40,6 @@ take-all-requires c κs =
     let n = not-false _ (c .before .before .before .before .before .before .if2 .left) in
     let k = both-kept (b .args .setting) (b .args .readers) (r .0) n (r .1 n) (long1 b) (long2 b) in
     rw (c .before .before .before .before .start .ensures) (k .0, (k .1, (omega (arith, c .before .before .before .before .before .before .before .before .before .before .before .before .before .before .if1 .left), (length-replicate {A = ℕ} 2112 0, (refl, refl, refl)))))
-
-same-length : tie.Need-same-length
-same-length c = search needs
 
 returns-4 : tie.Need-returns-4
 returns-4 c =
@@ -79,17 +52,17 @@ pub feed-all-spec : {M : Type 1} → statement M
 feed-all-spec =
     tie.close
     (tie.spec
-    refused-requires
+    (λ c κs. search needs)
     returns
-    slice-aggregate-is-ready
-    slice-aggregate-is-ready-2
-    is-ready-requires
-    refused-requires-2
+    (λ c. search needs)
+    (λ c. search needs)
+    (λ c κs. search needs)
+    (λ c κs. search needs)
     returns-2
-    refused-requires-3
+    (λ c κs. search needs)
     returns-3
-    start-requires
-    slice-aggregate-take-all
+    (λ c κs. search needs)
+    (λ c. search needs)
     take-all-requires
-    same-length
+    (λ c. search needs)
     returns-4)

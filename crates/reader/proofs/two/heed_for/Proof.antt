@@ -6,9 +6,6 @@ use Rattle.reader.proofs.HeedingTwo.{heeded-few, heeded-laid, heeded-ga
 use Rattle.reader.proofs.two.heed_for.Statement.{statement}
 use Rattle.reader.proofs.two.heed_for.Tie as tie
 
-start-requires : tie.Need-start-requires
-start-requires c κs = search needs
-
 heed-requires : tie.Need-heed-requires
 heed-requires c κs =
     let s = c .before .before .before .before .before .before in
@@ -29,12 +26,6 @@ add-t26 c =
     (c .before .before .before .before .before .before .before .before .before .before .before .start .ensures) (c .before .before .before .before .before .before .before .before .heed .ensures) in
     omega (arith, f)
 
-same-length : tie.Need-same-length
-same-length c = search needs
-
-same-length-2 : tie.Need-same-length-2
-same-length-2 c = search needs
-
 returns : tie.Need-returns
 returns c =
     let s = c .before .before .before .before .before .before .before .before .before .before .before .before .before .before .before in
@@ -46,10 +37,10 @@ pub heed-for-spec : {M : Type 1} → statement M
 heed-for-spec =
     tie.close
     (tie.spec
-    start-requires
+    (λ c κs. search needs)
     heed-requires
     put-tagged-requires
     add-t26
-    same-length
-    same-length-2
+    (λ c. search needs)
+    (λ c. search needs)
     returns)

@@ -6,14 +6,8 @@ use Rattle.state.proofs.Clearing.{untrue}
 use Rattle.reader.proofs.two.is_ready.Statement.{statement}
 use Rattle.reader.proofs.two.is_ready.Tie as tie
 
-is-in-range-requires : tie.Need-is-in-range-requires
-is-in-range-requires c κs = search needs
-
 returns : tie.Need-returns
 returns c = (rw (sym (c .before .is-in-range .ensures) ∙ not-true _ (c .if1 .taken)), λ e. untrue e)
-
-in-range-requires : tie.Need-in-range-requires
-in-range-requires c κs = search needs
 
 returns-2 : tie.Need-returns-2
 returns-2 c =
@@ -21,4 +15,4 @@ returns-2 c =
 
 pub is-ready-spec : {M : Type 1} → statement M
 is-ready-spec =
-    tie.close (tie.spec is-in-range-requires returns in-range-requires returns-2)
+    tie.close (tie.spec (λ c κs. search needs) returns (λ c κs. search needs) returns-2)

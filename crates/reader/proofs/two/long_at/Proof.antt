@@ -7,17 +7,8 @@ use Rattle.reader.proofs.two.long_at.Tie as tie
 use Rattle.reader.proofs.two.long_at.Reads as reads
 use Rattle.reader.proofs.two.long_at.Lts as lts
 
-shared-slice-read-low : tie.Need-shared-slice-read-low
-shared-slice-read-low c = search needs
-
 cast-low : tie.Need-cast-low
 cast-low c = omega (arith, c .shared-slice-known .given (c .before .args .p))
-
-add-high : tie.Need-add-high
-add-high c = search needs
-
-shared-slice-read-high : tie.Need-shared-slice-read-high
-shared-slice-read-high c = search needs
 
 cast-high : tie.Need-cast-high
 cast-high c = omega (arith, c .shared-slice-known2 .given (c .before .before .args .p + 1))
@@ -38,10 +29,10 @@ pub long-at-spec : {M : Type 1} → statement M
 long-at-spec =
     tie.close
     (tie.spec
-    shared-slice-read-low
+    (λ c. search needs)
     cast-low
-    add-high
-    shared-slice-read-high
+    (λ c. search needs)
+    (λ c. search needs)
     cast-high
     mul-result
     add-result

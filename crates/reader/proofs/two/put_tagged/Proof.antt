@@ -43,9 +43,6 @@ add-copy c =
     let t = left-one (a .stream) (now (a .records)) (a .n) (now (a .out)) (a .to) (l .p) (l .out) (l .q) (omega arith) (l .inv .2) in
     omega (arith, t .room)
 
-copy-requires : tie.Need-copy-requires Inv-loop μ-loop
-copy-requires c κs = search needs
-
 add-p : tie.Need-add-p Inv-loop μ-loop
 add-p c =
     let a = c .before .before .before .before .before .before .before .before .before .args in
@@ -103,7 +100,7 @@ put-tagged-spec =
     long-at-requires
     slice-write-out
     add-copy
-    copy-requires
+    (λ c κs. search needs)
     add-p
     add-q
     add-q-2

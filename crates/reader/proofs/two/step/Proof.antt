@@ -7,15 +7,6 @@ use Rattle.reader.proofs.HeedingTwo.{room-first, fit-first, gave-first,
 use Rattle.reader.proofs.two.step.Statement.{statement}
 use Rattle.reader.proofs.two.step.Tie as tie
 
-address-requires : tie.Need-address-requires
-address-requires c κs = search needs
-
-judge-requires : tie.Need-judge-requires
-judge-requires c κs = search needs
-
-page-of-requires : tie.Need-page-of-requires
-page-of-requires c κs = search needs
-
 heed-for-requires : tie.Need-heed-for-requires
 heed-for-requires c κs =
     let s = c .before .before .before .before .before .before .before .before .before .before .before .before .before in
@@ -36,9 +27,6 @@ add-q c =
     let f = fit-first (a .setting) (a .a) (now (a .store1)) (now (a .store2)) (now (a .packet)) (p .1 .1 .0) (p .0) (p .1 .0) e v (y .written) in
     omega (arith, f, p .1 .1 .1 .1 .0, s .good .1 .1 .1 .1 .1 .1 .0 .0)
 
-page-of-requires-2 : tie.Need-page-of-requires-2
-page-of-requires-2 c κs = search needs
-
 heed-for-requires-2 : tie.Need-heed-for-requires-2
 heed-for-requires-2 c κs =
     let s = c .before .before .before .before .before .before .before .before .before .before .before .before .before .before .before .before .before .before .before .before .before .before .before .before in
@@ -49,9 +37,6 @@ heed-for-requires-2 c κs =
     let y = gave-first (a .setting) (a .a) (now (a .store1)) (now (a .store2)) (now (a .packet)) (p .1 .1 .0) (p .0) (p .1 .0) e v (c .before .before .before .before .before .before .before .before .before .before .before .before .before .before .page-of .ensures) (c .before .before .before .before .before .before .before .before .before .before .heed-for .ensures) in
     let k = c .before .before .before .before .before .before .before .before .before .before .heed-for in
     (p .1 .0, (p .1 .1 .0, (k .kept .1 .1 .1 .1 .1 .1 .0 ∙ p .1 .1 .1 .0, room-second (a .setting) (a .a) (now (a .store1)) (now (a .store2)) (now (a .packet)) (p .1 .1 .0) (p .0) (p .1 .0) e v (k .last .1 .1 .1 .1 .1 .1 .1 .0) (c .before .before .before .page-of2 .ensures) (omega (arith, k .kept .1 .1 .1 .1 .1 .1 .1 .0, p .1 .1 .1 .1 .0)) (y .written))))
-
-either-requires : tie.Need-either-requires
-either-requires c κs = search needs
 
 add-t34 : tie.Need-add-t34
 add-t34 c =
@@ -89,9 +74,6 @@ add-t36 c =
     let f = both-fit (a .setting) (a .a) (now (a .store1)) (now (a .store2)) (now (a .packet)) (p .1 .1 .0) (p .0) (p .1 .0) e v y z (p .1 .1 .1 .1 .0) (p .1 .1 .1 .1 .1) in
     omega (arith, f .0, s .good .1 .1 .1 .1 .1 .1 .0 .0)
 
-either-requires-2 : tie.Need-either-requires-2
-either-requires-2 c κs = search needs
-
 same-length : tie.Need-same-length
 same-length c = c .before .before .before .before .before .before .before .before .before .before .before .before .heed-for2 .kept .1 .1 .1 .1 .1 .1 .0 ∙ c .before .before .before .before .before .before .before .before .before .before .before .before .before .before .before .before .before .before .before .before .before .before .before .heed-for .kept .1 .1 .1 .1 .1 .1 .0
 
@@ -113,18 +95,18 @@ pub step-spec : {M : Type 1} → statement M
 step-spec =
     tie.close
     (tie.spec
-    address-requires
-    judge-requires
-    page-of-requires
+    (λ c κs. search needs)
+    (λ c κs. search needs)
+    (λ c κs. search needs)
     heed-for-requires
     add-q
-    page-of-requires-2
+    (λ c κs. search needs)
     heed-for-requires-2
-    either-requires
+    (λ c κs. search needs)
     add-t34
     add-t35
     add-t36
-    either-requires-2
+    (λ c κs. search needs)
     same-length
     same-length-2
     returns)

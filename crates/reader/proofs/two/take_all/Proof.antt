@@ -39,9 +39,6 @@ loop-holds c =
       (begunOfTwo (pairIn (a .from) (now (a .store1)) (now (a .store2))), begins-two (a .setting) (a .from) (now (a .out)) (p .0) (p .1 .0) z, rw e),
     )
 
-sub-if1 : tie.Need-sub-if1 Inv-loop μ-loop
-sub-if1 c = search needs
-
 same-length : tie.Need-same-length Inv-loop μ-loop
 same-length c =
     c .before .before .loop .inv .2 ∙ sym (c .before .before .before .before .before .before .pre .1 .1 .1 .0)
@@ -57,18 +54,6 @@ returns c =
     let (b, w, q) = l .inv .6 in
     let e = run-full-two (a .setting) (length (now (a .out))) _ b _ (omega (arith, w .written, l .inv .3)) in
     (rw (sym (e ∙ q)) w, l .inv .4)
-
-add-next : tie.Need-add-next Inv-loop μ-loop
-add-next c = search needs
-
-sub-step : tie.Need-sub-step Inv-loop μ-loop
-sub-step c = search needs
-
-part-step-start : tie.Need-part-step-start Inv-loop μ-loop
-part-step-start c = search needs
-
-part-step-end : tie.Need-part-step-end Inv-loop μ-loop
-part-step-end c = search needs
 
 step-requires : tie.Need-step-requires Inv-loop μ-loop
 step-requires c κs =
@@ -131,14 +116,14 @@ take-all-spec =
     Inv-loop
     μ-loop
     loop-holds
-    sub-if1
+    (λ c. search needs)
     same-length
     same-length-2
     returns
-    add-next
-    sub-step
-    part-step-start
-    part-step-end
+    (λ c. search needs)
+    (λ c. search needs)
+    (λ c. search needs)
+    (λ c. search needs)
     step-requires
     loop-less
     loop-again
