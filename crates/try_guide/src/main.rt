@@ -1,19 +1,24 @@
 // Runs cases of the guide page's packets: op 20 takes a setting and a fresh reader, op 21 feeds it one
-// packet, op 22 cuts records into packets, op 23 takes the better of two packets.
+// packet, op 22 cuts records into packets, op 23 takes the better of two packets; op 24 takes a setting of two streams and
+// a fresh reader of two, op 25 feeds it one packet.
 use answer::Answer;
 use packet::Setting;
+use packet::two::Streams;
 use reader::Heard;
 use reader::Reader;
+use reader::two::Readers;
 use vectors::Case;
 use vectors::Line;
 use vectors::MOST;
 use vectors::NextCase;
 use vectors::SPACE;
 
-// What op 20 leaves for the ops 21 that follow.
+// What op 20 leaves for the ops 21 that follow, and op 24 for the ops 25.
 struct Kept {
     setting: Setting,
     reader: Reader,
+    streams: Streams,
+    readers: Readers,
 }
 
 fn main() {
@@ -21,7 +26,7 @@ fn main() {
     let mut out = [0u8; MOST];
     let mut text = [0u8; SPACE];
     let mut input = vectors::start();
-    let mut kept = fresh(0, 0, 0, 0);
+    let mut kept = none();
     let mut turns = u64::MAX;
     while turns > 0 {
         turns -= 1;
@@ -38,15 +43,24 @@ fn main() {
     }
 }
 
-fn fresh(magazine: u8, page: u8, stream: u8, application: u8) -> Kept {
+// Before the first op 20 and 24: settings that are out of range.
+fn none() -> Kept {
     Kept {
         setting: Setting {
-            magazine: magazine,
-            page: page,
-            stream: stream,
-            application: application,
+            magazine: 0,
+            page: 0,
+            stream: 0,
+            application: 0,
         },
         reader: reader::fresh(),
+        streams: Streams {
+            magazine: 0,
+            page: 0,
+            first: 0,
+            second: 0,
+            application: 0,
+        },
+        readers: reader::two::fresh(),
     }
 }
 
@@ -74,6 +88,8 @@ fn run(
             choose(op, payload, text);
             kept
         }
+        24 => begin_two(op, payload, kept, lent, text),
+        25 => feed_two(op, payload, kept, lent, text),
         _ => {
             vectors::tell(Line::Unknown(op), lent, text);
             kept
@@ -109,20 +125,64 @@ fn begin(op: u8, payload: &[u8], kept: Kept, out: &[u8], text: &mut [u8]) -> Kep
         answer: Answer::Done(0),
     };
     vectors::tell(line, out, text);
-    fresh(payload[0], payload[1], payload[2], payload[3])
+    let setting = Setting {
+        magazine: payload[0],
+        page: payload[1],
+        stream: payload[2],
+        application: payload[3],
+    };
+    let reader = reader::fresh();
+    let mut kept = kept;
+    kept.setting = setting;
+    kept.reader = reader;
+    kept
 }
 
 // Op 21: the bytes of one packet.
 fn feed(op: u8, payload: &[u8], kept: Kept, out: &mut [u8], text: &mut [u8]) -> Kept {
-    let setting = kept.setting;
-    let fed = reader::feed(setting, kept.reader, payload, out);
+    let fed = reader::feed(kept.setting, kept.reader, payload, out);
     let heard = fed.heard;
     vectors::tell(told(op, heard), out, text);
     let reader = fed.reader;
-    Kept {
-        setting: setting,
-        reader: reader,
+    let mut kept = kept;
+    kept.reader = reader;
+    kept
+}
+
+// Op 24: magazine, page, the two streams, application.
+fn begin_two(op: u8, payload: &[u8], kept: Kept, out: &[u8], text: &mut [u8]) -> Kept {
+    if payload.len() < 5 {
+        vectors::tell(Line::Unknown(op), out, text);
+        return kept;
     }
+    let line = Line::Answered {
+        op: op,
+        answer: Answer::Done(0),
+    };
+    vectors::tell(line, out, text);
+    let streams = Streams {
+        magazine: payload[0],
+        page: payload[1],
+        first: payload[2],
+        second: payload[3],
+        application: payload[4],
+    };
+    let readers = reader::two::fresh();
+    let mut kept = kept;
+    kept.streams = streams;
+    kept.readers = readers;
+    kept
+}
+
+// Op 25: the bytes of one packet.
+fn feed_two(op: u8, payload: &[u8], kept: Kept, out: &mut [u8], text: &mut [u8]) -> Kept {
+    let fed = reader::two::feed(kept.streams, kept.readers, payload, out);
+    let heard = fed.heard;
+    vectors::tell(told(op, heard), out, text);
+    let readers = fed.readers;
+    let mut kept = kept;
+    kept.readers = readers;
+    kept
 }
 
 // What is told of a packet that was fed.
