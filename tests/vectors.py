@@ -11,7 +11,7 @@ and prints a line for each case:
 
 no and at are the refusal's number and offset, both 0 where it is accepted; out
 is what the call reports as written; kept is whether every other byte is still
-A5. Op 21 adds blocks=N dropped=yes or no, ops 30 and 32 mended=N joined=N (0 and 0 where refused;
+A5. Ops 21 and 25 add blocks=N dropped=yes or no, ops 30 and 32 mended=N joined=N (0 and 0 where refused;
 joined is the record's second byte). An op that isn't known, or a payload that is too short for it: op=N unknown. A case that the end cuts short: short=N.
 
     op  program      payload                                  out
@@ -27,6 +27,9 @@ joined is the record's second byte). An op that isn't known, or a payload that i
     21  try_guide    one packet for that reader               the blocks' records
     22  try_guide    magazine, page, stream, first index,     packets
                      packets a page (0: no number), records
+    24  try_guide    magazine, page, first stream, second,    nothing; a fresh reader of two streams
+                     application
+    25  try_guide    one packet for that reader               the blocks' records, each behind its stream
     23  try_guide    two packets, each half of it              40 bytes of one
     30  try_table    application, a record                    a table form
     31  try_table    application, a table form                a record

@@ -216,7 +216,7 @@ def pointer_cases(hear, dice, size):
             hear.feed(air.row(2, pointer, left + starts))
     # blocks that end at each place, with filler, another nibble, or a lost byte up to the pointed byte
     for end in range(1, 40):
-        for between in ("filler", "stray", "lost", "none", "late"):
+        for between in ("filler", "stray", "lost", "none", "late") if end % 2 else ("filler", "stray", "late"):
             air = Air(dice)
             block = air.block(34 + end)
             pointer = min(-(-end // 3) + dice.below(3), 12)
@@ -299,7 +299,7 @@ def mended_cases(hear, dice, size):
         hear.fresh(air)
         hear.feed(air.header(0, 1), air.row(1, 0, damaged(air.block(dice.below(9)), which) + damaged(air.block(2), 31 - which)))
     for begin in range(34, 40):                 # .. over two packets of one page, and over two pages
-        for which in (1, 2, 4, 8, 16, 31, dice.below(32), dice.below(32)):
+        for which in (1, 2, 16, 31, dice.below(32)):
             for n in (1, 2):
                 air = Air(dice)
                 block = damaged(air.block(dice.pick([0, 1, 5, 30])), which)
@@ -377,7 +377,7 @@ def joined_cases(hear, dice, size):
         hear.feed(air.row(n, 2, rest + third), air.header(0, 2), air.row(1, 13, third[39 - len(rest):]))
         hear.feed(air.row(2, 5, third[78 - len(rest):] + bytes([FILL]) + air.block(1)))
     for pages in (3, 4, 17):                    # over many pages, and round the indices
-        for n in (1, 2):
+        for n in (1, 2) if pages < 17 else (1,):
             air = Air(dice)
             rows = pages * n
             block = air.block(39 * (rows - 1) - 2)          # three bytes are left for the last packet
@@ -488,7 +488,7 @@ def wild_cases(hear, dice, size):
     for _ in range(40 * size):                  # rightly addressed garbage
         hear.feed(guide.address(air.setting.magazine, dice.below(32)) + dice.bytes(40))
     hear.feed(b"\x00" * 42, b"\xff" * 42, bytes([LOST]) * 42)
-    for _ in range(5 * size):
+    for _ in range(2 * size):
         air = Air(dice)
         hear.fresh(air)
         index, n, y = dice.below(16), 5, 5

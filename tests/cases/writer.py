@@ -37,11 +37,11 @@ def all_cases(script, dice, size):
     for block in (0, 1, 2, 3, 32, 33, 34, 35, 36, 37, 73, 74):
         rooms(some_setting(dice), dice.below(16), dice.pick([1, 2]), some_list(dice, [block]))
         cut(some_setting(dice), dice.below(16), 1, some_list(dice, [block, 0]))
-    for k in (1, 7, 0, 20, 25):
+    for k in (1, 0, 25):
         cut(some_setting(dice), dice.below(16), k, some_list(dice, [2047]))
     for rows in (19, 20, 21, 25, 26):           # none named is 20, and 25 is what it says
         whole, setting, index = some_list(dice, [34] * rows), some_setting(dice), dice.below(16)
-        for k in (0, 20, 25):
+        for k in (0, 20) if rows < 25 else (0, 25):
             cut(setting, index, k, whole)
     for sizes in ([34, 34], [34, 34, 0], [28, 1], [28, 2], [28, 5], [73, 34], [0] * 6, [0] * 7, [0] * 13,
                   [1] * 7, [4] * 5, [31, 34], [32, 33], [33, 34]):

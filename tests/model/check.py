@@ -9,11 +9,12 @@ sys.dont_write_bytecode = True
 sys.path.insert(0, str(pathlib.Path(__file__).resolve().parent.parent))
 
 from cases.form import Dice, with_bytes
+from cases import both as both_cases
 from cases.reader import Air, all_cases
 from cases.menu import EMPTY, SAMPLE, filled, linked, listed, some_menu, worded
 from cases.sheet import largest, named, sized, small, some_entry, some_sheet
 from cases.table import CASE_G, L1_PRINTED, L1_SUM, l1_records, later, shaped, some_table
-from model import Refused, guide, listing, menu, octet, pes, sheet, table, unpes
+from model import Refused, both, guide, listing, menu, octet, pes, sheet, table, unpes
 from model.listing import DESK
 
 
@@ -226,14 +227,14 @@ class Marked(guide.Reader):
 
 
 class Streams:
-    """Takes the reader's vector cases as streams."""
+    """Takes a reader's vector cases as streams: those of one stream (op 20), or of two (op 24)."""
 
     def __init__(self):
         self.streams = []
 
     def case(self, op, room, payload):
-        if op == 20:
-            self.streams.append((guide.Setting(*payload), []))
+        if op in (20, both_cases.FRESH):
+            self.streams.append(((guide.Setting if op == 20 else both.Pair)(*payload), []))
         elif len(payload) == guide.PACKET:
             self.streams[-1][1].append(payload)
 
@@ -296,6 +297,103 @@ def cut_line():
     assert first > 20
 
 
+def side_by_side():
+    """A reader of two streams is two readers of one: of any packets each stream's blocks, index, running block and page are that reader's, a
+    page that is the other's is shut to it, and a drop is told where either tells one."""
+    streams, dice = Streams(), Dice(10)
+    both_cases.all_cases(streams, Dice(10), 4)
+    one = Streams()                             # streams of one, heard with a second that is seldom or never there
+    all_cases(one, Dice(11), 1)
+    for setting, packets in one.streams:
+        if setting.in_range():
+            second = (setting.stream + 1) % 16 if dice.chance(2) else setting.stream ^ 1
+            streams.streams.append((both.Pair(setting.magazine, setting.page, setting.stream, second, setting.application), packets))
+    told = {(one, two): 0 for one in (False, True) for two in (False, True)}
+    for pair, packets in streams.streams:
+        if not pair.in_range():
+            continue
+        two, readers = both.ReaderOfTwo(pair), [guide.Reader(pair.of(whose)) for whose in both.BOTH]
+        for packet in packets:
+            heard, alone = two.feed(packet), [reader.feed(packet) for reader in readers]
+            came = both.records_of_two(heard.records)
+            assert len(came) == heard.blocks and min(len(a.records) for a in alone) == 0
+            for whose in both.BOTH:
+                assert b"".join(r for stream, r in came if stream == pair.streams()[whose]) == alone[whose].records
+                assert two.indices[whose] == readers[whose].index and saying(two.blocks[whose]) == saying(readers[whose].running)
+                page = two.page if two.page and two.page.whose == whose else None
+                assert (page and (page.n, page.last)) == (readers[whose].page and readers[whose].page[:2])
+            assert heard.dropped == any(a.dropped for a in alone)
+            told[tuple(a.dropped for a in alone)] += 1
+    assert min(told.values()) > 20              # neither, one, the other, and both at once
+
+
+def saying(block):
+    """What a running block is, if there is one."""
+    return block and (block.nibbles, bytes(block.raw), block.part, block.joined())
+
+
+def untouched():
+    """However the 40 bytes differ in packets Y that stand in one stream's pages, the other stream hands out the same blocks."""
+    streams, dice, differ = Streams(), Dice(12), 0
+    both_cases.all_cases(streams, Dice(13), 2)
+    for pair, packets in streams.streams:
+        for whose in both.BOTH if pair.in_range() else ():
+            changed, stands = [], False
+            for packet in packets:
+                one, two = octet.decode(packet[0]), octet.decode(packet[1])
+                if octet.UNDECODABLE not in (one, two) and (one % 8 or 8) == pair.magazine and one // 8 + 2 * two == 0:
+                    six = [octet.decode(byte) for byte in packet[2:8]]
+                    stands = (six[0] + 16 * six[1], six[4]) == (pair.page, pair.streams()[whose])
+                elif stands and octet.UNDECODABLE not in (one, two) and (one % 8 or 8) == pair.magazine:
+                    packet = packet[:2] + dice.pick([packet[2:], dice.bytes(40), packet[2:20] + dice.bytes(22)])
+                changed.append(packet)
+            came = []
+            for run in (packets, changed):
+                reader = both.ReaderOfTwo(pair)
+                came.append([r for packet in run for r in both.records_of_two(reader.feed(packet).records)])
+            kept = [[r for stream, r in one if stream == pair.streams()[1 - whose]] for one in came]
+            assert kept[0] == kept[1]
+            differ += came[0] != came[1]
+    assert differ > 50
+
+
+def both_carried(rounds, most):
+    """Demand 3 for each of two streams: whole pages of either between whole pages of the other, third streams and other pages between them,
+    other magazines anywhere, flips in every byte."""
+    dice, kept, sent = Dice(20 + most), 0, 0
+    for _ in range(rounds):
+        duet = both_cases.Duet(dice)
+        truth, lists = [], []
+        for whose in both.BOTH:
+            forms = [table.form_of(some_table(dice)) for _ in range(dice.between(1, 8))]
+            records = [table.write_block(duet.pair.application, form) for form in forms]
+            k = dice.between(1, 9)
+            packets = guide.cut(duet.pair.of(whose), dice.below(16), k, b"".join(records))
+            spans = list(guide.spanning(b"".join(records), packets))
+            packets = [packets[at:at + guide.PACKET] for at in range(0, len(packets), guide.PACKET)]
+            hit = [duet.airs[0].noised(packet, most if dice.chance(6) else 1) for packet in packets]
+            rows = [at for at in range(len(packets)) if at % (k + 1)]
+            truth.append(list(zip(forms, damage(records, [packets[at] for at in rows], [hit[at] for at in rows]), spans)))
+            lists.append([hit[at:at + k + 1] for at in range(0, len(hit), k + 1)])
+        reader, came = both.ReaderOfTwo(duet.pair), ([], [])
+        for page in both_cases.mixed(dice, *lists):
+            if dice.chance(3):
+                other = dice.pick([duet.third(), duet.page()])
+                page = [duet.airs[0].noised(packet, 1) for packet in (other.header(dice.below(16), dice.below(32)), other.row(1, dice.below(14), dice.bytes(39)))] + page
+            for packet in page:
+                if dice.chance(5):
+                    reader.feed(duet.airs[0].noised(duet.airs[0].elsewhere("magazine"), most if dice.chance(6) else 1))
+                for stream, record in both.records_of_two(reader.feed(packet).records):
+                    try:
+                        came[duet.pair.streams().index(stream)].append(table.read_block(duet.pair.application, record))
+                    except Refused:
+                        assert most == 2
+        for whose in both.BOTH:
+            assert came[whose] == truth[whose] if most == 1 else subsequence(came[whose], truth[whose])
+            kept, sent = kept + len(came[whose]), sent + len(truth[whose])
+    return f"{kept} of {sent} tables of two streams with up to {most} flips a byte"
+
+
 def subsequence(some, whole):
     rest = iter(whole)
     return all(thing in rest for thing in some)
@@ -341,11 +439,13 @@ def noise(rounds, most):
 
 
 def main():
-    for check in (images, cases_a_to_f, case_g, cases_h_to_k, annex_l1, editions, lost_pes, pages, day_sheet, dropping, menus, menu_levels, joined_blocks, cut_line):
+    for check in (images, cases_a_to_f, case_g, cases_h_to_k, annex_l1, editions, lost_pes, pages, day_sheet, dropping, menus, menu_levels, joined_blocks, cut_line, side_by_side,
+                  untouched):
         check()
         print(f"{check.__name__}: ok")
     for most in (1, 2):
         print(f"noise: ok, {noise(60, most)}")
+        print(f"noise: ok, {both_carried(40, most)}")
 
 
 if __name__ == "__main__":

@@ -173,18 +173,8 @@ class Heard(NamedTuple):
     dropped: bool
 
 
-class Reader:
-    """The state, fresh at first: no page, no running block."""
-
-    def __init__(self, setting):
-        self.setting, self.page, self.index, self.running, self.met = setting, None, 15, None, 0
-
-    def feed(self, packet, room=ROOM):
-        need(self.setting.in_range() and len(packet) == PACKET, 16)
-        need(room >= ROOM, 1)
-        self.finished, self.dropped = [], False
-        self.packet(packet[:2], packet[2:])
-        return Heard(b"".join(self.finished), len(self.finished), self.dropped)
+class Rows:
+    """What a packet Y of the open page does, `page`, to the block that runs there, `running` (SCOPE 8.11 to 9.11)."""
 
     def drop(self):
         if self.running:
@@ -193,54 +183,13 @@ class Reader:
     def hand_out(self):
         """The running block goes out as a record (SCOPE 10.3)."""
         block, self.running = self.running, None
-        self.finished.append(record_of(block.head(), block.raw, block.part, block.joined()))
+        self.finished.append(self.outgoing(record_of(block.head(), block.raw, block.part, block.joined())))
 
-    def open(self, n):
-        """A page of ours begins."""
-        self.met += 1
-        self.page = Page(n, 0, self.met)
-
-    def packet(self, address, data):
-        one, two = (decode(byte) for byte in address)
-        if UNDECODABLE in (one, two):
-            self.unreadable()
-            return
-        magazine, y = one % 8 or 8, one // 8 + 2 * two
-        if magazine != self.setting.magazine or y > LAST_Y:
-            return                      # it isn't for us (SCOPE 8.3, 8.4)
-        if y == 0:
-            self.packet_0(data)
-        elif self.page:                 # where it is shut, SCOPE 8.10
-            self.row(y, data)
-
-    def unreadable(self):
-        """A packet whose address says nothing (SCOPE 8.2)."""
-        self.drop()
-        self.page = None
-
-    def packet_0(self, data):
-        # Packets of our page are missing (SCOPE 8.5).
-        if self.page and self.page.last < self.page.n:
-            self.drop()
-        self.page = None
-        # A header that can't be read (SCOPE 8.6).
-        six = [decode(byte) for byte in data[:6]]
-        if UNDECODABLE in six:
-            self.drop()
-            return
-        units, tens, s1, s2, s3, s4 = six
-        if (units + 16 * tens, s3) != (self.setting.page, self.setting.stream):
-            return
-        # A page too long, or pages missing (SCOPE 8.7, 8.8).
-        n = s2 % 8 + 8 * (s4 % 4)       # C4, C5 and C6 are left out (SCOPE 7.4)
-        if n > MOST_ROWS or s1 != (self.index + 1) % 16:
-            self.drop()
-        self.index = s1                 # whatever n is (SCOPE 8.8)
-        if n <= MOST_ROWS:
-            self.open(n)
+    def outgoing(self, record):
+        return record
 
     def row(self, y, data):
-        n, last, _ = self.page
+        n, last = self.page.n, self.page.last
         if y != last + 1 or y > n:      # the wrong Y (SCOPE 8.11, 8.12)
             self.drop()
         if y <= n:                      # read all the same (SCOPE 8.12, 8.13)
@@ -293,6 +242,64 @@ class Reader:
                 return at
             at += 1
         return at
+
+
+class Reader(Rows):
+    """The state, fresh at first: no page, no running block."""
+
+    def __init__(self, setting):
+        self.setting, self.page, self.index, self.running, self.met = setting, None, 15, None, 0
+
+    def feed(self, packet, room=ROOM):
+        need(self.setting.in_range() and len(packet) == PACKET, 16)
+        need(room >= ROOM, 1)
+        self.finished, self.dropped = [], False
+        self.packet(packet[:2], packet[2:])
+        return Heard(b"".join(self.finished), len(self.finished), self.dropped)
+
+    def open(self, n):
+        """A page of ours begins."""
+        self.met += 1
+        self.page = Page(n, 0, self.met)
+
+    def packet(self, address, data):
+        one, two = (decode(byte) for byte in address)
+        if UNDECODABLE in (one, two):
+            self.unreadable()
+            return
+        magazine, y = one % 8 or 8, one // 8 + 2 * two
+        if magazine != self.setting.magazine or y > LAST_Y:
+            return                      # it isn't for us (SCOPE 8.3, 8.4)
+        if y == 0:
+            self.packet_0(data)
+        elif self.page:                 # where it is shut, SCOPE 8.10
+            self.row(y, data)
+
+    def unreadable(self):
+        """A packet whose address says nothing (SCOPE 8.2)."""
+        self.drop()
+        self.page = None
+
+    def packet_0(self, data):
+        # Packets of our page are missing (SCOPE 8.5).
+        if self.page and self.page.last < self.page.n:
+            self.drop()
+        self.page = None
+        # A header that can't be read (SCOPE 8.6).
+        six = [decode(byte) for byte in data[:6]]
+        if UNDECODABLE in six:
+            self.drop()
+            return
+        units, tens, s1, s2, s3, s4 = six
+        if (units + 16 * tens, s3) != (self.setting.page, self.setting.stream):
+            return
+        # A page too long, or pages missing (SCOPE 8.7, 8.8).
+        n = s2 % 8 + 8 * (s4 % 4)       # C4, C5 and C6 are left out (SCOPE 7.4)
+        if n > MOST_ROWS or s1 != (self.index + 1) % 16:
+            self.drop()
+        self.index = s1                 # whatever n is (SCOPE 8.8)
+        if n <= MOST_ROWS:
+            self.open(n)
 
 
 def read_all(setting, packets):
