@@ -87,6 +87,8 @@ use Rattle.state.proofs.two.fresh.Reads as state·two-fresh
 use Rattle.state.proofs.two.in_range.Reads as state·two-in-range
 use Rattle.reader.proofs.feed.Reads as reader·feed
 use Rattle.reader.proofs.many.feed_all.Reads as reader·feed-all
+use Rattle.reader.proofs.two.feed.Reads as reader·two-feed
+use Rattle.reader.proofs.two.feed_all.Reads as reader·two-feed-all
 use Rattle.frames.proofs.judge.Reads as frames·judge
 use Rattle.table.proofs.read_block.Reads as table·read-block
 use Rattle.forms.proofs.judge_form.Reads as forms·judge-form
@@ -334,6 +336,16 @@ pub reader·feed-all-settled :
     (κs : _) (a : _) (x y : _) (s t : _) → reader·feed-all.Post κs a x s → reader·feed-all.Post κs a y t
     → (x .heard ≡ y .heard) × (x .reader ≡ y .reader) × (now (s .1 .1 .1 .0) ≡ now (t .1 .1 .1 .0))
 reader·feed-all-settled κs a x y s t p q = (same (p .0) (q .0), same (p .1 .0) (q .1 .0), same (p .1 .1) (q .1 .1))
+
+pub reader·two-feed-settled :
+    (κs : _) (a : _) (x y : _) (s t : _) → reader·two-feed.Post κs a x s → reader·two-feed.Post κs a y t
+    → (x .heard ≡ y .heard) × (x .readers ≡ y .readers) × (now (s .1 .1 .1 .0) ≡ now (t .1 .1 .1 .0))
+reader·two-feed-settled κs a x y s t p q = (same (p .0) (q .0), same (p .1 .0) (q .1 .0), same (p .1 .1) (q .1 .1))
+
+pub reader·two-feed-all-settled :
+    (κs : _) (a : _) (x y : _) (s t : _) → reader·two-feed-all.Post κs a x s → reader·two-feed-all.Post κs a y t
+    → (x .heard ≡ y .heard) × (x .readers ≡ y .readers) × (now (s .1 .1 .1 .0) ≡ now (t .1 .1 .1 .0))
+reader·two-feed-all-settled κs a x y s t p q = (same (p .0) (q .0), same (p .1 .0) (q .1 .0), same (p .1 .1) (q .1 .1))
 
 pub frames·judge-settled : (κs : _) (a : _) (x y : _) (s t : _) → frames·judge.Post κs a x s → frames·judge.Post κs a y t → x ≡ y
 frames·judge-settled κs a x y s t p q = same p q

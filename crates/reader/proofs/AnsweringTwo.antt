@@ -12,7 +12,6 @@ use Rattle.laws.specs.Pick.{both}
 use Rattle.laws.proofs.Lists.{sets-front}
 use Rattle.laws.proofs.Tests.{both-true, both-false, both-assoc}
 use Rattle.packet.specs.declared.two.Streams.{Streams}
-use Rattle.packet.specs.declared.Setting.{Setting}
 use Rattle.packet.specs.Two.{inRangeOfTwo}
 use Rattle.packet.specs.Packet.{packetLength}
 use Rattle.pages.specs.declared.two.Whose.the-variants.{First, Second}

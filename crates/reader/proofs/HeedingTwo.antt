@@ -23,7 +23,6 @@ use Rattle.pages.specs.declared.headers.Verdict.{Verdict}
 use Rattle.pages.specs.declared.two.Whose.{Whose}
 use Rattle.pages.specs.declared.two.Whose.the-variants.{First, Second}
 use Rattle.pages.specs.declared.two.SharedPage.{SharedPage}
-use Rattle.pages.specs.declared.two.SharedPage.the-variants.{None, One}
 use Rattle.pages.specs.declared.two.Verdicts.{Verdicts}
 use Rattle.pages.specs.Headers.{Seen, junk, other, foreign, ours, packetY}
 use Rattle.pages.specs.Seen.{see, seenAs}
@@ -39,7 +38,7 @@ use Rattle.walk.proofs.Along.{drop-good}
 use Rattle.walk.proofs.Room.{Within, within-none, read-room}
 use Rattle.state.specs.declared.two.Half.{Half}
 use Rattle.state.specs.Acting.{State, spans, heeded, heededBlocks, heededDrops, handed}
-use Rattle.state.specs.Two.{TwoState, Handed, ownFor, stateFor, ownOf, pointerIn, bytesIn, judged, ownAfter, blocksAfter, dropsAfter, handedFrom, actOfTwo, handedOfTwo, droppedOfTwo}
+use Rattle.state.specs.Two.{TwoState, stateFor, ownOf, pointerIn, bytesIn, judged, ownAfter, blocksAfter, dropsAfter, handedFrom, actOfTwo, handedOfTwo, droppedOfTwo}
 use Rattle.state.proofs.Handing.{read-each}
 use Rattle.state.proofs.Bounding.{packet-room}
 use Rattle.state.proofs.Beside.{ownerOf, one-hands-out}

@@ -2,8 +2,7 @@
 -- ended. Assumes nothing.
 use mathlib.Core.Path.{_≡_, _∙_, refl, sym, ap}
 use mathlib.Core.List.{List, [], _∷_, _++_}
-use mathlib.Core.Bool.{false}
-use Prim.Native.Nat.{ℕ, zero, suc, _+_, _-_, _/_, _%_, _≤_, _<_}
+use Prim.Native.Nat.{ℕ, zero, suc, _+_, _-_, _/_, _≤_, _<_}
 use native.Mathlib.Nat.{zero-add}
 use native.Mathlib.Omega.{arith}
 use lib.ListN.{length, take, drop, length-append}
@@ -15,7 +14,7 @@ use Rattle.packet.specs.Packet.{packetLength}
 use Rattle.pages.specs.Two.{seeByTwo}
 use Rattle.walk.specs.Internal.{Kept}
 use Rattle.walk.proofs.Keeping.{holds-mode}
-use Rattle.state.specs.Two.{TwoState, Handed, Own, ownHeld, actOfTwo, handedOfTwo, droppedOfTwo}
+use Rattle.state.specs.Two.{Handed, Own, ownHeld, actOfTwo, handedOfTwo, droppedOfTwo}
 use Rattle.state.specs.declared.two.Half.{Half}
 use Rattle.reader.specs.declared.two.Pair.{Pair}
 use Rattle.reader.specs.Internal.{packetAt}

@@ -6,7 +6,7 @@ use native.Mathlib.Nat.{add-zero}
 use native.Mathlib.Omega.{arith}
 use lib.ListN.{length, getD, take, drop, set, length-append, length-set}
 use lib.Seq.{sets, getD-drop, drop-drop, take-at, drop-at, length-sets}
-use Rattle.laws.specs.Each.{Each, nil, and}
+use Rattle.laws.specs.Each.{Each, and}
 use Rattle.laws.proofs.Lists.{sets-append}
 use Rattle.blocks.specs.Block.{Block, headLength, recordOf, recordsOf, blocks}
 use Rattle.blocks.specs.Sizes.{Sized}
