@@ -31,6 +31,10 @@ noSight =
       turned = packetLength;
     }
 
+-- bytes came, and no packet 0 of our page (SCOPE 13.9)
+abbrev pub isLacking : Sight → Bool
+isLacking s = pick (s .counts .came) false (s .any)
+
 -- our own page in front, as `codeOf` has it, and places for ten others
 abbrev pub startPages : Setting → List ℕ
 startPages s = (s .stream + 16 * s .page + 4096 * (s .magazine % 8)) ∷ replicate 10 noPage

@@ -3,13 +3,17 @@ use crate::Sight;
 use packet::PACKET;
 use packet::Setting;
 use survey::seen::NO_PAGE;
+ghost use mathlib.Core.Path.{_≡_};
+ghost use Rattle.captures.specs.Sights.{isLacking};
 
 // Whether bytes came and no packet 0 of our page.
-pub fn is_lacking(sight: Sight) -> bool {
-    if !sight.any {
+pub fn is_lacking(sight: Sight) -> bool
+    ensures { λ r. ⌜ r ≡ isLacking sight ⌝ }
+{
+    if sight.counts.came {
         return false;
     }
-    !sight.counts.came
+    sight.any
 }
 
 // Goes on behind a name in a line on standard error: what didn't come, and what the bytes may be.

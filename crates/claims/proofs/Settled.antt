@@ -73,6 +73,7 @@ use Rattle.told.proofs.names.plain.Reads as told·plain
 use Rattle.command_line.proofs.setting.Reads as command-line·setting
 use Rattle.command_line.proofs.byte.Reads as command-line·byte
 use Rattle.captures.proofs.start.Reads as captures·start
+use Rattle.captures.proofs.lack.is_lacking.Reads as captures·lack-is-lacking
 use Rattle.captures.proofs.sight.pages.Reads as captures·pages
 use Rattle.packet.proofs.address.Reads as packet·address
 use Rattle.packet.proofs.passes_by.Reads as packet·passes-by
@@ -462,6 +463,9 @@ captures·start-settled κs a x y s t p q = same p q
 
 pub captures·pages-settled : (κs : _) (a : _) (x y : _) (s t : _) → captures·pages.Post κs a x s → captures·pages.Post κs a y t → x ≡ y
 captures·pages-settled κs a x y s t p q = same p q
+
+pub captures·lack-is-lacking-settled : (κs : _) (a : _) (x y : _) (s t : _) → captures·lack-is-lacking.Post κs a x s → captures·lack-is-lacking.Post κs a y t → x ≡ y
+captures·lack-is-lacking-settled κs a x y s t p q = same p q
 
 pub texts·begins-settled : (κs : _) (a : _) (x y : _) (s t : _) → texts·begins.Post κs a x s → texts·begins.Post κs a y t → x ≡ y
 texts·begins-settled κs a x y s t p q = same p q
