@@ -84,6 +84,8 @@ use Rattle.lent_bytes.proofs.copy.Reads as lent-bytes·copy
 use Rattle.lent_bytes.proofs.clear.Reads as lent-bytes·clear
 use Rattle.state.proofs.fresh.Reads as state·fresh
 use Rattle.state.proofs.in_range.Reads as state·in-range
+use Rattle.state.proofs.joined.spans.Reads as state·joined-spans
+use Rattle.state.proofs.joined.goes_on.Reads as state·joined-goes-on
 use Rattle.state.proofs.two.fresh.Reads as state·two-fresh
 use Rattle.state.proofs.two.in_range.Reads as state·two-in-range
 use Rattle.reader.proofs.feed.Reads as reader·feed
@@ -321,6 +323,13 @@ state·fresh-settled κs a x y s t p q = same p q
 
 pub state·in-range-settled : (κs : _) (a : _) (x y : _) (s t : _) → state·in-range.Post κs a x s → state·in-range.Post κs a y t → x ≡ y
 state·in-range-settled κs a x y s t p q = same (p .0) (q .0)
+
+pub state·joined-spans-settled : (κs : _) (a : _) (x y : _) (s t : _) → state·joined-spans.Post κs a x s → state·joined-spans.Post κs a y t → x ≡ y
+state·joined-spans-settled κs a x y s t p q = same p q
+
+pub state·joined-goes-on-settled :
+    (κs : _) (a : _) (x y : _) (s t : _) → state·joined-goes-on.Post κs a x s → state·joined-goes-on.Post κs a y t → x ≡ y
+state·joined-goes-on-settled κs a x y s t p q = same p q
 
 pub state·two-fresh-settled : (κs : _) (a : _) (x y : _) (s t : _) → state·two-fresh.Post κs a x s → state·two-fresh.Post κs a y t → x ≡ y
 state·two-fresh-settled κs a x y s t p q = same p q

@@ -14,13 +14,12 @@ use walk::Run;
 ghost use mathlib.Core.Path.{_≡_};
 ghost use mathlib.Core.Bool.{true, false};
 ghost use Prim.Native.Nat.{_-_, _%_, _≤_};
-ghost use lib.Dec.{eqb};
 ghost use lib.ListN.{length, getD, drop};
-ghost use Rattle.laws.specs.Pick.{pick, both, either};
+ghost use Rattle.laws.specs.Pick.{both};
 ghost use Rattle.packet.specs.Setting.{inRange};
 ghost use Rattle.packet.specs.Packet.{packetLength};
 ghost use Rattle.octet.specs.Decoding.{nib};
-ghost use Rattle.walk.specs.Internal.{Kept, PacketRoom, runs};
+ghost use Rattle.walk.specs.Internal.{Kept, PacketRoom};
 ghost use Rattle.state.specs.State.{readerInRange, Sixteen};
 ghost use Rattle.reader.specs.Many.{refusedAll, feedAllHeard, feedAllReader, feedAllOut};
 ghost use Rattle.reader.specs.Internal.{stateIn, Heeded, started, ranFrom, RanTo, PassedTo};
@@ -183,15 +182,17 @@ pub(crate) fn heed(
     let was = a.got;
     let running = was.run;
     let page = v.page;
-    let joined = spans(v, running, a.joined);
+    let ran = crate::held::is_running(running);
+    let joined = state::joined::spans(v, ran, a.joined);
     let got = crate::held::lose(v.drops, was, store);
     if v.reads {
         let next = crate::held::read(got, joined, store, packet, out);
         let left = next.run;
+        let runs = crate::held::is_running(left);
         return Going {
             page: page,
             index: v.index,
-            joined: goes_on(joined, packet[2], left),
+            joined: state::joined::goes_on(joined, packet[2], runs),
             got: next,
         };
     }
@@ -201,46 +202,6 @@ pub(crate) fn heed(
         joined: joined,
         got: got,
     }
-}
-
-// Whether a block that ran spans pages once the verdict is heeded: it lives through a packet 0 that opens a page of ours, or it
-// did so before.
-fn spans(v: Verdict, run: Run, joined: bool) -> bool
-    ensures { λ r. ⌜ r ≡ pick (v .drops) false (either (both (v .opens) (runs run)) joined) ⌝ }
-{
-    if v.drops {
-        return false;
-    }
-    if !v.opens {
-        return joined;
-    }
-    match run {
-        Run::Idle => joined,
-        Run::Head {
-            got: _,
-            bits: _,
-            part: _,
-        } => true,
-        Run::Body {
-            head: _,
-            part: _,
-            held: _,
-        } => true,
-    }
-}
-
-// Whether the block that runs after a packet was read is one that spans pages: only where its pointer says that no block
-// starts there can it have run before.
-fn goes_on(joined: bool, pointer: u8, run: Run) -> bool
-    ensures { λ r. ⌜ r ≡ both joined (both (eqb (nib pointer) 13) (runs run)) ⌝ }
-{
-    if !joined {
-        return false;
-    }
-    if octet::quick::decode(pointer) != 13 {
-        return false;
-    }
-    crate::held::is_running(run)
 }
 
 // No packet has come yet.

@@ -23,8 +23,11 @@ pub record State : Type 0 where
 -- read or not
 
 -- whether the block that still runs once one was dropped or not spans pages: it runs where the packet opens a page of ours, or it did before
+abbrev pub spansBy : Verdict → Bool → Bool → Bool
+spansBy v runs joined = pick (v .drops) false (either (both (v .opens) runs) joined)
+
 abbrev pub spans : Verdict → State → Bool
-spans v st = pick (v .drops) false (either (both (v .opens) (running (st .mode))) (st .joined))
+spans v st = spansBy v (running (st .mode)) (st .joined)
 
 abbrev pub heeded : Verdict → ℕ → List ℕ → State → State
 heeded v p l st =

@@ -1,4 +1,6 @@
-// The reader's state: what it keeps between packets, and when that is in range (SCOPE 10). That of two streams is module `two`.
+// The reader's state: what it keeps between packets, and when that is in range (SCOPE 10). Whether the running block
+// spans pages is module `joined`, the state of two streams module `two`.
+pub mod joined;
 pub mod two;
 
 use pages::Page;

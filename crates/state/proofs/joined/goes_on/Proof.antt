@@ -1,11 +1,11 @@
--- `reader::many::goes_on` meets its contract: its tests in order. Assumes nothing.
-use mathlib.Core.Path.{_≡_, _∙_}
+-- `state::joined::goes_on` meets its contract: its tests in order. Assumes nothing.
+use mathlib.Core.Path.{_≡_}
 use native.Mathlib.Omega.{arith}
 use borrow.Author.Needs.{needs}
 use borrow.Author.Tests.{eq-eqb, ne-eqb, not-true, not-false}
 use Rattle.octet.specs.Decoding.{nib}
-use Rattle.reader.proofs.many.goes_on.Statement.{statement}
-use Rattle.reader.proofs.many.goes_on.Tie as tie
+use Rattle.state.proofs.joined.goes_on.Statement.{statement}
+use Rattle.state.proofs.joined.goes_on.Tie as tie
 
 returns : tie.Need-returns
 returns c = rw (not-true (c .before .args .joined) (c .if1 .taken))
@@ -20,14 +20,12 @@ returns-2 c =
 
 returns-3 : tie.Need-returns-3
 returns-3 c =
-    let b = c .before .before in
-    let a = b .before .before .args in
+    let a = c .before .before .before .args in
     let e : nib (a .pointer) ≡ 13 = omega arith in
-    c .is-running .ensures
-    ∙ rw (
-      not-false (a .joined) (b .before .if1 .left),
+    rw (
+      not-false (a .joined) (c .before .before .if1 .left),
       eq-eqb (nib (a .pointer)) 13 e,
     )
 
 pub goes-on-spec : {M : Type 1} → statement M
-goes-on-spec = tie.close (tie.spec returns (λ c κs. search needs) returns-2 (λ c κs. search needs) returns-3)
+goes-on-spec = tie.close (tie.spec returns (λ c κs. search needs) returns-2 returns-3)
