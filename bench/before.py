@@ -22,6 +22,8 @@ def main():
                 costs[when] = min(costs.get(when, cost), cost)
     print("\n| what | who | before | now | now times before |\n|---|---|---|---|---|")
     for (what, who), costs in best.items():
+        if len(costs) < 2:      # an earlier build lacks it
+            continue
         before, now = costs["before"], costs["now"]
         print(f"| {what} | {who} | {before:.2f} ns | {now:.2f} ns | {now / before:.2f} |")
 

@@ -3,7 +3,8 @@
 
 dense.t42  a multiple of sixteen pages of tables and nothing else, so that it can
            be repeated and the running number goes on
-mixed.t42  the same pages, after each three pages of other magazines
+both.t42   the same pages, and between them those of the same tables in stream 2
+mixed.t42  the same pages as dense.t42, after each three pages of other magazines
 lines.pes  PES packets of fifteen lines, with the time stamp that libzvbi waits for
 many.t42   mixed.t42 repeated, some two million packets
 
@@ -31,15 +32,18 @@ PAGE = 26       # packets of a page of 25, with its packet 0
 MANY = 2_000_000
 
 
+def cut(setting, records):
+    return samples.packets_in(guide.cut(setting, 0, 25, b"".join(records)))
+
+
 def dense():
-    """Nights of tables, until they fill a multiple of sixteen pages."""
+    """Nights of tables, until they fill a multiple of sixteen pages: their records."""
     records = []
     for seed in range(1, 200):
         records += samples.night_list(Dice(seed), 40)
-        packets = samples.packets_in(guide.cut(DESK, 0, 25, b"".join(records)))
-        pages = len(packets) // PAGE
+        pages = len(cut(DESK, records)) // PAGE
         if pages >= 100 and pages % 16 == 0:
-            return packets
+            return records
     sys.exit("make.py: no list fills whole rounds of sixteen pages")
 
 
@@ -52,6 +56,11 @@ def mixed(dice, packets):
             air = Air(dice, DESK._replace(magazine=other))
             out += [air.header(dice.below(16), 25)] + [air.row(y, dice.below(14), dice.bytes(39)) for y in range(1, 26)]
     return out
+
+
+def both(ours, theirs):
+    """Two streams' pages in turn."""
+    return [packet for at in range(0, len(ours), PAGE) for packet in ours[at:at + PAGE] + theirs[at:at + PAGE]]
 
 
 def lines(dice):
@@ -68,9 +77,11 @@ def reader_script():
 
 def main():
     folder, dice = pathlib.Path(sys.argv[1]), Dice(12)
-    ours = dense()
+    records = dense()
+    ours = cut(DESK, records)
     others = b"".join(mixed(dice, ours))
     (folder / "dense.t42").write_bytes(b"".join(ours))
+    (folder / "both.t42").write_bytes(b"".join(both(ours, cut(DESK._replace(stream=2), records))))
     (folder / "mixed.t42").write_bytes(others)
     (folder / "lines.pes").write_bytes(lines(dice))
     for name, script in ("guide", reader_script()), ("table", table_cases.script_of(Dice(5), 4)):

@@ -4,8 +4,8 @@
  * static libraries). Every round runs each of them once; the best round counts,
  * in CPU time, so that other work on the machine disturbs little.
  *
- *   measure DENSE MIXED PES     files that bench/make.py makes
- *   measure DENSE MIXED         packets alone
+ *   measure DENSE BOTH MIXED PES     files that bench/make.py makes
+ *   measure DENSE BOTH MIXED         packets alone
  */
 #include <libzvbi.h>
 #include <stdio.h>
@@ -23,16 +23,19 @@ size_t bench_pes(const uint8_t *packet, size_t n, uint8_t *out, size_t room);
 size_t bench_read(const uint8_t *record, size_t n, uint8_t *out, size_t room);
 uint64_t bench_feed(const uint8_t *packets, size_t n, uint8_t *out, size_t room);
 uint64_t bench_feed_all(const uint8_t *packets, size_t n, uint8_t *out, size_t room);
+uint64_t bench_feed_both(const uint8_t *packets, size_t n, uint8_t *out, size_t room);
 
 enum { ROUNDS = 25, BYTES = 1 << 16 };
+
+/* Builds from before two streams came are timed with ONE_STREAM (bench/run --before says so). */
 
 /* The bytes of a record before its raw bytes. Builds from before the part came have two (bench/run --before says so). */
 #ifndef RECORD_HEAD
 #define RECORD_HEAD 4
 #endif
 
-static uint8_t *input, out[1 << 22], records[1 << 22];
-static size_t length, blocks;
+static uint8_t *input, *both, out[1 << 22], records[1 << 22];
+static size_t length, both_length, blocks;
 
 static void load(const char *name)
 {
@@ -91,6 +94,12 @@ static unsigned long plain(void)
 
 static unsigned long our_feed(void) { return bench_feed(input, length, out, sizeof out); }
 static unsigned long our_feed_all(void) { return bench_feed_all(input, length, out, sizeof out); }
+
+#ifndef ONE_STREAM
+/* One stream's packets twice over, and as many of two streams. */
+static unsigned long our_feed_twice(void) { return our_feed_all() + our_feed_all(); }
+static unsigned long our_feed_both(void) { return bench_feed_both(both, both_length, out, sizeof out); }
+#endif
 
 /* How long the record there is, by its size. */
 static size_t record_length(const uint8_t *record) { return RECORD_HEAD + (record[0] + 256u * record[1]) / 32; }
@@ -251,6 +260,24 @@ static void packets(const char *what, const char *name)
     measure(what, "packet", length / PLAIN_PACKET, ALL(list));
 }
 
+#ifndef ONE_STREAM
+static void two_streams(const char *dense, const char *name)
+{
+    struct timed list[] = {
+        { "ours, `feed_all`, all of its stream", our_feed_twice, 0 },
+        { "ours, `two::feed_all`, half of each", our_feed_both, 0 },
+    };
+    load(name);
+    both = input, both_length = length, input = NULL;
+    load(dense);
+    if (both_length != 2 * length) {
+        fprintf(stderr, "measure: %s isn't twice as long as %s\n", name, dense);
+        exit(1);
+    }
+    measure("two streams", "packet", both_length / PLAIN_PACKET, ALL(list));
+}
+#endif
+
 int main(int argc, char **argv)
 {
     struct timed read[] = {
@@ -273,22 +300,25 @@ int main(int argc, char **argv)
         { "libzvbi, vbi_dvb_demux_feed", zvbi_pes, 0 },
         { "ours, `pes::read`", our_pes, 0 },
     };
-    if (argc != 3 && argc != 4) {
-        fprintf(stderr, "usage: measure DENSE MIXED [PES]\n");
+    if (argc != 4 && argc != 5) {
+        fprintf(stderr, "usage: measure DENSE BOTH MIXED [PES]\n");
         return 2;
     }
     plain_begin();
     packets("packets, all of our page", argv[1]);
-    packets("packets, one in four of our page", argv[2]);
+    packets("packets, one in four of our page", argv[3]);
+#ifndef ONE_STREAM
+    two_streams(argv[1], argv[2]);
+#endif
     load(argv[1]);
     keep_records();
     measure("block reading", "block", blocks, ALL(read));
-    if (argc == 3)
+    if (argc == 4)
         return 0;
-    load(argv[2]);
+    load(argv[3]);
     measure("decoding", "byte", length, ALL(decode));
     measure("turning", "byte", length, ALL(turn));
-    load(argv[3]);
+    load(argv[4]);
     measure("PES reading", "byte", length, ALL(pes));
     return 0;
 }

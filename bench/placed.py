@@ -19,7 +19,7 @@ ROW = re.compile(r"\| (.*?) \| (.*?) \| (\S+) ns a \w+ \|")
 
 def rows(program, folder):
     """What is measured, who does it, and nanoseconds a packet or block."""
-    words = [START, program, folder / "dense.t42", folder / "mixed.t42"]
+    words = [START, program, folder / "dense.t42", folder / "both.t42", folder / "mixed.t42"]
     for what, who, cost in ROW.findall(subprocess.run(words, check=True, capture_output=True, text=True).stdout):
         yield what, who, float(cost)
 

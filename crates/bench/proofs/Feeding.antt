@@ -1,5 +1,5 @@
 -- Packets fed one after the other: one more, and the end. Assumes nothing.
-use mathlib.Core.Path.{_≡_, _∙_, ap, sym}
+use mathlib.Core.Path.{_≡_, _∙_, ap}
 use mathlib.Core.List.{List}
 use Prim.Native.Nat.{ℕ, zero, suc, _+_, _-_, _<_}
 use native.Mathlib.Nat.{not-suc-le-zero}
@@ -11,8 +11,7 @@ use Rattle.state.specs.declared.Reader.{Reader}
 use Rattle.reader.specs.declared.Heard.{Heard}
 use Rattle.reader.specs.declared.many.HeardAll.{HeardAll}
 use Rattle.reader.specs.Feeding.{feedHeard, feedReader, feedOut}
-use Rattle.reader.specs.Many.{feedAllHeard, feedAllOut}
-use Rattle.bench.specs.Feeding.{desk, start, added, eachCount, eachOut, blocksOf}
+use Rattle.bench.specs.Feeding.{desk, added, eachCount, eachOut, blocksOf}
 
 -- the packet at a place of l, with what feed gives for it
 module _ (r new : Reader) (l out after : List ℕ) (at : ℕ)
@@ -44,13 +43,9 @@ pub ended-out : (left : ℕ) (r : Reader) (l out : List ℕ) → left ≡ 0 → 
 unfolding eachOut
 ended-out left r l out e = rw e
 
--- a list fed in one call, from the fresh reader on
+-- a list fed in one call, from a state that is the fresh one: so many blocks, and this output
 pub all-fed :
-    (state : Reader) (l out after : List ℕ) (heard found : HeardAll)
-    → state ≡ start
-    → heard ≡ feedAllHeard desk state l out
-    → after ≡ feedAllOut desk state l out
-    → heard ≡ found
-    → (blocksOf found ≡ blocksOf (feedAllHeard desk start l out)) × (after ≡ feedAllOut desk start l out)
-all-fed state l out after heard found s h o f =
-    (ap blocksOf (sym f ∙ h ∙ ap (λ (r : Reader). feedAllHeard desk r l out) s), o ∙ ap (λ (r : Reader). feedAllOut desk r l out) s)
+    {R : Type 0} {start : R} (told : R → HeardAll) (leaves : R → List ℕ) {state : R} {count : ℕ} {after : List ℕ} {heard : HeardAll}
+    → state ≡ start → heard ≡ told state → after ≡ leaves state → count ≡ blocksOf heard
+    → (count ≡ blocksOf (told start)) × (after ≡ leaves start)
+all-fed told leaves s h o n = (n ∙ ap blocksOf (h ∙ ap told s), o ∙ ap leaves s)

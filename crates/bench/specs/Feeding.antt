@@ -4,12 +4,15 @@ use Prim.Native.Nat.{ℕ, zero, suc, _+_, _%_}
 use lib.ListN.{take, drop}
 use Rattle.packet.specs.Packet.{packetLength}
 use Rattle.packet.specs.declared.Setting.{Setting}
+use Rattle.packet.specs.declared.two.Streams.{Streams}
 use Rattle.state.specs.declared.Reader.{Reader}
+use Rattle.state.specs.declared.two.Readers.{Readers}
 use Rattle.reader.specs.declared.Heard.{Heard}
 use Rattle.reader.specs.declared.Heard.the-variants.{Took, Refused}
 use Rattle.reader.specs.declared.many.HeardAll.{HeardAll}
 use Rattle.reader.specs.declared.many.HeardAll.the-variants.{TookAll, RefusedAll}
 use Rattle.state.specs.State.{readerOf, freshState}
+use Rattle.state.specs.Two.{readersOf, freshOfTwo}
 use Rattle.reader.specs.Feeding.{feedHeard, feedReader, feedOut}
 
 -- the desk's setting
@@ -18,6 +21,13 @@ desk = record { magazine = 1; page = 223; stream = 1; application = 1 }
 
 abbrev pub start : Reader
 start = readerOf freshState
+
+-- the same of two streams
+abbrev pub desks : Streams
+desks = record { magazine = 1; page = 223; first = 1; second = 2; application = 1 }
+
+abbrev pub bothStart : Readers
+bothStart = readersOf freshOfTwo
 
 -- counts go up to this
 abbrev pub wrap : ℕ

@@ -4,6 +4,7 @@ use answer::Answer;
 use frames::Read;
 use packet::PACKET;
 use packet::Setting;
+use packet::two::Streams;
 use reader::Heard;
 use reader::HeardAll;
 ghost use mathlib.Core.Path.{_≡_};
@@ -20,8 +21,9 @@ ghost use Rattle.pes.specs.Reading.{readRules, recordsOf};
 ghost use Rattle.sums.specs.Block.{mendedIn};
 ghost use Rattle.table.specs.Reading.{readRules as Table·readRules, tableRead};
 ghost use Rattle.bench.specs.Mixing.{mixed};
-ghost use Rattle.bench.specs.Feeding.{desk, start, wrap, added, eachCount, eachOut, blocksOf};
+ghost use Rattle.bench.specs.Feeding.{desk, desks, start, bothStart, wrap, added, eachCount, eachOut, blocksOf};
 ghost use Rattle.reader.specs.Many.{feedAllHeard, feedAllOut};
+ghost use Rattle.reader.specs.Two.{feedAllHeardOfTwo, feedAllOutOfTwo};
 
 // Decodes each byte. What it gives hangs on every one, so that none can be left out.
 #[no_mangle]
@@ -124,6 +126,32 @@ pub extern "C" fn bench_feed_all(packets: &[u8], out: &mut [u8]) -> usize
     let state = reader::fresh();
     let fed = reader::feed_all(setting, state, packets, out);
     let heard = fed.heard;
+    handed_out(heard)
+}
+
+// Feeds 42-byte packets of two streams to a fresh reader of both in one call: how many blocks of either were handed out.
+#[no_mangle]
+pub extern "C" fn bench_feed_both(packets: &[u8], out: &mut [u8]) -> usize
+    ensures count { λ r. ⌜ r ≡ blocksOf (feedAllHeardOfTwo desks bothStart (now (packets .entry)) (now (out .entry))) ⌝ }
+    ensures bytes { λ r. ⌜ now (out .exit) ≡ feedAllOutOfTwo desks bothStart (now (packets .entry)) (now (out .entry)) ⌝ }
+{
+    let setting = Streams {
+        magazine: 1,
+        page: 0xDF,
+        first: 1,
+        second: 2,
+        application: 1,
+    };
+    let state = reader::two::fresh();
+    let fed = reader::two::feed_all(setting, state, packets, out);
+    let heard = fed.heard;
+    handed_out(heard)
+}
+
+// How many blocks a list of packets gave.
+fn handed_out(heard: HeardAll) -> usize
+    ensures { λ r. ⌜ r ≡ blocksOf heard ⌝ }
+{
     match heard {
         HeardAll::TookAll {
             packets,

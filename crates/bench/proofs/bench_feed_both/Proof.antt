@@ -1,0 +1,20 @@
+-- `bench::bench_feed_both` meets its contract: it says how many blocks the answer of `reader::two::feed_all` reports. Assumes nothing.
+use mathlib.Core.List.{List}
+use borrow.Author.Needs.{needs}
+use denote.Ref.{now}
+use Rattle.state.specs.declared.two.Readers.{Readers}
+use Rattle.reader.specs.Two.{feedAllHeardOfTwo, feedAllOutOfTwo}
+use Rattle.bench.specs.Feeding.{desks}
+use Rattle.bench.proofs.Feeding.{all-fed}
+use Rattle.bench.proofs.bench_feed_both.Statement.{statement}
+use Rattle.bench.proofs.bench_feed_both.Tie as tie
+
+returns : tie.Need-returns
+returns c =
+    let f = c .before .before .before .feed-all in
+    let a = c .before .before .before .before .before .before .before .before .args in
+    all-fed (λ (r : Readers). feedAllHeardOfTwo desks r (now (a .packets)) (now (a .out))) (λ (r : Readers). feedAllOutOfTwo desks r (now (a .packets)) (now (a .out)))
+    (c .before .before .before .before .before .fresh .ensures) (f .ensures .0) (f .ensures .1 .1) (c .handed-out .ensures)
+
+pub bench-feed-both-spec : {M : Type 1} → statement M
+bench-feed-both-spec = tie.close (tie.spec (λ c κs. search needs) (λ c κs. search needs) (λ c κs. search needs) (λ c. search needs) returns)
