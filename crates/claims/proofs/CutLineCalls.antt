@@ -86,7 +86,6 @@ judged-either P rules a b p q = go (decided rules)
     go (inr w) = subst P (sym (refuses (λ number offset. a) b (w .1))) p
 
 run-sound : (s : Setting) (long n : ℕ) (a : Ran) (l : List ℕ) → Sound (a .state) → Sound (run s long n a l .state)
-unfolding run
 run-sound s long zero a l r = r
 run-sound s long (suc n) a l r =
     go (leb (length (recordsOf (a .blocks)) + room) long) _ (run-sound s long n (ranOn s a (take packetLength l)) (drop packetLength l) (sound-after s (a .state) (take packetLength l) r))

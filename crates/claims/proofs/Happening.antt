@@ -6,7 +6,6 @@ use mathlib.Core.List.{List, [], _∷_}
 use Prim.Native.Nat.{ℕ, _+_, _≤_, _<_}
 use native.Mathlib.Nat.{le-refl}
 use native.Mathlib.Omega.{arith}
-use lib.Dec.{lit≤}
 use lib.ListN.{length, replicate, length-replicate}
 use denote.Ref.{RefT}
 use Rattle.laws.specs.Each.{Each, nil, and}
@@ -20,7 +19,11 @@ use Rattle.writer.specs.Cutting.{packets, cutBytes, cutRules}
 use Rattle.writer.proofs.Numbering.{packets-forty}
 use Rattle.state.specs.declared.Reader.{Reader}
 use Rattle.state.specs.State.{readerOf, freshState}
+use Rattle.packet.specs.declared.two.Streams.{Streams}
+use Rattle.state.specs.declared.two.Readers.{Readers}
+use Rattle.state.specs.Two.{Handed, freshOfTwo, readersOf}
 use Rattle.reader.specs.Feeding.{feedHeard, feedReader, feedOut}
+use Rattle.reader.specs.Two.{feedHeardOfTwo, feedReadersOfTwo, feedOutOfTwo}
 use Rattle.forms.specs.Tables.{Table, fits}
 use Rattle.forms.specs.Form.{form, tableIn}
 use Rattle.forms.specs.Writing.{writeRules}
@@ -30,7 +33,11 @@ use Rattle.table.specs.Reading.{readRules, tableRead}
 use Rattle.claims.specs.Noise.{Aired}
 use Rattle.claims.specs.Damage.{Counted}
 use Rattle.claims.specs.Tables.{sent}
-use Rattle.claims.specs.Calls.{Writes, write-block, Cuts, cut-pages, Starts, fresh, Feeds, feed, Reads, read-block, Written, no-table, table, Fed, end, one, ReadOut, no-block, block, Through}
+use Rattle.claims.specs.Calls.{Writes, write-block, Cuts, cut-pages, Starts, fresh, Feeds, feed, Reads, read-block, Written, no-table, table, Fed, ReadOut, no-block, block, Through}
+use Rattle.claims.specs.Feeding.{feederFor}
+use Rattle.claims.specs.Two as Two
+use Rattle.claims.specs.Two.{feederForTwo, StartsTwo, FeedsTwo, FedOfTwo}
+use Rattle.claims.proofs.Rows as Rows
 use Rattle.claims.proofs.Blocks.{range}
 use Rattle.claims.proofs.Calls.{its-bytes, tables-written, all-whole, cut-holds}
 
@@ -69,6 +76,19 @@ can-feed s r p old =
     (s, (r, (lend p, (lend (feedOut s r p old), tt))))
     (refl, (refl, refl))
 
+-- the same of two streams
+can-start-two : StartsTwo (readersOf freshOfTwo)
+can-start-two = Two.fresh tt tt (readersOf freshOfTwo) tt refl
+
+can-feed-two :
+    (s : Streams) (r : Readers) (p old : List ℕ)
+    → FeedsTwo s r p old (feedHeardOfTwo s r p old) (feedReadersOfTwo s r p old) (feedOutOfTwo s r p old)
+can-feed-two s r p old =
+    Two.feed ([], ([], tt)) (s, (r, (lend p, (lend old, tt))))
+    (record { heard = feedHeardOfTwo s r p old; readers = feedReadersOfTwo s r p old })
+    (s, (r, (lend p, (lend (feedOutOfTwo s r p old), tt))))
+    (refl, (refl, refl))
+
 -- ---- calls in a row
 
 can-write-all : (application : ℕ) (ts : List Table) → (xs : List Answer) × (records : List ℕ) × Written application ts xs records
@@ -78,11 +98,14 @@ can-write-all application (t ∷ ts) =
     (_, _, table (le-refl (length (recordOf application t))) (can-write application (form t) (recordOf application t)) (rest .2))
 
 can-feed-all : (s : Setting) (r : Reader) (qs : List (List ℕ)) → (numbers : List ℕ) × (bs : List Block) × Fed s r qs numbers bs
-can-feed-all s r [] = ([], [], end)
-can-feed-all s r (q ∷ qs) =
-    let old : List ℕ = replicate 2112 0 in
-    let rest = can-feed-all s (feedReader s r q old) qs in
-    (_, _, one (lit≤ tt) (can-feed s r q old) (rest .2))
+can-feed-all s = Rows.can-feed-all (feederFor s) (can-feed s)
+
+-- whatever packets come, calls of two streams can be made for them, from a fresh state on
+pub fed-happens-of-two :
+    (s : Streams) (qs : List (List ℕ)) → (r : Readers) × StartsTwo r × (numbers : List ℕ) × (bs : List Handed) × FedOfTwo s r qs numbers bs
+fed-happens-of-two s qs =
+    let fed = Rows.can-feed-all (feederForTwo s) (can-feed-two s) (readersOf freshOfTwo) qs in
+    (readersOf freshOfTwo, can-start-two, fed .0, fed .1, fed .2)
 
 can-read-all : (application most : ℕ) (bs : List Block) → (forms : List (Counted (List ℕ))) × ReadOut application most bs forms
 can-read-all application most [] = ([], no-block)

@@ -18,7 +18,9 @@ pub mod Silent
 pub mod March
 pub mod Numbers
 pub mod Settled
+pub mod Rows
 pub mod Fed
+pub mod FedTwo
 pub mod Parts
 pub mod Tables
 pub mod Blocks

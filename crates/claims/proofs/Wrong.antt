@@ -11,6 +11,9 @@ use lib.Dec.{lit<, lit≤}
 use lib.ListN.{length, length-append, replicate, getD, set, take, drop}
 use Rattle.laws.specs.Each.{Each, nil, and}
 use Rattle.laws.specs.Pick.{either}
+use Rattle.laws.proofs.Tests.{either-true}
+use mathlib.Core.Logic.{inl, inr}
+use Rattle.walk.specs.Reading.{room}
 use Rattle.octet.specs.Bits.{bits, number, differing, flips}
 use Rattle.octet.specs.Image.{image, withParity}
 use Rattle.octet.specs.Decoding.{nib, nibbleFrom}
@@ -34,7 +37,14 @@ use Rattle.state.specs.Acting.{State, act, handed, dropped}
 use Rattle.state.specs.State.{readerOf, freshState, Sound}
 use Rattle.state.proofs.Ranging.{sound-fresh, sound-after}
 use Rattle.reader.specs.declared.Heard.{Heard}
+use Rattle.packet.specs.declared.two.Streams.{Streams}
+use Rattle.packet.specs.Two.{firstOf}
+use Rattle.pages.specs.declared.two.Whose.the-variants.{First, Second}
+use Rattle.pages.specs.Two.{unreadable, seenByTwoAs, seeByTwo}
+use Rattle.state.specs.Two.{TwoState, stateFor, droppedOfTwo}
+use Rattle.state.proofs.Beside.{dropped-beside}
 use Rattle.reader.specs.Feeding.{feedHeard, feedOut}
+use Rattle.reader.specs.Two.{feedHeardOfTwo, feedOutOfTwo}
 use Rattle.forms.specs.Tables.{Table, per, loops, fields, fits, entire}
 use Rattle.sums.specs.Sums.{total, checksum}
 use Rattle.sums.specs.Block.{nibbles, checksumOf, blockWith}
@@ -49,7 +59,12 @@ use Rattle.claims.specs.March
 use Rattle.claims.specs.Tells.{Tells}
 use Rattle.claims.proofs.Noise.{flips-self}
 use Rattle.claims.proofs.Demands.{exactly, all-sent}
-use Rattle.claims.proofs.Fed.{callFor, callsFor, packets-of-calls, call-counts, call-blocks, call-drops, fed-blocks}
+use Rattle.claims.specs.Feeding.{feederFor}
+use Rattle.claims.specs.Two.{feederForTwo, EitherRuns, TellsOfTwo}
+use Rattle.claims.proofs.Rows as Rows
+use Rattle.claims.proofs.Rows.{callFor, callsFor, packets-of-calls, call-tells}
+use Rattle.claims.proofs.Fed.{works, call-blocks, call-drops, fed-blocks}
+use Rattle.claims.proofs.FedTwo.{works-two}
 use Rattle.claims.proofs.March.{unreadable-junk}
 
 -- ---- ours
@@ -86,7 +101,7 @@ given :
     (f : Setting → List Call → List (Counted Table)) → Carries f → (t : Table) → fits t ≡ true → tables f (callsFor (only t)) ≡ t ∷ []
 given f c t e =
     let aired : Aired (Flipped 0) desk (only t) (only t) (packetsOf (callsFor (only t))) =
-    subst (λ (ps : List (List ℕ)). Aired (Flipped 0) desk (only t) (only t) ps) (sym (packets-of-calls (only t))) (aired-itself (only t)) in
+    subst (λ (ps : List (List ℕ)). Aired (Flipped 0) desk (only t) (only t) ps) (sym (packets-of-calls room (only t))) (aired-itself (only t)) in
     ap (map (λ c. c .what))
     (c .exactly 0 (lit≤ tt) desk desk-range 0 1 (lit< tt) (lit≤ tt) (lit≤ tt) (t ∷ []) (and e nil) (callsFor (only t)) (only t) aired)
     ∙ all-sent 0 (lit≤ tt) desk desk-range 0 1 (lit< tt) (lit≤ tt) (lit≤ tt) (t ∷ []) (and e nil) (callsFor (only t)) (only t) aired
@@ -284,7 +299,7 @@ never-mended-shut-out f never c =
     (Aired·sent (near-itself (getD (only G) 0 [])) (Aired·sent (near-set (getD (only G) 1 []) 3 0xA0 start-there) ended)) in
     let said =
     c .exactly 1 (lit≤ tt) desk desk-range 0 1 (lit< tt) (lit≤ tt) (lit≤ tt) (G ∷ []) (and g-fits nil) (callsFor rough) rough
-    (subst (λ (ps : List (List ℕ)). Aired (Flipped 1) desk (only G) rough ps) (sym (packets-of-calls rough)) aired) in
+    (subst (λ (ps : List (List ℕ)). Aired (Flipped 1) desk (only G) rough ps) (sym (packets-of-calls room rough)) aired) in
     no-count (never desk (callsFor rough)) (ap (map (λ c. c .mended)) said ∙ mended-once)
 
 -- ---- answers
@@ -299,12 +314,33 @@ dropped-junk st = go (running (st .mode))
 
 -- ours counts the records that it writes, and says where a running block was dropped
 pub feed-tells : Tells feedHeard feedOut
-feed-tells =
+feed-tells s i =
     record {
-      counts = λ s i st r c l. call-counts s i st r c l ∙ ap length (sym (call-blocks s i st r c l));
+      counts = λ st r c l. call-tells (feederFor s) (works s i) st r c l;
+      drops = λ st r c l e u. call-drops s i st r c l ∙ ap (dropped st) (unreadable-junk s (c .packet) l u) ∙ dropped-junk st ∙ e;
+    }
+
+-- and ours of two streams, where a block of either runs
+seen-unreadable : (s : Streams) (p : List ℕ) → see (firstOf s) p ≡ junk → seeByTwo s p ≡ unreadable
+unfolding see seeByTwo seenByTwoAs
+seen-unreadable s p e = rw e
+
+dropped-unreadable : (st : TwoState) → EitherRuns st → droppedOfTwo st unreadable ≡ true
+dropped-unreadable st runs = dropped-beside st unreadable ∙ rw (dropped-junk (stateFor First st), dropped-junk (stateFor Second st)) (go runs)
+  where
+    go : EitherRuns st → either (running (st .first .mode)) (running (st .second .mode)) ≡ true
+    go (inl e) = rw e
+    go (inr e) = rw (e, either-true)
+
+pub feed-tells-of-two : TellsOfTwo feedHeardOfTwo feedOutOfTwo
+feed-tells-of-two s i =
+    record {
+      counts = λ st r c l. call-tells (feederForTwo s) (works-two s i) st r c l;
       drops =
-          λ s i st r c l e u.
-          call-drops s i st r c l ∙ ap (dropped st) (unreadable-junk s (c .packet) l u) ∙ dropped-junk st ∙ e;
+          λ st r c l e u.
+          Rows.call-drops (feederForTwo s) (works-two s i) st r c l
+          ∙ ap (droppedOfTwo st) (seen-unreadable s (c .packet) (unreadable-junk (firstOf s) (c .packet) l u))
+          ∙ dropped-unreadable st e;
     }
 
 -- a packet rightly addressed to magazine 2
@@ -333,7 +369,7 @@ module _ (heard : Setting → Reader → List ℕ → List ℕ → Heard) (tells
   told : (st : State) → Sound st → (c : Call) → length (c .packet) ≡ 42 → count desk (readerOf st) ≡ length (handed st (see desk (c .packet)))
   told st r c l =
       sym (made-up desk (readerOf st) (c .packet) (c .lent))
-      ∙ tells .counts desk desk-range st r c l
+      ∙ tells desk desk-range .counts st r c l
       ∙ ap (λ (n : ℕ). length (blocks (take n (feedOut desk (readerOf st) (c .packet) (c .lent))))) (alike desk (readerOf st) (c .packet) (c .lent))
       ∙ ap length (call-blocks desk desk-range st r c l)
 
@@ -353,8 +389,8 @@ module _ (heard : Setting → Reader → List ℕ → List ℕ → Heard) (tells
   made-up-shut-out =
       let bs = comesOut desk (readerOf freshState) (callsFor (only G)) in
       let heard-none : length bs ≡ 0 =
-      ap length (fed-blocks desk desk-range freshState sound-fresh (callsFor (only G)) (subst FortyTwo (sym (packets-of-calls (only G))) forty))
-      ∙ ap (λ (ps : List (List ℕ)). length (heardBlocks desk freshState ps)) (packets-of-calls (only G))
+      ap length (fed-blocks desk desk-range freshState sound-fresh (callsFor (only G)) (subst FortyTwo (sym (packets-of-calls room (only G))) forty))
+      ∙ ap (λ (ps : List (List ℕ)). length (heardBlocks desk freshState ps)) (packets-of-calls room (only G))
       ∙ none-heard freshState sound-fresh forty in
       let z : _≡_ {A = ℕ} 0 1 =
       sym (ap (λ (l : List (Counted Table)). length (map (λ c. c .what) l)) (no-tables bs heard-none)) ∙ ap length (given received received-carries G g-fits) in
@@ -369,7 +405,7 @@ pub never-drops-shut-out :
     → ((s : Setting) (r : Reader) (p old : List ℕ) → droppedOf (heard s r p old) ≡ false) → Tells heard out → ⊥
 unfolding decodes nib nibbleFrom image withParity differing number bits
 never-drops-shut-out heard out never tells =
-    let c = callFor (replicate 42 0x16) in
+    let c : Call = callFor (replicate 42 0x16) in
     let st : State = record { page = Shut; index = 0; mode = heading 0 0 0; joined = false } in
     let r : Sound st =
     record {
@@ -378,7 +414,7 @@ never-drops-shut-out heard out never tells =
       mode = record { got = omega arith; small = omega arith; only = refl; counted = omega arith };
       joined = λ e. refl;
     } in
-    let d = tells .drops desk desk-range st r c refl refl (March.address refl) in
+    let d = tells desk desk-range .drops st r c refl refl (March.address refl) in
     let n = never desk (readerOf st) (c .packet) (c .lent) in
     let z : _≡_ {A = ℕ} 0 1 = cc in
     omega arith

@@ -4,7 +4,7 @@
 use mathlib.Core.Path.{_≡_}
 use mathlib.Core.List.{List, [], _∷_, _++_, map}
 use Prim.Native.Nat.{ℕ, _≤_}
-use lib.ListN.{length, take, drop}
+use lib.ListN.{length, take}
 use denote.Ref.{now}
 use Rattle.laws.specs.Each.{Each}
 use Rattle.answer.specs.declared.Answer.{Answer}
@@ -12,7 +12,6 @@ use Rattle.answer.specs.declared.Answer.the-variants.{Done, Refused}
 use Rattle.blocks.specs.Block.{Block, blocks as Block·blocks, recordOf as Block·recordOf}
 use Rattle.packet.specs.declared.Setting.{Setting}
 use Rattle.writer.specs.Cutting.{joined, cutBytes, usualPage, FortyTwo}
-use Rattle.walk.specs.Reading.{room}
 use Rattle.state.specs.declared.Reader.{Reader}
 use Rattle.reader.specs.declared.Heard.{Heard}
 use Rattle.reader.specs.declared.many.HeardAll.{HeardAll}
@@ -32,7 +31,8 @@ use Rattle.menu_reader.proofs.read_menu.Reads as menu-reader·read-menu
 use Rattle.menu_writer.proofs.write_menu.Reads as menu-writer·write-menu
 use Rattle.claims.specs.Noise.{Aired, Came}
 use Rattle.claims.specs.Damage.{streamIn, sendings, Counted, damaged}
-use Rattle.claims.specs.Feeding.{writtenOf, numberOf, numberOfAll, packetsOfAll, writtenOfAll}
+use Rattle.claims.specs.Rows as Rows
+use Rattle.claims.specs.Feeding.{feederFor}
 use Rattle.claims.specs.Tables.{sent as Tables·sent}
 
 -- ---- each call
@@ -109,18 +109,8 @@ pub data Written (application : ℕ) : List Table → List Answer → List ℕ �
 
 -- packets are fed in order, the reader handed on from call to call, each call with room: the answers' numbers, and the blocks whose
 -- records the calls write
-pub data Fed (s : Setting) : Reader → List (List ℕ) → List ℕ → List Block → Type 0 where
-  end : {r : Reader} → Fed s r [] [] []
-  -- the next packet goes to `feed`
-  one :
-      {r after : Reader} {q old out : List ℕ} {qs : List (List ℕ)} {h : Heard} {numbers : List ℕ} {bs : List Block}
-      → room ≤ length old → Feeds s r q old h after out → Fed s after qs numbers bs
-      → Fed s r (q ∷ qs) (numberOf h ∷ numbers) (Block·blocks (take (writtenOf h) out) ++ bs)
-  -- at most n of those that are left go to `feed_all`; those that it doesn't take stay
-  many :
-      {r after : Reader} {old out : List ℕ} {qs : List (List ℕ)} {h : HeardAll} {numbers : List ℕ} {bs : List Block} (n : ℕ)
-      → room ≤ length old → FeedsAll s r (joined (take n qs)) old h after out → Fed s after (drop (packetsOfAll h) qs) numbers bs
-      → Fed s r qs (numberOfAll h ∷ numbers) (Block·blocks (take (writtenOfAll h) out) ++ bs)
+abbrev pub Fed : Setting → Reader → List (List ℕ) → List ℕ → List Block → Type 0
+Fed s = Rows.Fed (feederFor s) (Feeds s) (FeedsAll s)
 
 -- each block's record is handed to `read_block`, with an output of at least so many bytes: the forms that it writes, with their counts
 pub data ReadOut (application most : ℕ) : List Block → List (Counted (List ℕ)) → Type 0 where

@@ -1,6 +1,7 @@
 pub mod Noise
 pub mod Mingled
 pub mod Damage
+pub mod Rows
 pub mod Carrying
 pub mod Feeding
 pub mod Lists
@@ -12,4 +13,5 @@ pub mod Calls
 pub mod Sheets
 pub mod CutLine
 pub mod Judges
+pub mod Two
 pub mod Twice

@@ -1,27 +1,31 @@
--- Packets one after the other: one more is one step of the definition, and where there is no room for one, or none is left, it has
--- ended; those of other magazines are passed by. Assumes nothing.
+-- Packets one after the other, whatever a packet does: one more is one step of the definition, and where there is no room for one, or none is left,
+-- it has ended. Then of one stream, where those of other magazines are passed by. Assumes nothing.
 use mathlib.Core.Path.{_≡_, _∙_, refl, sym, ap}
-use mathlib.Core.Bool.{true, false}
+use mathlib.Core.Bool.{Bool, true, false}
 use mathlib.Core.List.{List, _++_}
 use Prim.Native.Nat.{ℕ, zero, suc, _+_, _-_, _*_, _/_, _%_, _≤_, _<_}
 use native.Mathlib.Nat.{zero-add, le-refl}
 use native.Mathlib.Omega.{arith}
 use lib.ListN.{length, take, drop, length-append, length-drop}
-use lib.Seq.{sets, drop-drop, length-take-le}
+use lib.Seq.{sets, drop-drop, length-take-le, take-all}
 use borrow.Author.Tests.{le-leb, lt-leb}
+use Rattle.laws.specs.Pick.{either}
 use Rattle.laws.proofs.Lists.{sets-append, part-of}
-use Rattle.blocks.specs.Block.{Block, headLength, recordsOf}
+use Rattle.blocks.specs.Block.{headLength, recordsOf}
 use Rattle.packet.specs.declared.Setting.{Setting}
 use Rattle.packet.specs.Packet.{packetLength}
 use Rattle.packet.specs.Address.{addressOf, elsewhere}
 use Rattle.reader.specs.declared.many.Going.{Going}
 use Rattle.pages.specs.Seen.{see}
-use Rattle.state.specs.Acting.{State, handed, dropped}
+use Rattle.state.specs.Acting.{State, handed}
 use Rattle.walk.specs.Reading.{room}
-use Rattle.reader.specs.Many.{Ran, begun, ranOn, run}
+use Rattle.reader.specs.Calls as Calls
+use Rattle.reader.specs.Calls.{Does, ranOn, run, handedBytes}
+use Rattle.reader.specs.Feeding.{doesFor}
+use Rattle.reader.specs.Many.{Ran, begun}
 use Rattle.walk.specs.Internal.{Kept}
 use Rattle.walk.specs.Mode.{Good}
-use Rattle.reader.specs.Internal.{Acted, stateIn, RanTo, taking, packetAt, Reached, Passed}
+use Rattle.reader.specs.Internal.{CameTo, ReachedBy, Acted, stateIn, RanTo, taking, packetAt, Reached, Passed}
 use Rattle.walk.proofs.Keeping.{holds-mode, holds-kept}
 use Rattle.walk.proofs.Adding.{recordsOf-append}
 use Rattle.walk.proofs.Room.{head-each}
@@ -29,75 +33,106 @@ use Rattle.state.proofs.Bounding.{packet-room}
 use Rattle.pages.proofs.Judged.{see-elsewhere}
 use Rattle.reader.proofs.Heeding.{act-other}
 
--- ---- what has come
+-- a packet's part of the list
+pub packet-length : (packets : List ℕ) (at : ℕ) → at + 42 ≤ length packets → length (take (at + 42 - at) (drop at packets)) ≡ packetLength
+packet-length packets at h = rw (part-of at 42 packets) (length-take-le 42 (drop at packets) (rw length-drop (omega arith)))
+
+-- ---- whatever a packet does
+
+module _ {S B : Type 0} (d : Does S B) where
+  -- where there is no room for one packet more, however many are left
+  no-more : (long n : ℕ) (b : Calls.Ran S B) (l : List ℕ) → long < length (d .bytes (b .blocks)) + d .room → b ≡ run d long n b l
+  no-more long zero b l h = refl
+  no-more long (suc n) b l h = rw (lt-leb _ _ h)
+
+  module _ (long : ℕ) (packets : List ℕ) (at : ℕ) (b : Calls.Ran S B) where
+    pub run-full :
+        long < length (d .bytes (b .blocks)) + d .room → b ≡ run d long ((length packets - at) / packetLength) b (drop at packets)
+    run-full h = no-more long ((length packets - at) / packetLength) b (drop at packets) h
+
+    -- where there is room for one packet more
+    run-on :
+        at + 42 ≤ length packets → length (d .bytes (b .blocks)) + d .room ≤ long
+        → run d long ((length packets - (at + 42)) / packetLength) (ranOn d b (packetAt packets at)) (drop (at + 42) packets)
+        ≡ run d long ((length packets - at) / packetLength) b (drop at packets)
+    run-on h r =
+        let e : (length packets - at) / packetLength ≡ suc ((length packets - (at + 42)) / packetLength) = omega arith in
+        rw (e, le-leb _ _ r, part-of at 42 packets, drop-drop)
+
+    -- where none is left
+    pub run-out : length packets ≤ at → b ≡ run d long ((length packets - at) / packetLength) b (drop at packets)
+    run-out h = let e : (length packets - at) / packetLength ≡ 0 = omega arith in rw e
+
+    -- one packet more, and what is left still comes to the same
+    pub onward :
+        {Has : Calls.Ran S B → Type 0} {whole : Calls.Ran S B} → at + 42 ≤ length packets → length (d .bytes (b .blocks)) + d .room ≤ long
+        → Has (ranOn d b (packetAt packets at)) → run d long ((length packets - at) / packetLength) b (drop at packets) ≡ whole
+        → ReachedBy d long packets (at + 42) Has whole
+    onward h r x e = (ranOn d b (packetAt packets at), x, run-on h r ∙ e)
+
+  -- a list of one packet
+  pub run-one :
+      (long : ℕ) (b : Calls.Ran S B) (p : List ℕ) → length p ≡ packetLength → length (d .bytes (b .blocks)) + d .room ≤ long
+      → run d long (length p / packetLength) b p ≡ ranOn d b p
+  run-one long b p h r = rw (h, le-leb _ _ r, take-all packetLength p (omega (arith, h)))
+
+  -- what one packet more adds
+  module _ (append : (xs ys : List B) → d .bytes (xs ++ ys) ≡ d .bytes xs ++ d .bytes ys) {b : Calls.Ran S B} {count blocks written : ℕ} {drops : Bool} {old mid : List ℕ}
+      (w : CameTo (d .bytes) b count blocks written drops old mid) (p : List ℕ) where
+    -- its bytes go behind those there
+    laid-on :
+        (l : List ℕ)
+        → sets (sets old 0 (d .bytes (b .blocks))) (length (d .bytes (b .blocks))) l ≡ sets old 0 (d .bytes (b .blocks) ++ l)
+    laid-on l =
+        let there = d .bytes (b .blocks) in
+        ap (λ (k : ℕ). sets (sets old 0 there) k l) (sym (zero-add (length there))) ∙ sym (sets-append old 0 there l)
+
+    pub came-on :
+        {blocks′ written′ : ℕ} {drops′ : Bool} {new : List ℕ} → blocks′ ≡ blocks + length (d .handed (b .state) p)
+        → written′ ≡ written + length (handedBytes d (b .state) p) → drops′ ≡ either drops (d .dropped (b .state) p)
+        → new ≡ sets mid written (handedBytes d (b .state) p) → CameTo (d .bytes) (ranOn d b p) (count + 1) blocks′ written′ drops′ old new
+    came-on x y z n =
+        record {
+          packets = rw (w .packets) (omega arith);
+          blocks = x ∙ rw (w .blocks, length-append);
+          written = y ∙ rw (w .written, append (b .blocks) (d .handed (b .state) p), length-append);
+          dropped = z ∙ rw (w .dropped);
+          out = n ∙ rw (w .out, w .written, append (b .blocks) (d .handed (b .state) p)) (laid-on (handedBytes d (b .state) p));
+        }
+
+-- ---- of one stream
 
 pub begins :
     (a : Going) {store : List ℕ} (out : List ℕ) → Kept (a .got .run) store → a .got .blocks ≡ 0 → a .got .written ≡ 0
     → a .got .dropped ≡ false → RanTo (begun (stateIn a store)) (taking a 0) store out out
 unfolding recordsOf
 begins a out k x y z =
-    record { packets = refl; page = refl; index = refl; joined = refl; holds = k; blocks = x; written = y; dropped = z; out = refl }
+    record {
+      page = refl;
+      index = refl;
+      joined = refl;
+      holds = k;
+      came = record { packets = refl; blocks = x; written = y; dropped = z; out = refl };
+    }
 
 module _ {b : Ran} {a : Going} {count : ℕ} {store old mid : List ℕ} (w : RanTo b (taking a count) store old mid) where
   ran-state : stateIn a store ≡ b .state
   ran-state = rw (w .page, w .index, w .joined, holds-mode (b .state .mode) (w .holds))
 
-  -- its records go behind those there
-  laid-on :
-      (l : List ℕ)
-      → sets (sets old 0 (recordsOf (b .blocks))) (length (recordsOf (b .blocks))) l ≡ sets old 0 (recordsOf (b .blocks) ++ l)
-  laid-on l =
-      let there = recordsOf (b .blocks) in
-      ap (λ (k : ℕ). sets (sets old 0 there) k l) (sym (zero-add (length there))) ∙ sym (sets-append old 0 there l)
-
   -- one packet more
-  pub one-more :
+  one-more :
       (s : Setting) (p : List ℕ) {after : Going} {store′ new : List ℕ} → Acted (see s p) (stateIn a store) a after store′ mid new
-      → RanTo (ranOn s b p) (taking after (count + 1)) store′ old new
+      → RanTo (ranOn (doesFor s) b p) (taking after (count + 1)) store′ old new
   one-more s p {after} {store′} {new} x =
       let y : Acted (see s p) (b .state) a after store′ mid new = rw ran-state at x in
-      let bs : List Block = handed (b .state) (see s p) in
       record {
-        packets = rw (w .packets) (omega arith);
         page = y .page;
         index = y .index;
         joined = y .joined;
         holds = y .went .holds;
-        blocks = y .went .blocks ∙ rw (w .blocks, length-append);
-        written = y .went .written ∙ rw (w .written, recordsOf-append, length-append);
-        dropped = y .went .dropped ∙ rw (w .dropped);
-        out = y .went .out ∙ rw (w .out, w .written, recordsOf-append) (laid-on (recordsOf bs));
+        came = came-on (doesFor s) recordsOf-append (w .came) p (y .went .blocks) (y .went .written) (y .went .dropped) (y .went .out);
       }
 
--- ---- what is left
-
--- a packet's part of the list
-pub packet-length : (packets : List ℕ) (at : ℕ) → at + 42 ≤ length packets → length (take (at + 42 - at) (drop at packets)) ≡ packetLength
-packet-length packets at h = rw (part-of at 42 packets) (length-take-le 42 (drop at packets) (rw length-drop (omega arith)))
-
--- where there is no room for one packet more, however many are left
-pub run-full : (s : Setting) (long n : ℕ) (b : Ran) (l : List ℕ) → long < length (recordsOf (b .blocks)) + room → b ≡ run s long n b l
-unfolding run
-run-full s long zero b l h = refl
-run-full s long (suc n) b l h = rw (lt-leb _ _ h)
-
-module _ (s : Setting) (long : ℕ) (packets : List ℕ) (at : ℕ) (b : Ran) where
-  -- where there is room for one packet more
-  pub run-on :
-      at + 42 ≤ length packets → length (recordsOf (b .blocks)) + room ≤ long
-      → run s long ((length packets - (at + 42)) / packetLength) (ranOn s b (take (at + 42 - at) (drop at packets))) (drop (at + 42) packets)
-      ≡ run s long ((length packets - at) / packetLength) b (drop at packets)
-  unfolding run
-  run-on h r =
-      let e : (length packets - at) / packetLength ≡ suc ((length packets - (at + 42)) / packetLength) = omega arith in
-      rw (e, le-leb _ _ r, part-of at 42 packets, drop-drop)
-
-  -- where none is left
-  pub run-out : length packets ≤ at → b ≡ run s long ((length packets - at) / packetLength) b (drop at packets)
-  unfolding run
-  run-out h = let e : (length packets - at) / packetLength ≡ 0 = omega arith in rw e
-
--- one packet more, and what is left still comes to the same
 pub further :
     (s : Setting) (long : ℕ) (packets : List ℕ) (at : ℕ) {whole : Ran} {a after : Going} {store store′ old mid new : List ℕ}
     → at + 42 ≤ length packets → a .got .written + room ≤ long
@@ -106,8 +141,8 @@ pub further :
 further s long packets at {after = after} {store′ = store′} {old = old} {new = new} h r x (b, w, e) =
     let p = packetAt packets at in
     let k : at / packetLength + 1 ≡ (at + 42) / packetLength = omega arith in
-    let y : RanTo (ranOn s b p) (taking after (at / packetLength + 1)) store′ old new = one-more w s p x in
-    (ranOn s b p, rw k at y, run-on s long packets at b h (omega (arith, r, w .written)) ∙ e)
+    let y : RanTo (ranOn (doesFor s) b p) (taking after (at / packetLength + 1)) store′ old new = one-more w s p x in
+    onward (doesFor s) long packets at b h (omega (arith, r, w .came .written)) (rw k at y) e
 
 -- nothing has been passed by yet
 pub passed-none : (s : Setting) (packets : List ℕ) (at : ℕ) → at ≤ length packets → (length packets - at) % packetLength ≡ 0 → Passed s packets at at

@@ -1,14 +1,9 @@
--- Packets of two streams one after the other: one more is one step of the definition, and where there is no room for one, or none is left, it has
--- ended. Assumes nothing.
-use mathlib.Core.Path.{_≡_, _∙_, refl, sym, ap}
-use mathlib.Core.List.{List, [], _∷_, _++_}
-use Prim.Native.Nat.{ℕ, zero, suc, _+_, _-_, _/_, _≤_, _<_}
-use native.Mathlib.Nat.{zero-add}
+-- Packets of two streams one after the other: what any reader's are. Assumes nothing.
+use mathlib.Core.Path.{_≡_, refl}
+use mathlib.Core.List.{List, [], _∷_}
+use Prim.Native.Nat.{ℕ, _+_, _/_, _≤_}
 use native.Mathlib.Omega.{arith}
-use lib.ListN.{length, take, drop, length-append}
-use lib.Seq.{sets, drop-drop}
-use borrow.Author.Tests.{le-leb, lt-leb}
-use Rattle.laws.proofs.Lists.{sets-append, part-of}
+use lib.ListN.{length, length-append}
 use Rattle.packet.specs.declared.two.Streams.{Streams}
 use Rattle.packet.specs.Packet.{packetLength}
 use Rattle.pages.specs.Two.{seeByTwo}
@@ -17,28 +12,26 @@ use Rattle.walk.proofs.Keeping.{holds-mode}
 use Rattle.state.specs.Two.{Handed, Own, ownHeld, actOfTwo, handedOfTwo, droppedOfTwo}
 use Rattle.state.specs.declared.two.Half.{Half}
 use Rattle.reader.specs.declared.two.Pair.{Pair}
+use Rattle.reader.specs.Calls.{begun, ranOn}
 use Rattle.reader.specs.Internal.{packetAt}
-use Rattle.reader.specs.Two.{roomOfTwo, markedAll, RanOfTwo, begunOfTwo, ranOnOfTwo, runOfTwo}
+use Rattle.reader.specs.Two.{roomOfTwo, markedAll, RanOfTwo, doesForTwo}
 use Rattle.reader.specs.InternalTwo.{OwnIn, pairIn, none-yet, ActedOfTwo, SteppedTwo, RanOfTwoTo, ReachedTwo}
 use Rattle.reader.proofs.Tagging.{marked-append}
 use Rattle.reader.proofs.HeedingTwo.{both-room}
+use Rattle.reader.proofs.Running.{came-on, onward}
 
 -- ---- what has come
 
 pub begins-two :
     (s : Streams) (a : Pair) {store1 store2 : List ℕ} (out : List ℕ) → Kept (a .first .run) store1 → Kept (a .second .run) store2 → none-yet a
-    → RanOfTwoTo s (begunOfTwo (pairIn a store1 store2)) a 0 store1 store2 out out
+    → RanOfTwoTo s (begun (pairIn a store1 store2)) a 0 store1 store2 out out
 unfolding markedAll
 begins-two s a out k l (x, y, z) =
     record {
-      count = refl;
       page = refl;
       first = record { index = refl; joined = refl; holds = k };
       second = record { index = refl; joined = refl; holds = l };
-      blocks = x;
-      written = y;
-      dropped = z;
-      out = refl;
+      came = record { packets = refl; blocks = x; written = y; dropped = z; out = refl };
     }
 
 own-held : {o : Own} {h : Half} {store : List ℕ} → OwnIn o h store → ownHeld h store ≡ o
@@ -48,58 +41,20 @@ module _ (s : Streams) {b : RanOfTwo} {a : Pair} {count : ℕ} {store1 store2 ol
   ran-pair : pairIn a store1 store2 ≡ b .state
   ran-pair = rw (w .page, own-held (w .first), own-held (w .second))
 
-  -- its bytes go behind those there
-  laid-on-two :
-      (l : List ℕ)
-      → sets (sets old 0 (markedAll s (b .blocks))) (length (markedAll s (b .blocks))) l ≡ sets old 0 (markedAll s (b .blocks) ++ l)
-  laid-on-two l =
-      let there = markedAll s (b .blocks) in
-      ap (λ (k : ℕ). sets (sets old 0 there) k l) (sym (zero-add (length there))) ∙ sym (sets-append old 0 there l)
-
   -- one packet more
-  pub one-more-two :
+  one-more-two :
       (p : List ℕ) {after : Pair} {now1 now2 new : List ℕ} → ActedOfTwo s p a after store1 store2 now1 now2 mid new
-      → RanOfTwoTo s (ranOnOfTwo s b p) after (count + 1) now1 now2 old new
+      → RanOfTwoTo s (ranOn (doesForTwo s) b p) after (count + 1) now1 now2 old new
   one-more-two p {after} {now1} {now2} {new} x =
       let st = b .state in
       let y : SteppedTwo s (actOfTwo st (seeByTwo s p)) (handedOfTwo st (seeByTwo s p)) (droppedOfTwo st (seeByTwo s p)) a after now1 now2 mid new =
       rw ran-pair at x in
-      let hs : List Handed = handedOfTwo st (seeByTwo s p) in
       record {
-        count = rw (w .count) (omega arith);
         page = y .page;
         first = y .first;
         second = y .second;
-        blocks = y .blocks ∙ rw (w .blocks, length-append);
-        written = y .written ∙ rw (w .written, marked-append, length-append);
-        dropped = y .dropped ∙ rw (w .dropped);
-        out = y .out ∙ rw (w .out, w .written, marked-append) (laid-on-two (markedAll s hs));
+        came = came-on (doesForTwo s) (marked-append s) (w .came) p (y .blocks) (y .written) (y .dropped) (y .out);
       }
-
--- ---- what is left
-
--- where there is no room for one packet more, however many are left
-pub run-full-two :
-    (s : Streams) (long n : ℕ) (b : RanOfTwo) (l : List ℕ) → long < length (markedAll s (b .blocks)) + roomOfTwo → b ≡ runOfTwo s long n b l
-unfolding runOfTwo
-run-full-two s long zero b l h = refl
-run-full-two s long (suc n) b l h = rw (lt-leb _ _ h)
-
-module _ (s : Streams) (long : ℕ) (packets : List ℕ) (at : ℕ) (b : RanOfTwo) where
-  -- where there is room for one packet more
-  run-on-two :
-      at + 42 ≤ length packets → length (markedAll s (b .blocks)) + roomOfTwo ≤ long
-      → runOfTwo s long ((length packets - (at + 42)) / packetLength) (ranOnOfTwo s b (take (at + 42 - at) (drop at packets))) (drop (at + 42) packets)
-      ≡ runOfTwo s long ((length packets - at) / packetLength) b (drop at packets)
-  unfolding runOfTwo
-  run-on-two h r =
-      let e : (length packets - at) / packetLength ≡ suc ((length packets - (at + 42)) / packetLength) = omega arith in
-      rw (e, le-leb _ _ r, part-of at 42 packets, drop-drop)
-
-  -- where none is left
-  pub run-out-two : length packets ≤ at → b ≡ runOfTwo s long ((length packets - at) / packetLength) b (drop at packets)
-  unfolding runOfTwo
-  run-out-two h = let e : (length packets - at) / packetLength ≡ 0 = omega arith in rw e
 
 -- one packet more, and what is left still comes to the same
 pub further-two :
@@ -110,8 +65,8 @@ pub further-two :
 further-two s long packets at {after = after} {now1 = now1} {now2 = now2} {old = old} {new = new} h r x (b, w, e) =
     let p = packetAt packets at in
     let k : at / packetLength + 1 ≡ (at + 42) / packetLength = omega arith in
-    let y : RanOfTwoTo s (ranOnOfTwo s b p) after (at / packetLength + 1) now1 now2 old new = one-more-two s w p x in
-    (ranOnOfTwo s b p, rw k at y, run-on-two s long packets at b h (omega (arith, r, w .written)) ∙ e)
+    let y : RanOfTwoTo s (ranOn (doesForTwo s) b p) after (at / packetLength + 1) now1 now2 old new = one-more-two s w p x in
+    onward (doesForTwo s) long packets at b h (omega (arith, r, w .came .written)) (rw k at y) e
 
 -- ---- the room
 

@@ -29,6 +29,9 @@ use Rattle.reader.specs.declared.many.HeardAll.the-variants.{TookAll, Re
 use Rattle.reader.specs.declared.many.Going.{Going}
 use Rattle.reader.specs.declared.many.Taking.{Taking}
 use Rattle.reader.specs.declared.many.Met.{Met}
+use Rattle.reader.specs.Calls as Calls
+use Rattle.reader.specs.Calls.{Does}
+use Rattle.reader.specs.Feeding.{doesFor}
 use Rattle.reader.specs.Many.{Ran, begun, run}
 
 -- ---- one packet of our page
@@ -68,7 +71,22 @@ Heeded v p l st = Stepped (heeded v p l st) (heededBlocks v p l st) (heededDrops
 abbrev pub Acted : Seen → State → Going → Going → List ℕ → List ℕ → List ℕ → Type 0
 Acted x st = Stepped (act st x) (handed st x) (dropped st x)
 
--- ---- packets one after the other
+-- ---- packets one after the other, whatever a packet does
+
+-- they have come to b: so many packets, so many blocks, as so many bytes at the front of the output, and whether one was dropped
+pub record CameTo {S B : Type 0} (bytes : List B → List ℕ) (b : Calls.Ran S B) (count handed long : ℕ) (drops : Bool) (old new : List ℕ) : Type 0 where
+  pub packets : count ≡ b .packets
+  pub blocks : handed ≡ length (b .blocks)
+  pub written : long ≡ length (bytes (b .blocks))
+  pub dropped : drops ≡ b .dropped
+  pub out : new ≡ sets old 0 (bytes (b .blocks))
+
+-- what has come holds so, and what is left from the place `at` comes to the whole
+abbrev pub ReachedBy : {S B : Type 0} → Does S B → ℕ → List ℕ → ℕ → (Calls.Ran S B → Type 0) → Calls.Ran S B → Type 0
+ReachedBy {S} {B} d long packets at Has whole =
+    (b : Calls.Ran S B) × Has b × (Calls.run d long ((length packets - at) / packetLength) b (drop at packets) ≡ whole)
+
+-- ---- of one stream
 
 -- no packet has come yet
 abbrev pub started : Page → ℕ → Run → Bool → Going
@@ -81,15 +99,11 @@ ranFrom s long a store l = run s long (length l / packetLength) (begun (stateIn 
 
 -- packets taken one after the other have come to b
 pub record RanTo (b : Ran) (r : Taking) (store old new : List ℕ) : Type 0 where
-  pub packets : r .packets ≡ b .packets
   pub page : r .going .page ≡ b .state .page
   pub index : r .going .index ≡ b .state .index
   pub joined : r .going .joined ≡ b .state .joined
   pub holds : Holds (b .state .mode) (r .going .got .run) store
-  pub blocks : r .going .got .blocks ≡ length (b .blocks)
-  pub written : r .going .got .written ≡ length (recordsOf (b .blocks))
-  pub dropped : r .going .got .dropped ≡ b .dropped
-  pub out : new ≡ sets old 0 (recordsOf (b .blocks))
+  pub came : CameTo recordsOf b (r .packets) (r .going .got .blocks) (r .going .got .written) (r .going .got .dropped) old new
 
 abbrev pub taking : Going → ℕ → Taking
 taking a count = record { going = a; packets = count }
@@ -97,8 +111,7 @@ taking a count = record { going = a; packets = count }
 -- the packets up to the place `at` have come to a, and what is left from there comes to the whole
 abbrev pub Reached : Setting → ℕ → List ℕ → ℕ → Going → List ℕ → List ℕ → List ℕ → Ran → Type 0
 Reached s long packets at a store old new whole =
-    (b : Ran) × (RanTo b (taking a (at / packetLength)) store old new)
-    × (run s long ((length packets - at) / packetLength) b (drop at packets) ≡ whole)
+    ReachedBy (doesFor s) long packets at (λ b. RanTo b (taking a (at / packetLength)) store old new) whole
 
 -- the packet at a place of the list
 abbrev pub packetAt : List ℕ → ℕ → List ℕ

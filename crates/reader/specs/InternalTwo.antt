@@ -24,7 +24,9 @@ use Rattle.state.specs.Acting.{State, heeded, heededBlocks, heededDrops}
 use Rattle.state.specs.Two.{Own, TwoState, Handed, ownOf, ownHeld, actOfTwo, handedOfTwo, droppedOfTwo}
 use Rattle.reader.specs.declared.two.Pair.{Pair}
 use Rattle.reader.specs.declared.two.Gave.{Gave}
-use Rattle.reader.specs.Two.{RanOfTwo, begunOfTwo, runOfTwo, markedAll}
+use Rattle.reader.specs.Calls.{begun, run}
+use Rattle.reader.specs.Internal.{CameTo, ReachedBy}
+use Rattle.reader.specs.Two.{RanOfTwo, doesForTwo, markedAll}
 
 -- ---- blocks of one stream
 
@@ -105,21 +107,16 @@ none-yet a = (a .blocks ≡ 0) × (a .written ≡ 0) × (a .dropped ≡ false)
 
 -- what the packets of l come to from a, with so much room
 abbrev pub ranOfTwoFrom : Streams → ℕ → Pair → List ℕ → List ℕ → List ℕ → RanOfTwo
-ranOfTwoFrom s long a store1 store2 l = runOfTwo s long (length l / packetLength) (begunOfTwo (pairIn a store1 store2)) l
+ranOfTwoFrom s long a store1 store2 l = run (doesForTwo s) long (length l / packetLength) (begun (pairIn a store1 store2)) l
 
 -- packets taken one after the other have come to b
 pub record RanOfTwoTo (s : Streams) (b : RanOfTwo) (r : Pair) (packets : ℕ) (store1 store2 old new : List ℕ) : Type 0 where
-  pub count : packets ≡ b .packets
   pub page : r .page ≡ b .state .page
   pub first : OwnIn (b .state .first) (r .first) store1
   pub second : OwnIn (b .state .second) (r .second) store2
-  pub blocks : r .blocks ≡ length (b .blocks)
-  pub written : r .written ≡ length (markedAll s (b .blocks))
-  pub dropped : r .dropped ≡ b .dropped
-  pub out : new ≡ sets old 0 (markedAll s (b .blocks))
+  pub came : CameTo (markedAll s) b packets (r .blocks) (r .written) (r .dropped) old new
 
 -- the packets up to the place `at` have come to a, and what is left from there comes to the whole
 abbrev pub ReachedTwo : Streams → ℕ → List ℕ → ℕ → Pair → List ℕ → List ℕ → List ℕ → List ℕ → RanOfTwo → Type 0
 ReachedTwo s long packets at a store1 store2 old new whole =
-    (b : RanOfTwo) × (RanOfTwoTo s b a (at / packetLength) store1 store2 old new)
-    × (runOfTwo s long ((length packets - at) / packetLength) b (drop at packets) ≡ whole)
+    ReachedBy (doesForTwo s) long packets at (λ b. RanOfTwoTo s b a (at / packetLength) store1 store2 old new) whole

@@ -6,6 +6,7 @@ use lib.ListN.{length}
 use denote.Ref.{now}
 use borrow.Author.Needs.{needs}
 use Rattle.blocks.specs.Block.{headLength}
+use Rattle.reader.specs.Feeding.{doesFor}
 use Rattle.reader.specs.Many.{begun}
 use Rattle.reader.specs.Internal.{stateIn, ranFrom, packetAt, Reached}
 use Rattle.walk.proofs.Keeping.{holds-kept}
@@ -41,7 +42,7 @@ returns c =
     let a = c .before .before .before .before .before .before .args in
     let l = c .before .before .before .loop in
     let (b, w, q) = l .inv .5 in
-    let e = run-full (a .setting) (length (now (a .out))) _ b _ (omega (arith, w .written, l .inv .2)) in
+    let e = run-full (doesFor (a .setting)) (length (now (a .out))) (now (a .packets)) (l .at) b (omega (arith, w .came .written, l .inv .2)) in
     (rw (sym (e ∙ q)) w, l .inv .3)
 
 pass-on-requires : tie.Need-pass-on-requires Inv-loop μ-loop
@@ -109,7 +110,7 @@ returns-2 c =
     let a = c .before .before .before .before .args in
     let l = c .before .loop in
     let (b, w, q) = l .inv .5 in
-    let e = run-out (a .setting) (length (now (a .out))) (now (a .packets)) (l .at) b (omega arith) in
+    let e = run-out (doesFor (a .setting)) (length (now (a .out))) (now (a .packets)) (l .at) b (omega arith) in
     (rw (sym (e ∙ q)) w, l .inv .3)
 
 pub take-all-spec : {M : Type 1} → statement M

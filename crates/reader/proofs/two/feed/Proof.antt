@@ -2,20 +2,22 @@
 use native.Mathlib.Omega.{arith}
 use denote.Ref.{now}
 use borrow.Author.Needs.{needs}
-use Rattle.reader.proofs.AnsweringTwo.{other-length-two, one-two}
+use Rattle.reader.specs.Two.{tunedToTwo}
+use Rattle.reader.proofs.Answering.{other-length, one}
+use Rattle.reader.proofs.AnsweringTwo.{marked-none}
 use Rattle.reader.proofs.two.feed.Statement.{statement}
 use Rattle.reader.proofs.two.feed.Tie as tie
 
 returns : tie.Need-returns
 returns c =
     let a = c .before .before .before .args in
-    other-length-two (a .setting) (a .readers) (now (a .packet)) (now (a .out)) (λ e. omega (arith, e, c .if1 .taken))
+    other-length (tunedToTwo (a .setting)) (marked-none (a .setting)) (a .readers) (now (a .packet)) (now (a .out)) (λ e. omega (arith, e, c .if1 .taken))
 
 returns-2 : tie.Need-returns-2
 returns-2 c =
     let a = c .before .before .before .before .before .before .before .before .before .args in
     let f = c .before .before .before .before .feed-all .ensures in
-    one-two (a .setting) (a .readers) (now (a .packet)) (now (a .out)) (c .before .before .before .before .before .before .if1 .left)
+    one (tunedToTwo (a .setting)) (marked-none (a .setting)) (a .readers) (now (a .packet)) (now (a .out)) (c .before .before .before .before .before .before .if1 .left)
     (f .0) (c .told .ensures) (f .1 .0) (f .1 .1)
 
 pub feed-spec : {M : Type 1} → statement M

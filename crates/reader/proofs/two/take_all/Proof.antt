@@ -7,11 +7,12 @@ use denote.Ref.{now}
 use borrow.Author.Needs.{needs}
 use Rattle.walk.specs.Reading.{room}
 use Rattle.walk.proofs.Keeping.{holds-kept}
-use Rattle.reader.specs.Two.{begunOfTwo}
+use Rattle.reader.specs.Calls.{begun}
+use Rattle.reader.specs.Two.{doesForTwo}
 use Rattle.reader.specs.Internal.{packetAt}
 use Rattle.reader.specs.InternalTwo.{pairIn, ranOfTwoFrom, ReachedTwo}
-use Rattle.reader.proofs.Running.{packet-length}
-use Rattle.reader.proofs.RunningTwo.{begins-two, further-two, run-full-two, run-out-two, still-room-two}
+use Rattle.reader.proofs.Running.{packet-length, run-full, run-out}
+use Rattle.reader.proofs.RunningTwo.{begins-two, further-two, still-room-two}
 use Rattle.reader.proofs.two.take_all.Statement.{statement}
 use Rattle.reader.proofs.two.take_all.Tie as tie
 
@@ -36,7 +37,7 @@ loop-holds c =
       refl,
       omega (arith, z .1),
       omega (arith, z .0),
-      (begunOfTwo (pairIn (a .from) (now (a .store1)) (now (a .store2))), begins-two (a .setting) (a .from) (now (a .out)) (p .0) (p .1 .0) z, rw e),
+      (begun (pairIn (a .from) (now (a .store1)) (now (a .store2))), begins-two (a .setting) (a .from) (now (a .out)) (p .0) (p .1 .0) z, rw e),
     )
 
 same-length : tie.Need-same-length Inv-loop μ-loop
@@ -52,7 +53,7 @@ returns c =
     let a = c .before .before .before .before .before .before .args in
     let l = c .before .before .loop in
     let (b, w, q) = l .inv .6 in
-    let e = run-full-two (a .setting) (length (now (a .out))) _ b _ (omega (arith, w .written, l .inv .3)) in
+    let e = run-full (doesForTwo (a .setting)) (length (now (a .out))) (now (a .packets)) (l .at) b (omega (arith, w .came .written, l .inv .3)) in
     (rw (sym (e ∙ q)) w, l .inv .4)
 
 step-requires : tie.Need-step-requires Inv-loop μ-loop
@@ -106,7 +107,7 @@ returns-2 c =
     let a = c .before .before .before .before .before .args in
     let l = c .before .loop in
     let (b, w, q) = l .inv .6 in
-    let e = run-out-two (a .setting) (length (now (a .out))) (now (a .packets)) (l .at) b (omega arith) in
+    let e = run-out (doesForTwo (a .setting)) (length (now (a .out))) (now (a .packets)) (l .at) b (omega arith) in
     (rw (sym (e ∙ q)) w, l .inv .4)
 
 pub take-all-spec : {M : Type 1} → statement M
