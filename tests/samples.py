@@ -1,10 +1,11 @@
 """Small captures for the desk and `menus`, and what they print for each (magazine 1, page DF,
-stream 1, application 1). Made by the model's writer; nothing is off the air."""
+stream 1, or 1 and 2, application 1). Made by the model's writer; nothing is off the air."""
 
+from cases.both import mixed
 from cases.form import LOST, Dice, with_bytes
 from cases.reader import Air
 from cases.table import CASE_G
-from model import Refused, guide, listing, menu, pes, sheet, table, unpes
+from model import Refused, both, guide, listing, menu, octet, pes, sheet, table, unpes
 from model.listing import DESK
 from model.menu import Event, Menu, String
 from model.table import LI, TI, Table
@@ -191,6 +192,42 @@ def guide_menus():
     return capture, text
 
 
+# --- two streams ----------------------------------------------------------------------
+
+TWO = both.Pair(DESK.magazine, DESK.page, 1, 2, DESK.application)
+
+
+def pages_of(setting, index, k, records):
+    """A list of records, cut into whole pages."""
+    packets = packets_in(guide.cut(setting, index, k, b"".join(records)))
+    return [packets[at:at + k + 1] for at in range(0, len(packets), k + 1)]
+
+
+def aired_both(dice, lists, k=(20, 20), indices=(0, 0), pair=TWO):
+    """A list of each stream, whole pages of either between whole pages of the other, with other magazines anywhere."""
+    pages = mixed(dice, *(pages_of(pair.of(whose), indices[whose], k[whose], lists[whose]) for whose in both.BOTH))
+    air, packets = Air(dice, pair.of(0)), []
+    for packet in (packet for page in pages for packet in page):
+        if dice.chance(6):
+            packets.append(air.elsewhere("magazine"))
+        packets.append(packet)
+    return packets
+
+
+def both_streams():
+    """A guide in two streams: tables in each, some of one key in both; menu 0 in the first, and one that it links to in the second."""
+    dice = Dice(13)
+    capture = b"".join(aired_both(dice, (
+        night_list(dice, 3) + [offered(0, b"TV Guide", (b"Themes", 1, 5), (b"Help", 1, 9))],
+        [offered(5, b"Themes", (b"Film", 2, 12), (b"Golf", 2, 40))] + night_list(dice, 4)), (5, 4), (4, 11)))
+    text, keys = listing.desk(capture, TWO), [{sheet.key(e) for e in sheet.read(sheet.fed(b"", [(0, capture)], TWO.of(whose))[0])} for whose in both.BOTH]
+    assert text == listing.desk(capture, TWO._replace(first=TWO.second, second=TWO.first)) and keys[0] & keys[1] and keys[0] ^ keys[1]
+    assert all(line in text for line in (b"stream=1\nkind=TI\n", b"stream=1\nkind=LI\n", b"stream=2\nkind=TI\n", b"stream=2\nkind=LI\n", b"\njoined=1\n"))
+    assert any(octet.decode(packet[0]) % 8 != TWO.magazine for packet in packets_in(capture))
+    assert menu.menus(capture, TWO)[0].count(b"menu=") == 2
+    return capture, text
+
+
 def make():
     """Each file of samples/ and its bytes."""
     dice = Dice(7)
@@ -209,3 +246,4 @@ def make():
     yield "night.err", said.encode()        # what unpes says last on standard error
     yield from day().items()
     yield from zip(("menus.t42", "menus.txt"), guide_menus())
+    yield from zip(("both.t42", "both.txt"), both_streams())

@@ -8,14 +8,15 @@ import sys
 sys.dont_write_bytecode = True
 sys.path.insert(0, str(pathlib.Path(__file__).resolve().parent.parent))
 
-from cases.form import Dice, with_bytes
+from cases.form import LOST, Dice, with_bytes
 from cases import both as both_cases
 from cases.reader import Air, all_cases
 from cases.menu import EMPTY, SAMPLE, filled, linked, listed, some_menu, worded
 from cases.sheet import largest, named, sized, small, some_entry, some_sheet
 from cases.table import CASE_G, L1_PRINTED, L1_SUM, l1_records, later, shaped, some_table
-from model import Refused, both, guide, listing, menu, octet, pes, sheet, table, unpes
+from model import Refused, both, guide, listing, menu, octet, pes, sheet, streams, survey, table, unpes
 from model.listing import DESK
+from samples import aired_both
 
 
 def number(call, *given):
@@ -394,6 +395,128 @@ def both_carried(rounds, most):
     return f"{kept} of {sent} tables of two streams with up to {most} flips a byte"
 
 
+# --- the programs with two streams, held to what they do with one ----------------------
+
+def two_said():
+    """The words of -s: one number as ever, or two that differ, with one comma; the last counts, and a bad one spoils all."""
+    assert [streams.streams_in(word) for word in ("0", "15", "007", "1,2", "2,1", "015,0", "00,0000000000000000000001")] == \
+        [(0,), (15,), (7,), (1, 2), (2, 1), (15, 0), (0, 1)]
+    for word in ("", ",", "1,", ",1", "1,1", "01,1", "1,2,3", "1,2,", ",1,2", "1,,2", "1, 2", "1 ,2", " 1,2", "1,2 ", "1;2", "1.2", "1-2", "16,1", "1,16", "256,1", "1,257",
+                 "4294967297,2", "1,4294967298", "+1,2", "1,-2", "1,x", "a,b", "0x1,2", "1,2\n", "\u0661,2"):
+        assert streams.streams_in(word) is None, word
+    pair = both.Pair(1, 0xDF, 2, 1, 1)
+    assert streams.heeding(DESK) == streams.heeding(DESK, "1") == streams.heeding(DESK, "2,1", "1") == DESK
+    assert streams.heeding(DESK, "2,1") == streams.heeding(DESK, "3", "1,2", "2,1") == pair
+    assert streams.heeding(DESK, "1,1", "2") is streams.heeding(DESK, "2", "1,") is None
+
+
+def turned_about(pair):
+    return pair._replace(first=pair.second, second=pair.first)
+
+
+def captures_of_two(dice, rounds, most):
+    """A setting of two and a capture: tables and menus of both streams, which share keys and numbers. Some captures are damaged, and some hold
+    one of the two alone, or neither."""
+    for _ in range(rounds):
+        duet = both_cases.Duet(dice)
+        pair, lists = duet.pair, ([], [])
+        for _ in range(dice.between(1, 2 * most)):
+            made = some_table(dice, most=4)._replace(network=dice.below(3))
+            lists[dice.below(2)].append(table.write_block(pair.application, table.form_of(made)))
+            made = linked(dice.below(6), header=dice.pick([b"one", b"two", b"three"]))
+            lists[dice.below(2)].append(menu.write_menu(pair.application, menu.form_of(made)))
+        packets = aired_both(dice, lists, (dice.between(1, 5), dice.between(1, 5)), (dice.below(16), dice.below(16)), pair)
+        if dice.below(3):
+            packets = [packet for one in packets for packet in befallen(dice, duet, one)]
+        if dice.chance(4):
+            others = [stream for stream in range(16) if stream not in pair.streams()]
+            pair = pair._replace(first=others[0], second=dice.pick([pair.second, others[1]]))
+        yield pair, b"".join(packets) + dice.bytes(dice.pick([0, 0, 1, 41]))
+
+
+def befallen(dice, duet, packet):
+    """What becomes of a packet: mostly nothing; it is lost or can't be read, its bytes are damaged, another packet 0 stands before it."""
+    fate = dice.below(30)
+    if fate == 0:
+        return []
+    if fate == 1:
+        return [dice.pick([duet.third(), duet.page(), *duet.airs]).header(dice.below(16), dice.below(32)), packet]
+    if fate < 4:
+        return [with_bytes(packet, (dice.below(6), LOST))]
+    return [duet.airs[0].noised(packet, 2 if fate == 4 else 1) if fate < 10 else packet]
+
+
+def numbers(line):
+    return [int(pair.split("=")[1]) for pair in line.split()]
+
+
+def desk_of_two():
+    """The desk's list of two is the lists of each, one among the other, in the order of packets; its numbers are theirs together; it says that
+    nothing of ours came where both do. The order of the two shows only there."""
+    seen = {"both dropped": 0, "neither": 0, "one": 0, "two": 0}
+    for pair, data in captures_of_two(Dice(14), 150, 8):
+        lists = [listing.desk(data, pair.of(whose)).decode() for whose in both.BOTH]
+        came = listing.desk(data, pair).decode()
+        assert came.encode() == listing.desk(data, turned_about(pair))
+        parts, last = came[:came.index("blocks=")].split("stream="), came[came.index("blocks="):]
+        assert parts[0] == "" and all(part.split("\n")[1].startswith("kind=") for part in parts[1:])
+        for whose in both.BOTH:
+            own = "".join(part.partition("\n")[2] for part in parts[1:] if part.startswith(f"{pair.streams()[whose]}\n"))
+            assert own + lists[whose][lists[whose].index("blocks="):] == lists[whose]
+        ends = [numbers(text[text.index("blocks="):]) for text in lists]
+        assert numbers(last) == [ends[0][0] + ends[1][0], ends[0][1] + ends[1][1], len(data) % guide.PACKET]
+        for at in range(0, len(data), 11 * guide.PACKET):
+            assert came.startswith(listing.desk(data[:at], pair).decode().partition("blocks=")[0])
+        first, second, two = (numbers(survey.counts(data, setting)) for setting in (pair.of(0), pair.of(1), pair))
+        assert survey.counts(data, pair) == survey.counts(data, turned_about(pair))
+        assert first[0] == second[0] == two[0] and first[1] + second[1] == two[1] and first[2] == second[2] == two[2]
+        assert max(first[3], second[3]) <= two[3] <= first[3] + second[3]
+        seen["both dropped"] += two[3] < first[3] + second[3]
+        lacks = [survey.lack(data, setting) for setting in (pair.of(0), pair.of(1), pair, turned_about(pair))]
+        assert bool(lacks[2]) == bool(lacks[3]) == bool(lacks[0] and lacks[1])
+        if lacks[2]:
+            assert lacks[2].startswith(f": no packet 0 of magazine {pair.magazine}, page {pair.page:02x}, stream {pair.first} or {pair.second} came; ")
+            assert lacks[2].partition("; ")[2] == lacks[3].partition("; ")[2]
+            assert not any(survey.told(pair.magazine, pair.page, stream) in lacks[2].split() for stream in pair.streams())
+        seen["neither" if lacks[2] else "one" if lacks[0] or lacks[1] else "two"] += 1
+    assert min(seen.values()) > 9
+
+
+def sheet_of_two():
+    """Both streams in one add give the sheet that two adds with one stamp give, in either order (SCOPE 25.6): where they have room together."""
+    dice, changed = Dice(15), 0
+    for pair, data in captures_of_two(dice, 150, 6):
+        stamp, before = dice.below(3), sheet.written(some_sheet(dice, dice.below(6), 3))
+        after, line = sheet.fed(before, [(stamp, data)], pair)
+        assert (after, line) == sheet.fed(before, [(stamp, data)], turned_about(pair))
+        for order in ((0, 1), (1, 0)):
+            text, tables = before, 0
+            for whose in order:
+                text, one = sheet.fed(text, [(stamp, data)], pair.of(whose))
+                tables += numbers(one)[1]
+            assert text == after and numbers(line)[:2] == [1, tables]
+        changed += after not in [sheet.fed(before, [(stamp, data)], pair.of(whose))[0] for whose in both.BOTH]
+    assert changed > 30
+
+
+def menus_of_two():
+    """Of each number the first menu that came whole, in whichever stream."""
+    contested = 0
+    for pair, data in captures_of_two(Dice(16), 150, 8):
+        came = {}                                           # of each number the packet with which each stream's first one was whole
+        for whose in both.BOTH:
+            reader = guide.Reader(pair.of(whose))
+            for at, packet in enumerate(streams.whole_packets(data)):
+                for record in guide.records_in(reader.feed(packet).records):
+                    made = menu.accepted(pair.application, record)
+                    if made:
+                        came.setdefault(made.block_no, {}).setdefault(whose, (at, made))
+        kept = menu.kept(data, pair)
+        assert kept == menu.kept(data, turned_about(pair)) == {number: min(firsts.values(), key=lambda first: first[0])[1] for number, firsts in came.items()}
+        contested += any(len(firsts) == 2 for firsts in came.values())
+    assert contested > 30
+
+
 def subsequence(some, whole):
     rest = iter(whole)
     return all(thing in rest for thing in some)
@@ -440,7 +563,7 @@ def noise(rounds, most):
 
 def main():
     for check in (images, cases_a_to_f, case_g, cases_h_to_k, annex_l1, editions, lost_pes, pages, day_sheet, dropping, menus, menu_levels, joined_blocks, cut_line, side_by_side,
-                  untouched):
+                  untouched, two_said, desk_of_two, sheet_of_two, menus_of_two):
         check()
         print(f"{check.__name__}: ok")
     for most in (1, 2):

@@ -21,6 +21,10 @@ class Setting(NamedTuple):
     stream: int
     application: int = 0        # only block reading uses it
 
+    def streams(self):
+        """As of a setting of two (both.Pair)."""
+        return self.stream,
+
     def in_range(self):
         """Each number may be what SCOPE 8.1 says; none is ever below 0."""
         return (1 <= self.magazine <= 8 and self.page <= 255

@@ -1,7 +1,8 @@
 """The desk's list (SCOPE 13)."""
 
 from . import Refused, need
-from .guide import PACKET, Setting, read_all
+from .guide import PACKET, Setting
+from .streams import blocks
 from .table import LI, TI, WORDS, read_block, table_of
 
 DESK = Setting(magazine=1, page=0xDF, stream=1, application=1)
@@ -43,12 +44,17 @@ def list_table(form, mended=0, joined=0, room=2 ** 32):
     return text
 
 
+def title(stream, setting):
+    """Of two streams a table begins with its own; of one nothing is said."""
+    return f"stream={stream}\n".encode() if len(setting.streams()) == 2 else b""
+
+
 def desk(data, setting=DESK):
-    """All that the desk prints for a file, with a reader of its own (SCOPE 10.7)."""
+    """All that the desk prints for a file, of one stream or of two."""
     out, accepted, refused = b"", 0, 0
-    for record in read_all(setting, data):
+    for stream, record in blocks(setting, data):
         try:
-            out += list_table(*read_block(setting.application, record))
+            out += title(stream, setting) + list_table(*read_block(setting.application, record))
             accepted += 1
         except Refused:
             refused += 1

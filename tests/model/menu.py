@@ -3,9 +3,10 @@
 from typing import NamedTuple
 
 from . import Refused, need
-from .guide import HEAD, head_in, head_of, read_all, record_of, records_in
+from .guide import HEAD, head_in, head_of, record_of, records_in
 from .listing import DESK
 from .octet import images, mended
+from .streams import blocks
 from .table import COMMON, FIRST, Bits, Read, checksum, decoded, laid, opened
 
 NI = 3                              # datatype_id, clause 11.12.3
@@ -309,9 +310,9 @@ NOTED = 20                          # the numbers that a note names
 
 
 def kept(data, setting):
-    """Of each number that came in a capture the first accepted menu, in their order; none where it is left out: from the first that doesn't fit on, all."""
+    """Of each number that came in a capture, in one stream or in either of two, the first accepted menu, in their order; none where it is left out: from the first that doesn't fit on, all."""
     came, used = {}, 0
-    for record in read_all(setting, data):
+    for _, record in blocks(setting, data):
         menu = accepted(setting.application, record)
         if menu and menu.block_no not in came:
             used += len(record)

@@ -4,8 +4,8 @@ import re
 from typing import NamedTuple
 
 from . import Refused, need
-from .guide import read_all
 from .listing import DESK, NAMES, table_lines
+from .streams import blocks
 from .table import LI, TI, Table, read_block, table_of, writable
 
 MOST_BYTES, MOST_ENTRIES = 16384, 64
@@ -170,10 +170,10 @@ def drop(network, kind, block_no, data, room=MOST_BYTES):
 # --- the program ----------------------------------------------------------------
 
 def fed(data, captures, setting=DESK):
-    """What `sheet add` makes of a sheet and of captures, (stamp, bytes) each, and the line that it prints."""
+    """What `sheet add` makes of a sheet and of captures, (stamp, bytes) each, and the line that it prints; of one stream or of two."""
     sheet, fates = rewrite(data), []
     for stamp, capture in captures:
-        for record in read_all(setting, capture):
+        for _, record in blocks(setting, capture):
             try:
                 form = read_block(setting.application, record).form
             except Refused:

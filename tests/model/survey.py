@@ -1,14 +1,12 @@
 """What the desk sees of a capture besides its tables: SCOPE 13.9 and 13.10."""
 
+from .both import Pair, ReaderOfTwo
 from .guide import PACKET, Reader
 from .octet import UNDECODABLE, decode, turned
+from .streams import whole_packets
 
 PIECE = 1560 * PACKET   # a capture is looked at in pieces of so many bytes
 MOST_PAGES = 10
-
-
-def whole_packets(data):
-    return [data[at:at + PACKET] for at in range(0, len(data) - PACKET + 1, PACKET)]
 
 
 def address_of(packet):
@@ -45,21 +43,45 @@ class Watcher(Reader):
         super().row(y, data)
 
 
+class WatcherOfTwo(ReaderOfTwo):
+    """The same of two streams: the packets of either are ours."""
+
+    def __init__(self, setting):
+        super().__init__(setting)
+        self.ours = self.lost = 0
+
+    def unreadable(self):               # address or one of the six
+        self.lost += 1
+        super().unreadable()
+
+    def packet_0(self, six):
+        self.ours += is_named(six, self.setting)
+        super().packet_0(six)
+
+    def row(self, y, data):
+        self.ours += y <= self.page.n
+        super().row(y, data)
+
+
 def counts(data, setting):
-    """The line that -v adds."""
-    watcher, packets = Watcher(setting), whole_packets(data)
+    """The line that -v adds. A packet with which blocks of both streams were dropped counts once."""
+    watcher, packets = (WatcherOfTwo if isinstance(setting, Pair) else Watcher)(setting), whole_packets(data)
     dropped = sum(watcher.feed(packet).dropped for packet in packets)
     return f"packets={len(packets)} ours={watcher.ours} unreadable={watcher.lost} dropped={dropped}\n"
 
 
 # --- what a capture that gave nothing may be ----------------------------------------
 
+def is_named(six, setting):
+    """The six nibbles of a packet 0 of our magazine name our page, and our stream or one of our two."""
+    return UNDECODABLE not in six and six[0] + 16 * six[1] == setting.page and six[4] in setting.streams()
+
+
 def is_ours(packet, setting):
-    """A packet 0 of our page and stream, all of it."""
+    """A packet 0 of our page and of a stream of ours, all of it."""
     if len(packet) < PACKET or address_of(packet) != (setting.magazine, 0):
         return False
-    six = [decode(byte) for byte in packet[2:8]]
-    return UNDECODABLE not in six and (six[0] + 16 * six[1], six[4]) == (setting.page, setting.stream)
+    return is_named([decode(byte) for byte in packet[2:8]], setting)
 
 
 def told(magazine, page, stream):
@@ -90,7 +112,8 @@ def lack(data, setting):
     packets = whole_packets(data)
     if not data or any(is_ours(packet, setting) for packet in packets):
         return ""
-    return (f": no packet 0 of magazine {setting.magazine}, page {setting.page:02x}, stream {setting.stream} came"
+    streams = " or ".join(map(str, setting.streams()))      # in the order of the words
+    return (f": no packet 0 of magazine {setting.magazine}, page {setting.page:02x}, stream {streams} came"
             + "".join("; " + guess for guess in guesses(data, packets, setting)))
 
 
@@ -103,7 +126,7 @@ def guesses(data, packets, setting):
     about = place(turned(data), setting)
     if about is not None:
         return ["its bits may be turned about: turned bytes fit" + (f" from byte {about} on" if about else "")]
-    own = told(setting.magazine, setting.page, setting.stream)
-    seen = list(dict.fromkeys(page for page in map(page_of, packets) if page not in (None, own)))[:MOST_PAGES]
+    own = [told(setting.magazine, setting.page, stream) for stream in setting.streams()]
+    seen = list(dict.fromkeys(page for page in map(page_of, packets) if page not in (None, *own)))[:MOST_PAGES]
     found = ["it may be another magazine, page or stream: seen " + " ".join(seen) if seen else "nor did one of another page"]
     return found + (["its packets may be out of step: its length isn't a multiple of 42"] if len(data) % PACKET else [])
