@@ -1,7 +1,9 @@
 #!/usr/bin/env python3
 """Captures in other settings, longer ones than the samples, and such as hold nothing of ours: tests/desk/captures.py DIR
 writes for each NAME.t42, NAME.words (the desk's options, one word to a line) and what the model has for it: NAME.txt, the list;
-NAME.counts, the line of -v; NAME.lack, what follows the name on standard error where no packet 0 of our page came."""
+NAME.counts, the line of -v; NAME.lack, what follows the name on standard error where no packet 0 of our page came. Those with two
+streams are named two-NAME. bad-streams has words that -s doesn't take, one to a line; streams/A,B is what is printed of streams.t42
+with that word."""
 
 import pathlib
 import sys
@@ -9,6 +11,7 @@ import sys
 sys.dont_write_bytecode = True
 sys.path.insert(0, str(pathlib.Path(__file__).resolve().parent.parent))
 
+import two
 from cases.form import LOST, Dice, with_bytes
 from cases.reader import Air
 from cases.table import CASE_G, later, some_table
@@ -89,7 +92,7 @@ def without(dice):
             ("broken", "", DESK, broken + rows),
             ("broken-others", "", DESK, broken + others + broken),
             ("text", "", DESK, text),
-            ("zeros", "", DESK, b"\x00" * 4200),
+            ("nothing", "", DESK, b"\x00" * 4200),
             ("noise", "", DESK, b"\x16" * 4201),
             ("late", "", DESK, text[:2 * PIECE] + clean),
             ("later", "", DESK, text[:PIECE] + clean[3:] + b"\x15" * 3 + clean)):
@@ -123,12 +126,21 @@ def menus():
 def main(folder):
     dice = Dice(11)
     for name, words, setting, data in (*elsewhere(dice), *long(dice), *halves(dice), *longest(), *editions(), *menus(), *rough(dice), *without(dice),
-                                       *pages(dice)):
+                                       *pages(dice), *two.cases(Dice(27))):
+        assert not (folder / f"{name}.t42").exists(), name
         (folder / f"{name}.t42").write_bytes(data)
         (folder / f"{name}.words").write_text("".join(word + "\n" for word in words.split()))
         (folder / f"{name}.txt").write_bytes(listing.desk(data, setting))
         (folder / f"{name}.counts").write_text(survey.counts(data, setting))
         (folder / f"{name}.lack").write_text(survey.lack(data, setting))
+    for path in folder.glob("*-about.txt"):     # the order of the two doesn't show
+        assert path.read_bytes() == path.with_name(path.name.replace("-about", "")).read_bytes()
+    (folder / "bad-streams").write_text("".join(word + "\n" for word in two.bad_words()), encoding="utf-8")
+    data, lists = two.pairs()
+    (folder / "streams").mkdir()
+    (folder / "streams" / "streams.t42").write_bytes(data)
+    for word, text in lists.items():
+        (folder / "streams" / word).write_bytes(text)
 
 
 main(pathlib.Path(sys.argv[1]))
