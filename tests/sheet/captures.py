@@ -17,10 +17,10 @@ from cases.form import Dice
 from cases.reader import Air
 from cases.sheet import SAMPLE, small
 from cases.table import CASE_G, some_table
-from model import guide, pes, sheet, survey, table
+from model import both, guide, pes, sheet, streams, survey, table
 from model.guide import Setting
 from model.listing import DESK
-from samples import EVENING, MORNING, aired, packets_in
+from samples import EVENING, MORNING, TWO, aired, aired_both, both_streams, packets_in
 
 DAY = 1794787200
 
@@ -61,6 +61,36 @@ def runs(dice):
     yield "long", "", DESK, entries(dice, 30), [(DAY + i, f"long{i}.t42", night(dice, 9, 25)) for i in range(3)]
 
 
+def night_of_two(dice, networks, count):
+    """The same in two streams, which share keys too."""
+    return b"".join(aired_both(dice, [[table.write_block(DESK.application, table.form_of(some_table(dice, most=3)._replace(network=dice.below(networks))))
+                                       for _ in range(count)] for _ in both.BOTH], (4, 3)))
+
+
+def runs_of_two(dice):
+    """With -s: two streams in either order, the last of several words, one that isn't there, neither; and captures that give no table."""
+    sample, night_ = both_streams()[0], night_of_two(dice, 4, 12)
+    before = sheet.written(sheet.joined([sheet.Entry(DAY + dice.below(2), some_table(dice, most=2)._replace(network=dice.below(4), copyright=0)) for _ in range(12)]))
+    blank = b"".join(Air(dice, TWO.of(whose)).header(0, 3) for whose in both.BOTH)         # both came, and brought nothing
+    for name, words, stands, captures in (
+            ("two", "1,2", None, [(DAY, "two.t42", sample)]),
+            ("two-about", "2,1", None, [(DAY, "two.t42", sample)]),
+            ("two-last", "3 9,4 1,2", None, [(DAY, "two.t42", sample)]),
+            ("two-one", "1,2 02", None, [(DAY, "two.t42", sample)]),
+            ("two-zeros", "0000001,02", None, [(DAY, "two.t42", sample)]),
+            ("two-alone", "9,2", before, [(DAY, "two.t42", sample)]),
+            ("two-kept", "1,2", before, [(DAY, "two-night.t42", night_)]),
+            ("two-kept-about", "2,1", before, [(DAY, "two-night.t42", night_)]),
+            ("two-some", "1,2", before, [(DAY, "two.t42", sample), (DAY + 1, "two-night.t42", night_), (DAY, "two.t42", sample)]),
+            ("two-late", "1,2", before, [(DAY + 1, "two-night.t42", night_), (DAY, "two.t42", sample)]),
+            ("two-neither", "9,4", before, [(DAY, "two.t42", sample)]),
+            ("two-neither-about", "4,9", before, [(DAY, "two-rest.t42", sample + b"\x15" * 5)]),
+            ("two-step", "2,1", before, [(DAY, "two-step.t42", sample[9:])]),
+            ("two-blank", "1,2", before, [(DAY, "blank.t42", blank), (DAY, "two.t42", sample)]),
+            ("two-blank-one", "9,2", before, [(DAY, "blank.t42", blank), (DAY, "two-empty.t42", b"")])):
+        yield name, " ".join(f"-s {word}" for word in words.split()), streams.heeding(DESK, *words.split()), stands, captures
+
+
 def said(name, data, setting):
     """What is said of a capture that gives no table, and of bytes at its end that make no packet."""
     if " tables=0 " in sheet.fed(b"", [(0, data)], setting)[1]:
@@ -71,9 +101,10 @@ def said(name, data, setting):
 
 def main(folder):
     dice = Dice(23)
-    for name, options, setting, before, captures in runs(dice):
+    for name, options, setting, before, captures in (*runs(dice), *runs_of_two(Dice(24))):
         words = options.split()
         for stamp, capture, data in captures:
+            assert not (folder / capture).exists() or (folder / capture).read_bytes() == data, capture
             (folder / capture).write_bytes(data)
             words += [str(stamp), str(folder / capture)]
         after, line = sheet.fed(before or b"", [(stamp, data) for stamp, _, data in captures], setting)
