@@ -2,7 +2,8 @@
 """Captures with menus: tests/menus/captures.py DIR writes for each NAME.t42, NAME.words (the options of `menus`, one word to a line) and what
 the model has for it: NAME.txt and NAME.err, what it prints and says where it reads the capture from standard input; NAME.named.txt and
 NAME.named.err, where by its name. Where the listing is too long, NAME.fits.txt is the one with the number of levels that is named.
-In DIR/halves, NAME-1.t42 and NAME-2.t42 are the two parts of a capture, with what the model has for each by its name."""
+In DIR/halves, NAME-1.t42 and NAME-2.t42 are the two parts of a capture, with what the model has for each by its name; in DIR/halves-of-two,
+of one with two streams, for -s 1,2."""
 
 import functools
 import pathlib
@@ -14,12 +15,12 @@ sys.path.insert(0, str(pathlib.Path(__file__).resolve().parent.parent))
 
 from cases.form import LOST, Dice, with_bytes
 from cases.menu import EMPTY, linked, plain, some_event, some_menu, worded
-from model import guide, menu
+from model import both, guide, menu, streams
 from model.guide import HEAD, PACKET, Setting
 from model.listing import DESK
 from model.menu import LEVELS, STORE, TEXT, TO_MENU, Event
 from model.survey import PIECE
-from samples import aired, night_list, roughened
+from samples import TWO, aired, aired_both, both_streams, night_list, pages_of, roughened
 
 kept = functools.cache(menu.kept)       # a capture is read once
 
@@ -190,6 +191,59 @@ def bent():
         yield f"bent{words.replace(' ', '')}", words, DESK, 0, data, levels
 
 
+def two(dice):
+    """With -s: the sample in many words; of each number the first menu that came whole, in whichever stream; noise; links from one stream to the other."""
+    sample = both_streams()[0]
+    for name, number, words in (
+            ("sample", 0, "1,2"), ("sample-about", 0, "2,1"), ("sample-last", 0, "9 2 1,2"), ("sample-zeros", 0, "01,0000000000000000000002"), ("sample-5", 5, "1,2"),
+            ("sample-one", 0, "1,2 1"), ("sample-other", 5, "2,1 2"), ("sample-other-0", 0, "2"), ("sample-alone", 0, "1,9"), ("sample-alone-other", 0, "9,2"),
+            ("sample-neither", 0, "9,4"), ("sample-missing", 7, "1,2")):
+        yield said(name, number, words, sample)
+    one, other = (record(linked(4, header=word)) for word in (b"one", b"other"))
+    lost = with_bytes(one, (HEAD + 20, LOST))
+    long = record(worded(300, 1)._replace(block_no=4))
+
+    def by_turns(*lists):
+        """Pages of one packet, a stream's and the other's in turn, from the first on."""
+        pages = [pages_of(TWO.of(whose), 3, 1, records) for whose, records in enumerate(lists)]
+        return b"".join(packet for at in range(max(map(len, pages))) for own in pages for page in own[at:at + 1] for packet in page)
+
+    for name, data in (("first", by_turns([one], [other])), ("second", by_turns([lost], [other])), ("long", by_turns([long], [other])), ("long-other", by_turns([one], [long])),
+                       ("damaged", by_turns([lost, lost, one], [other])), ("last", by_turns([lost], [lost, other]))):
+        for words in ("1,2", "2,1"):
+            yield said(f"{name}-{words[0]}", 4, words, data)
+    row = [record(linked(n, n + 1, n + 2)) for n in range(LEVELS + 1)]
+    yield said("deep", 0, "1,2", by_turns(row[::2], row[1::2]))
+    yield said("deep-4", 3, "2,1", by_turns(row[::2], row[1::2]), 4)
+    lists = [[*night_list(dice, 3), *(r for r in some_list(dice, 40) if dice.chance(2)), *night_list(dice, 3)] * 3 for _ in both.BOTH]
+    clean = aired_both(dice, lists)
+    for number in (0, 7, 39):
+        yield said(f"night-{number}", number, "1,2", b"".join(clean))
+        yield said(f"rough-{number}", number, "2,1", b"".join(roughened(dice, clean)))
+    yield said("many", 0, "1,2", b"".join(aired_both(dice, [one * 5 for one in lists])) + b"\x15" * 41)
+    # one store for both: what comes in the second has no place left
+    longest = [record(worded(2047)._replace(block_no=n)) for n in range(STORE // 2051 + 2)]
+    turns = by_turns(longest[::2], longest[1::2])
+    for number in (0, 1, STORE // 2051 - 1, STORE // 2051):
+        yield said(f"full-{number}", number, "1,2", turns)
+
+
+def said(name, number, words, data, *levels):
+    """A case of `two`, by the words behind each -s."""
+    options = [f"-s {word}" for word in words.split()] + [f"-b {number}"] * (number > 0) + [f"-l {level}" for level in levels]
+    return f"two-{name}", " ".join(options), streams.heeding(DESK, *words.split()), number, data, *levels
+
+
+def halves_of_two():
+    """A menu of each stream, cut where both run, such that a reader that went on would hand out both."""
+    first, second = (pages_of(TWO.of(whose), 9, 2, [record(worded(300 + whose, 1)._replace(block_no=whose))]) for whose in both.BOTH)
+    pages = [packet for turn in zip(first, second) for page in turn for packet in page]
+    data, at = b"".join(pages), 7 * PACKET
+    parts = data[:at], data[at:]
+    assert set(menu.kept(data, TWO)) == {0, 1} and all(not menu.kept(part, TWO) for part in parts)
+    return parts
+
+
 def halves():
     """A menu in two parts, such that a reader that went on would hand it out: cut within a page, between pages, within a packet, and so early that it
     needs nothing but the bytes of a part of a packet to be kept."""
@@ -204,13 +258,17 @@ def halves():
 def main(folder):
     dice = Dice(12)
     for name, words, setting, number, data, *levels in (
-            *elsewhere(dice), *night(dice), *first(), *deep(dice), *missing(dice), *full(), *long(), *back(), *crowd(), *bent(),
+            *elsewhere(dice), *night(dice), *first(), *deep(dice), *missing(dice), *full(), *long(), *back(), *crowd(), *bent(), *two(Dice(28)),
             *((f"whole-{name}", "", DESK, 0, b"".join(parts)) for name, parts in halves())):
         write(folder / name, words, data, setting, number, *levels)
     (folder / "halves").mkdir()
     for name, parts in halves():
         for at, part in enumerate(parts, 1):
             write(folder / "halves" / f"{name}-{at}", "", part, DESK, 0)
+    (folder / "halves-of-two").mkdir()
+    for at, part in enumerate(halves_of_two(), 1):
+        write(folder / "halves-of-two" / f"{at}", "-s 1,2", part, TWO, 0)
+    write(folder / "halves-of-two" / "whole", "-s 1,2", b"".join(halves_of_two()), TWO, 1)
 
 
 def write(path, words, data, setting, *asked):
