@@ -2,8 +2,8 @@
 """Captures in other settings, longer ones than the samples, and such as hold nothing of ours: tests/desk/captures.py DIR
 writes for each NAME.t42, NAME.words (the desk's options, one word to a line) and what the model has for it: NAME.txt, the list;
 NAME.counts, the line of -v; NAME.lack, what follows the name on standard error where no packet 0 of our page came. Those with two
-streams are named two-NAME. bad-streams has words that -s doesn't take, one to a line; streams/A,B is what is printed of streams.t42
-with that word."""
+streams are named two-NAME. bad-streams has words that -s doesn't take, one to a line; streams/A,B is what is printed of
+streams/streams.t42 with that word."""
 
 import pathlib
 import sys

@@ -134,7 +134,8 @@ def rough(dice):
     for page in mixed(dice, *(pages_of(TWO.of(whose), 5, 3 + whose, night_list(dice, 90)) for whose in both.BOTH)):
         fate, air = dice.below(24), dice.pick(duet.airs)
         if fate < 4:
-            page[0] = (air.header(dice.below(16), dice.below(32)), with_bytes(page[0], (dice.between(2, 7), LOST)), duet.third().header(dice.below(16), 3), duet.page().header(1, 3))[fate]
+            page[0] = (air.header(dice.below(16), dice.below(32)), with_bytes(page[0], (dice.between(2, 7), LOST)),
+                       duet.third().header(dice.below(16), 3), duet.page().header(1, 3))[fate]
         elif fate < 6:
             del page[dice.below(len(page)):]
         packets += [p if dice.below(30) else dice.pick([with_bytes(p, (dice.below(2), LOST)), air.noised(p, 2), air.elsewhere("magazine"), air.elsewhere("y"),
@@ -220,6 +221,7 @@ def bad_words():
 
 def pairs():
     """A capture with a table in each of the sixteen streams, and what the desk prints of it for some pairs."""
-    data = b"".join(pages_of(DESK._replace(stream=stream), stream, 1, [record(CASE_G._replace(network=stream))])[0][at] for stream in (*range(1, 16, 2), *range(0, 16, 2)) for at in (0, 1))
+    pages = [pages_of(DESK._replace(stream=stream), stream, 1, [record(CASE_G._replace(network=stream))])[0] for stream in (*range(1, 16, 2), *range(0, 16, 2))]
+    data = b"".join(packet for page in pages for packet in page)
     words = [f"{one},{other}" for one in range(16) for other in sorted({one ^ 1, one ^ 8, (one + 3) % 16})]
     return data, {word: listing.desk(data, streams.heeding(DESK, word)) for word in words}

@@ -1,6 +1,7 @@
 #!/usr/bin/env python3
 """Holds the model to what SCOPE and EN 300 707 print: the sixteen images, cases
-A to K, annex L.1, and the third demand, counts included, under random noise."""
+A to K, annex L.1, and the third demand, counts included, under random noise; and
+the programs with two streams to what they do with one."""
 
 import pathlib
 import sys

@@ -310,7 +310,8 @@ NOTED = 20                          # the numbers that a note names
 
 
 def kept(data, setting):
-    """Of each number that came in a capture, in one stream or in either of two, the first accepted menu, in their order; none where it is left out: from the first that doesn't fit on, all."""
+    """Of each number that came in a capture, in one stream or in either of two, the first accepted menu, in their order; none where it is left
+    out: from the first that doesn't fit on, all."""
     came, used = {}, 0
     for _, record in blocks(setting, data):
         menu = accepted(setting.application, record)
