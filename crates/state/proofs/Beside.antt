@@ -69,7 +69,7 @@ state-beside Second st x = heeded-beside Second st x
 
 -- ---- the blocks
 
-blocks-append : (w : Whose) (a b : List Handed) → blocksFor w (a ++ b) ≡ blocksFor w a ++ blocksFor w b
+pub blocks-append : (w : Whose) (a b : List Handed) → blocksFor w (a ++ b) ≡ blocksFor w a ++ blocksFor w b
 unfolding blocksFor
 blocks-append w [] b = refl
 blocks-append w (h ∷ a) b =
@@ -94,6 +94,14 @@ blocks-beside First st x =
 blocks-beside Second st x =
     rw (blocks-append Second, blocks-none Second First refl (blocksAfter First st x), blocks-all Second Second refl (blocksAfter Second st x))
     (blocks-after Second st x)
+
+-- all of them: the first's and then the second's
+pub handed-beside :
+    (st : TwoState) (x : SeenByTwo)
+    → handedOfTwo st x
+    ≡ map (handedFrom First) (handed (stateFor First st) (seenFor First x)) ++ map (handedFrom Second) (handed (stateFor Second st) (seenFor Second x))
+unfolding handedOfTwo
+handed-beside st x = rw (blocks-after First st x, blocks-after Second st x)
 
 -- whose page is open; the first's where none is, which hands out nothing then
 abbrev pub ownerOf : SharedPage → Whose
