@@ -44,9 +44,9 @@ use Rattle.claims.specs.Noise.{Flipped, Aired, Came}
 use Rattle.claims.specs.Damage.{streamIn, Sending, sendings, damage, Counted, damaged}
 use Rattle.claims.specs.Lists.{Among}
 use Rattle.claims.specs.Feeding.{packetsOf}
-use Rattle.claims.specs.Tables.{recordsOf, sent, taken, tablesOf}
+use Rattle.claims.specs.Tables.{recordsOf, sent, sentDamaged, taken, tablesOf}
 use Rattle.claims.specs.Calls.{Writes, write-block, Cuts, cut-pages, cut, Starts, fresh, Reads, read-block, reported, accepted}
-use Rattle.claims.specs.Calls.{Written, no-table, table, ReadOut, no-block, block, Through, Delivers}
+use Rattle.claims.specs.Calls.{Written, no-table, table, ReadOut, no-block, block, Made, MadeWhole, ReadAgain, countedForms, Through, Delivers}
 use Rattle.claims.proofs.Losing.{came-each, came-map, came-exactly, came-among, among-map}
 use Rattle.claims.proofs.Blocks.{range, aired-long}
 use Rattle.claims.proofs.Tables.{tableBlock, all-fit, all-sized, records-same, blocks-written}
@@ -187,42 +187,64 @@ damaged-formed (t ∷ ts) (x ∷ xs) =
 
 -- ---- from end to end
 
+module _ (s : Setting) (within : inRange s ≡ true) (index k : ℕ) (low : index < 16) (least : 1 ≤ k) (most : k ≤ 25)
+    (ts : List Table) (fit : Each (λ t. fits t ≡ true) ts) (m : Made s index k ts) where
+  pub made-records : m .records ≡ recordsOf (s .application) ts
+  made-records = tables-written (s .application) (range s within .application) (m .written) fit .1
+
+  pub made-whole : MadeWhole m
+  made-whole =
+      let app = s .application in
+      let records = m .records in
+      let holds = cut-holds s index k records within low least most (ap whole made-records ∙ all-whole app fit) in
+      let said = cuts (m .cuts) in
+      let done = its-bytes (cutRules s index k records) (cutBytes s index k records) (m .lent) (said .0) (said .1) holds (m .enough) in
+      record {
+        written = tables-written app (range s within .application) (m .written) fit .0;
+        cut = done .0 ∙ ap (λ (l : List ℕ). Done (length l)) (sym (m .whole ∙ done .1));
+        packets = joined-same (m .long) (packets-forty s index k records) (m .whole ∙ done .1) ∙ ap (packets s index k) made-records;
+      }
+
+  -- those are the forms that were handed in, all of them and no other
+  pub all-counted : (ours : List (List ℕ)) → map (λ x. x .what) (countedForms k ts (m .records) ours) ≡ map form ts
+  all-counted ours =
+      let app = s .application in
+      let made = ap Block·blocks made-records ∙ blocks-written app fit in
+      damaged-what (map form ts) (Block·blocks (m .records)) (streamIn k ours)
+      (length-map ts form ∙ sym (length-map ts (tableBlock app)) ∙ sym (ap length made))
+
+  -- tables that come of blocks, read again
+  pub read-again :
+      {L : Type 0} (ours : List (List ℕ)) {bs : List Block} {forms : List (Counted (List ℕ))}
+      → Came L _≡_ (sentDamaged s k ts ours) (tablesOf (s .application) bs) → ReadAgain (s .application) ts bs forms
+      → Came L _≡_ (countedForms k ts (m .records) ours) forms
+  read-again {L} ours {bs} {forms} came r =
+      let app = s .application in
+      let xs = sendings (Block·blocks (recordsOf app ts)) (streamIn k ours) in
+      let out = all-read app (r .most) (r .read)
+      (came-each (λ x. length (form (x .what)) ≤ r .most) came (damaged-each (λ t. length (form t) ≤ r .most) xs (r .short))) in
+      rw made-records
+      (subst₂ (λ (a b : List (Counted (List ℕ))). Came L _≡_ a b) (damaged-formed ts xs) (sym out) (came-map formed came))
+
 module _ (d : ℕ) (small : d ≤ 2) (s : Setting) (within : inRange s ≡ true) (index k : ℕ) (low : index < 16) (least : 1 ≤ k) (most : k ≤ 25)
     (ts : List Table) (fit : Each (λ t. fits t ≡ true) ts) {forms : List (Counted (List ℕ))} (c : Through (Flipped d) s index k ts forms) where
   -- the forms handed in, each with the number of bytes of its sending that arrived other than they were sent
   abbrev pub handedIn : List (Counted (List ℕ))
-  handedIn = damaged (map form ts) (sendings (Block·blocks (c .records)) (streamIn k (c .ours)))
+  handedIn = countedForms k ts (c .made .records) (c .ours)
 
   pub calls-carried : Delivers (2 ≤ d) c
   calls-carried =
-      let app = s .application in
-      let a = range s within .application in
-      let records = c .records in
-      let made = tables-written app a (c .written) fit in
-      let holds = cut-holds s index k records within low least most (ap whole (made .1) ∙ all-whole app fit) in
-      let said = cuts (c .cuts) in
-      let done = its-bytes (cutRules s index k records) (cutBytes s index k records) (c .lent) (said .0) (said .1) holds (c .enough) in
-      let same : c .sent ≡ sent s index k ts =
-      joined-same (c .long) (packets-forty s index k records) (c .whole ∙ done .1) ∙ ap (packets s index k) (made .1) in
-      let on = as-ones s within (c .fed) freshState sound-fresh (starts (c .starts)) (aired-long (c .long) (c .aired)) in
+      let whole = made-whole s within index k low least most ts fit (c .made) in
+      let on = as-ones s within (c .fed) freshState sound-fresh (starts (c .starts)) (aired-long (c .made .long) (c .aired)) in
       let aired : Aired (Flipped d) s (sent s index k ts) (c .ours) (packetsOf (on .calls)) =
-      subst₂ (λ (ps qs : List (List ℕ)). Aired (Flipped d) s ps (c .ours) qs) same (sym (on .packets)) (c .aired) in
-      let xs = sendings (Block·blocks (recordsOf app ts)) (streamIn k (c .ours)) in
-      let came : Came (2 ≤ d) _≡_ (damaged ts xs) (tablesOf app (c .blocks)) =
-      subst (λ (bs : List Block). Came (2 ≤ d) _≡_ (damaged ts xs) (tablesOf app bs)) (sym (on .gives))
+      subst₂ (λ (ps qs : List (List ℕ)). Aired (Flipped d) s ps (c .ours) qs) (whole .packets) (sym (on .packets)) (c .aired) in
+      let came : Came (2 ≤ d) _≡_ (sentDamaged s k ts (c .ours)) (tablesOf (s .application) (c .blocks)) =
+      subst (λ (bs : List Block). Came (2 ≤ d) _≡_ (sentDamaged s k ts (c .ours)) (tablesOf (s .application) bs)) (sym (on .gives))
       (carried d small s within index k low least most ts fit (on .calls) (c .ours) aired) in
-      let out = all-read app (c .most) (c .read)
-      (came-each (λ x. length (form (x .what)) ≤ c .most) came (damaged-each (λ t. length (form t) ≤ c .most) xs (c .short))) in
-      let formed-came : Came (2 ≤ d) _≡_ (damaged (map form ts) xs) forms =
-      subst₂ (λ (a b : List (Counted (List ℕ))). Came (2 ≤ d) _≡_ a b) (damaged-formed ts xs) (sym out) (came-map formed came) in
       record {
-        written = made .0;
-        cut = done .0 ∙ ap (λ (l : List ℕ). Done (length l)) (sym (c .whole ∙ done .1));
-        packets = same;
+        made = whole;
         taken = on .taken;
-        came =
-            subst (λ (l : List ℕ). Came (2 ≤ d) _≡_ (damaged (map form ts) (sendings (Block·blocks l) (streamIn k (c .ours)))) forms)
-            (sym (made .1)) formed-came;
+        came = read-again s within index k low least most ts fit (c .made) (c .ours) came (c .again);
       }
 
   -- at most one flipped bit in each byte: exactly the forms handed in, with exactly those counts
@@ -235,11 +257,7 @@ module _ (d : ℕ) (small : d ≤ 2) (s : Setting) (within : inRange s ≡ true)
 
   -- those are the forms that were handed in, all of them and no other
   pub all-handed : map (λ x. x .what) handedIn ≡ map form ts
-  all-handed =
-      let app = s .application in
-      let made = ap Block·blocks (tables-written app (range s within .application) (c .written) fit .1) ∙ blocks-written app fit in
-      damaged-what (map form ts) (Block·blocks (c .records)) (streamIn k (c .ours))
-      (length-map ts form ∙ sym (length-map ts (tableBlock app)) ∙ sym (ap length made))
+  all-handed = all-counted s within index k low least most ts fit (c .made) (c .ours)
 
   pub calls-exactly-forms : d ≤ 1 → map (λ x. x .what) forms ≡ map form ts
   calls-exactly-forms one = ap (map (λ x. x .what)) (calls-exactly one) ∙ all-handed

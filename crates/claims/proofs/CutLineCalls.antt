@@ -1,45 +1,39 @@
 -- After a cut line, of the calls: from any reader in range, and so from any that calls leave of a fresh one, the packets handed on by `feed` or in
 -- lists by `feed_all`, in any mixture, each call with room. Whatever the contracts allow. Assumes nothing.
-use mathlib.Core.Path.{_≡_, _∙_, refl, sym, ap, ap₂, subst}
+use mathlib.Core.Path.{_≡_, refl, ap₂}
 use mathlib.Core.Bool.{Bool, true, false}
-use mathlib.Core.Logic.{_⊎_, inl, inr}
 use mathlib.Core.List.{List, [], _∷_}
-use Prim.Native.Nat.{ℕ, zero, suc, _+_, _*_, _/_, _≤_, _<_}
+use Prim.Native.Nat.{ℕ, _+_, _*_, _≤_, _<_}
 use native.Mathlib.Omega.{arith}
 use lib.Dec.{leb}
-use lib.ListN.{length, take, drop}
+use lib.ListN.{length}
 use borrow.Author.Tests.{leb-true}
 use Rattle.laws.specs.Each.{Each, nil, and}
-use Rattle.laws.specs.Pick.{pick}
 use Rattle.laws.proofs.Tests.{both-first, both-second}
-use Rattle.answer.specs.Rules.{Rule, judged, Every, First}
-use Rattle.answer.proofs.Judging.{decided, passes, refuses}
-use Rattle.blocks.specs.Block.{Block, blocks, recordsOf}
+use Rattle.blocks.specs.Block.{Block, blocks}
 use Rattle.packet.specs.declared.Setting.{Setting}
 use Rattle.packet.specs.Setting.{inRange}
 use Rattle.packet.specs.Packet.{packetLength}
-use Rattle.writer.specs.Cutting.{packets, FortyTwo}
+use Rattle.writer.specs.Cutting.{packets}
 use Rattle.writer.proofs.Numbering.{packets-forty, forty-drop}
 use Rattle.walk.specs.declared.Run.{Run}
 use Rattle.walk.specs.declared.Run.the-variants.{Idle, Head, Body}
 use Rattle.walk.specs.Mode.{Mode, running}
-use Rattle.walk.specs.Reading.{room, spanning}
+use Rattle.walk.specs.Reading.{spanning}
 use Rattle.walk.specs.Store.{storeLength, modeOf}
-use Rattle.pages.specs.Seen.{see}
 use Rattle.state.specs.declared.Reader.{Reader}
-use Rattle.state.specs.Acting.{State, act}
+use Rattle.state.specs.Acting.{State}
 use Rattle.state.specs.State.{stateOf, readerOf, freshState, pageInRange, runInRange, joinedInRange, readerInRange, Sixteen, Sound}
 use Rattle.state.proofs.Ranging.{sound-fresh, sound-after, state-held}
 use Rattle.state.proofs.Holding.{ready-kept}
-use Rattle.reader.specs.Feeding.{feedRules}
-use Rattle.reader.specs.Many.{Ran, begun, ranOn, run, ranAll, feedAllRules}
 use Rattle.claims.specs.Noise.{Fits}
 use Rattle.claims.specs.Mingled.{Kind}
-use Rattle.claims.specs.Carrying.{heardBlocks}
-use Rattle.claims.specs.Calls.{Starts, Fed}
-use Rattle.claims.specs.CutLine.{Readable, of-other, of-header, of-row, fromThere, Resumed, Behind, alone, after, unjoined, Held, Leaves, none, one, many, Delivered, AfterOne}
-use Rattle.claims.proofs.Fed.{fed-blocks}
-use Rattle.claims.proofs.Handing.{feeds, feeds-all, as-ones}
+use Rattle.reader.specs.Feeding.{tunedTo}
+use Rattle.claims.specs.Calls.{Starts, Feeds, FeedsAll, Fed}
+use Rattle.claims.specs.CutLine.{Readable, of-other, of-header, of-row, fromThere, Resumed, Behind, alone, after, unjoined, Held, Leaves, Delivered, AfterOne}
+use Rattle.claims.proofs.Handing.{feeds, feeds-all, fed-of-one}
+use Rattle.claims.proofs.Leaving as Leaving
+use Rattle.claims.proofs.Leaving.{Holds}
 use Rattle.claims.proofs.Mingling.{mingled-long}
 use Rattle.claims.proofs.Calls.{starts}
 use Rattle.claims.proofs.CutLine.{after-cut-line, behind-zero}
@@ -73,47 +67,13 @@ in-range-held s r within e w k =
           (kept .kept);
     }
 
-held-sound : {r : Reader} {st : State} → Held r st → Sound (stateOf r)
-held-sound {r} {st} h = subst Sound (sym (ap stateOf (h .whole) ∙ state-held st (h .sound))) (h .sound)
-
 -- ---- readers that calls leave
 
-judged-either : {A : Type 0} (P : A → Type 0) (rules : List Rule) (a b : A) → P a → P b → P (judged (λ number offset. a) rules b)
-judged-either P rules a b p q = go (decided rules)
-  where
-    go : Every rules ⊎ ((r : Rule) × First r rules) → P (judged (λ number offset. a) rules b)
-    go (inl every) = subst P (sym (passes (λ number offset. a) b every)) q
-    go (inr w) = subst P (sym (refuses (λ number offset. a) b (w .1))) p
+leaves-held : {r left : Reader} → Leaves r left → Holds Sound readerOf r → Holds Sound readerOf left
+leaves-held = Leaving.leaves-held tunedTo Sound readerOf (λ s. state-held) (λ s st. refl) sound-after Feeds FeedsAll
+    (λ s r next q old out h call. feeds call .1) (λ s r next l old out h call. feeds-all call .1)
 
-run-sound : (s : Setting) (long n : ℕ) (a : Ran) (l : List ℕ) → Sound (a .state) → Sound (run s long n a l .state)
-run-sound s long zero a l r = r
-run-sound s long (suc n) a l r =
-    go (leb (length (recordsOf (a .blocks)) + room) long) _ (run-sound s long n (ranOn s a (take packetLength l)) (drop packetLength l) (sound-after s (a .state) (take packetLength l) r))
-  where
-    go : (t : Bool) (x : Ran) → Sound (x .state) → Sound (pick t x a .state)
-    go true x h = h
-    go false x h = r
-
--- some state in range that it holds
-abbrev Holds : Reader → Type 0
-Holds r = (st : State) × Held r st
-
-leaves-held : {r left : Reader} → Leaves r left → Holds r → Holds left
-leaves-held none h = h
-leaves-held (one {r = r} {s = s} {q = q} {old = old} call more) (st, h) =
-    let now = act (stateOf r) (see s q) in
-    leaves-held more
-    (subst Holds (sym (feeds call .1))
-    (judged-either Holds (feedRules s r q old) r (readerOf now) (st, h)
-    (now, record { sound = sound-after s (stateOf r) q (held-sound h); whole = refl })))
-leaves-held (many {r = r} {s = s} {l = l} {old = old} call more) (st, h) =
-    let now = ranAll s r l old .state in
-    leaves-held more
-    (subst Holds (sym (feeds-all call .1))
-    (judged-either Holds (feedAllRules s r l old) r (readerOf now) (st, h)
-    (now, record { sound = run-sound s (length old) (length l / packetLength) (begun (stateOf r)) l (held-sound h); whole = refl })))
-
-fresh-held : {r : Reader} → Starts r → Holds r
+fresh-held : {r : Reader} → Starts r → Holds Sound readerOf r
 fresh-held c = (freshState, record { sound = sound-fresh; whole = starts c })
 
 -- ---- the theorem
@@ -137,15 +97,8 @@ module _ (s : Setting) (within : inRange s ≡ true) (index k : ℕ) (low : inde
       (st : State) → Held r st → Delivered (st .mode) (fromThere s index k j records) numbers out
   after-cut-line-calls st h =
       let long = mingled-long (readable-long s) (forty-drop (j * (k + 1)) (packets-forty s index k records)) resumed in
-      let on = as-ones s within fed st (h .sound) (h .whole) long in
-      let gives : out ≡ heardBlocks s st qs =
-      on .gives
-      ∙ fed-blocks s within st (h .sound) (on .calls) (subst FortyTwo (sym (on .packets)) long)
-      ∙ ap (heardBlocks s st) (on .packets) in
-      record {
-        taken = on .taken;
-        comes = rw gives (after-cut-line s within index k low least most records fit j ours qs resumed st);
-      }
+      let said = fed-of-one s within fed st (h .sound) (h .whole) long in
+      record { taken = said .0; comes = rw (said .1) (after-cut-line s within index k low least most records fit j ours qs resumed st) }
 
   -- from any that calls can leave, begun from a fresh one
   pub after-cut-line-fresh :

@@ -23,6 +23,7 @@ use Rattle.reader.specs.Feeding.{feedHeard, feedReader, feedOut}
 use Rattle.reader.specs.declared.many.HeardAll.{HeardAll}
 use Rattle.reader.specs.Many.{feedAllHeard, feedAllReader, feedAllOut}
 use Rattle.reader.specs.Two.{roomOfTwo, feedHeardOfTwo, feedReadersOfTwo, feedOutOfTwo, feedAllHeardOfTwo, feedAllReadersOfTwo, feedAllOutOfTwo}
+use Rattle.claims.specs.Carrying.{heardBlocks}
 use Rattle.claims.specs.Feeding.{feederFor, packetsOfAll}
 use Rattle.claims.specs.Tells.{TellsAll}
 use Rattle.claims.specs.Calls.{Feeds, feed, FeedsAll, feed-all, Fed}
@@ -57,6 +58,13 @@ pub as-ones :
     → Fed s r qs numbers bs → (st : State) → Sound st → r ≡ readerOf st → FortyTwo qs → Rows.AsOnes (feederFor s) (works s i) st qs numbers bs
 as-ones s i = Rows.as-ones (feederFor s) (works s i) (λ r after p old out h call. feeds call) (λ r after l old out h call. feeds-all call)
 
+-- any chain of calls: every call is accepted, and the blocks are what the packets hand out, in order
+pub fed-of-one :
+    (s : Setting) → inRange s ≡ true → {r : Reader} {qs : List (List ℕ)} {numbers : List ℕ} {bs : List Block} → Fed s r qs numbers bs
+    → (st : State) → Sound st → r ≡ readerOf st → FortyTwo qs → Each (λ number. number ≡ 0) numbers × (bs ≡ heardBlocks s st qs)
+unfolding heardBlocks
+fed-of-one s i = Rows.fed-heard (feederFor s) (works s i) (λ r after p old out h call. feeds call) (λ r after l old out h call. feeds-all call)
+
 -- what it answers of the records that it writes, and of a block that was dropped
 pub feed-all-tells : TellsAll feedAllHeard feedAllOut
 feed-all-tells s i = Rows.all-tells (feederFor s) (works s i)
@@ -80,7 +88,7 @@ pub feed-all-moves-of-two :
 feed-all-moves-of-two s i st r e some {old = old} enough call =
     Rows.moves (feederForTwo s) (works-two s i) st r e some old enough (feeds-all-two call .0)
 
--- any chain of calls: every call is accepted, and the blocks are what the packets hand out, in order
+-- any chain of calls
 pub fed-of-two :
     (s : Streams) → inRangeOfTwo s ≡ true → {r : Readers} {qs : List (List ℕ)} {numbers : List ℕ} {bs : List Handed} → FedOfTwo s r qs numbers bs
     → (st : TwoState) → SoundOfTwo st → r ≡ readersOf st → FortyTwo qs → Each (λ number. number ≡ 0) numbers × (bs ≡ heardByTwo s st qs)

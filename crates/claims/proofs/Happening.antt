@@ -33,7 +33,7 @@ use Rattle.table.specs.Reading.{readRules, tableRead}
 use Rattle.claims.specs.Noise.{Aired}
 use Rattle.claims.specs.Damage.{Counted}
 use Rattle.claims.specs.Tables.{sent}
-use Rattle.claims.specs.Calls.{Writes, write-block, Cuts, cut-pages, Starts, fresh, Feeds, feed, Reads, read-block, Written, no-table, table, Fed, ReadOut, no-block, block, Through}
+use Rattle.claims.specs.Calls.{Writes, write-block, Cuts, cut-pages, Starts, fresh, Feeds, feed, Reads, read-block, Written, no-table, table, Fed, ReadOut, no-block, block, Made, ReadAgain, Through}
 use Rattle.claims.specs.Feeding.{feederFor}
 use Rattle.claims.specs.Two as Two
 use Rattle.claims.specs.Two.{feederForTwo, StartsTwo, FeedsTwo, FedOfTwo}
@@ -125,23 +125,25 @@ all-short (t ∷ ts) =
 
 -- ---- from end to end
 
+pub can-read-again :
+    (application : ℕ) (ts : List Table) (bs : List Block) → (forms : List (Counted (List ℕ))) × ReadAgain application ts bs forms
+can-read-again application ts bs =
+    let short = all-short ts in
+    let read = can-read-all application (short .0) bs in
+    (read .0, record { most = short .0; short = short .1; read = read .1 })
+
 module _ (s : Setting) (within : inRange s ≡ true) (index k : ℕ) (low : index < 16) (least : 1 ≤ k) (most : k ≤ 25)
     (ts : List Table) (fit : Each (λ t. fits t ≡ true) ts) where
-  pub calls-happen :
-      (R : ℕ → ℕ → Type 0) (ours arrived : List (List ℕ)) → Aired R s (sent s index k ts) ours arrived
-      → (forms : List (Counted (List ℕ))) × Through R s index k ts forms
-  calls-happen R ours arrived aired =
+  -- tables can be made into their packets
+  pub can-make : (m : Made s index k ts) × (m .sent ≡ sent s index k ts)
+  can-make =
       let app = s .application in
       let made = can-write-all app ts in
       let records = made .1 in
       let e = tables-written app (range s within .application) (made .2) fit .1 in
       let call = can-cut s index k records (cutBytes s index k records) in
       let holds = cut-holds s index k records within low least most (ap whole e ∙ all-whole app fit) in
-      let done = its-bytes (cutRules s index k records) (cutBytes s index k records) (cutBytes s index k records) refl refl holds (le-refl _) in
-      let fed = can-feed-all s (readerOf freshState) arrived in
-      let short = all-short ts in
-      let read = can-read-all app (short .0) (fed .1) in (
-        read .0,
+      let done = its-bytes (cutRules s index k records) (cutBytes s index k records) (cutBytes s index k records) refl refl holds (le-refl _) in (
         record {
           answers = made .0;
           records = records;
@@ -154,16 +156,27 @@ module _ (s : Setting) (within : inRange s ≡ true) (index k : ℕ) (low : inde
           sent = packets s index k records;
           long = packets-forty s index k records;
           whole = sym (done .1);
+        },
+        ap (packets s index k) e,
+      )
+
+  pub calls-happen :
+      (R : ℕ → ℕ → Type 0) (ours arrived : List (List ℕ)) → Aired R s (sent s index k ts) ours arrived
+      → (forms : List (Counted (List ℕ))) × Through R s index k ts forms
+  calls-happen R ours arrived aired =
+      let fed = can-feed-all s (readerOf freshState) arrived in
+      let again = can-read-again (s .application) ts (fed .1) in (
+        again .0,
+        record {
+          made = can-make .0;
           ours = ours;
           arrived = arrived;
-          aired = subst (λ (l : List ℕ). Aired R s (packets s index k l) ours arrived) (sym e) aired;
+          aired = subst (λ (ps : List (List ℕ)). Aired R s ps ours arrived) (sym (can-make .1)) aired;
           reader = readerOf freshState;
           starts = can-start;
           numbers = fed .0;
           blocks = fed .1;
           fed = fed .2;
-          most = short .0;
-          short = short .1;
-          read = read .1;
+          again = again .1;
         },
       )

@@ -34,6 +34,7 @@ pub mod Handing
 pub mod CutLine
 pub mod Calls
 pub mod Sheets
+pub mod Leaving
 pub mod CutLineCalls
 pub mod Again
 pub mod Usual

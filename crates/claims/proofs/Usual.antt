@@ -6,23 +6,22 @@ use mathlib.Core.List.{List, map}
 use Prim.Native.Nat.{ℕ, _≤_, _<_}
 use native.Mathlib.Omega.{arith}
 use Rattle.laws.specs.Each.{Each}
-use Rattle.blocks.specs.Block.{blocks}
 use Rattle.packet.specs.declared.Setting.{Setting}
 use Rattle.packet.specs.Setting.{inRange}
 use Rattle.writer.specs.Cutting.{usualPage}
 use Rattle.forms.specs.Tables.{Table, fits}
 use Rattle.forms.specs.Form.{form}
 use Rattle.claims.specs.Noise.{Flipped}
-use Rattle.claims.specs.Damage.{streamIn, sendings, Counted, damaged}
+use Rattle.claims.specs.Damage.{Counted}
 use Rattle.claims.specs.Lists.{Among}
-use Rattle.claims.specs.Calls.{Through, Delivers}
+use Rattle.claims.specs.Calls.{countedForms, Through, Delivers}
 use Rattle.claims.proofs.Calls.{calls-carried, calls-exactly, calls-never-wrong, calls-exactly-forms, calls-never-wrong-forms}
 
 module _ (d : ℕ) (small : d ≤ 2) (s : Setting) (within : inRange s ≡ true) (index : ℕ) (low : index < 16) (ts : List Table)
     (fit : Each (λ t. fits t ≡ true) ts) {forms : List (Counted (List ℕ))} (c : Through (Flipped d) s index usualPage ts forms) where
   -- the forms handed in, each with the number of bytes of its sending that arrived other than they were sent
   abbrev pub usualIn : List (Counted (List ℕ))
-  usualIn = damaged (map form ts) (sendings (blocks (c .records)) (streamIn usualPage (c .ours)))
+  usualIn = countedForms usualPage ts (c .made .records) (c .ours)
 
   pub usual-carried : Delivers (2 ≤ d) c
   usual-carried = calls-carried d small s within index usualPage low (omega arith) (omega arith) ts fit c

@@ -122,8 +122,8 @@ pub data ReadOut (application most : ℕ) : List Block → List (Counted (List �
 
 -- ---- from end to end
 
--- tables go through our calls, and these forms come out of them with their counts; noise does to each byte what R says
-pub record Through (R : ℕ → ℕ → Type 0) (s : Setting) (index k : ℕ) (ts : List Table) (forms : List (Counted (List ℕ))) : Type 0 where
+-- tables become packets by our calls
+pub record Made (s : Setting) (index k : ℕ) (ts : List Table) : Type 0 where
   -- their forms are written as records
   pub answers : List Answer
   pub records : List ℕ
@@ -138,30 +138,45 @@ pub record Through (R : ℕ → ℕ → Type 0) (s : Setting) (index k : ℕ) (t
   pub sent : List (List ℕ)
   pub long : FortyTwo sent
   pub whole : joined sent ≡ reported answer left
-  -- they arrive, with noise and with packets of other magazines between, and are fed to a fresh reader
+
+-- what is owed of that
+pub record MadeWhole {s : Setting} {index k : ℕ} {ts : List Table} (m : Made s index k ts) : Type 0 where
+  -- every table is accepted, as its record
+  pub written : m .answers ≡ map (λ t. Done (length (recordOf (s .application) t))) ts
+  -- the records are accepted, and their packets are written, all of them and nothing else
+  pub cut : m .answer ≡ Done (length (joined (m .sent)))
+  pub packets : m .sent ≡ Tables·sent s index k ts
+
+-- each record that comes out is read, with room for the longest of the tables' forms, and these forms come of it with their counts
+pub record ReadAgain (application : ℕ) (ts : List Table) (bs : List Block) (forms : List (Counted (List ℕ))) : Type 0 where
+  pub most : ℕ
+  pub short : Each (λ t. length (form t) ≤ most) ts
+  pub read : ReadOut application most bs forms
+
+-- the tables' forms, each with the number of bytes of its sending that arrived other than they were sent: of the records as they were written and
+-- of our packets as they arrived, in pages of k packets
+abbrev pub countedForms : ℕ → List Table → List ℕ → List (List ℕ) → List (Counted (List ℕ))
+countedForms k ts records ours = damaged (map form ts) (sendings (Block·blocks records) (streamIn k ours))
+
+-- tables go through our calls, and these forms come out of them with their counts; noise does to each byte what R says
+pub record Through (R : ℕ → ℕ → Type 0) (s : Setting) (index k : ℕ) (ts : List Table) (forms : List (Counted (List ℕ))) : Type 0 where
+  pub made : Made s index k ts
+  -- the packets arrive, with noise and with packets of other magazines between, and are fed to a fresh reader
   pub ours : List (List ℕ)
   pub arrived : List (List ℕ)
-  pub aired : Aired R s sent ours arrived
+  pub aired : Aired R s (made .sent) ours arrived
   pub reader : Reader
   pub starts : Starts reader
   pub numbers : List ℕ
   pub blocks : List Block
   pub fed : Fed s reader arrived numbers blocks
-  -- each record that comes out is read, with room for the longest of the forms
-  pub most : ℕ
-  pub short : Each (λ t. length (form t) ≤ most) ts
-  pub read : ReadOut (s .application) most blocks forms
+  pub again : ReadAgain (s .application) ts blocks forms
 
 -- what is owed of them
 pub record Delivers {R : ℕ → ℕ → Type 0} {s : Setting} {index k : ℕ} {ts : List Table} {forms : List (Counted (List ℕ))} (L : Type 0)
     (c : Through R s index k ts forms) : Type 0 where
-  -- every table is accepted, as its record
-  pub written : c .answers ≡ map (λ t. Done (length (recordOf (s .application) t))) ts
-  -- the records are accepted, and their packets are written, all of them and nothing else
-  pub cut : c .answer ≡ Done (length (joined (c .sent)))
-  pub packets : c .sent ≡ Tables·sent s index k ts
+  pub made : MadeWhole (c .made)
   -- every packet that arrives is accepted
   pub taken : Each (λ number. number ≡ 0) (c .numbers)
-  -- each form comes out once and in order, or is lost where L allows it; its count is the number of bytes of its sending that arrived other
-  -- than they were sent
-  pub came : Came L _≡_ (damaged (map form ts) (sendings (Block·blocks (c .records)) (streamIn k (c .ours)))) forms
+  -- each form comes out once and in order, or is lost where L allows it, with its count
+  pub came : Came L _≡_ (countedForms k ts (c .made .records) (c .ours)) forms

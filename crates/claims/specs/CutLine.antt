@@ -95,19 +95,27 @@ unjoined (b ∷ bs) = pick (eqb (b .second) 0) (b ∷ []) [] ++ unjoined bs
 
 -- ---- of the calls
 
--- a reader that holds this state, which is in range
-pub record Held (r : Reader) (st : State) : Type 0 where
+-- a reader that holds this state, which is in range: Sound says which states are, and hold how they are held
+pub record HeldBy {R S : Type 0} (Sound : S → Type 0) (hold : S → R) (r : R) (st : S) : Type 0 where
   pub sound : Sound st
-  pub whole : r ≡ readerOf st
+  pub whole : r ≡ hold st
 
--- a reader that calls leave of another: any calls, each with whatever setting, bytes and room
-pub data Leaves : Reader → Reader → Type 0 where
-  none : {r : Reader} → Leaves r r
+abbrev pub Held : Reader → State → Type 0
+Held = HeldBy Sound readerOf
+
+-- a reader that calls leave of another: any calls, each with whatever setting, bytes and room. A call for a packet and one for a list may answer, hand
+-- back and leave what these relations say
+pub data LeavesBy {X R : Type 0} (One : X → R → List ℕ → List ℕ → Heard → R → List ℕ → Type 0)
+    (All : X → R → List ℕ → List ℕ → HeardAll → R → List ℕ → Type 0) : R → R → Type 0 where
+  none : {r : R} → LeavesBy One All r r
   one :
-      {r after left : Reader} {s : Setting} {q old out : List ℕ} {h : Heard} → Feeds s r q old h after out → Leaves after left → Leaves r left
+      {r after left : R} {x : X} {q old out : List ℕ} {h : Heard} → One x r q old h after out → LeavesBy One All after left → LeavesBy One All r left
   many :
-      {r after left : Reader} {s : Setting} {l old out : List ℕ} {h : HeardAll} → FeedsAll s r l old h after out → Leaves after left
-      → Leaves r left
+      {r after left : R} {x : X} {l old out : List ℕ} {h : HeardAll} → All x r l old h after out → LeavesBy One All after left
+      → LeavesBy One All r left
+
+abbrev pub Leaves : Reader → Reader → Type 0
+Leaves = LeavesBy Feeds FeedsAll
 
 -- what is owed of calls whose answers have these numbers and whose outputs these blocks, where m was running: every packet is taken, and the
 -- blocks bs come out
