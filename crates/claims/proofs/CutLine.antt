@@ -51,7 +51,7 @@ use Rattle.claims.proofs.Resuming.{resumes}
 
 -- ---- what can be read is seen as what it is
 
-header-seen :
+pub header-seen :
     (s : Setting) (q : List ℕ) → decodes 6 (drop 2 q) ≡ true → ((pageIn q ≡ s .page) × (numberOfStream q ≡ s .stream) → ⊥)
     → seeY s 0 q ≡ foreign
 unfolding seeY seeZero
@@ -67,7 +67,7 @@ readable-seen s row q (of-row long e m y) =
 
 -- ---- what is left of a run
 
-drop-pages :
+pub drop-pages :
     (s : Setting) (k p index : ℕ) (ss : List Symbol) (j : ℕ) → index < 16
     → drop (j * (k + 1)) (pages s k p index ss) ≡ pages s k (p - j) ((index + j) % 16) (drop (beforePage k j) ss)
 unfolding pages
@@ -96,10 +96,10 @@ left-covered n p j x h = rw (mul-comm (p - j) x, mul-sub x p j, mul-comm x p, mu
 
 -- ---- the theorem
 
-abbrev Clean : ℕ → ℕ → Type 0
+abbrev pub Clean : ℕ → ℕ → Type 0
 Clean a b = a ≡ b
 
-clean : Hears Clean ⊥
+pub clean : Hears Clean ⊥
 clean n b h e = inl (ap nib (sym e) ∙ nib-image n ∙ mod-eq-of-lt h)
 
 module _ (s : Setting) (within : inRange s ≡ true) (index k : ℕ) (low : index < 16) (least : 1 ≤ k) (most : k ≤ 25)

@@ -78,12 +78,12 @@ fresh-held c = (freshState, record { sound = sound-fresh; whole = starts c })
 
 -- ---- the theorem
 
-readable-long : (s : Setting) (kind : Kind) (q : List ℕ) → Readable s q kind → length q ≡ packetLength
+pub readable-long : (s : Setting) (kind : Kind) (q : List ℕ) → Readable s q kind → length q ≡ packetLength
 readable-long s kind q (of-other long e z) = long
 readable-long s kind q (of-header long e m y six z) = long
 readable-long s kind q (of-row long e m y) = long
 
-at-most-one :
+pub at-most-one :
     {m : Mode} {bs : List Block} {numbers : List ℕ} {out : List Block} → Each (λ number. number ≡ 0) numbers → Behind m bs out → AfterOne bs numbers out
 at-most-one taken alone = record { taken = taken; first = []; few = omega arith; joined = nil; whole = refl }
 at-most-one taken (after {b} r) =

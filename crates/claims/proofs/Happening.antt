@@ -21,7 +21,11 @@ use Rattle.state.specs.declared.Reader.{Reader}
 use Rattle.state.specs.State.{readerOf, freshState}
 use Rattle.packet.specs.declared.two.Streams.{Streams}
 use Rattle.state.specs.declared.two.Readers.{Readers}
-use Rattle.state.specs.Two.{Handed, freshOfTwo, readersOf}
+use Rattle.packet.specs.Two.{inRangeOfTwo}
+use Rattle.pages.specs.declared.two.Whose.{Whose}
+use Rattle.pages.specs.declared.two.Whose.the-variants.{First, Second}
+use Rattle.pages.specs.Two.{settingFor}
+use Rattle.state.specs.Two.{Handed, freshOfTwo, readersOf, blocksFor}
 use Rattle.reader.specs.Feeding.{feedHeard, feedReader, feedOut}
 use Rattle.reader.specs.Two.{feedHeardOfTwo, feedReadersOfTwo, feedOutOfTwo}
 use Rattle.forms.specs.Tables.{Table, fits}
@@ -38,7 +42,10 @@ use Rattle.claims.specs.Feeding.{feederFor}
 use Rattle.claims.specs.Two as Two
 use Rattle.claims.specs.Two.{feederForTwo, StartsTwo, FeedsTwo, FedOfTwo}
 use Rattle.claims.proofs.Rows as Rows
+use Rattle.claims.specs.Woven.{BothShared}
+use Rattle.claims.specs.Both.{ThroughBoth}
 use Rattle.claims.proofs.Blocks.{range}
+use Rattle.claims.proofs.Beside.{each-in-range}
 use Rattle.claims.proofs.Calls.{its-bytes, tables-written, all-whole, cut-holds}
 
 -- ---- each call
@@ -178,5 +185,34 @@ module _ (s : Setting) (within : inRange s ≡ true) (index k : ℕ) (low : inde
           blocks = fed .1;
           fed = fed .2;
           again = again .1;
+        },
+      )
+
+module _ (s : Streams) (within : inRangeOfTwo s ≡ true) (index k : Whose → ℕ) (low : (w : Whose) → index w < 16) (least : (w : Whose) → 1 ≤ k w)
+    (most : (w : Whose) → k w ≤ 25) (ts : Whose → List Table) (fit : (w : Whose) → Each (λ t. fits t ≡ true) (ts w)) where
+  -- so of two streams
+  pub calls-happen-of-two :
+      (R : ℕ → ℕ → Type 0) (ours : Whose → List (List ℕ)) (arrived : List (List ℕ))
+      → BothShared R s k (λ w. sent (settingFor w s) (index w) (k w) (ts w)) ours arrived
+      → (forms : Whose → List (Counted (List ℕ))) × ThroughBoth R s index k ts forms
+  calls-happen-of-two R ours arrived aired =
+      let made : (w : Whose) → (m : Made (settingFor w s) (index w) (k w) (ts w)) × (m .sent ≡ sent (settingFor w s) (index w) (k w) (ts w)) =
+      λ w. can-make (settingFor w s) (each-in-range s within w) (index w) (k w) (low w) (least w) (most w) (ts w) (fit w) in
+      let fed = fed-happens-of-two s arrived in
+      let handed = fed .3 in
+      let again : (w : Whose) → (forms : List (Counted (List ℕ))) × ReadAgain (settingFor w s .application) (ts w) (blocksFor w handed) forms =
+      λ w. can-read-again (settingFor w s .application) (ts w) (blocksFor w handed) in (
+        λ w. again w .0,
+        record {
+          made = λ w. made w .0;
+          ours = ours;
+          arrived = arrived;
+          aired = rw (made First .1, made Second .1) aired;
+          reader = fed .0;
+          starts = fed .1;
+          numbers = fed .2;
+          handed = handed;
+          fed = fed .4;
+          again = λ w. again w .1;
         },
       )

@@ -1,6 +1,6 @@
 -- What a packet of our writer, or one that may stand between, is to the reader that hears it: itself, or, where two flips are allowed,
 -- one that can't be read. Assumes nothing.
-use mathlib.Core.Path.{_≡_, _∙_, refl, sym, ap}
+use mathlib.Core.Path.{_≡_, _∙_, refl, sym, ap, ap₂}
 use mathlib.Core.Bool.{Bool, true, false}
 use mathlib.Core.Logic.{_⊎_, inl, inr, ⊎-elim}
 use mathlib.Core.List.{List, [], _∷_, _++_, map}
@@ -21,6 +21,7 @@ use Rattle.pages.specs.Headers.{Seen, junk, other, foreign, ours, packetY, seeZ
 use Rattle.pages.specs.Seen.{see, seeY}
 use Rattle.pages.proofs.Judged.{sees, see-junk}
 use Rattle.claims.specs.Noise.{Hears, Near, more, Elsewhere}
+use Rattle.claims.specs.CutLine.{magazineIn, numberIn, Readable, of-other, of-header, of-row}
 use Rattle.claims.specs.Mingled.{Kind, elsewhere, header, row, OtherPage, OtherRow, Rightly}
 use Rattle.claims.proofs.Losing.{near-length, near-drop}
 
@@ -152,7 +153,7 @@ abbrev sixOf : Setting → ℕ → ℕ → List ℕ
 sixOf s index n = (s .page % 16) ∷ (s .page / 16) ∷ index ∷ (n % 8) ∷ (s .stream) ∷ (n / 8) ∷ []
 
 module _ (s : Setting) (page : s .page < 256) (stream : s .stream < 16) (index n : ℕ) (small-index : index < 16) (small-n : n ≤ 25) where
-  six-nibbles : Each (λ x. x < 16) (sixOf s index n)
+  pub six-nibbles : Each (λ x. x < 16) (sixOf s index n)
   six-nibbles =
       let u : s .page % 16 < 16 = omega arith in
       let t : s .page / 16 < 16 = omega arith in
@@ -278,3 +279,38 @@ module _ (R : ℕ → ℕ → Type 0) (L : Type 0) (hears : Hears R L) (s : Sett
   rightly-heard elsewhere q e = ⊎-elim (λ f. rw f passed) (λ w. rw (w .0) (lost (w .1))) (elsewhere-heard R L hears s e)
   rightly-heard header q e = ⊎-elim (λ f. rw f named) (λ w. rw (w .0) (lost (w .1))) (other-page-heard R L hears s e)
   rightly-heard row q e = row-heard e
+
+-- ---- where nothing is lost, what is sent rightly can be read
+
+magazine-read : (magazine y : ℕ) {q : List ℕ} → Reads (addressed magazine y) q → magazineIn q ≡ magazine % 8
+magazine-read magazine y r =
+    let m : (magazine % 8 + 8 * (y % 2)) % 8 ≡ magazine % 8 = omega arith in
+    ap (λ (n : ℕ). n % 8) (reads-at r 0 (omega arith)) ∙ m
+
+number-read : (magazine y : ℕ) {q : List ℕ} → y < 32 → Reads (addressed magazine y) q → numberIn q ≡ y
+number-read magazine y h r =
+    let n : (magazine % 8 + 8 * (y % 2)) / 8 + 2 * (y / 2) ≡ y = omega arith in
+    ap₂ (λ (a b : ℕ). a / 8 + 2 * b) (reads-at r 0 (omega arith)) (reads-at r 1 (omega arith)) ∙ n
+
+module _ (R : ℕ → ℕ → Type 0) (hears : Hears R ⊥) (s : Setting) where
+  address-read : (magazine y : ℕ) (rest : List ℕ) {q : List ℕ} → y < 32 → Near R (address magazine y ++ rest) q → Reads (addressed magazine y) q
+  address-read magazine y rest h n = ⊎-elim (λ r. r) (λ w. absurd (w .1)) (address-heard R ⊥ hears magazine y rest h n)
+
+  pub rightly-readable : (kind : Kind) (q : List ℕ) → Rightly R s kind q → Readable s q kind
+  rightly-readable elsewhere q e =
+      let r = address-read (e .magazine) (e .y) (e .rest) (e .number) (e .near) in
+      of-other (omega (arith, near-length (e .near), e .long)) (reads-decodes (addressed-nibbles (e .magazine) (e .y) (e .number)) r)
+      (λ m. e .differs (sym (magazine-read (e .magazine) (e .y) r) ∙ m))
+  rightly-readable header q e =
+      let ns = e .units ∷ e .tens ∷ e .s1 ∷ e .s2 ∷ e .s3 ∷ e .s4 ∷ [] in
+      let r = address-read (s .magazine) 0 (map image ns ++ e .rest) (omega arith) (e .near) in
+      let six : Reads ns (drop 2 q) =
+      ⊎-elim (λ r. r) (λ w. absurd (w .1)) (nibbles-heard R ⊥ hears ns (e .rest) (e .nibbles) (near-drop 2 (e .near))) in
+      let at : (i : ℕ) → i < 6 → nib (getD q (2 + i) 0) ≡ getD ns i 0 = λ i h. ap nib (sym (getD-drop 2 q i 0)) ∙ reads-at six i h in
+      of-header (omega (arith, near-length (e .near), e .long)) (reads-decodes (addressed-nibbles (s .magazine) 0 (omega arith)) r)
+      (magazine-read (s .magazine) 0 r) (number-read (s .magazine) 0 (omega arith) r) (reads-decodes (e .nibbles) six)
+      (λ w. e .differs (sym (ap₂ (λ (a b : ℕ). a + 16 * b) (at 0 (omega arith)) (at 1 (omega arith))) ∙ w .0, sym (at 4 (omega arith)) ∙ w .1))
+  rightly-readable row q e =
+      let r = address-read (s .magazine) (e .y) (e .rest) (e .number) (e .near) in
+      of-row (omega (arith, near-length (e .near), e .long)) (reads-decodes (addressed-nibbles (s .magazine) (e .y) (e .number)) r)
+      (magazine-read (s .magazine) (e .y) r) (λ z. omega (arith, number-read (s .magazine) (e .y) (e .number) r, e .least))

@@ -32,10 +32,14 @@ pub mod Wrong
 pub mod Many
 pub mod Handing
 pub mod CutLine
+pub mod Beside
+pub mod Woven
+pub mod EachStream
 pub mod Calls
 pub mod Sheets
 pub mod Leaving
 pub mod CutLineCalls
+pub mod BothCalls
 pub mod Again
 pub mod Usual
 pub mod Happening

@@ -34,16 +34,16 @@ abbrev idleAt : ℕ → State
 idleAt index = record { page = Shut; index = index; mode = off; joined = false }
 
 -- of two such readers a packet makes two such again, or makes them the same
-data Meets : State → State → Type 0 where
+pub data Meets : State → State → Type 0 where
   both-idle : {i j : ℕ} → Meets (idleAt i) (idleAt j)
   one : {st : State} → Meets st st
 
-meets-after : (i j : ℕ) (x : Seen) → Meets (act (idleAt i) x) (act (idleAt j) x)
+idle-meets : (i j : ℕ) (x : Seen) → Meets (act (idleAt i) x) (act (idleAt j) x)
 unfolding act
-meets-after i j junk = both-idle
-meets-after i j other = both-idle
-meets-after i j foreign = both-idle
-meets-after i j (ours k n) =
+idle-meets i j junk = both-idle
+idle-meets i j other = both-idle
+idle-meets i j foreign = both-idle
+idle-meets i j (ours k n) =
     rw (
       same (breaks Shut i k n) {a = off} refl refl,
       same (breaks Shut j k n) {a = off} refl refl,
@@ -52,7 +52,7 @@ meets-after i j (ours k n) =
       same (breaks Shut j k n) {a = false} refl refl,
     )
     one
-meets-after i j (packetY y p l) = both-idle
+idle-meets i j (packetY y p l) = both-idle
 
 idle-hands : (i j : ℕ) (x : Seen) → handed (idleAt i) x ≡ handed (idleAt j) x
 unfolding handed
@@ -62,12 +62,18 @@ idle-hands i j foreign = refl
 idle-hands i j (ours k n) = refl
 idle-hands i j (packetY y p l) = refl
 
+pub meets-after : {st st′ : State} → Meets st st′ → (x : Seen) → Meets (act st x) (act st′ x)
+meets-after (both-idle {i} {j}) x = idle-meets i j x
+meets-after one x = one
+
+pub meets-hands : {st st′ : State} → Meets st st′ → (x : Seen) → handed st x ≡ handed st′ x
+meets-hands (both-idle {i} {j}) x = idle-hands i j x
+meets-hands one x = refl
+
 same-blocks : (s : Setting) {st st′ : State} (qs : List (List ℕ)) → Meets st st′ → heardBlocks s st qs ≡ heardBlocks s st′ qs
 unfolding heardBlocks
 same-blocks s [] m = refl
-same-blocks s (q ∷ qs) (both-idle {i} {j}) =
-    ap₂ (λ (a b : List Block). a ++ b) (idle-hands i j (see s q)) (same-blocks s qs (meets-after i j (see s q)))
-same-blocks s (q ∷ qs) one = refl
+same-blocks s (q ∷ qs) m = ap₂ (λ (a b : List Block). a ++ b) (meets-hands m (see s q)) (same-blocks s qs (meets-after m (see s q)))
 
 after-junk : (st : State) (x : Seen) → x ≡ junk → act st x ≡ idleAt (st .index)
 unfolding act

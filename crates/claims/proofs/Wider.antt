@@ -1,6 +1,6 @@
 -- The third demand with more between: besides packets of other magazines anywhere, other pages of our magazine between whole pages of ours,
 -- whole or not, rightly sent and with the same noise. One theorem over the number of flips, and its corollaries. Assumes nothing.
-use mathlib.Core.Path.{_≡_, sym, subst}
+use mathlib.Core.Path.{_≡_, _∙_, sym, ap, subst}
 use mathlib.Core.Bool.{true}
 use mathlib.Core.List.{List, map}
 use Prim.Native.Nat.{ℕ, _≤_, _<_}
@@ -9,17 +9,25 @@ use Rattle.laws.specs.Each.{Each}
 use Rattle.blocks.specs.Block.{Block, blocks}
 use Rattle.packet.specs.declared.Setting.{Setting}
 use Rattle.packet.specs.Setting.{inRange}
+use Rattle.writer.specs.Cutting.{FortyTwo}
+use Rattle.writer.proofs.Numbering.{packets-forty}
+use Rattle.walk.specs.Reading.{room}
 use Rattle.state.specs.State.{readerOf, freshState}
+use Rattle.state.proofs.Ranging.{sound-fresh}
 use Rattle.forms.specs.Tables.{Table, fits}
 use Rattle.claims.specs.Noise.{Flipped, Hears, Came, Fits}
 use Rattle.claims.specs.Mingled.{Shared}
 use Rattle.claims.specs.Damage.{streamIn, sendings, landed, damaged}
 use Rattle.claims.specs.Lists.{Among}
+use Rattle.claims.specs.Carrying.{heardBlocks}
 use Rattle.claims.specs.Feeding.{Call, packetsOf, comesOut}
-use Rattle.claims.specs.Tables.{recordsOf, sent, sentDamaged, received}
+use Rattle.claims.specs.Tables.{recordsOf, sent, sentDamaged, tablesOf, received}
 use Rattle.claims.proofs.Noise.{near}
 use Rattle.claims.proofs.Losing.{came-exactly, came-among}
 use Rattle.claims.proofs.Landing.{Heard}
+use Rattle.claims.proofs.Mingling.{mingled-long, rightly-long}
+use Rattle.claims.proofs.Rows.{callsFor, packets-of-calls}
+use Rattle.claims.proofs.Fed.{fed-blocks}
 use Rattle.claims.proofs.Blocks.{range, carried-calls-wider, carried-near-wider}
 use Rattle.claims.proofs.Tables.{tableBlock, all-fit, blocks-written, tables-came}
 
@@ -50,3 +58,18 @@ module _ (d : ℕ) (small : d ≤ 2) (s : Setting) (within : inRange s ≡ true)
   -- up to two: only tables that were sent, in order, each at most once, and each with its own count
   pub never-wrong-wider : Among (received s calls) (sentDamaged s k ts ours)
   never-wrong-wider = came-among (λ a b e. e) carried-wider
+
+-- the same of what a fresh reader hands out of a list of packets
+pub heard-wider :
+    (d : ℕ) → d ≤ 2 → (s : Setting) → inRange s ≡ true → (index k : ℕ) → index < 16 → 1 ≤ k → k ≤ 25 → (ts : List Table) → Each (λ t. fits t ≡ true) ts
+    → (ours qs : List (List ℕ)) → Shared (Flipped d) s k (sent s index k ts) ours qs
+    → Came (2 ≤ d) _≡_ (sentDamaged s k ts ours) (tablesOf (s .application) (heardBlocks s freshState qs))
+heard-wider d small s within index k low least most ts fit ours qs shared =
+    let calls : List Call = callsFor qs in
+    let same = packets-of-calls room qs in
+    let long = mingled-long (rightly-long (Flipped d) s) (packets-forty s index k (recordsOf (s .application) ts)) shared in
+    let gives : comesOut s (readerOf freshState) calls ≡ heardBlocks s freshState qs =
+    fed-blocks s within freshState sound-fresh calls (subst FortyTwo (sym same) long) ∙ ap (heardBlocks s freshState) same in
+    subst (λ (bs : List Block). Came (2 ≤ d) _≡_ (sentDamaged s k ts ours) (tablesOf (s .application) bs)) gives
+    (carried-wider d small s within index k low least most ts fit calls ours
+    (subst (λ (ps : List (List ℕ)). Shared (Flipped d) s k (sent s index k ts) ours ps) (sym same) shared))

@@ -12,6 +12,9 @@ pub mod Tells
 pub mod Calls
 pub mod Sheets
 pub mod CutLine
+pub mod Differing
+pub mod Woven
 pub mod Judges
 pub mod Two
+pub mod Both
 pub mod Twice
