@@ -8,14 +8,14 @@ use Rattle.texts.specs.Texts.{beginsWith, standsIn}
 use Rattle.words.specs.Rows.{before, upTo, behind, rowFrom}
 use Rattle.words.specs.Numbers.{digitOf, decimalFrom, decimalOf, numberOf, hexPairOf, kindOf}
 use Rattle.words.specs.Places.{isMark, passed, letterAt, turned, after, mayEnd, isKind, fits}
-use Rattle.words.specs.Options.{formOf, optionFrom, isIn, putOne, putTwo, saidBy}
+use Rattle.words.specs.Options.{noValue, formOf, optionFrom, isIn, putOne, putTwo, saidBy}
 use Rattle.words.specs.Words.{startSaid, isName, letterNow, chosen, named, heardLast, heardLetter, heardOption, heardAll, spoken, isGood, valueAt, secondAt}
-use Rattle.words.proofs.Ranging.{value-in}
+use Rattle.words.proofs.Ranging.{Kept, value-in, second-within}
 
--- `-m 1..8`, `-p 00..FF`, `-s 0..15`, `-a 0..31`, and behind them what a program has of its own
+-- `-m 1..8`, `-p 00..FF`, `-s 0..15` for one stream or two, `-a 0..31`, and behind them what a program has of its own
 abbrev setting : List ℕ → List ℕ
 setting others =
-    109 ∷ 1 ∷ 1 ∷ 8 ∷ 1 ∷ 112 ∷ 2 ∷ 0 ∷ 255 ∷ 223 ∷ 115 ∷ 1 ∷ 0 ∷ 15 ∷ 1 ∷ 97 ∷ 1 ∷ 0 ∷ 31 ∷ 1 ∷ others
+    109 ∷ 1 ∷ 1 ∷ 8 ∷ 1 ∷ 112 ∷ 2 ∷ 0 ∷ 255 ∷ 223 ∷ 115 ∷ 3 ∷ 0 ∷ 15 ∷ 1 ∷ 97 ∷ 1 ∷ 0 ∷ 31 ∷ 1 ∷ others
 
 -- and `-v`
 abbrev deskOptions : List ℕ
@@ -24,10 +24,6 @@ deskOptions = setting (118 ∷ 0 ∷ 0 ∷ 1 ∷ 0 ∷ [])
 -- and `-b 0..65535`, `-l 1..8`
 abbrev menusOptions : List ℕ
 menusOptions = setting (98 ∷ 1 ∷ 0 ∷ 65535 ∷ 0 ∷ 108 ∷ 1 ∷ 1 ∷ 8 ∷ 8 ∷ [])
-
--- `-s` for one stream or two
-abbrev pairOptions : List ℕ
-pairOptions = 115 ∷ 3 ∷ 0 ∷ 15 ∷ 1 ∷ []
 
 -- ` mpsav *f`
 abbrev deskRows : List ℕ
@@ -70,6 +66,10 @@ desk-in-range ws =
     let at = value-in deskOptions deskRows ws in
     let m = at 0 (omega arith) (omega arith) (omega arith) in
     (m .0, m .1, at 1 (omega arith) (omega arith) (omega arith) .1, at 2 (omega arith) (omega arith) (omega arith) .1, at 3 (omega arith) (omega arith) (omega arith) .1)
+
+-- and its second stream at most 15, where one was said
+pub desk-second : (ws : List (List ℕ)) → Kept deskOptions 2 (secondAt (spoken deskOptions deskRows ws) 2)
+desk-second ws = second-within deskOptions deskRows ws 2 (omega arith)
 
 -- `-b 1 -b 0065535 f`; `-v`, which isn't its option; `-l 9 f`
 menus :
@@ -119,7 +119,7 @@ sheet-drop = refl
 
 -- `-s 2`, `-s 1,2`; `-s 2,2`, the same twice; `-s 1,2,3`; `-s 1,`
 pair :
-    map (good pairOptions deskRows)
+    map (good deskOptions deskRows)
     (((45 ∷ 115 ∷ []) ∷ (50 ∷ []) ∷ []) ∷
     ((45 ∷ 115 ∷ []) ∷ (49 ∷ 44 ∷ 50 ∷ []) ∷ []) ∷
     ((45 ∷ 115 ∷ []) ∷ (50 ∷ 44 ∷ 50 ∷ []) ∷ []) ∷
@@ -130,6 +130,11 @@ unfolding before upTo behind rowFrom digitOf decimalFrom decimalOf numberOf hexP
 pair = refl
 
 -- the second of `-s 1,2`
-pair-second : secondAt (spoken pairOptions deskRows ((45 ∷ 115 ∷ []) ∷ (49 ∷ 44 ∷ 50 ∷ []) ∷ [])) 0 ≡ 2
+pair-second : secondAt (spoken deskOptions deskRows ((45 ∷ 115 ∷ []) ∷ (49 ∷ 44 ∷ 50 ∷ []) ∷ [])) 2 ≡ 2
 unfolding before upTo behind rowFrom digitOf decimalFrom decimalOf numberOf hexPairOf kindOf isMark passed letterAt turned after mayEnd isKind fits formOf optionFrom isIn putOne putTwo saidBy startSaid isName chosen named heardLast heardLetter heardOption heardAll valueAt secondAt beginsWith standsIn
 pair-second = refl
+
+-- of `-s 1,2 -s 3` the last counts, which has no second
+pair-last : secondAt (spoken deskOptions deskRows ((45 ∷ 115 ∷ []) ∷ (49 ∷ 44 ∷ 50 ∷ []) ∷ (45 ∷ 115 ∷ []) ∷ (51 ∷ []) ∷ [])) 2 ≡ noValue
+unfolding before upTo behind rowFrom digitOf decimalFrom decimalOf numberOf hexPairOf kindOf isMark passed letterAt turned after mayEnd isKind fits formOf optionFrom isIn putOne putTwo saidBy startSaid isName chosen named heardLast heardLetter heardOption heardAll valueAt secondAt beginsWith standsIn
+pair-last = refl
