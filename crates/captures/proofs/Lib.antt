@@ -3,3 +3,4 @@ pub mod Looking
 pub mod Fed
 pub mod Pulls
 pub mod Moving
+pub mod Spanning

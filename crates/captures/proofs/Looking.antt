@@ -7,11 +7,11 @@ use native.Mathlib.Omega.{arith}
 use lib.ListN.{length, take, drop}
 use lib.Seq.{drop-drop}
 use Rattle.laws.proofs.Lists.{part-of}
-use Rattle.packet.specs.declared.Setting.{Setting}
+use Rattle.packet.specs.declared.two.Streams.{Streams}
 use Rattle.packet.specs.Packet.{packetLength}
-use Rattle.pages.specs.Seen.{see}
 use Rattle.survey.specs.declared.Counts.{Counts}
 use Rattle.survey.specs.Counting.{counted}
+use Rattle.survey.specs.Either.{seeEither}
 use Rattle.survey.specs.Pages.{codeOf, noted}
 use Rattle.octet.specs.Turning.{turned}
 use Rattle.survey.specs.Fitting.{firstIn}
@@ -27,7 +27,7 @@ module _ (l : List ℕ) (at : ℕ) where
   none-left h = omega (arith, h)
 
   pub count-on :
-      (g : Setting) (c : Counts) {after : Counts} → at + 42 ≤ length l → after ≡ counted c (see g (take (at + 42 - at) (drop at l)))
+      (g : Streams) (c : Counts) {after : Counts} → at + 42 ≤ length l → after ≡ counted c (seeEither g (take (at + 42 - at) (drop at l)))
       → countedAll g ((length l - (at + 42)) / packetLength) after (drop (at + 42) l)
       ≡ countedAll g ((length l - at) / packetLength) c (drop at l)
   unfolding countedAll
@@ -39,7 +39,7 @@ module _ (l : List ℕ) (at : ℕ) where
   unfolding notedAll
   note-on pages h e = rw (one-fewer h, e, part-of at 42 l, ← drop-drop 42 at l)
 
-  pub count-out : (g : Setting) (c : Counts) → length l < at + 42 → c ≡ countedAll g ((length l - at) / packetLength) c (drop at l)
+  pub count-out : (g : Streams) (c : Counts) → length l < at + 42 → c ≡ countedAll g ((length l - at) / packetLength) c (drop at l)
   unfolding countedAll
   count-out g c h = rw (none-left h)
 
@@ -50,7 +50,7 @@ module _ (l : List ℕ) (at : ℕ) where
 -- ---- a piece that is looked at
 
 module _
-    (g : Setting) (s : Sight) (n : ℕ) (piece : List ℕ) {first again : List ℕ} {begun : Sight} {counts : Counts}
+    (g : Streams) (s : Sight) (n : ℕ) (piece : List ℕ) {first again : List ℕ} {begun : Sight} {counts : Counts}
     (a : first ≡ frontOf n piece) (b : begun ≡ seenFrom s first) (c : again ≡ frontOf n piece)
     (d : counts ≡ countedAll g (length again / packetLength) (begun .counts) again)
   where
@@ -75,7 +75,7 @@ noted-front n piece pages e d = d ∙ ap (λ (l : List ℕ). notedAll (length l 
 
 -- ---- any piece
 
-module _ (g : Setting) (verbose : Bool) (s : Sight) (n : ℕ) (piece pages : List ℕ) {t : Bool} (e : t ≡ isLooked verbose s n) where
+module _ (g : Streams) (verbose : Bool) (s : Sight) (n : ℕ) (piece pages : List ℕ) {t : Bool} (e : t ≡ isLooked verbose s n) where
   abbrev Looks : Sight → List ℕ → List ℕ → Type 0
   Looks r new after =
       (r ≡ lookedSight g verbose s n piece) × ((new ≡ lookedAt g verbose s n piece) × (after ≡ notedAt verbose s n piece pages))

@@ -1,7 +1,7 @@
--- A capture is never stuck: with a setting in range, a reader as calls leave it and 2,112 bytes of space, the reader takes at least one of the
--- packets that it is given, no more than those, and its records stand in the space. So what `next` answers is never `Stuck`, and a capture
--- of which no read fails goes on to its end. Assumes nothing.
-use mathlib.Core.Path.{_≡_, _∙_, refl, sym, ap, subst}
+-- A capture is never stuck: with a setting in range, a reader as calls leave it and room for what one packet gives (2,112 bytes, or 2,176 for
+-- two streams), the reader takes at least one of the packets that it is given, no more than those, and its records stand in the space. So
+-- what `next` answers is never `Stuck`, and a capture of which no read fails goes on to its end. Assumes nothing.
+use mathlib.Core.Path.{_≡_, refl, sym, subst}
 use mathlib.Core.Bool.{Bool, true, false}
 use mathlib.Core.List.{List}
 use Prim.Native.Nat.{ℕ, zero, suc, _+_, _-_, _*_, _/_, _%_, _≤_, _<_}
@@ -13,19 +13,26 @@ use lib.Seq.{length-take-le}
 use borrow.Author.Tests.{le-leb, eq-eqb, leb-true, leb-false}
 use Rattle.laws.specs.Pick.{pick}
 use Rattle.blocks.specs.Block.{recordsOf}
-use Rattle.packet.specs.declared.Setting.{Setting}
+use Rattle.packet.specs.declared.two.Streams.{Streams}
 use Rattle.packet.specs.Setting.{inRange}
+use Rattle.packet.specs.Two.{firstOf, inRangeOfTwo}
 use Rattle.packet.specs.Packet.{packetLength}
-use Rattle.pages.specs.Seen.{see}
+use Rattle.pages.specs.declared.two.Whose.the-variants.{First, Second}
 use Rattle.walk.specs.Reading.{room}
 use Rattle.walk.proofs.Adding.{recordsOf-append}
 use Rattle.state.specs.declared.Reader.{Reader}
+use Rattle.state.specs.declared.two.Readers.{Readers}
 use Rattle.state.specs.Acting.{State}
 use Rattle.state.specs.State.{stateOf, readerOf, freshState, Sound}
+use Rattle.state.specs.Two.{TwoState, twoStateOf, readersOf, freshOfTwo, SoundOfTwo}
 use Rattle.state.proofs.Bounding.{packet-room}
 use Rattle.state.proofs.Ranging.{sound-fresh, sound-after, state-held, reader-in-range}
+use Rattle.state.proofs.BothRanging.{both-sound-fresh, both-sound-after, both-held, both-in-range}
 use Rattle.reader.specs.declared.many.HeardAll.the-variants.{TookAll}
-use Rattle.reader.specs.Many.{Ran, begun, ranOn, run, ranAll, feedAllHeard, feedAllReader}
+use Rattle.reader.specs.Many.{Ran, begun, ranOn, run, ranAll}
+use Rattle.reader.specs.Two.{roomOfTwo, markedAll, RanOfTwo, begunOfTwo, ranOnOfTwo, runOfTwo, ranAllOfTwo}
+use Rattle.reader.proofs.Tagging.{marked-append}
+use Rattle.reader.proofs.HeedingTwo.{both-room}
 use Rattle.captures.specs.declared.reading.Got.{Got}
 use Rattle.captures.specs.declared.reading.Got.the-variants.{Bytes, Failed}
 use Rattle.captures.specs.declared.Stage.{Stage}
@@ -36,106 +43,173 @@ use Rattle.captures.specs.declared.Came.{Came}
 use Rattle.captures.specs.declared.Came.the-variants.{Records, Ended, Unread, Stuck}
 use Rattle.captures.specs.declared.Turn.{Turn}
 use Rattle.captures.specs.Courses.{started}
-use Rattle.captures.specs.Feeding.{wholeEnd, stepOf, upTo, endOf, given, heeded, movedOn, turnOf, fedTurn}
+use Rattle.captures.specs.Spans.{isOne}
+use Rattle.captures.specs.Feeding.{wholeEnd, stepOf, upTo, endOf, given, answeredAs, heeded, movedOn, turnOf, fedTurn}
 use Rattle.captures.specs.Reading.{fitsIn}
 use Rattle.captures.specs.Pulling.{isFed, lookedCapture, endedTurn, readTurn, turnFrom, Pulled}
 use Rattle.captures.proofs.Fed.{some-given}
 
--- ---- packets one after the other
+-- ---- packets one after the other, over what one packet does: it leaves a sound state, gives at most `space` bytes, and is one packet
 
--- what packets have come to: the state is sound, the records stand in the output, and not fewer than `least` nor more than `most` were taken
-record Ranged (long least most : ℕ) (b : Ran) : Type 0 where
-  sound : Sound (b .state)
-  fits : length (recordsOf (b .blocks)) ≤ long
-  some : least ≤ b .packets
-  few : b .packets ≤ most
-
--- one packet more, with room for it
-step-ranged :
-    (s : Setting) (long least : ℕ) (b : Ran) (p : List ℕ) → length p ≡ packetLength → Sound (b .state)
-    → length (recordsOf (b .blocks)) + room ≤ long → least ≤ suc (b .packets) → Ranged long least (suc (b .packets)) (ranOn s b p)
-step-ranged s long least b p k g h m =
-    let more = packet-room s (b .state) p k (g .mode) in
-    record {
-      sound = sound-after s (b .state) p g;
-      fits = rw (recordsOf-append, length-append) (omega (arith, h, more .1));
-      some = m;
-      few = le-refl _;
-    }
-
-run-ranged :
-    (s : Setting) (long least n : ℕ) (b : Ran) (l : List ℕ) → packetLength * n ≤ length l
-    → Ranged long least (b .packets) b → Ranged long least (b .packets + n) (run s long n b l)
-unfolding run
-run-ranged s long least zero b l h r = record { sound = r .sound; fits = r .fits; some = r .some; few = omega arith }
-run-ranged s long least (suc n) b l h r =
-    go (leb (length (recordsOf (b .blocks)) + room) long) refl
-    (λ (w : Ranged long least (suc (b .packets)) (ranOn s b (take packetLength l))).
-    run-ranged s long least n (ranOn s b (take packetLength l)) (drop packetLength l) (omega (arith, h, length-drop packetLength l)) w)
+module _
+    {A : Type 0} (space long : ℕ) (on : A → List ℕ → A) (written packets : A → ℕ) (Good : A → Type 0) (runs : ℕ → A → List ℕ → A)
+    (none : (a : A) (l : List ℕ) → runs 0 a l ≡ a)
+    (more : (n : ℕ) (a : A) (l : List ℕ) → runs (suc n) a l ≡ pick (leb (written a + space) long) (runs n (on a (take packetLength l)) (drop packetLength l)) a)
+    (good-on : (a : A) (p : List ℕ) → Good a → Good (on a p))
+    (space-on : (a : A) (p : List ℕ) → length p ≡ packetLength → Good a → written (on a p) ≤ written a + space)
+    (one-on : (a : A) (p : List ℕ) → packets (on a p) ≡ suc (packets a))
   where
-    go :
-        (t : Bool) → leb (length (recordsOf (b .blocks)) + room) long ≡ t
-        → (Ranged long least (suc (b .packets)) (ranOn s b (take packetLength l))
-        → Ranged long least (suc (b .packets) + n) (run s long n (ranOn s b (take packetLength l)) (drop packetLength l)))
-        → Ranged long least (b .packets + suc n) (pick t (run s long n (ranOn s b (take packetLength l)) (drop packetLength l)) b)
-    go false e on = record { sound = r .sound; fits = r .fits; some = r .some; few = omega arith }
-    go true e on =
-        let k : length (take packetLength l) ≡ packetLength = length-take-le packetLength l (omega (arith, h)) in
-        let w = on (step-ranged s long least b (take packetLength l) k (r .sound) (leb-true _ _ e) (omega (arith, r .some))) in
-        record { sound = w .sound; fits = w .fits; some = w .some; few = omega (arith, w .few) }
+    -- what packets have come to: the state is sound, the records stand in the output, and not fewer than `least` nor more than `most` were taken
+    abbrev Ranged : ℕ → ℕ → A → Type 0
+    Ranged least most a = Good a × (written a ≤ long) × (least ≤ packets a) × (packets a ≤ most)
 
--- with room for one packet, and one to take, one is taken
-some-ranged :
-    (s : Setting) (long n : ℕ) (st : State) (l : List ℕ) → Sound st → room ≤ long → packetLength * suc n ≤ length l
-    → Ranged long 1 (suc n) (run s long (suc n) (begun st) l)
-unfolding run recordsOf
-some-ranged s long n st l g enough h =
-    let p = take packetLength l in
-    let k : length p ≡ packetLength = length-take-le packetLength l (omega (arith, h)) in
-    let w =
-    run-ranged s long 1 n (ranOn s (begun st) p) (drop packetLength l) (omega (arith, h, length-drop packetLength l))
-    (step-ranged s long 1 (begun st) p k g enough (omega arith)) in
-    rw (le-leb room long enough) (record { sound = w .sound; fits = w .fits; some = w .some; few = omega (arith, w .few) })
+    -- one packet more, with room for it
+    step-ranged :
+        (least : ℕ) (a : A) (p : List ℕ) → length p ≡ packetLength → Good a → written a + space ≤ long → least ≤ suc (packets a)
+        → Ranged least (packets (on a p)) (on a p)
+    step-ranged least a p k g h m = (good-on a p g, omega (arith, h, space-on a p k g), omega (arith, m, one-on a p), le-refl _)
+
+    run-ranged :
+        (least n : ℕ) (a : A) (l : List ℕ) → packetLength * n ≤ length l → Ranged least (packets a) a
+        → Ranged least (packets a + n) (runs n a l)
+    run-ranged least zero a l h r = rw (none a l) (r .0, r .1, r .2, omega arith)
+    run-ranged least (suc n) a l h r =
+        rw (more n a l)
+        (go (leb (written a + space) long) refl
+        (λ (w : Ranged least (packets (on a (take packetLength l))) (on a (take packetLength l))).
+        run-ranged least n (on a (take packetLength l)) (drop packetLength l) (omega (arith, h, length-drop packetLength l)) w))
+      where
+        go :
+            (t : Bool) → leb (written a + space) long ≡ t
+            → (Ranged least (packets (on a (take packetLength l))) (on a (take packetLength l))
+            → Ranged least (packets (on a (take packetLength l)) + n) (runs n (on a (take packetLength l)) (drop packetLength l)))
+            → Ranged least (packets a + suc n) (pick t (runs n (on a (take packetLength l)) (drop packetLength l)) a)
+        go false e later = (r .0, r .1, r .2, omega arith)
+        go true e later =
+            let p = take packetLength l in
+            let k : length p ≡ packetLength = length-take-le packetLength l (omega (arith, h)) in
+            let w = later (step-ranged least a p k (r .0) (leb-true _ _ e) (omega (arith, r .2))) in
+            (w .0, w .1, w .2, omega (arith, w .3, one-on a p))
+
+    -- with room for one packet, and one to take, one is taken
+    some-ranged :
+        (n : ℕ) (a : A) (l : List ℕ) → Good a → written a ≡ 0 → packets a ≡ 0 → space ≤ long → packetLength * suc n ≤ length l
+        → Ranged 1 (suc n) (runs (suc n) a l)
+    some-ranged n a l g z c enough h =
+        let p = take packetLength l in
+        let k : length p ≡ packetLength = length-take-le packetLength l (omega (arith, h)) in
+        let fit : written a + space ≤ long = omega (arith, z, enough) in
+        let w =
+        run-ranged 1 n (on a p) (drop packetLength l) (omega (arith, h, length-drop packetLength l)) (step-ranged 1 a p k g fit (omega arith)) in
+        rw (more n a l, le-leb _ _ fit) (w .0, w .1, w .2, omega (arith, w .3, one-on a p, c))
 
 -- ---- a list in one call
 
--- the reader takes at least one packet of a list, and no more than it has; its records stand in the output, and its state is in range
-pub record Takes (s : Setting) (r : Reader) (l old : List ℕ) : Type 0 where
+-- a state as calls leave it: of one stream, and of two
+pub record Held (r : Reader) : Type 0 where
+  pub state : State
+  pub sound : Sound state
+  pub held : r ≡ readerOf state
+
+pub record HeldOfTwo (rs : Readers) : Type 0 where
+  pub state : TwoState
+  pub sound : SoundOfTwo state
+  pub held : rs ≡ readersOf state
+
+-- setting and state are in range, of one stream or of two
+abbrev pub ReadyAs : Bool → Streams → Reader → Readers → Type 0
+ReadyAs true g r rs = (inRange (firstOf g) ≡ true) × Held r
+ReadyAs false g r rs = (inRangeOfTwo g ≡ true) × HeldOfTwo rs
+
+abbrev pub Ready : Streams → Reader → Readers → Type 0
+Ready g r rs = ReadyAs (isOne g) g r rs
+
+-- the space that one packet needs
+abbrev pub roomFor : Streams → ℕ
+roomFor g = pick (isOne g) room roomOfTwo
+
+-- the reader takes at least one packet of a list, and no more than it has; its records stand in the output, and its state is as calls leave it
+pub record Takes (one : Bool) (g : Streams) (r : Reader) (rs : Readers) (l old : List ℕ) : Type 0 where
   pub packets : ℕ
   pub blocks : ℕ
   pub written : ℕ
   pub drops : Bool
-  pub state : State
-  pub heard : feedAllHeard s r l old ≡ TookAll packets blocks written drops
-  pub reader : feedAllReader s r l old ≡ readerOf state
-  pub sound : Sound state
+  pub heard : answeredAs one g r rs l old .heard ≡ TookAll packets blocks written drops
+  pub ready : ReadyAs one g (answeredAs one g r rs l old .reader) (answeredAs one g r rs l old .readers)
   pub some : 1 ≤ packets
   pub few : packets ≤ length l / packetLength
   pub fits : written ≤ length old
 
-pub takes-some :
-    (s : Setting) → inRange s ≡ true → (st : State) → Sound st → (l old : List ℕ) → length l % packetLength ≡ 0 → 1 ≤ length l
-    → room ≤ length old → Takes s (readerOf st) l old
-takes-some s i st g l old z some enough =
-    let n : length l / packetLength ≡ suc ((length l - packetLength) / packetLength) = omega (arith, z, some) in
-    let held : Sound (stateOf (readerOf st)) = subst Sound (sym (state-held st g)) g in
-    let w : Ranged (length old) 1 (length l / packetLength) (ranAll s (readerOf st) l old) =
-    rw n
-    (some-ranged s (length old) ((length l - packetLength) / packetLength) (stateOf (readerOf st)) l held enough (omega (arith, z, some))) in
-    let a = ranAll s (readerOf st) l old in
-    record {
-      packets = a .packets;
-      blocks = length (a .blocks);
-      written = length (recordsOf (a .blocks));
-      drops = a .dropped;
-      state = a .state;
-      heard = rw (i, reader-in-range st g, eq-eqb _ _ z, le-leb _ _ enough);
-      reader = rw (i, reader-in-range st g, eq-eqb _ _ z, le-leb _ _ enough);
-      sound = w .sound;
-      some = w .some;
-      few = w .few;
-      fits = w .fits;
-    }
+module _ (g : Streams) (l old : List ℕ) (z : length l % packetLength ≡ 0) (some : 1 ≤ length l) where
+  more-than-one : length l / packetLength ≡ suc ((length l - packetLength) / packetLength)
+  more-than-one = omega (arith, z, some)
+
+  all-of-it : packetLength * suc ((length l - packetLength) / packetLength) ≤ length l
+  all-of-it = omega (arith, z, some)
+
+  -- of one stream
+  takes-one :
+      (r : Reader) (rs : Readers) → inRange (firstOf g) ≡ true → (st : State) → Sound st → r ≡ readerOf st → room ≤ length old
+      → Takes true g r rs l old
+  unfolding run recordsOf
+  takes-one r rs i st sound e enough =
+      let s = firstOf g in
+      let held : Sound (stateOf (readerOf st)) = subst Sound (sym (state-held st sound)) sound in
+      let a = ranAll s (readerOf st) l old in
+      let w : Sound (a .state) × (length (recordsOf (a .blocks)) ≤ length old) × (1 ≤ a .packets) × (a .packets ≤ length l / packetLength) =
+      rw more-than-one
+      (some-ranged room (length old) (ranOn s) (λ (b : Ran). length (recordsOf (b .blocks))) (λ (b : Ran). b .packets) (λ (b : Ran). Sound (b .state))
+      (run s (length old)) (λ b q. refl) (λ n b q. refl)
+      (λ b p h. sound-after s (b .state) p h)
+      (λ b p k h. let m = packet-room s (b .state) p k (h .mode) in rw (recordsOf-append, length-append) (omega (arith, m .1)))
+      (λ b p. refl)
+      ((length l - packetLength) / packetLength) (begun (stateOf (readerOf st))) l held refl refl enough all-of-it) in
+      rw e
+      (record {
+        packets = a .packets;
+        blocks = length (a .blocks);
+        written = length (recordsOf (a .blocks));
+        drops = a .dropped;
+        heard = rw (i, reader-in-range st sound, eq-eqb _ _ z, le-leb _ _ enough);
+        ready = (i, record { state = a .state; sound = w .0; held = rw (i, reader-in-range st sound, eq-eqb _ _ z, le-leb _ _ enough) });
+        some = w .2;
+        few = w .3;
+        fits = w .1;
+      })
+
+  -- of two
+  takes-two :
+      (r : Reader) (rs : Readers) → inRangeOfTwo g ≡ true → (st : TwoState) → SoundOfTwo st → rs ≡ readersOf st → roomOfTwo ≤ length old
+      → Takes false g r rs l old
+  unfolding runOfTwo markedAll
+  takes-two r rs i st sound e enough =
+      let held : SoundOfTwo (twoStateOf (readersOf st)) = subst SoundOfTwo (sym (both-held st sound)) sound in
+      let a = ranAllOfTwo g (readersOf st) l old in
+      let w : SoundOfTwo (a .state) × (length (markedAll g (a .blocks)) ≤ length old) × (1 ≤ a .packets) × (a .packets ≤ length l / packetLength) =
+      rw more-than-one
+      (some-ranged roomOfTwo (length old) (ranOnOfTwo g) (λ (b : RanOfTwo). length (markedAll g (b .blocks))) (λ (b : RanOfTwo). b .packets)
+      (λ (b : RanOfTwo). SoundOfTwo (b .state)) (runOfTwo g (length old)) (λ b q. refl) (λ n b q. refl)
+      (λ b p h. both-sound-after g (b .state) p h)
+      (λ b p k h. let m = both-room g (b .state) p k (h First .mode) (h Second .mode) in rw (marked-append, length-append) (omega (arith, m)))
+      (λ b p. refl)
+      ((length l - packetLength) / packetLength) (begunOfTwo (twoStateOf (readersOf st))) l held refl refl enough all-of-it) in
+      rw e
+      (record {
+        packets = a .packets;
+        blocks = length (a .blocks);
+        written = length (markedAll g (a .blocks));
+        drops = a .dropped;
+        heard = rw (i, both-in-range st sound, eq-eqb _ _ z, le-leb _ _ enough);
+        ready = (i, record { state = a .state; sound = w .0; held = rw (i, both-in-range st sound, eq-eqb _ _ z, le-leb _ _ enough) });
+        some = w .2;
+        few = w .3;
+        fits = w .1;
+      })
+
+  pub takes-some :
+      (one : Bool) (r : Reader) (rs : Readers) → ReadyAs one g r rs → pick one room roomOfTwo ≤ length old → Takes one g r rs l old
+  takes-some true r rs (i, h) enough = takes-one r rs i (h .state) (h .sound) (h .held) enough
+  takes-some false r rs (i, h) enough = takes-two r rs i (h .state) (h .sound) (h .held) enough
 
 -- ---- a capture
 
@@ -147,10 +221,7 @@ isBroken Broken = true
 
 -- a capture as calls leave it, with a piece so long: nothing failed, setting and reader are in range, and it stands at a packet of the piece
 pub record Live (full : ℕ) (c : Capture) : Type 0 where
-  pub ranged : inRange (c .course .setting) ≡ true
-  pub state : State
-  pub sound : Sound state
-  pub reader : c .reader ≡ readerOf state
+  pub ready : Ready (c .course .setting) (c .reader) (c .readers)
   pub even : c .course .at % packetLength ≡ 0
   pub within : c .course .held ≤ full
   pub unbroken : isBroken (c .course .stage) ≡ false
@@ -179,9 +250,10 @@ pub record Moves (c : Capture) (piece old : List ℕ) : Type 0 where
   pub packets : ℕ
   pub written : ℕ
   pub drops : Bool
-  pub state : State
-  pub turn : fedTurn c piece old ≡ turnOf (readerOf state) (movedOn (c .course) (packetLength * packets) written drops)
-  pub sound : Sound state
+  pub reader : Reader
+  pub readers : Readers
+  pub turn : fedTurn c piece old ≡ turnOf reader readers (movedOn (c .course) (packetLength * packets) written drops)
+  pub ready : Ready (c .course .setting) reader readers
   pub some : 1 ≤ packets
   pub within : c .course .at + packetLength * packets ≤ wholeEnd (c .course .held)
   pub fits : written ≤ length old
@@ -193,26 +265,26 @@ heeds-some g packets blocks written bytes space drops a b c = rw (le-leb _ _ a, 
 
 -- what the reader takes of the packets that it was given moves the capture on
 moves-by :
-    (c : Capture) (piece old : List ℕ) (st : State) → c .reader ≡ readerOf st → Whole (c .course .at) (c .course .held) (endOf (c .course))
-    → endOf (c .course) ≤ length piece → length (given (c .course) piece) ≡ endOf (c .course) - c .course .at
-    → Takes (c .course .setting) (readerOf st) (given (c .course) piece) old → Moves c piece old
-moves-by c piece old st e w k n t =
+    (c : Capture) (piece old : List ℕ) → Whole (c .course .at) (c .course .held) (endOf (c .course)) → endOf (c .course) ≤ length piece
+    → length (given (c .course) piece) ≡ endOf (c .course) - c .course .at
+    → Takes (isOne (c .course .setting)) (c .course .setting) (c .reader) (c .readers) (given (c .course) piece) old → Moves c piece old
+moves-by c piece old w k n t =
     let g = c .course in
+    let a = answeredAs (isOne (g .setting)) (g .setting) (c .reader) (c .readers) (given g piece) old in
     let few : t .packets ≤ (endOf g - g .at) / packetLength = subst (λ (l : ℕ). t .packets ≤ l / packetLength) n (t .few) in
     record {
       packets = t .packets;
       written = t .written;
       drops = t .drops;
-      state = t .state;
+      reader = a .reader;
+      readers = a .readers;
       turn =
           sym
-          (some-given c piece old refl (w .onward) k
-          (sym (ap (λ (r : Reader). feedAllHeard (g .setting) r (given g piece) old) e ∙ t .heard))
-          (sym (ap (λ (r : Reader). feedAllReader (g .setting) r (given g piece) old) e ∙ t .reader))
-          refl
-          (sym (heeds-some g (t .packets) (t .blocks) (t .written) (endOf g - g .at) (length old) (t .drops) (t .some) few (t .fits)))
+          (some-given c piece old refl {a = a} (w .onward) k refl refl
+          (rw (t .heard)
+          (sym (heeds-some g (t .packets) (t .blocks) (t .written) (endOf g - g .at) (length old) (t .drops) (t .some) few (t .fits))))
           .0);
-      sound = t .sound;
+      ready = t .ready;
       some = t .some;
       within = omega (arith, few, w .inside, w .onward);
       fits = t .fits;
@@ -220,17 +292,17 @@ moves-by c piece old st e w k n t =
 
 -- a piece that has a packet left is moved on in
 pub feeds-some :
-    (c : Capture) (piece old : List ℕ) → Live (length piece) c → c .course .at < wholeEnd (c .course .held) → room ≤ length old
-    → Moves c piece old
+    (c : Capture) (piece old : List ℕ) → Live (length piece) c → c .course .at < wholeEnd (c .course .held)
+    → roomFor (c .course .setting) ≤ length old → Moves c piece old
 feeds-some c piece old v h enough =
     let g = c .course in
     let w = up-to-whole (g .verbose) (g .at) (g .held) (v .even) h in
     let k : endOf g ≤ length piece = omega (arith, w .inside, v .within) in
     let d : length (drop (g .at) piece) ≡ length piece - g .at = length-drop (g .at) piece in
     let n : length (given g piece) ≡ endOf g - g .at = length-take-le (endOf g - g .at) (drop (g .at) piece) (omega (arith, d, k)) in
-    moves-by c piece old (v .state) (v .reader) w k n
-    (takes-some (g .setting) (v .ranged) (v .state) (v .sound) (given g piece) old (omega (arith, n, w .even, v .even, w .onward))
-    (omega (arith, n, w .onward)) enough)
+    moves-by c piece old w k n
+    (takes-some (g .setting) (given g piece) old (omega (arith, n, w .even, v .even, w .onward)) (omega (arith, n, w .onward))
+    (isOne (g .setting)) (c .reader) (c .readers) (v .ready) enough)
 
 -- ---- a call of `next`
 
@@ -246,16 +318,13 @@ abbrev pub GoesOn : ℕ → ℕ → Turn → Type 0
 GoesOn full space t = Comes (t .came) full space (t .capture)
 
 feeds-on :
-    (c : Capture) (piece old : List ℕ) → Live (length piece) c → isFed (c .course) ≡ false → room ≤ length old
+    (c : Capture) (piece old : List ℕ) → Live (length piece) c → isFed (c .course) ≡ false → roomFor (c .course .setting) ≤ length old
     → GoesOn (length piece) (length old) (fedTurn c piece old)
 feeds-on c piece old v e enough =
     let m = feeds-some c piece old v (leb-false _ _ e) enough in
     subst (GoesOn (length piece) (length old)) (sym (m .turn)) (
       record {
-        ranged = v .ranged;
-        state = m .state;
-        sound = m .sound;
-        reader = refl;
+        ready = m .ready;
         even = omega (arith, v .even);
         within = v .within;
         unbroken = v .unbroken;
@@ -268,10 +337,7 @@ reads-on :
 reads-on c full space v Failed e = tt
 reads-on c full space v (Bytes n) e = (
   record {
-    ranged = v .ranged;
-    state = v .state;
-    sound = v .sound;
-    reader = v .reader;
+    ready = v .ready;
     even = refl;
     within = leb-true n full e;
     unbroken = go (ltb n full);
@@ -284,7 +350,7 @@ reads-on c full space v (Bytes n) e = (
     go false = refl
 
 goes-from :
-    (c : Capture) (piece old : List ℕ) (got : Got) → Live (length piece) c → room ≤ length old → fitsIn got (length piece) ≡ true
+    (c : Capture) (piece old : List ℕ) (got : Got) → Live (length piece) c → roomFor (c .course .setting) ≤ length old → fitsIn got (length piece) ≡ true
     → GoesOn (length piece) (length old) (turnFrom (c .course .stage) c got piece old)
 goes-from c piece old got v enough inside = go (c .course .stage) (v .unbroken)
   where
@@ -298,10 +364,7 @@ goes-from c piece old got v enough inside = go (c .course .stage) (v .unbroken)
     more true e =
         reads-on (lookedCapture c piece) (length piece) (length old)
         (record {
-          ranged = v .ranged;
-          state = v .state;
-          sound = v .sound;
-          reader = v .reader;
+          ready = v .ready;
           even = v .even;
           within = v .within;
           unbroken = v .unbroken;
@@ -318,20 +381,24 @@ goes-from c piece old got v enough inside = go (c .course .stage) (v .unbroken)
 -- with room for one packet's records, what a call makes of a capture as calls leave it
 pub never-stuck :
     (c : Capture) {piece piece′ records records′ pages pages′ : List ℕ} {r : Turn}
-    → Pulled c piece piece′ records records′ pages pages′ r → Live (length piece) c → room ≤ length records
+    → Pulled c piece piece′ records records′ pages pages′ r → Live (length piece) c → roomFor (c .course .setting) ≤ length records
     → GoesOn (length piece) (length records) r
 never-stuck c {piece = piece} {records = records} w v enough =
     subst (GoesOn (length piece) (length records)) (sym (w .turn)) (goes-from c piece records (w .got) v enough (w .inside))
 
--- a capture that starts with a setting in range is one
-pub starts-live : (g : Setting) (verbose : Bool) (full : ℕ) → inRange g ≡ true → Live full (started g verbose)
+-- a capture that starts with a setting in range, of one stream or of two, is one
+pub starts-live :
+    (g : Streams) (verbose : Bool) (full : ℕ) → pick (isOne g) (inRange (firstOf g)) (inRangeOfTwo g) ≡ true → Live full (started g verbose)
 starts-live g verbose full i =
     record {
-      ranged = i;
-      state = freshState;
-      sound = sound-fresh;
-      reader = refl;
+      ready = go (isOne g) i;
       even = refl;
       within = omega arith;
       unbroken = refl;
     }
+  where
+    go :
+        (one : Bool) → pick one (inRange (firstOf g)) (inRangeOfTwo g) ≡ true
+        → ReadyAs one g (readerOf freshState) (readersOf freshOfTwo)
+    go true h = (h, record { state = freshState; sound = sound-fresh; held = refl })
+    go false h = (h, record { state = freshOfTwo; sound = both-sound-fresh; held = refl })

@@ -1,8 +1,9 @@
 -- How far a capture has come.
 use mathlib.Core.Bool.{Bool}
 use Prim.Native.Nat.{ℕ}
-use Rattle.packet.specs.declared.Setting.{Setting}
+use Rattle.packet.specs.declared.two.Streams.{Streams}
 use Rattle.state.specs.State.{readerOf, freshState}
+use Rattle.state.specs.Two.{readersOf, freshOfTwo}
 use Rattle.captures.specs.declared.Stage.{Stage}
 use Rattle.captures.specs.declared.Stage.the-variants.{More}
 use Rattle.captures.specs.declared.Course.{Course}
@@ -10,11 +11,12 @@ use Rattle.captures.specs.declared.Capture.{Capture}
 use Rattle.captures.specs.declared.sight.Sight.{Sight}
 use Rattle.captures.specs.Sights.{noSight}
 
--- nothing is read yet, and the reader is fresh (SCOPE 10.7)
-abbrev pub started : Setting → Bool → Capture
+-- nothing is read yet, and the reader is fresh (SCOPE 10.7, 27.2)
+abbrev pub started : Streams → Bool → Capture
 started g verbose =
     record {
       reader = readerOf freshState;
+      readers = readersOf freshOfTwo;
       course = record { setting = g; verbose = verbose; stage = More; at = 0; held = 0; dropped = 0; sight = noSight };
     }
 

@@ -30,7 +30,7 @@ isFed c = leb (wholeEnd (c .held)) (c .at)
 abbrev pub lookedCapture : Capture → List ℕ → Capture
 lookedCapture c piece =
     let g = c .course in
-    record { reader = c .reader; course = seeing g (lookedSight (g .setting) (g .verbose) (g .sight) (g .held) piece) }
+    record { reader = c .reader; readers = c .readers; course = seeing g (lookedSight (g .setting) (g .verbose) (g .sight) (g .held) piece) }
 
 abbrev pub lookedPiece : Course → List ℕ → List ℕ
 lookedPiece g piece = lookedAt (g .setting) (g .verbose) (g .sight) (g .held) piece
@@ -41,7 +41,7 @@ lookedPages g piece pages = notedAt (g .verbose) (g .sight) (g .held) piece page
 -- ---- behind it, the end or another piece
 
 abbrev pub restaged : Capture → Stage → Capture
-restaged c stage = record { reader = c .reader; course = staged (c .course) stage }
+restaged c stage = record { reader = c .reader; readers = c .readers; course = staged (c .course) stage }
 
 -- all was handed out; so many bytes make no packet (SCOPE 13.5)
 abbrev pub endedTurn : Capture → Turn
@@ -55,7 +55,7 @@ stageAfter n full = pick (ltb n full) Last More
 abbrev pub readTurn : Capture → Got → ℕ → Turn
 readTurn c Failed full = record { capture = restaged c Broken; came = Unread }
 readTurn c (Bytes n) full =
-    record { capture = record { reader = c .reader; course = holding (c .course) n (stageAfter n full) }; came = Records 0 }
+    record { capture = record { reader = c .reader; readers = c .readers; course = holding (c .course) n (stageAfter n full) }; came = Records 0 }
 
 -- a read gave something that stands in the piece
 pub record ReadOn (c : Capture) (full : ℕ) (r : Turn) : Type 0 where

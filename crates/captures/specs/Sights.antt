@@ -1,4 +1,4 @@
--- What is seen of a capture besides its tables (SCOPE 13.9, 13.10).
+-- What is seen of a capture besides its tables (SCOPE 13.9, 13.10, 27.8).
 use mathlib.Core.Bool.{Bool, true, false}
 use mathlib.Core.List.{List, _∷_, map}
 use Prim.Native.Nat.{ℕ, zero, suc, _+_, _*_, _/_, _%_}
@@ -7,13 +7,15 @@ use lib.ListN.{length, take, drop, replicate}
 use Rattle.laws.specs.Pick.{pick, both}
 use Rattle.octet.specs.Turning.{turned as Turning·turned}
 use Rattle.packet.specs.declared.Setting.{Setting}
+use Rattle.packet.specs.declared.two.Streams.{Streams}
+use Rattle.packet.specs.Two.{firstOf, secondOf}
 use Rattle.packet.specs.Packet.{packetLength}
-use Rattle.pages.specs.Seen.{see}
 use Rattle.pes.specs.Header.{startsRight}
 use Rattle.survey.specs.declared.Counts.{Counts}
 use Rattle.survey.specs.declared.Place.{Place}
 use Rattle.survey.specs.declared.Place.the-variants.{At, Nowhere}
 use Rattle.survey.specs.Counting.{counted}
+use Rattle.survey.specs.Either.{seeEither}
 use Rattle.survey.specs.Fitting.{firstIn}
 use Rattle.survey.specs.Pages.{noPage, codeOf, noted}
 use Rattle.told.specs.Fronts.{frontOf}
@@ -35,9 +37,13 @@ noSight =
 abbrev pub isLacking : Sight → Bool
 isLacking s = pick (s .counts .came) false (s .any)
 
--- our own page in front, as `codeOf` has it, and places for ten others
-abbrev pub startPages : Setting → List ℕ
-startPages s = (s .stream + 16 * s .page + 4096 * (s .magazine % 8)) ∷ replicate 10 noPage
+-- our own page in one stream, as `codeOf` has it
+abbrev pub ownPage : Setting → ℕ
+ownPage s = s .stream + 16 * s .page + 4096 * (s .magazine % 8)
+
+-- that of the first and of the second stream in front, and places for ten others
+abbrev pub startPages : Streams → List ℕ
+startPages s = ownPage (firstOf s) ∷ ownPage (secondOf s) ∷ replicate 10 noPage
 
 -- ---- a piece more
 
@@ -48,9 +54,9 @@ seenFrom s l =
     (record { counts = s .counts; any = true; pes = startsRight l; plain = s .plain; turned = s .turned })
 
 -- so many packets from the front of l, counted one after the other
-unfoldable pub countedAll : Setting → ℕ → Counts → List ℕ → Counts
+unfoldable pub countedAll : Streams → ℕ → Counts → List ℕ → Counts
 countedAll s zero c l = c
-countedAll s (suc n) c l = countedAll s n (counted c (see s (take packetLength l))) (drop packetLength l)
+countedAll s (suc n) c l = countedAll s n (counted c (seeEither s (take packetLength l))) (drop packetLength l)
 
 -- and the pages of those that are packets 0
 unfoldable pub notedAll : ℕ → List ℕ → List ℕ → List ℕ
@@ -71,7 +77,7 @@ abbrev pub isLooked : Bool → Sight → ℕ → Bool
 isLooked verbose s n = pick (eqb n 0) false (pick (s .counts .came) verbose true)
 
 -- with the counts of its packets
-abbrev pub withCounts : Setting → Sight → List ℕ → Sight
+abbrev pub withCounts : Streams → Sight → List ℕ → Sight
 withCounts g s l =
     record {
       counts = countedAll g (length l / packetLength) (s .counts) l;
@@ -82,7 +88,7 @@ withCounts g s l =
     }
 
 -- with the places where packets fit, in the bytes and in the bytes turned
-abbrev pub withFits : Setting → Sight → ℕ → List ℕ → Sight
+abbrev pub withFits : Streams → Sight → ℕ → List ℕ → Sight
 withFits g s n piece =
     record {
       counts = s .counts;
@@ -93,17 +99,17 @@ withFits g s n piece =
     }
 
 -- with what its first n bytes are, and how many of each kind
-abbrev pub countedSight : Setting → Sight → ℕ → List ℕ → Sight
+abbrev pub countedSight : Streams → Sight → ℕ → List ℕ → Sight
 countedSight g s n piece = withCounts g (seenFrom s (frontOf n piece)) (frontOf n piece)
 
 -- what is seen behind a piece that is looked at, of n bytes: where packets fit only while no packet 0 of our page has come
-abbrev pub seenOn : Setting → Sight → ℕ → List ℕ → Sight
+abbrev pub seenOn : Streams → Sight → ℕ → List ℕ → Sight
 seenOn g s n piece =
     let c = countedSight g s n piece in
     pick (c .counts .came) c (withFits g c n piece)
 
 -- the piece then, which is turned to see that
-abbrev pub leftOf : Setting → Sight → ℕ → List ℕ → List ℕ
+abbrev pub leftOf : Streams → Sight → ℕ → List ℕ → List ℕ
 leftOf g s n piece = pick (countedSight g s n piece .counts .came) piece (map Turning·turned piece)
 
 -- and the list of pages
@@ -111,10 +117,10 @@ abbrev pub notedIn : ℕ → List ℕ → List ℕ → List ℕ
 notedIn n piece pages = notedAll (length (frontOf n piece) / packetLength) pages (frontOf n piece)
 
 -- the same of any piece
-abbrev pub lookedSight : Setting → Bool → Sight → ℕ → List ℕ → Sight
+abbrev pub lookedSight : Streams → Bool → Sight → ℕ → List ℕ → Sight
 lookedSight g verbose s n piece = pick (isLooked verbose s n) (seenOn g s n piece) s
 
-abbrev pub lookedAt : Setting → Bool → Sight → ℕ → List ℕ → List ℕ
+abbrev pub lookedAt : Streams → Bool → Sight → ℕ → List ℕ → List ℕ
 lookedAt g verbose s n piece = pick (isLooked verbose s n) (leftOf g s n piece) piece
 
 abbrev pub notedAt : Bool → Sight → ℕ → List ℕ → List ℕ → List ℕ

@@ -6,12 +6,22 @@ use crate::PIECE;
 use crate::Stage;
 use crate::Turn;
 use packet::PACKET;
+use packet::two::Streams;
 use reader::HeardAll;
+use reader::Reader;
+use reader::two::Readers;
 ghost use mathlib.Core.Path.{_≡_};
 ghost use Prim.Native.Nat.{_+_, _^_, _<_};
 ghost use Rattle.survey.specs.Counting.{moreIf};
-ghost use Rattle.captures.specs.Feeding.{wholeEnd, stepOf, upTo, turnOf, fedTurn, fedRecords};
+ghost use Rattle.captures.specs.Feeding.{wholeEnd, stepOf, upTo, turnOf, fedTurn, fedRecords, answeredBy, outBy};
 ghost use Rattle.captures.specs.Feeding.{heeded as Feeding·heeded, movedOn, stuck as Feeding·stuck};
+
+// The reader's answer, and its state then: one stream's or two's has gone on.
+pub(crate) struct Answered {
+    heard: HeardAll,
+    reader: Reader,
+    readers: Readers,
+}
 
 // What the reader's answer makes of a course.
 pub(crate) struct Step {
@@ -36,28 +46,76 @@ pub(crate) fn feed(capture: Capture, piece: &[u8], records: &mut [u8]) -> Turn
         return broken(capture);
     }
     let space = records.len();
-    let fed = reader::feed_all(course.setting, capture.reader, &piece[at..end], records);
+    let fed = call(
+        course.setting,
+        capture.reader,
+        capture.readers,
+        &piece[at..end],
+        records,
+    );
     let reader = fed.reader;
+    let readers = fed.readers;
     let heard = fed.heard;
     let step = heed(course, heard, end - at, space);
     let course = step.course;
     let came = step.came;
     Turn {
-        capture: Capture { reader, course },
+        capture: Capture {
+            reader,
+            readers,
+            course,
+        },
         came,
     }
 }
 
+// One call: of one stream's reader, or of two's.
+fn call(
+    setting: Streams,
+    reader: Reader,
+    readers: Readers,
+    packets: &[u8],
+    out: &mut [u8],
+) -> Answered
+    ensures { λ r. ⌜ r ≡ answeredBy setting reader readers (now (packets .entry)) (now (out .entry)) ⌝ }
+    ensures { λ _. ⌜ now (out .exit) ≡ outBy setting reader readers (now (packets .entry)) (now (out .entry)) ⌝ }
+{
+    if crate::is_one(setting) {
+        let one = packet::two::first(setting);
+        let fed = reader::feed_all(one, reader, packets, out);
+        let heard = fed.heard;
+        let after = fed.reader;
+        return Answered {
+            heard,
+            reader: after,
+            readers,
+        };
+    }
+    let fed = reader::two::feed_all(setting, readers, packets, out);
+    let heard = fed.heard;
+    let after = fed.readers;
+    Answered {
+        heard,
+        reader,
+        readers: after,
+    }
+}
+
 fn broken(capture: Capture) -> Turn
-    ensures { λ r. ⌜ r ≡ turnOf (capture .reader) (Feeding·stuck (capture .course)) ⌝ }
+    ensures { λ r. ⌜ r ≡ turnOf (capture .reader) (capture .readers) (Feeding·stuck (capture .course)) ⌝ }
 {
     let reader = capture.reader;
+    let readers = capture.readers;
     let course = capture.course;
     let step = stuck(course);
     let course = step.course;
     let came = step.came;
     Turn {
-        capture: Capture { reader, course },
+        capture: Capture {
+            reader,
+            readers,
+            course,
+        },
         came,
     }
 }

@@ -1,7 +1,7 @@
 // What is said of a capture of which no packet 0 of our page came: that, and what it may be (SCOPE 13.9).
 use crate::Sight;
 use packet::PACKET;
-use packet::Setting;
+use packet::two::Streams;
 use survey::seen::NO_PAGE;
 ghost use mathlib.Core.Path.{_≡_};
 ghost use Rattle.captures.specs.Sights.{isLacking};
@@ -17,11 +17,14 @@ pub fn is_lacking(sight: Sight) -> bool
 }
 
 // Goes on behind a name in a line on standard error: what didn't come, and what the bytes may be.
-pub fn say(setting: Setting, sight: Sight, pages: &[u16], is_short: bool) {
+pub fn say(setting: Streams, sight: Sight, pages: &[u16], is_short: bool) {
     told::say_count(b": no packet 0 of magazine ", setting.magazine as u64);
     told::say(b", page ");
     told::say_hex(setting.page as u64, 2);
-    told::say_count(b", stream ", setting.stream as u64);
+    told::say_count(b", stream ", setting.first as u64);
+    if !crate::is_one(setting) {
+        told::say_count(b" or ", setting.second as u64);
+    }
     told::say(b" came");
     guess(sight, pages, is_short);
 }
@@ -56,6 +59,9 @@ fn say_place(place: usize) {
     }
 }
 
+// Our own page stands twice in front of the others: once for each stream.
+const OTHERS: usize = 2;
+
 // The pages that came, behind our own.
 fn guess_pages(pages: &[u16]) {
     if is_none(pages) {
@@ -63,7 +69,7 @@ fn guess_pages(pages: &[u16]) {
         return;
     }
     told::say(b"; it may be another magazine, page or stream: seen");
-    let mut i = 1;
+    let mut i = OTHERS;
     while i < pages.len() {
         if pages[i] != NO_PAGE {
             say_page(pages[i]);
@@ -73,10 +79,10 @@ fn guess_pages(pages: &[u16]) {
 }
 
 fn is_none(pages: &[u16]) -> bool {
-    if pages.len() < 2 {
+    if pages.len() <= OTHERS {
         return true;
     }
-    pages[1] == NO_PAGE
+    pages[OTHERS] == NO_PAGE
 }
 
 // A page that came, as survey::note has it: magazine, page and stream, as in 1df/2.

@@ -1,5 +1,5 @@
-// A capture, from a descriptor, a setting and a fresh reader to the records of the blocks that its packets finish (SCOPE 10.6, 10.7). It is
-// pulled: each call of `next` reads a piece or feeds packets of it, and says how many bytes of records that gave. The caller lends the
+// A capture, from a descriptor, a setting and a fresh reader to the records of the blocks that its packets finish (SCOPE 10.6, 10.7), of one
+// stream or of two (SCOPE 27.8): a setting that names one stream twice is of that stream alone. It is pulled: each call of `next` reads a piece or feeds packets of it, and says how many bytes of records that gave. The caller lends the
 // piece, the space for records and a list of pages, which are its own to look at between two calls, and hands the capture on from call to
 // call. The capture also counts (SCOPE 13.10) and looks what it may be (SCOPE 13.9).
 //
@@ -9,15 +9,20 @@ mod feeding;
 pub mod lack;
 pub mod reading;
 pub mod sight;
+pub mod spans;
 
 use packet::PACKET;
-use packet::Setting;
+use packet::two::Streams;
 use reader::Reader;
+use reader::two::Readers;
 pub use reading::Got;
 pub use reading::fill;
 pub use sight::PAGES;
 pub use sight::Sight;
 pub use sight::pages;
+pub use spans::Span;
+pub use spans::is_one;
+pub use spans::span_at;
 ghost use mathlib.Core.Path.{_≡_};
 ghost use lib.ListN.{length};
 ghost use Rattle.captures.specs.Courses.{started, staged as Courses·staged};
@@ -44,7 +49,7 @@ pub enum Stage {
 // How far a capture has come: how many bytes of the piece are held, and up to which place they were fed; how many calls of the reader told of
 // a drop; and what was seen. Where drops are counted the reader gets one packet in a call, so that each packet that drops counts.
 pub struct Course {
-    pub setting: Setting,
+    pub setting: Streams,
     pub verbose: bool,
     pub stage: Stage,
     pub at: usize,
@@ -53,9 +58,10 @@ pub struct Course {
     pub sight: Sight,
 }
 
-// A state with an array stands beside the enum.
+// A state with an array stands beside the enum. Of the two states only the one that the setting asks for goes on: one stream's, or two's.
 pub struct Capture {
     pub reader: Reader,
+    pub readers: Readers,
     pub course: Course,
 }
 
@@ -77,11 +83,12 @@ pub struct Turn {
 }
 
 // A capture of which nothing is read yet.
-pub fn start(setting: Setting, verbose: bool) -> Capture
+pub fn start(setting: Streams, verbose: bool) -> Capture
     ensures { λ r. ⌜ r ≡ started setting verbose ⌝ }
 {
     Capture {
         reader: reader::fresh(),
+        readers: reader::two::fresh(),
         course: Course {
             setting,
             verbose,
@@ -144,6 +151,7 @@ fn look(capture: Capture, piece: &mut [u8], pages: &mut [u16]) -> Capture
     ensures { λ _. ⌜ now (pages .exit) ≡ lookedPages (capture .course) (now (piece .entry)) (now (pages .entry)) ⌝ }
 {
     let reader = capture.reader;
+    let readers = capture.readers;
     let mut course = capture.course;
     let sight = course.sight;
     let sight = sight::look(
@@ -155,7 +163,11 @@ fn look(capture: Capture, piece: &mut [u8], pages: &mut [u16]) -> Capture
         pages,
     );
     course.sight = sight;
-    Capture { reader, course }
+    Capture {
+        reader,
+        readers,
+        course,
+    }
 }
 
 // All was handed out.
@@ -163,9 +175,14 @@ fn end(capture: Capture) -> Turn
     ensures { λ r. ⌜ r ≡ endedTurn capture ⌝ }
 {
     let reader = capture.reader;
+    let readers = capture.readers;
     let course = staged(capture.course, Stage::Over);
     Turn {
-        capture: Capture { reader, course },
+        capture: Capture {
+            reader,
+            readers,
+            course,
+        },
         came: Came::Ended(course.held % PACKET),
     }
 }
@@ -200,11 +217,13 @@ fn heed(capture: Capture, got: Got, full: usize) -> Turn
     ensures { λ r. ⌜ r ≡ readTurn capture got full ⌝ }
 {
     let reader = capture.reader;
+    let readers = capture.readers;
     let mut course = capture.course;
     match got {
         Got::Failed => Turn {
             capture: Capture {
                 reader,
+                readers,
                 course: staged(course, Stage::Broken),
             },
             came: Came::Unread,
@@ -215,6 +234,7 @@ fn heed(capture: Capture, got: Got, full: usize) -> Turn
             Turn {
                 capture: Capture {
                     reader,
+                    readers,
                     course: staged(course, after(n, full)),
                 },
                 came: Came::Records(0),

@@ -2,6 +2,7 @@
 // what the capture may be (SCOPE 13.9). Once one has come, only `-v` looks on. To say it is the program's.
 use packet::PACKET;
 use packet::Setting;
+use packet::two::Streams;
 use survey::Counts;
 use survey::Place;
 use survey::seen::NO_PAGE;
@@ -9,10 +10,10 @@ ghost use mathlib.Core.Path.{_≡_};
 ghost use Prim.Native.Nat.{_/_};
 ghost use lib.ListN.{length};
 ghost use Rattle.packet.specs.Packet.{packetLength};
-ghost use Rattle.captures.specs.Sights.{noSight, startPages, seenFrom, countedAll, notedAll, fitFrom, isLooked, seenOn, leftOf, notedIn, lookedSight, lookedAt, notedAt};
+ghost use Rattle.captures.specs.Sights.{noSight, ownPage, startPages, seenFrom, countedAll, notedAll, fitFrom, isLooked, seenOn, leftOf, notedIn, lookedSight, lookedAt, notedAt};
 
-// Our own page, and ten others that are told where it didn't come.
-pub const PAGES: usize = 11;
+// Our own page in the first stream and in the second, and ten others that are told where neither came.
+pub const PAGES: usize = 12;
 
 // So far: the counts, whether bytes came and began as a PES packet does, and from which byte of 42 on packets would fit, as they are and
 // with each byte turned: 42 where they don't.
@@ -25,14 +26,20 @@ pub struct Sight {
 }
 
 // The list of pages with our own in front, so that none of its packets 0 is taken for another's, whatever else of it can't be read.
-pub fn pages(setting: Setting) -> [u16; PAGES]
+pub fn pages(setting: Streams) -> [u16; PAGES]
     ensures { λ r. ⌜ r ≡ startPages setting ⌝ }
 {
     let mut pages = [NO_PAGE; PAGES];
-    pages[0] = setting.stream as u16
-        + 16 * setting.page as u16
-        + 4096 * (setting.magazine % 8) as u16;
+    pages[0] = own(packet::two::first(setting));
+    pages[1] = own(packet::two::second(setting));
     pages
+}
+
+// Our own page in one stream, as survey::note has it.
+fn own(setting: Setting) -> u16
+    ensures { λ r. ⌜ r ≡ ownPage setting ⌝ }
+{
+    setting.stream as u16 + 16 * setting.page as u16 + 4096 * (setting.magazine % 8) as u16
 }
 
 // Nothing is seen yet.
@@ -56,7 +63,7 @@ pub(crate) fn none() -> Sight
 
 // Looks at one more piece of n bytes, which is turned where no packet 0 of our page has come.
 pub(crate) fn look(
-    setting: Setting,
+    setting: Streams,
     verbose: bool,
     sight: Sight,
     piece: &mut [u8],
@@ -86,7 +93,7 @@ fn is_looked(verbose: bool, sight: Sight, n: usize) -> bool
     true
 }
 
-fn look_on(setting: Setting, sight: Sight, piece: &mut [u8], n: usize, pages: &mut [u16]) -> Sight
+fn look_on(setting: Streams, sight: Sight, piece: &mut [u8], n: usize, pages: &mut [u16]) -> Sight
     ensures { λ r. ⌜ r ≡ seenOn setting sight n (now (piece .entry)) ⌝ }
     ensures { λ _. ⌜ now (piece .exit) ≡ leftOf setting sight n (now (piece .entry)) ⌝ }
     ensures { λ _. ⌜ now (pages .exit) ≡ notedIn n (now (piece .entry)) (now (pages .entry)) ⌝ }
@@ -116,7 +123,7 @@ fn begin(sight: Sight, bytes: &[u8]) -> Sight
 }
 
 // Counts the whole packets, and notes the pages of those that are packets 0.
-fn count_all(setting: Setting, counts: Counts, bytes: &[u8], pages: &mut [u16]) -> Counts
+fn count_all(setting: Streams, counts: Counts, bytes: &[u8], pages: &mut [u16]) -> Counts
     ensures { λ r. ⌜ r ≡ countedAll setting (length (now (bytes .entry)) / packetLength) counts (now (bytes .entry)) ⌝ }
     ensures { λ _. ⌜ now (pages .exit) ≡ notedAll (length (now (bytes .entry)) / packetLength) (now (pages .entry)) (now (bytes .entry)) ⌝ }
 {

@@ -75,6 +75,8 @@ use Rattle.command_line.proofs.byte.Reads as command-line·byte
 use Rattle.captures.proofs.start.Reads as captures·start
 use Rattle.captures.proofs.lack.is_lacking.Reads as captures·lack-is-lacking
 use Rattle.captures.proofs.sight.pages.Reads as captures·pages
+use Rattle.captures.proofs.spans.is_one.Reads as captures·is-one
+use Rattle.captures.proofs.spans.span_at.Reads as captures·span-at
 use Rattle.packet.proofs.address.Reads as packet·address
 use Rattle.packet.proofs.passes_by.Reads as packet·passes-by
 use Rattle.packet.proofs.two.is_in_range.Reads as packet·two-is-in-range
@@ -475,6 +477,12 @@ captures·pages-settled κs a x y s t p q = same p q
 
 pub captures·lack-is-lacking-settled : (κs : _) (a : _) (x y : _) (s t : _) → captures·lack-is-lacking.Post κs a x s → captures·lack-is-lacking.Post κs a y t → x ≡ y
 captures·lack-is-lacking-settled κs a x y s t p q = same p q
+
+pub captures·is-one-settled : (κs : _) (a : _) (x y : _) (s t : _) → captures·is-one.Post κs a x s → captures·is-one.Post κs a y t → x ≡ y
+captures·is-one-settled κs a x y s t p q = same p q
+
+pub captures·span-at-settled : (κs : _) (a : _) (x y : _) (s t : _) → captures·span-at.Post κs a x s → captures·span-at.Post κs a y t → x ≡ y
+captures·span-at-settled κs a x y s t p q = same p q
 
 pub texts·begins-settled : (κs : _) (a : _) (x y : _) (s t : _) → texts·begins.Post κs a x s → texts·begins.Post κs a y t → x ≡ y
 texts·begins-settled κs a x y s t p q = same p q

@@ -1,9 +1,13 @@
 // The words that a program was called with, heard by its options and rows (SCOPE 13.12), once for all programs. A program hears them
 // twice: first all are judged, then it goes along them once more, word by word, for its names.
-use packet::Setting;
+use packet::two::Streams;
 use words::Said;
+use words::options::NO_VALUE;
 ghost use mathlib.Core.Path.{_≡_};
-ghost use Rattle.command_line.specs.Hearing.{heardWord, settingBy, byteOf};
+ghost use Rattle.command_line.specs.Hearing.{heardWord, settingBy, secondBy, byteOf};
+
+// Which option the streams are.
+const STREAM: usize = 2;
 
 // One word: what the words up to it say, the letter of the place that it takes (0 where it is no name), and how many bytes it has.
 pub struct Heard {
@@ -43,16 +47,29 @@ pub fn hear(options: &[u32], tasks: &[u8], said: Said, i: usize, word: &mut [u8;
     Heard { said, place, long }
 }
 
-// What a reader is set to, where a program's first options are magazine, page, stream and application.
-pub fn setting(options: &[u32], said: Said) -> Setting
+// What a reader is set to, where a program's first options are magazine, page, stream and application. Where one stream was said, it stands
+// for both.
+pub fn setting(options: &[u32], said: Said) -> Streams
     ensures { λ r. ⌜ r ≡ settingBy (now (options .entry)) said ⌝ }
 {
-    Setting {
+    Streams {
         magazine: byte(options, said, 0),
         page: byte(options, said, 1),
-        stream: byte(options, said, 2),
+        first: byte(options, said, STREAM),
+        second: second(options, said),
         application: byte(options, said, 3),
     }
+}
+
+// The second stream, or the first where there is one alone.
+fn second(options: &[u32], said: Said) -> u8
+    ensures { λ r. ⌜ r ≡ secondBy (now (options .entry)) said ⌝ }
+{
+    let second = words::second(said, STREAM);
+    if second == NO_VALUE {
+        return byte(options, said, STREAM);
+    }
+    (second % 256) as u8
 }
 
 // The value of option k, of which no program's is over 255 where it asks for a byte.

@@ -8,14 +8,14 @@ use captures::PAGES;
 use captures::PIECE;
 use captures::RECORDS;
 use frames::Read;
-use packet::Setting;
+use packet::two::Streams;
 ghost use mathlib.Core.Path.{_≡_};
 ghost use Prim.Native.Nat.{_≤_};
 ghost use lib.ListN.{length};
 
 const TEXT: usize = 65536;
 
-// More than the lines of one table: the text is written out when less room is left.
+// More than the lines of one table, that of its stream too: the text is written out when less room is left.
 const LINES: usize = 8192;
 
 // More than the longest table form.
@@ -33,7 +33,7 @@ struct Tally {
 
 // Lists what comes from a descriptor, under a line with its name where that is asked for. A read that fails is told with the name, and the
 // list then lacks its last line. Answers whether standard output took all.
-pub fn list(fd: i32, name: &[u8], is_titled: bool, setting: Setting, is_verbose: bool) -> bool {
+pub fn list(fd: i32, name: &[u8], is_titled: bool, setting: Streams, is_verbose: bool) -> bool {
     let mut piece = [0u8; PIECE];
     let mut records = [0u8; RECORDS];
     let mut pages = captures::pages(setting);
@@ -82,24 +82,18 @@ fn title(tally: Tally, name: &[u8]) -> Tally {
 // Lists the records at the front of their space.
 fn list_all(
     tally: Tally,
-    setting: Setting,
+    setting: Streams,
     records: &[u8; RECORDS],
     n: usize,
     text: &mut [u8; TEXT],
     form: &mut [u8; FORM],
 ) -> Tally {
-    list_records(
-        tally,
-        setting.application,
-        told::front(records, n),
-        text,
-        form,
-    )
+    list_records(tally, setting, told::front(records, n), text, form)
 }
 
 fn list_records(
     tally: Tally,
-    application: u8,
+    setting: Streams,
     records: &[u8],
     text: &mut [u8],
     form: &mut [u8],
@@ -107,8 +101,17 @@ fn list_records(
     let mut tally = tally;
     let mut at = 0;
     while at < records.len() {
-        let next = blocks::after(records, at);
-        tally = list_record(tally, application, &records[at..next], text, form);
+        let span = captures::span_at(setting, records, at);
+        let from = span.from;
+        let next = span.next;
+        tally = list_record(
+            tally,
+            setting,
+            span.stream,
+            &records[from..next],
+            text,
+            form,
+        );
         at = next;
     }
     tally
@@ -117,40 +120,80 @@ fn list_records(
 // Lists a record where block reading accepts it.
 fn list_record(
     tally: Tally,
-    application: u8,
+    setting: Streams,
+    stream: u8,
     record: &[u8],
     text: &mut [u8],
     form: &mut [u8],
 ) -> Tally {
-    let answer = table::read_block(application, record, form);
+    let answer = table::read_block(setting.application, record, form);
     match answer {
         Read::Taken { written, mended } => {
             let second = blocks::second_of(record);
-            list_form(tally, told::front(form, written), mended, second, text)
+            let tally = make_room(tally, text);
+            let at = put_stream(setting, stream, text, tally.used);
+            let form = told::front(form, written);
+            list_form(tally, form, mended, second, text, at)
         }
         Read::Refused(_) => refuse(tally),
     }
 }
 
-fn list_form(tally: Tally, form: &[u8], mended: u16, second: u8, text: &mut [u8]) -> Tally {
-    let tally = make_room(tally, text);
-    let used = tally.used;
-    let answer = listing::list_table(form, mended, second, &mut text[used..]);
+// Puts the line of a stream at a place of the text where two are read, and answers the place behind it (SCOPE 27.8).
+fn put_stream(setting: Streams, stream: u8, text: &mut [u8], at: usize) -> usize
+    requires { ⌜ at ≤ length (now text) ⌝ }
+    ensures { λ r. ⌜ r ≤ length (now (text .entry)) ⌝ }
+{
+    if captures::is_one(setting) {
+        return at;
+    }
+    let mut digits = [0u8; 20];
+    let n = io::decimal(stream as u64, &mut digits);
+    let at = put(b"stream=", text, at);
+    let at = put(&digits[..n], text, at);
+    put(b"\n", text, at)
+}
+
+// Puts bytes at a place of the text, and answers the place behind them; the text's end where they don't fit.
+fn put(bytes: &[u8], text: &mut [u8], at: usize) -> usize
+    requires { ⌜ at ≤ length (now text) ⌝ }
+    ensures { λ r. ⌜ r ≤ length (now (text .entry)) ⌝ }
+{
+    if text.len() - at < bytes.len() {
+        return text.len();
+    }
+    lent_bytes::copy(bytes, 0, bytes.len(), text, at);
+    at + bytes.len()
+}
+
+// Lists a table from a place of the text on, behind what waits there.
+fn list_form(
+    tally: Tally,
+    form: &[u8],
+    mended: u16,
+    second: u8,
+    text: &mut [u8],
+    at: usize,
+) -> Tally
+    requires { ⌜ at ≤ length (now text) ⌝ }
+{
+    let answer = listing::list_table(form, mended, second, &mut text[at..]);
     match answer {
-        Answer::Done(more) => accept(tally, more, text.len()),
+        Answer::Done(more) => accept(tally, at, more, text.len()),
         Answer::Refused(_) => refuse(tally),
     }
 }
 
-fn accept(tally: Tally, more: usize, room: usize) -> Tally
-    requires { ⌜ tally .used ≤ room ⌝ }
+// The text then waits up to so many bytes behind a place.
+fn accept(tally: Tally, at: usize, more: usize, room: usize) -> Tally
+    requires { ⌜ at ≤ room ⌝ }
 {
-    if room - tally.used < more {
+    if room - at < more {
         return refuse(tally);
     }
     let mut tally = tally;
     tally.accepted = one_more(tally.accepted);
-    tally.used = tally.used + more;
+    tally.used = at + more;
     tally
 }
 

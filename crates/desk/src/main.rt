@@ -10,7 +10,7 @@ mod help;
 mod says;
 
 use libc::STDIN_FILENO;
-use packet::Setting;
+use packet::two::Streams;
 use words::Said;
 
 // The options, five numbers each: letter, form, least, greatest and usual value (words::options).
@@ -25,8 +25,8 @@ const OPTIONS: [u32; 25] = [
     0,
     255,
     0xDF,
-    115, // s, the stream
-    1,
+    115, // s, the stream, or two
+    3,
     0,
     15,
     1,
@@ -73,7 +73,7 @@ fn main() {
 }
 
 // Lists each file that is named, or standard input where none is.
-fn list_all(setting: Setting, is_verbose: bool) {
+fn list_all(setting: Streams, is_verbose: bool) {
     let count = os::arg_count();
     let mut listed = Listed {
         said: words::start(&TASKS),
@@ -91,7 +91,7 @@ fn list_all(setting: Setting, is_verbose: bool) {
 }
 
 // Hears a word again, and lists the file where it is a name.
-fn visit(listed: Listed, i: usize, setting: Setting, is_verbose: bool) -> Listed {
+fn visit(listed: Listed, i: usize, setting: Streams, is_verbose: bool) -> Listed {
     let mut word = io::buffer();
     let mut listed = listed;
     let heard = command_line::hear(&OPTIONS, &TASKS, listed.said, i, &mut word);
@@ -108,7 +108,7 @@ fn visit(listed: Listed, i: usize, setting: Setting, is_verbose: bool) -> Listed
 }
 
 // Lists the file of a name, which is told with a `?` for each byte that isn't printed. Answers whether standard output took all.
-fn list_file(word: &mut [u8; 4096], n: usize, setting: Setting, is_verbose: bool) -> bool {
+fn list_file(word: &mut [u8; 4096], n: usize, setting: Streams, is_verbose: bool) -> bool {
     let fd = os::open_read(told::front(word, n));
     told::plain(word);
     if fd < 0 {

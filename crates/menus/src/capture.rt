@@ -13,6 +13,7 @@ use captures::Came;
 use captures::PIECE;
 use captures::RECORDS;
 use frames::Read;
+use packet::two::Streams;
 use shelf::HEADS;
 
 // The longest listing that is printed.
@@ -162,7 +163,7 @@ fn keep_all(
 ) -> Kept {
     keep_records(
         kept,
-        asked.setting.application,
+        asked.setting,
         told::front(records, n),
         form,
         heads,
@@ -173,7 +174,7 @@ fn keep_all(
 
 fn keep_records(
     kept: Kept,
-    application: u8,
+    setting: Streams,
     records: &[u8],
     form: &mut [u8],
     heads: &mut [u8],
@@ -183,11 +184,13 @@ fn keep_records(
     let mut kept = kept;
     let mut at = 0;
     while at < records.len() {
-        let next = blocks::after(records, at);
+        let span = captures::span_at(setting, records, at);
+        let from = span.from;
+        let next = span.next;
         kept = keep_record(
             kept,
-            application,
-            &records[at..next],
+            setting.application,
+            &records[from..next],
             form,
             heads,
             store,

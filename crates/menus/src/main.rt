@@ -11,7 +11,7 @@ mod kept;
 mod says;
 
 use libc::STDIN_FILENO;
-use packet::Setting;
+use packet::two::Streams;
 use words::Said;
 
 // The options, five numbers each: letter, form, least, greatest and usual value (words::options).
@@ -26,8 +26,8 @@ const OPTIONS: [u32; 30] = [
     0,
     255,
     0xDF,
-    115, // s, the stream
-    1,
+    115, // s, the stream, or two
+    3,
     0,
     15,
     1,
@@ -61,7 +61,7 @@ struct Listed {
 
 // What is asked for of each capture: the menu of a block, and how many levels of it.
 pub struct Asked {
-    pub setting: Setting,
+    pub setting: Streams,
     pub block: u16,
     pub levels: u8,
 }

@@ -12,7 +12,7 @@ use captures::PAGES;
 use captures::PIECE;
 use captures::RECORDS;
 use frames::Read;
-use packet::Setting;
+use packet::two::Streams;
 ghost use Prim.Native.Nat.{_≤_};
 
 // More than the longest table form.
@@ -58,7 +58,7 @@ pub fn open(
     word: &mut [u8; 4096],
     n: usize,
     source: Source,
-    setting: Setting,
+    setting: Streams,
     work: Work,
     sheet: &mut [u8],
     spare: &mut [u8],
@@ -94,7 +94,7 @@ fn read(
     fd: i32,
     name: &[u8],
     source: Source,
-    setting: Setting,
+    setting: Streams,
     work: Work,
     sheet: &mut [u8],
     spare: &mut [u8],
@@ -126,7 +126,7 @@ fn read(
     end(going)
 }
 
-fn begin(setting: Setting, work: Work) -> Going {
+fn begin(setting: Streams, work: Work) -> Going {
     Going {
         capture: captures::start(setting, false),
         work: work::capture(work),
@@ -218,7 +218,7 @@ fn heed(
             let added = add_records(
                 done(work),
                 source,
-                course.setting.application,
+                course.setting,
                 finished,
                 form,
                 sheet,
@@ -272,7 +272,7 @@ fn stop(work: Work) -> Step {
 fn add_records(
     added: Added,
     source: Source,
-    application: u8,
+    setting: Streams,
     records: &[u8],
     form: &mut [u8],
     sheet: &mut [u8],
@@ -282,12 +282,14 @@ fn add_records(
     let mut added = added;
     let mut at = 0;
     while at < records.len() {
-        let next = blocks::after(records, at);
+        let span = captures::span_at(setting, records, at);
+        let from = span.from;
+        let next = span.next;
         added = add_record(
             added,
             source,
-            application,
-            &records[at..next],
+            setting.application,
+            &records[from..next],
             form,
             sheet,
             spare,

@@ -4,7 +4,7 @@ pub const PROGRAM: [u8; 5] = *b"sheet";
 pub fn put() -> bool {
     let on = line(
         true,
-        b"usage: sheet add [-m 1..8] [-p 00..FF] [-s 0..15] [-a 0..31] [--] SHEET STAMP CAPTURE [STAMP CAPTURE ...]\n",
+        b"usage: sheet add [-m 1..8] [-p 00..FF] [-s 0..15[,0..15]] [-a 0..31] [--] SHEET STAMP CAPTURE [STAMP CAPTURE ...]\n",
     );
     let on = line(on, b"       sheet join [--] SHEET OTHER ...\n");
     let on = line(on, b"       sheet drop [--] SHEET KIND NETWORK BLOCK\n");
@@ -24,7 +24,10 @@ pub fn put() -> bool {
     );
     let on = line(on, b"  -m 1..8    the magazine, usually 1\n");
     let on = line(on, b"  -p 00..FF  the page, usually DF\n");
-    let on = line(on, b"  -s 0..15   the stream, usually 1\n");
+    let on = line(
+        on,
+        b"  -s 0..15   the stream, usually 1; -s 1,2 reads two streams at once\n",
+    );
     let on = line(on, b"  -a 0..31   the application, usually 1\n");
     let on = line(on, b"  --         the sheet, stamps and files follow\n");
     let on = line(on, b"  --help     print this; only as the first word\n");

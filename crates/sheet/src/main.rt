@@ -21,7 +21,7 @@ use capture::Source;
 use files::SHEET;
 use files::Stand;
 use kept::KEPT;
-use packet::Setting;
+use packet::two::Streams;
 use paths::Way;
 use placing::Placed;
 use words::Said;
@@ -41,8 +41,8 @@ const OPTIONS: [u32; 20] = [
     0,
     255,
     0xDF,
-    115, // s, the stream
-    1,
+    115, // s, the stream, or two
+    3,
     0,
     15,
     1,
@@ -69,7 +69,7 @@ const TURNS: usize = 17;
 // What is to be done: the task, and the setting in which captures are read.
 struct Job {
     task: u8,
-    setting: Setting,
+    setting: Streams,
 }
 
 // Where the second hearing stands: the words so far, the last stamp, kind and network, and what was done.

@@ -15,7 +15,7 @@ const LINE: usize = 4608;
 
 pub fn usage() {
     say(
-        b"sheet: usage: sheet add [-m 1..8] [-p 00..FF] [-s 0..15] [-a 0..31] [--] SHEET STAMP CAPTURE [STAMP CAPTURE ...], ",
+        b"sheet: usage: sheet add [-m 1..8] [-p 00..FF] [-s 0..15[,0..15]] [-a 0..31] [--] SHEET STAMP CAPTURE [STAMP CAPTURE ...], ",
     );
     say(
         b"sheet join [--] SHEET OTHER ..., sheet drop [--] SHEET KIND NETWORK BLOCK, sheet check [--] SHEET ...\n",

@@ -8,20 +8,22 @@ use native.Mathlib.Omega.{arith}
 use lib.ListN.{length, drop, drop-of-length-le}
 use lib.Seq.{drop-cons, take-all}
 use borrow.Author.Tests.{ne-eqb}
-use Rattle.packet.specs.declared.Setting.{Setting}
+use Rattle.packet.specs.declared.two.Streams.{Streams}
 use Rattle.packet.specs.Packet.{packetLength}
 use Rattle.survey.specs.declared.Place.{Place}
-use Rattle.pages.specs.Seen.{see, seenAs}
+use Rattle.pages.specs.Seen.{seenAs}
+use Rattle.pages.specs.Two.{seeByTwo, seenByTwoAs}
+use Rattle.survey.specs.Either.{seeEither}
 use Rattle.survey.specs.Fitting.{fits, firstIn}
 
-pub fits-short : (s : Setting) (l : List ℕ) → length l < packetLength → false ≡ fits s l
-unfolding fits see seenAs
+pub fits-short : (s : Streams) (l : List ℕ) → length l < packetLength → false ≡ fits s l
+unfolding fits seeEither seeByTwo seenByTwoAs seenAs
 fits-short s l h =
     let n : length l ≡ packetLength → ⊥ = λ e. omega arith in
     let k : length l ≤ packetLength = omega arith in
     rw (take-all packetLength l k, ne-eqb _ _ n)
 
-module _ (s : Setting) (l : List ℕ) (at : ℕ) where
+module _ (s : Streams) (l : List ℕ) (at : ℕ) where
   pub first-here : at < length l → fits s (drop at l) ≡ true → firstIn s (drop at l) at ≡ Place.At at
   unfolding firstIn
   first-here h e = let d = drop-cons l at 0 h in rw d (rw (rw d at e))

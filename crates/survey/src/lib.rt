@@ -1,18 +1,19 @@
 // What a capture holds besides its tables, packet by packet: how many packets came, how many of them are our page's or can't be read, and
-// which pages came. Where none of ours came, `find` and `turn_all` tell whether its bytes fit at another place, or turned. Nothing is kept
+// which pages came. Ours is the page in either of two streams; a setting that names one stream twice is of that stream alone (SCOPE 27.8).
+// Where none of ours came, `find` and `turn_all` tell whether its bytes fit at another place, or turned. Nothing is kept
 // here: what is known so far goes in and comes back.
 pub mod seen;
 
 use packet::PACKET;
-use packet::Setting;
+use packet::two::Streams;
 use pages::Page;
 use pages::Verdict;
 pub use seen::note;
 ghost use mathlib.Core.Path.{_≡_};
 ghost use mathlib.Core.List.{map};
 ghost use Rattle.octet.specs.Turning.{turned};
-ghost use Rattle.pages.specs.Seen.{see};
 ghost use Rattle.survey.specs.Counting.{more, moreIf, counted};
+ghost use Rattle.survey.specs.Either.{seeEither};
 ghost use Rattle.survey.specs.Fitting.{fits, firstIn};
 ghost use Rattle.survey.specs.Internal.{asked, mostOf, heeded};
 
@@ -36,14 +37,14 @@ pub enum Place {
 }
 
 // One more packet is counted. One that isn't 42 bytes long can't be read.
-pub fn count(setting: Setting, counts: Counts, packet: &[u8]) -> Counts
-    ensures { λ r. ⌜ r ≡ counted counts (see setting (now (packet .entry))) ⌝ }
+pub fn count(setting: Streams, counts: Counts, packet: &[u8]) -> Counts
+    ensures { λ r. ⌜ r ≡ counted counts (seeEither setting (now (packet .entry))) ⌝ }
 {
     heed(counts, ask(setting, counts.most, packet))
 }
 
 // The first place of the bytes where a packet 0 of our page and stream stands, all 42 bytes of it.
-pub fn find(setting: Setting, bytes: &[u8]) -> Place
+pub fn find(setting: Streams, bytes: &[u8]) -> Place
     ensures { λ r. ⌜ r ≡ firstIn setting (now (bytes .entry)) 0 ⌝ }
 {
     let mut at = 0;
@@ -68,7 +69,7 @@ pub fn turn_all(bytes: &mut [u8])
 }
 
 // Whether a packet 0 of our page and stream stands at the front.
-fn stands(setting: Setting, bytes: &[u8]) -> bool
+fn stands(setting: Streams, bytes: &[u8]) -> bool
     ensures { λ r. ⌜ r ≡ fits setting (now (bytes .entry)) ⌝ }
 {
     if bytes.len() < PACKET {
@@ -79,15 +80,26 @@ fn stands(setting: Setting, bytes: &[u8]) -> bool
 }
 
 // What the reader's rules say of a packet where a page of so many packets is complete and our last index is none. So a verdict tells what
-// the packet is: only one of our page and stream has an index; of those that shut the page, one that can't be read drops.
-fn ask(setting: Setting, most: u8, packet: &[u8]) -> Verdict
-    ensures { λ r. ⌜ r ≡ asked most (see setting (now (packet .entry))) ⌝ }
+// the packet is: only one of our page and stream has an index; of those that shut the page, one that can't be read drops. The second
+// stream is asked where the first's verdict has no index.
+fn ask(setting: Streams, most: u8, packet: &[u8]) -> Verdict
+    ensures { λ r. ⌜ r ≡ asked most (seeEither setting (now (packet .entry))) ⌝ }
 {
     let page = Page::Open {
         n: most,
         last: most,
     };
-    pages::judge(setting, page, NO_INDEX, packet::address(packet), packet)
+    let address = packet::address(packet);
+    let one = packet::two::first(setting);
+    let verdict = pages::judge(one, page, NO_INDEX, address, packet);
+    if verdict.index != NO_INDEX {
+        return verdict;
+    }
+    if setting.first == setting.second {
+        return verdict;
+    }
+    let two = packet::two::second(setting);
+    pages::judge(two, page, NO_INDEX, address, packet)
 }
 
 fn heed(counts: Counts, verdict: Verdict) -> Counts

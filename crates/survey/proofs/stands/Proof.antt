@@ -5,7 +5,7 @@ use lib.Dec.{eqb}
 use lib.ListN.{take}
 use denote.Ref.{now}
 use Rattle.pages.specs.declared.headers.Verdict.{Verdict}
-use Rattle.pages.specs.Seen.{see}
+use Rattle.survey.specs.Either.{seeEither}
 use Rattle.survey.specs.Fitting.{fits}
 use Rattle.survey.specs.Internal.{noIndex}
 use Rattle.survey.proofs.Fitting.{fits-short}
@@ -22,7 +22,7 @@ unfolding fits
 returns-2 c =
     let a = c .before .before .before .before .before .args in
     let p = take 42 (now (a .bytes)) in
-    ap (λ (v : Verdict). not (eqb (v .index) noIndex)) (c .before .ask .ensures) ∙ index-tells p 0 (see (a .setting) p) (shaped-in (a .setting) p)
+    ap (λ (v : Verdict). not (eqb (v .index) noIndex)) (c .before .ask .ensures) ∙ index-tells p 0 (seeEither (a .setting) p) (shaped-in (a .setting) p)
 
 pub stands-spec : {M : Type 1} → statement M
 stands-spec =

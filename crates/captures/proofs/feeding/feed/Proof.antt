@@ -17,9 +17,11 @@ returns-2 c =
 
 returns-3 : tie.Need-returns-3
 returns-3 c =
-    let a = c .before .before .before .before .before .before .before .before .before .before .before .before .before .before .args in
-    let f = c .before .before .before .before .before .feed-all .ensures in
-    some-given (a .capture) (now (a .piece)) (now (a .records)) (c .before .before .before .before .before .before .before .before .before .before .up-to .ensures) (c .before .before .before .before .before .before .before .before .before .if1 .left) (c .before .before .before .before .before .before .before .before .if2 .left) (f .0) (f .1 .0) (f .1 .1)
+    let d = c .before .before .before .before .before .before .before .before .before in
+    let u = d .before .before in
+    let a = u .before .before .before .before .args in
+    let f = c .before .before .before .before .before .before .call .ensures in
+    some-given (a .capture) (now (a .piece)) (now (a .records)) (u .up-to .ensures) (d .before .if1 .left) (d .if2 .left) (f .0) (f .1)
     (c .before .heed .ensures)
 
 pub feed-spec : {M : Type 1} → statement M
