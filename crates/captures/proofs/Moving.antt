@@ -3,7 +3,7 @@
 -- what `next` answers is never `Stuck`, and a capture of which no read fails goes on to its end. Assumes nothing.
 use mathlib.Core.Path.{_≡_, refl, sym, subst}
 use mathlib.Core.Bool.{Bool, true, false}
-use mathlib.Core.List.{List}
+use mathlib.Core.List.{List, [], _++_}
 use Prim.Native.Nat.{ℕ, zero, suc, _+_, _-_, _*_, _/_, _%_, _≤_, _<_}
 use native.Mathlib.Nat.{le-refl}
 use native.Mathlib.Omega.{arith}
@@ -23,14 +23,16 @@ use Rattle.walk.proofs.Adding.{recordsOf-append}
 use Rattle.state.specs.declared.Reader.{Reader}
 use Rattle.state.specs.declared.two.Readers.{Readers}
 use Rattle.state.specs.Acting.{State}
-use Rattle.state.specs.State.{stateOf, readerOf, freshState, Sound}
-use Rattle.state.specs.Two.{TwoState, twoStateOf, readersOf, freshOfTwo, SoundOfTwo}
+use Rattle.state.specs.State.{readerOf, freshState, Sound}
+use Rattle.state.specs.Two.{TwoState, readersOf, freshOfTwo, SoundOfTwo}
 use Rattle.state.proofs.Bounding.{packet-room}
 use Rattle.state.proofs.Ranging.{sound-fresh, sound-after, state-held, reader-in-range}
 use Rattle.state.proofs.BothRanging.{both-sound-fresh, both-sound-after, both-held, both-in-range}
+use Rattle.reader.specs.declared.many.HeardAll.{HeardAll}
 use Rattle.reader.specs.declared.many.HeardAll.the-variants.{TookAll}
-use Rattle.reader.specs.Many.{Ran, begun, ranOn, run, ranAll}
-use Rattle.reader.specs.Two.{roomOfTwo, markedAll, RanOfTwo, begunOfTwo, ranOnOfTwo, runOfTwo, ranAllOfTwo}
+use Rattle.reader.specs.Calls.{Does, Tuned, Ran, begun, ranOn, run, feedAllHeard, feedAllReader}
+use Rattle.reader.specs.Feeding.{tunedTo}
+use Rattle.reader.specs.Two.{roomOfTwo, markedAll, tunedToTwo}
 use Rattle.reader.proofs.Tagging.{marked-append}
 use Rattle.reader.proofs.HeedingTwo.{both-room}
 use Rattle.captures.specs.declared.reading.Got.{Got}
@@ -49,59 +51,55 @@ use Rattle.captures.specs.Reading.{fitsIn}
 use Rattle.captures.specs.Pulling.{isFed, lookedCapture, endedTurn, readTurn, turnFrom, Pulled}
 use Rattle.captures.proofs.Fed.{some-given}
 
--- ---- packets one after the other, over what one packet does: it leaves a sound state, gives at most `space` bytes, and is one packet
+-- ---- packets one after the other, over what one packet does: it leaves a sound state, and gives at most as many bytes as it wants room
 
 module _
-    {A : Type 0} (space long : ℕ) (on : A → List ℕ → A) (written packets : A → ℕ) (Good : A → Type 0) (runs : ℕ → A → List ℕ → A)
-    (none : (a : A) (l : List ℕ) → runs 0 a l ≡ a)
-    (more : (n : ℕ) (a : A) (l : List ℕ) → runs (suc n) a l ≡ pick (leb (written a + space) long) (runs n (on a (take packetLength l)) (drop packetLength l)) a)
-    (good-on : (a : A) (p : List ℕ) → Good a → Good (on a p))
-    (space-on : (a : A) (p : List ℕ) → length p ≡ packetLength → Good a → written (on a p) ≤ written a + space)
-    (one-on : (a : A) (p : List ℕ) → packets (on a p) ≡ suc (packets a))
+    {S B : Type 0} (d : Does S B) (long : ℕ) (Good : S → Type 0) (good-on : (st : S) (p : List ℕ) → Good st → Good (d .act st p))
+    (room-on :
+    (st : S) (bs : List B) (p : List ℕ) → length p ≡ packetLength → Good st → length (d .bytes (bs ++ d .handed st p)) ≤ length (d .bytes bs) + d .room)
   where
     -- what packets have come to: the state is sound, the records stand in the output, and not fewer than `least` nor more than `most` were taken
-    abbrev Ranged : ℕ → ℕ → A → Type 0
-    Ranged least most a = Good a × (written a ≤ long) × (least ≤ packets a) × (packets a ≤ most)
+    abbrev Ranged : ℕ → ℕ → Ran S B → Type 0
+    Ranged least most a = Good (a .state) × (length (d .bytes (a .blocks)) ≤ long) × (least ≤ a .packets) × (a .packets ≤ most)
 
     -- one packet more, with room for it
     step-ranged :
-        (least : ℕ) (a : A) (p : List ℕ) → length p ≡ packetLength → Good a → written a + space ≤ long → least ≤ suc (packets a)
-        → Ranged least (packets (on a p)) (on a p)
-    step-ranged least a p k g h m = (good-on a p g, omega (arith, h, space-on a p k g), omega (arith, m, one-on a p), le-refl _)
+        (least : ℕ) (a : Ran S B) (p : List ℕ) → length p ≡ packetLength → Good (a .state) → length (d .bytes (a .blocks)) + d .room ≤ long
+        → least ≤ suc (a .packets) → Ranged least (suc (a .packets)) (ranOn d a p)
+    step-ranged least a p k g h m = (good-on (a .state) p g, omega (arith, h, room-on (a .state) (a .blocks) p k g), m, le-refl _)
 
     run-ranged :
-        (least n : ℕ) (a : A) (l : List ℕ) → packetLength * n ≤ length l → Ranged least (packets a) a
-        → Ranged least (packets a + n) (runs n a l)
-    run-ranged least zero a l h r = rw (none a l) (r .0, r .1, r .2, omega arith)
+        (least n : ℕ) (a : Ran S B) (l : List ℕ) → packetLength * n ≤ length l → Ranged least (a .packets) a
+        → Ranged least (a .packets + n) (run d long n a l)
+    run-ranged least zero a l h r = (r .0, r .1, r .2, omega arith)
     run-ranged least (suc n) a l h r =
-        rw (more n a l)
-        (go (leb (written a + space) long) refl
-        (λ (w : Ranged least (packets (on a (take packetLength l))) (on a (take packetLength l))).
-        run-ranged least n (on a (take packetLength l)) (drop packetLength l) (omega (arith, h, length-drop packetLength l)) w))
+        go (leb (length (d .bytes (a .blocks)) + d .room) long) refl
+        (λ (w : Ranged least (suc (a .packets)) (ranOn d a (take packetLength l))).
+        run-ranged least n (ranOn d a (take packetLength l)) (drop packetLength l) (omega (arith, h, length-drop packetLength l)) w)
       where
         go :
-            (t : Bool) → leb (written a + space) long ≡ t
-            → (Ranged least (packets (on a (take packetLength l))) (on a (take packetLength l))
-            → Ranged least (packets (on a (take packetLength l)) + n) (runs n (on a (take packetLength l)) (drop packetLength l)))
-            → Ranged least (packets a + suc n) (pick t (runs n (on a (take packetLength l)) (drop packetLength l)) a)
+            (t : Bool) → leb (length (d .bytes (a .blocks)) + d .room) long ≡ t
+            → (Ranged least (suc (a .packets)) (ranOn d a (take packetLength l))
+            → Ranged least (suc (a .packets) + n) (run d long n (ranOn d a (take packetLength l)) (drop packetLength l)))
+            → Ranged least (a .packets + suc n) (pick t (run d long n (ranOn d a (take packetLength l)) (drop packetLength l)) a)
         go false e later = (r .0, r .1, r .2, omega arith)
         go true e later =
             let p = take packetLength l in
             let k : length p ≡ packetLength = length-take-le packetLength l (omega (arith, h)) in
             let w = later (step-ranged least a p k (r .0) (leb-true _ _ e) (omega (arith, r .2))) in
-            (w .0, w .1, w .2, omega (arith, w .3, one-on a p))
+            (w .0, w .1, w .2, omega (arith, w .3))
 
     -- with room for one packet, and one to take, one is taken
     some-ranged :
-        (n : ℕ) (a : A) (l : List ℕ) → Good a → written a ≡ 0 → packets a ≡ 0 → space ≤ long → packetLength * suc n ≤ length l
-        → Ranged 1 (suc n) (runs (suc n) a l)
-    some-ranged n a l g z c enough h =
+        (n : ℕ) (st : S) (l : List ℕ) → Good st → length (d .bytes []) ≡ 0 → d .room ≤ long → packetLength * suc n ≤ length l
+        → Ranged 1 (suc n) (run d long (suc n) (begun st) l)
+    some-ranged n st l g z enough h =
         let p = take packetLength l in
         let k : length p ≡ packetLength = length-take-le packetLength l (omega (arith, h)) in
-        let fit : written a + space ≤ long = omega (arith, z, enough) in
+        let fit : length (d .bytes []) + d .room ≤ long = omega (arith, z, enough) in
         let w =
-        run-ranged 1 n (on a p) (drop packetLength l) (omega (arith, h, length-drop packetLength l)) (step-ranged 1 a p k g fit (omega arith)) in
-        rw (more n a l, le-leb _ _ fit) (w .0, w .1, w .2, omega (arith, w .3, one-on a p, c))
+        run-ranged 1 n (ranOn d (begun st) p) (drop packetLength l) (omega (arith, h, length-drop packetLength l)) (step-ranged 1 (begun st) p k g fit (omega arith)) in
+        rw (le-leb _ _ fit) (w .0, w .1, w .2, omega (arith, w .3))
 
 -- ---- a list in one call
 
@@ -128,88 +126,82 @@ Ready g r rs = ReadyAs (isOne g) g r rs
 abbrev pub roomFor : Streams → ℕ
 roomFor g = pick (isOne g) room roomOfTwo
 
--- the reader takes at least one packet of a list, and no more than it has; its records stand in the output, and its state is as calls leave it
-pub record Takes (one : Bool) (g : Streams) (r : Reader) (rs : Readers) (l old : List ℕ) : Type 0 where
+-- what is heard is that at least one packet of a list of so many bytes was taken, and no more than it has; the records stand in so long an output,
+-- and what comes back is as calls leave it
+pub record Takes (heard : HeardAll) (Ready : Type 0) (bytes long : ℕ) : Type 0 where
   pub packets : ℕ
   pub blocks : ℕ
   pub written : ℕ
   pub drops : Bool
-  pub heard : answeredAs one g r rs l old .heard ≡ TookAll packets blocks written drops
-  pub ready : ReadyAs one g (answeredAs one g r rs l old .reader) (answeredAs one g r rs l old .readers)
+  pub told : heard ≡ TookAll packets blocks written drops
+  pub ready : Ready
   pub some : 1 ≤ packets
-  pub few : packets ≤ length l / packetLength
-  pub fits : written ≤ length old
+  pub few : packets ≤ bytes / packetLength
+  pub fits : written ≤ long
 
-module _ (g : Streams) (l old : List ℕ) (z : length l % packetLength ≡ 0) (some : 1 ≤ length l) where
-  more-than-one : length l / packetLength ≡ suc ((length l - packetLength) / packetLength)
-  more-than-one = omega (arith, z, some)
+abbrev pub TakesAs : Bool → Streams → Reader → Readers → List ℕ → List ℕ → Type 0
+TakesAs one g r rs l old =
+    let a = answeredAs one g r rs l old in
+    Takes (a .heard) (ReadyAs one g (a .reader) (a .readers)) (length l) (length old)
 
-  all-of-it : packetLength * suc ((length l - packetLength) / packetLength) ≤ length l
-  all-of-it = omega (arith, z, some)
+-- any reader whose setting is in range, from a sound state on
+module _
+    {R S B : Type 0} (t : Tuned R S B) (Good : S → Type 0) (fit : t .fits ≡ true) (held : (st : S) → Good st → t .state (t .held st) ≡ st)
+    (in-range : (st : S) → Good st → t .inRange (t .held st) ≡ true) (good-on : (st : S) (p : List ℕ) → Good st → Good (t .does .act st p))
+    (room-on :
+    (st : S) (bs : List B) (p : List ℕ) → length p ≡ packetLength → Good st
+    → length (t .does .bytes (bs ++ t .does .handed st p)) ≤ length (t .does .bytes bs) + t .does .room)
+    (nothing : length (t .does .bytes []) ≡ 0)
+  where
+    takes :
+        (st : S) → Good st → (l old : List ℕ) → length l % packetLength ≡ 0 → 1 ≤ length l → t .does .room ≤ length old
+        → Takes (feedAllHeard t (t .held st) l old) ((after : S) × Good after × (feedAllReader t (t .held st) l old ≡ t .held after)) (length l) (length old)
+    takes st good l old z some enough =
+        let n = (length l - packetLength) / packetLength in
+        let k : length l / packetLength ≡ suc n = omega (arith, z, some) in
+        let all : packetLength * suc n ≤ length l = omega (arith, z, some) in
+        let a = run (t .does) (length old) (length l / packetLength) (begun st) l in
+        let w : Ranged (t .does) (length old) Good good-on room-on 1 (length l / packetLength) a =
+        rw k (some-ranged (t .does) (length old) Good good-on room-on n st l good nothing enough all) in
+        record {
+          packets = a .packets;
+          blocks = length (a .blocks);
+          written = length (t .does .bytes (a .blocks));
+          drops = a .dropped;
+          told = rw (fit, in-range st good, eq-eqb _ _ z, le-leb _ _ enough, held st good);
+          ready = (a .state, w .0, rw (fit, in-range st good, eq-eqb _ _ z, le-leb _ _ enough, held st good));
+          some = w .2;
+          few = w .3;
+          fits = w .1;
+        }
 
-  -- of one stream
-  takes-one :
-      (r : Reader) (rs : Readers) → inRange (firstOf g) ≡ true → (st : State) → Sound st → r ≡ readerOf st → room ≤ length old
-      → Takes true g r rs l old
-  unfolding run recordsOf
-  takes-one r rs i st sound e enough =
-      let s = firstOf g in
-      let held : Sound (stateOf (readerOf st)) = subst Sound (sym (state-held st sound)) sound in
-      let a = ranAll s (readerOf st) l old in
-      let w : Sound (a .state) × (length (recordsOf (a .blocks)) ≤ length old) × (1 ≤ a .packets) × (a .packets ≤ length l / packetLength) =
-      rw more-than-one
-      (some-ranged room (length old) (ranOn s) (λ (b : Ran). length (recordsOf (b .blocks))) (λ (b : Ran). b .packets) (λ (b : Ran). Sound (b .state))
-      (run s (length old)) (λ b q. refl) (λ n b q. refl)
-      (λ b p h. sound-after s (b .state) p h)
-      (λ b p k h. let m = packet-room s (b .state) p k (h .mode) in rw (recordsOf-append, length-append) (omega (arith, m .1)))
-      (λ b p. refl)
-      ((length l - packetLength) / packetLength) (begun (stateOf (readerOf st))) l held refl refl enough all-of-it) in
-      rw e
-      (record {
-        packets = a .packets;
-        blocks = length (a .blocks);
-        written = length (recordsOf (a .blocks));
-        drops = a .dropped;
-        heard = rw (i, reader-in-range st sound, eq-eqb _ _ z, le-leb _ _ enough);
-        ready = (i, record { state = a .state; sound = w .0; held = rw (i, reader-in-range st sound, eq-eqb _ _ z, le-leb _ _ enough) });
-        some = w .2;
-        few = w .3;
-        fits = w .1;
-      })
+takes-one :
+    (g : Streams) (r : Reader) (rs : Readers) (l old : List ℕ) → length l % packetLength ≡ 0 → 1 ≤ length l → inRange (firstOf g) ≡ true → Held r
+    → room ≤ length old → TakesAs true g r rs l old
+unfolding recordsOf
+takes-one g r rs l old z some i h enough =
+    let w =
+    takes (tunedTo (firstOf g)) Sound i state-held reader-in-range (sound-after (firstOf g))
+    (λ st bs p k s. let m = packet-room (firstOf g) st p k (s .mode) in rw (recordsOf-append, length-append) (omega (arith, m .1))) refl (h .state) (h .sound) l old z some
+    enough in
+    rw (h .held) (record { packets = w .packets; blocks = w .blocks; written = w .written; drops = w .drops; told = w .told; some = w .some; few = w .few; fits = w .fits; ready = (i, record { state = w .ready .0; sound = w .ready .1; held = w .ready .2 }) })
 
-  -- of two
-  takes-two :
-      (r : Reader) (rs : Readers) → inRangeOfTwo g ≡ true → (st : TwoState) → SoundOfTwo st → rs ≡ readersOf st → roomOfTwo ≤ length old
-      → Takes false g r rs l old
-  unfolding runOfTwo markedAll
-  takes-two r rs i st sound e enough =
-      let held : SoundOfTwo (twoStateOf (readersOf st)) = subst SoundOfTwo (sym (both-held st sound)) sound in
-      let a = ranAllOfTwo g (readersOf st) l old in
-      let w : SoundOfTwo (a .state) × (length (markedAll g (a .blocks)) ≤ length old) × (1 ≤ a .packets) × (a .packets ≤ length l / packetLength) =
-      rw more-than-one
-      (some-ranged roomOfTwo (length old) (ranOnOfTwo g) (λ (b : RanOfTwo). length (markedAll g (b .blocks))) (λ (b : RanOfTwo). b .packets)
-      (λ (b : RanOfTwo). SoundOfTwo (b .state)) (runOfTwo g (length old)) (λ b q. refl) (λ n b q. refl)
-      (λ b p h. both-sound-after g (b .state) p h)
-      (λ b p k h. let m = both-room g (b .state) p k (h First .mode) (h Second .mode) in rw (marked-append, length-append) (omega (arith, m)))
-      (λ b p. refl)
-      ((length l - packetLength) / packetLength) (begunOfTwo (twoStateOf (readersOf st))) l held refl refl enough all-of-it) in
-      rw e
-      (record {
-        packets = a .packets;
-        blocks = length (a .blocks);
-        written = length (markedAll g (a .blocks));
-        drops = a .dropped;
-        heard = rw (i, both-in-range st sound, eq-eqb _ _ z, le-leb _ _ enough);
-        ready = (i, record { state = a .state; sound = w .0; held = rw (i, both-in-range st sound, eq-eqb _ _ z, le-leb _ _ enough) });
-        some = w .2;
-        few = w .3;
-        fits = w .1;
-      })
+takes-two :
+    (g : Streams) (r : Reader) (rs : Readers) (l old : List ℕ) → length l % packetLength ≡ 0 → 1 ≤ length l → inRangeOfTwo g ≡ true → HeldOfTwo rs
+    → roomOfTwo ≤ length old → TakesAs false g r rs l old
+unfolding markedAll
+takes-two g r rs l old z some i h enough =
+    let w =
+    takes (tunedToTwo g) SoundOfTwo i both-held both-in-range (both-sound-after g)
+    (λ st bs p k s. let m = both-room g st p k (s First .mode) (s Second .mode) in rw (marked-append, length-append) (omega (arith, m))) refl (h .state) (h .sound) l old z some
+    enough in
+    rw (h .held) (record { packets = w .packets; blocks = w .blocks; written = w .written; drops = w .drops; told = w .told; some = w .some; few = w .few; fits = w .fits; ready = (i, record { state = w .ready .0; sound = w .ready .1; held = w .ready .2 }) })
 
-  pub takes-some :
-      (one : Bool) (r : Reader) (rs : Readers) → ReadyAs one g r rs → pick one room roomOfTwo ≤ length old → Takes one g r rs l old
-  takes-some true r rs (i, h) enough = takes-one r rs i (h .state) (h .sound) (h .held) enough
-  takes-some false r rs (i, h) enough = takes-two r rs i (h .state) (h .sound) (h .held) enough
+pub takes-some :
+    (g : Streams) (l old : List ℕ) → length l % packetLength ≡ 0 → 1 ≤ length l → (one : Bool) (r : Reader) (rs : Readers) → ReadyAs one g r rs
+    → pick one room roomOfTwo ≤ length old → TakesAs one g r rs l old
+takes-some g l old z some true r rs (i, h) enough = takes-one g r rs l old z some i h enough
+takes-some g l old z some false r rs (i, h) enough = takes-two g r rs l old z some i h enough
 
 -- ---- a capture
 
@@ -267,7 +259,7 @@ heeds-some g packets blocks written bytes space drops a b c = rw (le-leb _ _ a, 
 moves-by :
     (c : Capture) (piece old : List ℕ) → Whole (c .course .at) (c .course .held) (endOf (c .course)) → endOf (c .course) ≤ length piece
     → length (given (c .course) piece) ≡ endOf (c .course) - c .course .at
-    → Takes (isOne (c .course .setting)) (c .course .setting) (c .reader) (c .readers) (given (c .course) piece) old → Moves c piece old
+    → TakesAs (isOne (c .course .setting)) (c .course .setting) (c .reader) (c .readers) (given (c .course) piece) old → Moves c piece old
 moves-by c piece old w k n t =
     let g = c .course in
     let a = answeredAs (isOne (g .setting)) (g .setting) (c .reader) (c .readers) (given g piece) old in
@@ -281,7 +273,7 @@ moves-by c piece old w k n t =
       turn =
           sym
           (some-given c piece old refl {a = a} (w .onward) k refl refl
-          (rw (t .heard)
+          (rw (t .told)
           (sym (heeds-some g (t .packets) (t .blocks) (t .written) (endOf g - g .at) (length old) (t .drops) (t .some) few (t .fits))))
           .0);
       ready = t .ready;
