@@ -7,8 +7,8 @@ use native.Mathlib.Nat.{zero-add}
 use native.Mathlib.Omega.{arith}
 use lib.ListN.{length, getD, take, drop, length-drop, length-append}
 use lib.Seq.{sets, take-at}
-use Rattle.laws.specs.Pick.{pick, either}
-use Rattle.laws.specs.Each.{Each, nil, and}
+use Rattle.laws.specs.Pick.{pick}
+use Rattle.laws.specs.Each.{Each, nil}
 use Rattle.laws.proofs.Lists.{sets-append, sets-front}
 use Rattle.octet.specs.Decoding.{nib}
 use Rattle.blocks.specs.Block.{Block, recordsOf, blocks}
@@ -47,7 +47,7 @@ use Rattle.reader.specs.declared.two.Pair.{Pair}
 use Rattle.reader.specs.declared.two.Gave.{Gave}
 use Rattle.reader.specs.Internal.{stateIn, started, Heeded}
 use Rattle.reader.specs.Two.{roomOfTwo, streamFor, markedAll}
-use Rattle.reader.specs.InternalTwo.{tagged, Laid, aloneIn, GaveTo, HeededFor, RoomFor, pairIn, ActedOfTwo}
+use Rattle.reader.specs.InternalTwo.{tagged, Laid, aloneIn, GaveTo, HeededFor, RoomFor, pairIn, togetherOf, ActedOfTwo}
 use Rattle.reader.proofs.Tagging.{tagged-length, tagged-marked, marked-append}
 
 -- ---- one stream's verdict
@@ -265,28 +265,19 @@ module _ (s : Streams) (a : Pair) (was1 was2 p : List ℕ) (whole : length p ≡
         let j = tagged-length (s .second) (blocksAfter Second at-hand seen) in
         (omega (arith, h, both-long, y .written, z .written), omega (arith, h, b, both-long, i, j, y .blocks, z .blocks))
 
-    pub both-acted :
-        {d : Bool} → d ≡ either (a .dropped) (either (r1 .dropped) (r2 .dropped))
-        → ActedOfTwo s p a
-        (record {
-          page = v .page;
-          first = r1 .half;
-          second = r2 .half;
-          blocks = a .blocks + r1 .blocks + r2 .blocks;
-          written = a .written + r1 .written + r2 .written;
-          dropped = d;
-        }) was1 was2 now1 now2 old new
+    pub both-acted : {r : Pair} → r ≡ togetherOf a (v .page) r1 r2 → ActedOfTwo s p a r was1 was2 now1 now2 old new
     unfolding actOfTwo droppedOfTwo
-    both-acted d =
+    both-acted e =
         let m = both-marked s at-hand seen in
         let n : length (handedOfTwo at-hand seen) ≡ r1 .blocks + r2 .blocks = both-count at-hand seen ∙ rw (y .blocks, z .blocks) in
         let t : length (markedAll s (handedOfTwo at-hand seen)) ≡ length ones + length twos = rw m (length-append ones twos) in
-        record {
+        rw e
+        (record {
           page = ap (λ (u : Verdicts). u .page) verdict;
           first = y .own;
           second = z .own;
           blocks = omega (arith, n);
           written = omega (arith, t, y .written, z .written);
-          dropped = d ∙ rw (y .dropped, z .dropped);
+          dropped = rw (y .dropped, z .dropped);
           out = z .out ∙ rw (y .written, y .out, m) (sym (sets-append old (a .written) ones twos));
-        }
+        })

@@ -25,7 +25,7 @@ use Rattle.reader.specs.Feeding.{doesFor}
 use Rattle.reader.specs.Many.{Ran, begun}
 use Rattle.walk.specs.Internal.{Kept}
 use Rattle.walk.specs.Mode.{Good}
-use Rattle.reader.specs.Internal.{CameTo, ReachedBy, Acted, stateIn, RanTo, taking, packetAt, Reached, Passed}
+use Rattle.reader.specs.Internal.{CameTo, ReachedBy, Acted, stateIn, RanTo, taking, packetAt, Reached, Elsewhere, none-passed, one-passed, Passed}
 use Rattle.walk.proofs.Keeping.{holds-mode, holds-kept}
 use Rattle.walk.proofs.Adding.{recordsOf-append}
 use Rattle.walk.proofs.Room.{head-each}
@@ -146,23 +146,33 @@ further s long packets at {after = after} {store′ = store′} {old = old} {new
 
 -- nothing has been passed by yet
 pub passed-none : (s : Setting) (packets : List ℕ) (at : ℕ) → at ≤ length packets → (length packets - at) % packetLength ≡ 0 → Passed s packets at at
-passed-none s packets at h e = record { onward = le-refl at; within = h; even = e; reached = λ long a store old new whole r w. w }
+passed-none s packets at h e = record { onward = le-refl at; within = h; even = e; by = none-passed }
 
 -- a packet more is another magazine's
 pub passed-one :
     (s : Setting) (packets : List ℕ) (from at : ℕ) {x : ℕ} → Passed s packets from at → at + 42 ≤ length packets
     → x ≡ addressOf (packetAt packets at) → elsewhere s x ≡ true → Passed s packets from (at + 42)
 passed-one s packets from at p h e t =
-    let o = see-elsewhere s (packetAt packets at) (packet-length packets at h) e t in
-    record {
-      onward = omega (arith, p .onward);
-      within = h;
-      even = omega (arith, p .even, h);
-      reached =
-          λ long a store old new whole r w.
-          let q = p .reached long a store old new whole r w in
-          further s long packets at h r (act-other a new (holds-kept _ (q .1 .holds)) o) q;
-    }
+    record { onward = omega (arith, p .onward); within = h; even = omega (arith, p .even, h); by = one-passed (p .by) h (rw e at t) }
+
+-- what each of them keeps, all of them keep
+pub passed-by :
+    {s : Setting} {packets : List ℕ} {from at : ℕ} (Step : ℕ → Type 0)
+    → ((k : ℕ) → k + packetLength ≤ length packets → elsewhere s (addressOf (packetAt packets k)) ≡ true → Step k → Step (k + packetLength))
+    → Elsewhere s packets from at → Step from → Step at
+passed-by Step keeps none-passed x = x
+passed-by Step keeps (one-passed {at = k} w h e) x = keeps k h e (passed-by Step keeps w x)
+
+-- of one stream: what is left comes to the same
+pub passed-reached :
+    (s : Setting) (long : ℕ) (packets : List ℕ) {from at : ℕ} {a : Going} {store old new : List ℕ} {whole : Ran} → Passed s packets from at
+    → a .got .written + room ≤ long → Reached s long packets from a store old new whole → Reached s long packets at a store old new whole
+passed-reached s long packets {a = a} {store = store} {old = old} {new = new} {whole = whole} p r =
+    passed-by (λ (k : ℕ). Reached s long packets k a store old new whole)
+    (λ k h e w.
+    further s long packets k h r
+    (act-other a new (holds-kept _ (w .1 .holds)) (see-elsewhere s (packetAt packets k) (packet-length packets k h) refl e)) w)
+    (p .by)
 
 -- ---- the room
 

@@ -1,7 +1,7 @@
 -- What only private calls cite; nothing here needs to be believed. How the code holds what packets have come to, what one more adds, and
 -- what was heard of one packet, from what was heard of a list of one.
 use mathlib.Core.Path.{_≡_}
-use mathlib.Core.Bool.{Bool, false}
+use mathlib.Core.Bool.{Bool, true, false}
 use mathlib.Core.List.{List}
 use Prim.Native.Nat.{ℕ, _+_, _-_, _/_, _%_, _≤_, _<_}
 use lib.ListN.{length, getD, take, drop}
@@ -10,7 +10,7 @@ use Rattle.octet.specs.Decoding.{nib}
 use Rattle.blocks.specs.Block.{Block, recordsOf}
 use Rattle.packet.specs.declared.Setting.{Setting}
 use Rattle.packet.specs.Packet.{packetLength}
-use Rattle.packet.specs.Address.{addressOf}
+use Rattle.packet.specs.Address.{addressOf, elsewhere}
 use Rattle.pages.specs.declared.headers.Page.{Page}
 use Rattle.pages.specs.declared.headers.Verdict.{Verdict}
 use Rattle.pages.specs.Headers.{Seen}
@@ -19,7 +19,6 @@ use Rattle.walk.specs.declared.Got.{Got}
 use Rattle.walk.specs.declared.Taken.{Taken}
 use Rattle.walk.specs.Mode.{Mode, running}
 use Rattle.walk.specs.Store.{modeOf}
-use Rattle.walk.specs.Reading.{room}
 use Rattle.walk.specs.Internal.{Holds, Went, TookIn, ContinuedTo, ContinuedOn, ReadPacket, runs}
 use Rattle.state.specs.Acting.{State, heeded, heededBlocks, heededDrops, act, handed, dropped}
 use Rattle.reader.specs.declared.Heard.{Heard}
@@ -118,13 +117,18 @@ abbrev pub packetAt : List ℕ → ℕ → List ℕ
 packetAt packets at = take (at + packetLength - at) (drop at packets)
 
 -- from one place to another only other magazines' packets stand
+pub data Elsewhere (s : Setting) (packets : List ℕ) (from : ℕ) : ℕ → Type 0 where
+  none-passed : Elsewhere s packets from from
+  one-passed :
+      {at : ℕ} → Elsewhere s packets from at → at + packetLength ≤ length packets → elsewhere s (addressOf (packetAt packets at)) ≡ true
+      → Elsewhere s packets from (at + packetLength)
+
+-- and they are whole packets
 pub record Passed (s : Setting) (packets : List ℕ) (from at : ℕ) : Type 0 where
   pub onward : from ≤ at
   pub within : at ≤ length packets
   pub even : (length packets - at) % packetLength ≡ 0
-  pub reached :
-      (long : ℕ) (a : Going) (store old new : List ℕ) (whole : Ran) → a .got .written + room ≤ long
-      → Reached s long packets from a store old new whole → Reached s long packets at a store old new whole
+  pub by : Elsewhere s packets from at
 
 -- and the packet that is met there, if one is, has this address
 abbrev pub PassedTo : Setting → List ℕ → ℕ → Met → Type 0

@@ -3,7 +3,7 @@
 use mathlib.Core.Path.{_≡_}
 use mathlib.Core.Bool.{Bool, false}
 use mathlib.Core.List.{List, [], _∷_, _++_}
-use Prim.Native.Nat.{ℕ, _+_, _-_, _*_, _/_, _≤_}
+use Prim.Native.Nat.{ℕ, _+_, _*_, _/_, _≤_}
 use lib.ListN.{length, getD, drop}
 use lib.Seq.{sets}
 use Rattle.laws.specs.Pick.{either}
@@ -79,6 +79,18 @@ RoomFor v k page h store p q out =
 
 abbrev pub pairIn : Pair → List ℕ → List ℕ → TwoState
 pairIn a store1 store2 = record { page = a .page; first = ownHeld (a .first) store1; second = ownHeld (a .second) store2 }
+
+-- what a packet gave to each stream, with what those before gave
+abbrev pub togetherOf : Pair → SharedPage → Gave → Gave → Pair
+togetherOf a page one two =
+    record {
+      page = page;
+      first = one .half;
+      second = two .half;
+      blocks = a .blocks + one .blocks + two .blocks;
+      written = a .written + one .written + two .written;
+      dropped = either (a .dropped) (either (one .dropped) (two .dropped));
+    }
 
 -- what stood at a is now at r
 pub record SteppedTwo (s : Streams) (st : TwoState) (hs : List Handed) (d : Bool) (a r : Pair) (store1 store2 old new : List ℕ) : Type 0 where

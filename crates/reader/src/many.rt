@@ -57,9 +57,9 @@ struct Taking {
 }
 
 // The place of a packet, and its address.
-struct Met {
-    at: usize,
-    address: usize,
+pub(crate) struct Met {
+    pub at: usize,
+    pub address: usize,
 }
 
 // A list of packets of 42 bytes, taken one after the other, while at least 2,112 bytes of the output are
@@ -149,7 +149,7 @@ fn take_all(
 }
 
 // The first packet from `from` on that isn't another magazine's; the end where there is none.
-fn pass_on(setting: Setting, packets: &[u8], from: usize) -> Met
+pub(crate) fn pass_on(setting: Setting, packets: &[u8], from: usize) -> Met
     requires { ⌜ from ≤ length (now packets) ⌝ }
     requires { ⌜ (length (now packets) - from) % packetLength ≡ 0 ⌝ }
     ensures { λ r. ⌜ PassedTo setting (now (packets .entry)) from r ⌝ }

@@ -18,13 +18,14 @@ pub use state::two::Readers;
 pub use state::two::fresh;
 ghost use mathlib.Core.Path.{_≡_};
 ghost use mathlib.Core.Bool.{true};
-ghost use Prim.Native.Nat.{_+_, _%_, _≤_};
+ghost use Prim.Native.Nat.{_+_, _^_, _%_, _≤_, _<_};
 ghost use lib.ListN.{length, getD, take, drop};
 ghost use lib.Seq.{sets};
-ghost use Rattle.laws.specs.Pick.{both, either as Pick·either};
+ghost use Rattle.laws.specs.Pick.{both as Pick·both, either as Pick·either};
 ghost use Rattle.octet.specs.Decoding.{nib};
 ghost use Rattle.blocks.specs.Block.{headLength, blocks};
 ghost use Rattle.packet.specs.Packet.{packetLength};
+ghost use Rattle.packet.specs.Address.{addressOf};
 ghost use Rattle.packet.specs.Two.{inRangeOfTwo};
 ghost use Rattle.walk.specs.Reading.{room};
 ghost use Rattle.walk.specs.Internal.{Kept};
@@ -32,7 +33,7 @@ ghost use Rattle.state.specs.State.{Sixteen};
 ghost use Rattle.state.specs.Two.{readersInRange};
 ghost use Rattle.reader.specs.Many.{refusedAll};
 ghost use Rattle.reader.specs.Two.{roomOfTwo, feedHeardOfTwo, feedReadersOfTwo, feedOutOfTwo, feedAllHeardOfTwo, feedAllReadersOfTwo, feedAllOutOfTwo};
-ghost use Rattle.reader.specs.InternalTwo.{tagged, longAt, Laid, RoomFor, HeededFor, ActedOfTwo, startedOfTwo, ranOfTwoFrom, RanOfTwoTo, none-yet};
+ghost use Rattle.reader.specs.InternalTwo.{tagged, longAt, Laid, RoomFor, HeededFor, togetherOf, ActedOfTwo, startedOfTwo, ranOfTwoFrom, RanOfTwoTo, none-yet};
 
 // The bytes of output that a reader of two streams must be lent for one packet (SCOPE 27).
 pub const ROOM_OF_TWO: usize = 2176;
@@ -168,6 +169,7 @@ fn take_all(
     ensures { λ r. ⌜ RanOfTwoTo setting (ranOfTwoFrom setting (length (now (out .entry))) from (now (store1 .entry)) (now (store2 .entry)) (now (packets .entry))) (r .pair) (r .packets) (now (store1 .exit)) (now (store2 .exit)) (now (out .entry)) (now (out .exit)) ⌝ }
     ensures { λ r. ⌜ r .pair .written ≤ length (now (out .entry)) ⌝ }
 {
+    let magazine = packet::two::first(setting);
     let mut a = from;
     let mut at = 0;
     while at < packets.len() {
@@ -178,9 +180,15 @@ fn take_all(
                 packets: at / PACKET,
             };
         }
-        let next = at + PACKET;
-        a = step(setting, a, store1, store2, &packets[at..next], hold, out);
-        at = next;
+        let met = many::pass_on(magazine, packets, at);
+        at = met.at;
+        if at < packets.len() {
+            let next = at + PACKET;
+            let packet = &packets[at..next];
+            let address = met.address;
+            a = step(setting, a, address, store1, store2, packet, hold, out);
+            at = next;
+        }
     }
     TakingTwo {
         pair: a,
@@ -188,10 +196,11 @@ fn take_all(
     }
 }
 
-// One packet more: judged once, and heeded by each stream.
+// One packet more, with its address: judged once, and heeded by each stream.
 fn step(
     setting: Streams,
     a: Pair,
+    address: usize,
     store1: &mut [u8; STORE],
     store2: &mut [u8; STORE],
     packet: &[u8],
@@ -201,6 +210,7 @@ fn step(
     requires { ⌜ Kept (a .first .run) (now store1) ⌝ }
     requires { ⌜ Kept (a .second .run) (now store2) ⌝ }
     requires { ⌜ length (now packet) ≡ packetLength ⌝ }
+    requires { ⌜ address ≡ addressOf (now packet) ⌝ }
     requires { ⌜ length (now hold) ≡ room ⌝ }
     requires { ⌜ (a .written + roomOfTwo ≤ length (now out)) × (a .blocks ≤ a .written) ⌝ }
     ensures { λ r. ⌜ ActedOfTwo setting (now (packet .entry)) a r (now (store1 .entry)) (now (store2 .entry)) (now (store1 .exit)) (now (store2 .exit)) (now (out .entry)) (now (out .exit)) ⌝ }
@@ -208,7 +218,6 @@ fn step(
     let page = a.page;
     let first = a.first;
     let second = a.second;
-    let address = packet::address(packet);
     let v = pages::two::judge(setting, page, first.index, second.index, address, packet);
     let now_open = v.page;
     let mine = v.first;
@@ -236,15 +245,24 @@ fn step(
         out,
         q,
     );
+    both(a, now_open, one, two)
+}
+
+// What the packets before gave, with what this one gave to each stream.
+fn both(a: Pair, page: SharedPage, one: Gave, two: Gave) -> Pair
+    requires { ⌜ a .written + one .written + two .written < 2 ^ 64 ⌝ }
+    requires { ⌜ a .blocks + one .blocks + two .blocks < 2 ^ 64 ⌝ }
+    ensures { λ r. ⌜ r ≡ togetherOf a page one two ⌝ }
+{
     let left = one.half;
     let right = two.half;
     let dropped = either(one.dropped, two.dropped);
     Pair {
-        page: now_open,
+        page: page,
         first: left,
         second: right,
         blocks: a.blocks + one.blocks + two.blocks,
-        written: q + two.written,
+        written: a.written + one.written + two.written,
         dropped: either(a.dropped, dropped),
     }
 }
@@ -347,7 +365,7 @@ fn is_ready(
     store1: &[u8],
     store2: &[u8],
 ) -> bool
-    ensures { λ r. ⌜ r ≡ both (inRangeOfTwo setting) (readersInRange (record { page = page; first = first; second = second; store1 = now (store1 .entry); store2 = now (store2 .entry) })) ⌝ }
+    ensures { λ r. ⌜ r ≡ Pick·both (inRangeOfTwo setting) (readersInRange (record { page = page; first = first; second = second; store1 = now (store1 .entry); store2 = now (store2 .entry) })) ⌝ }
     ensures { λ r. ⌜ (r ≡ true → Sixteen (first .run) × Sixteen (second .run)) ⌝ }
 {
     if !packet::two::is_in_range(setting) {

@@ -11,7 +11,7 @@ use Rattle.reader.specs.Many.{begun}
 use Rattle.reader.specs.Internal.{stateIn, ranFrom, packetAt, Reached}
 use Rattle.walk.proofs.Keeping.{holds-kept}
 use Rattle.reader.proofs.Heeding.{acted}
-use Rattle.reader.proofs.Running.{begins, further, run-full, run-out, packet-length, still-room}
+use Rattle.reader.proofs.Running.{begins, further, run-full, run-out, packet-length, passed-reached, still-room}
 use Rattle.reader.proofs.many.take_all.Statement.{statement}
 use Rattle.reader.proofs.many.take_all.Tie as tie
 
@@ -76,7 +76,7 @@ loop-again c =
     let h : at + 42 ≤ length (now (a .packets)) = omega arith in
     let r : l .a .got .written + 2112 ≤ length (now (a .out)) = omega arith in
     let k = packet-length (now (a .packets)) at h in
-    let q = m .ensures .0 .reached _ (l .a) (l .store) (now (a .out)) (l .out) _ r (l .inv .5) in
+    let q = passed-reached (a .setting) (length (now (a .out))) (now (a .packets)) (m .ensures .0) r (l .inv .5) in
     let v = c .before .before .before .before .before .before .judge .ensures in
     let x = acted (a .setting) p (stateIn (l .a) (l .store)) _ _ _ _ _ (m .ensures .1 (omega arith)) v (c .before .before .heed .ensures) in
     let g = still-room (a .setting) p (stateIn (l .a) (l .store)) (holds-kept _ (q .1 .holds) .good) k x (l .inv .4) in (
@@ -102,7 +102,7 @@ loop-again-2 c =
       l .inv .2,
       l .inv .3,
       l .inv .4,
-      m .ensures .0 .reached _ (l .a) (l .store) (now (a .out)) (l .out) _ r (l .inv .5),
+      passed-reached (a .setting) (length (now (a .out))) (now (a .packets)) (m .ensures .0) r (l .inv .5),
     )
 
 returns-2 : tie.Need-returns-2 Inv-loop μ-loop
