@@ -17,7 +17,7 @@ use Rattle.state.specs.declared.Reader.{Reader}
 use Rattle.state.specs.declared.two.Readers.{Readers}
 use Rattle.state.specs.Acting.{State}
 use Rattle.state.specs.State.{readerOf, Sound}
-use Rattle.state.specs.Two.{TwoState, Handed, readersOf, SoundOfTwo}
+use Rattle.state.specs.Two.{TwoState, Handed, freshOfTwo, readersOf, SoundOfTwo}
 use Rattle.reader.specs.declared.Heard.{Heard}
 use Rattle.reader.specs.Feeding.{feedHeard, feedReader, feedOut}
 use Rattle.reader.specs.declared.many.HeardAll.{HeardAll}
@@ -28,7 +28,7 @@ use Rattle.claims.specs.Feeding.{feederFor, packetsOfAll}
 use Rattle.claims.specs.Tells.{TellsAll}
 use Rattle.claims.specs.Calls.{Feeds, feed, FeedsAll, feed-all, Fed}
 use Rattle.claims.specs.Two as Two
-use Rattle.claims.specs.Two.{feederForTwo, heardByTwo, FeedsTwo, FeedsAllTwo, FedOfTwo, TellsAllOfTwo}
+use Rattle.claims.specs.Two.{feederForTwo, heardByTwo, StartsTwo, FeedsTwo, FeedsAllTwo, FedOfTwo, TellsAllOfTwo}
 use Rattle.claims.proofs.Rows as Rows
 use Rattle.claims.proofs.Fed.{works}
 use Rattle.claims.proofs.FedTwo.{works-two}
@@ -80,6 +80,9 @@ pub feeds-all-two :
     {s : Streams} {r after : Readers} {l old out : List ℕ} {h : HeardAll} → FeedsAllTwo s r l old h after out
     → (h ≡ feedAllHeardOfTwo s r l old) × (after ≡ feedAllReadersOfTwo s r l old) × (out ≡ feedAllOutOfTwo s r l old)
 feeds-all-two (Two.feed-all κs a x t post) = (post .0, post .1 .0, post .1 .1)
+
+pub starts-two : {r : Readers} → StartsTwo r → r ≡ readersOf freshOfTwo
+starts-two (Two.fresh κs a x t post) = post
 
 pub feed-all-moves-of-two :
     (s : Streams) → inRangeOfTwo s ≡ true → (st : TwoState) → SoundOfTwo st → {ps : List (List ℕ)} → FortyTwo ps → 1 ≤ length ps

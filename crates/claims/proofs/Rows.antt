@@ -417,7 +417,7 @@ module _ {R S B : Type 0} (f : Feeder R S B) {Sound : S → Type 0} {Whole : B �
       (r after : R) (l old out : List ℕ) (h : HeardAll) → FeedsAll r l old h after out
       → (h ≡ feedAllHeard (f .tuned) r l old) × (after ≡ feedAllReader (f .tuned) r l old) × (out ≡ feedAllOut (f .tuned) r l old)) where
     pub as-ones :
-        {r : R} {qs : List (List ℕ)} {numbers : List ℕ} {bs : List B} → Fed f Feeds FeedsAll r qs numbers bs → (st : S) → Sound st
+        {r : R} {qs : List (List ℕ)} {numbers : List ℕ} {bs : List B} → Fed (f .tuned .does .room) (f .blocks) Feeds FeedsAll r qs numbers bs → (st : S) → Sound st
         → r ≡ f .tuned .held st → FortyTwo qs → AsOnes st qs numbers bs
     unfolding packetsOf comesOut leaves
     as-ones end st r e l = record { calls = []; packets = refl; gives = refl; taken = nil }
@@ -440,7 +440,7 @@ module _ {R S B : Type 0} (f : Feeder R S B) {Sound : S → Type 0} {Whole : B �
 
     -- so every call is accepted, and the blocks are what the packets hand out, in order
     pub fed-heard :
-        {r : R} {qs : List (List ℕ)} {numbers : List ℕ} {bs : List B} → Fed f Feeds FeedsAll r qs numbers bs → (st : S) → Sound st
+        {r : R} {qs : List (List ℕ)} {numbers : List ℕ} {bs : List B} → Fed (f .tuned .does .room) (f .blocks) Feeds FeedsAll r qs numbers bs → (st : S) → Sound st
         → r ≡ f .tuned .held st → FortyTwo qs → Each (λ number. number ≡ 0) numbers × (bs ≡ heard (f .tuned .does) st qs)
     fed-heard fed st r e l =
         let on = as-ones fed st r e l in
@@ -452,7 +452,7 @@ module _ {R S B : Type 0} (f : Feeder R S B) {Sound : S → Type 0} {Whole : B �
 module _ {R S B : Type 0} (f : Feeder R S B) {Feeds : R → List ℕ → List ℕ → Heard → R → List ℕ → Type 0}
     {FeedsAll : R → List ℕ → List ℕ → HeardAll → R → List ℕ → Type 0}
     (can : (r : R) (p old : List ℕ) → Feeds r p old (feedHeard (f .tuned) r p old) (feedReader (f .tuned) r p old) (feedOut (f .tuned) r p old)) where
-  pub can-feed-all : (r : R) (qs : List (List ℕ)) → (numbers : List ℕ) × (bs : List B) × Fed f Feeds FeedsAll r qs numbers bs
+  pub can-feed-all : (r : R) (qs : List (List ℕ)) → (numbers : List ℕ) × (bs : List B) × Fed (f .tuned .does .room) (f .blocks) Feeds FeedsAll r qs numbers bs
   can-feed-all r [] = ([], [], end)
   can-feed-all r (q ∷ qs) =
       let old : List ℕ = replicate (f .tuned .does .room) 0 in

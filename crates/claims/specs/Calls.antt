@@ -12,6 +12,7 @@ use Rattle.answer.specs.declared.Answer.the-variants.{Done, Refused}
 use Rattle.blocks.specs.Block.{Block, blocks as Block·blocks, recordOf as Block·recordOf}
 use Rattle.packet.specs.declared.Setting.{Setting}
 use Rattle.writer.specs.Cutting.{joined, cutBytes, usualPage, FortyTwo}
+use Rattle.walk.specs.Reading.{room}
 use Rattle.state.specs.declared.Reader.{Reader}
 use Rattle.reader.specs.declared.Heard.{Heard}
 use Rattle.reader.specs.declared.many.HeardAll.{HeardAll}
@@ -31,8 +32,7 @@ use Rattle.menu_reader.proofs.read_menu.Reads as menu-reader·read-menu
 use Rattle.menu_writer.proofs.write_menu.Reads as menu-writer·write-menu
 use Rattle.claims.specs.Noise.{Aired, Came}
 use Rattle.claims.specs.Damage.{streamIn, sendings, Counted, damaged}
-use Rattle.claims.specs.Rows as Rows
-use Rattle.claims.specs.Feeding.{feederFor}
+use Rattle.claims.specs.Rows.{Fed as Rows·Fed}
 use Rattle.claims.specs.Tables.{sent as Tables·sent}
 
 -- ---- each call
@@ -110,7 +110,7 @@ pub data Written (application : ℕ) : List Table → List Answer → List ℕ �
 -- packets are fed in order, the reader handed on from call to call, each call with room: the answers' numbers, and the blocks whose
 -- records the calls write
 abbrev pub Fed : Setting → Reader → List (List ℕ) → List ℕ → List Block → Type 0
-Fed s = Rows.Fed (feederFor s) (Feeds s) (FeedsAll s)
+Fed s = Rows·Fed room Block·blocks (Feeds s) (FeedsAll s)
 
 -- each block's record is handed to `read_block`, with an output of at least so many bytes: the forms that it writes, with their counts
 pub data ReadOut (application most : ℕ) : List Block → List (Counted (List ℕ)) → Type 0 where

@@ -79,36 +79,36 @@ pub record AsCalls {R S B : Type 0} (f : Feeder R S B) (r : R) (old : List ℕ) 
 
 -- packets are fed in order, the reader handed on from call to call, each call with room: the answers' numbers, and the blocks whose
 -- bytes the calls write. A call for a packet and one for a list may answer, hand back and leave what these relations say
-pub data Fed {R S B : Type 0} (f : Feeder R S B) (Feeds : R → List ℕ → List ℕ → Heard → R → List ℕ → Type 0)
+pub data Fed {R B : Type 0} (room : ℕ) (blocks : List ℕ → List B) (Feeds : R → List ℕ → List ℕ → Heard → R → List ℕ → Type 0)
     (FeedsAll : R → List ℕ → List ℕ → HeardAll → R → List ℕ → Type 0) : R → List (List ℕ) → List ℕ → List B → Type 0 where
-  end : {r : R} → Fed f Feeds FeedsAll r [] [] []
+  end : {r : R} → Fed room blocks Feeds FeedsAll r [] [] []
   -- the next packet goes to `feed`
   one :
       {r after : R} {q old out : List ℕ} {qs : List (List ℕ)} {h : Heard} {numbers : List ℕ} {bs : List B}
-      → f .tuned .does .room ≤ length old → Feeds r q old h after out → Fed f Feeds FeedsAll after qs numbers bs
-      → Fed f Feeds FeedsAll r (q ∷ qs) (numberOf h ∷ numbers) (f .blocks (take (writtenOf h) out) ++ bs)
+      → room ≤ length old → Feeds r q old h after out → Fed room blocks Feeds FeedsAll after qs numbers bs
+      → Fed room blocks Feeds FeedsAll r (q ∷ qs) (numberOf h ∷ numbers) (blocks (take (writtenOf h) out) ++ bs)
   -- at most n of those that are left go to `feed_all`; those that it doesn't take stay
   many :
       {r after : R} {old out : List ℕ} {qs : List (List ℕ)} {h : HeardAll} {numbers : List ℕ} {bs : List B} (n : ℕ)
-      → f .tuned .does .room ≤ length old → FeedsAll r (joined (take n qs)) old h after out
-      → Fed f Feeds FeedsAll after (drop (packetsOfAll h) qs) numbers bs
-      → Fed f Feeds FeedsAll r qs (numberOfAll h ∷ numbers) (f .blocks (take (writtenOfAll h) out) ++ bs)
+      → room ≤ length old → FeedsAll r (joined (take n qs)) old h after out
+      → Fed room blocks Feeds FeedsAll after (drop (packetsOfAll h) qs) numbers bs
+      → Fed room blocks Feeds FeedsAll r qs (numberOfAll h ∷ numbers) (blocks (take (writtenOfAll h) out) ++ bs)
 
 -- ---- what the answers owe, of any feed of that setting: `answer` is what it answers and `out` the output that it leaves, each of a reader, a packet
 -- or a list of them, and the output lent
 
 -- of each call to a reader that calls leave, with a packet of 42 bytes and room
-pub record Tells {R S B : Type 0} (f : Feeder R S B) (Sound : S → Type 0) (Runs : S → Type 0) (Unreadable : List ℕ → Type 0)
+pub record Tells {R S B : Type 0} (room : ℕ) (held : S → R) (blocks : List ℕ → List B) (Sound Runs : S → Type 0) (Unreadable : List ℕ → Type 0)
     (answer : R → List ℕ → List ℕ → Heard) (out : R → List ℕ → List ℕ → List ℕ) : Type 0 where
   -- it counts the records that the call writes
   pub counts :
-      (st : S) → Sound st → (c : Call (f .tuned .does .room)) → length (c .packet) ≡ packetLength
-      → countOf (answer (f .tuned .held st) (c .packet) (c .lent))
-      ≡ length (f .blocks (take (writtenOf (answer (f .tuned .held st) (c .packet) (c .lent))) (out (f .tuned .held st) (c .packet) (c .lent))))
+      (st : S) → Sound st → (c : Call room) → length (c .packet) ≡ packetLength
+      → countOf (answer (held st) (c .packet) (c .lent))
+      ≡ length (blocks (take (writtenOf (answer (held st) (c .packet) (c .lent))) (out (held st) (c .packet) (c .lent))))
   -- it says so where a block is running and the packet can't be read
   pub drops :
-      (st : S) → Sound st → (c : Call (f .tuned .does .room)) → length (c .packet) ≡ packetLength → Runs st → Unreadable (c .packet)
-      → droppedOf (answer (f .tuned .held st) (c .packet) (c .lent)) ≡ true
+      (st : S) → Sound st → (c : Call room) → length (c .packet) ≡ packetLength → Runs st → Unreadable (c .packet)
+      → droppedOf (answer (held st) (c .packet) (c .lent)) ≡ true
 
 -- of each call to such a reader with a list of packets of 42 bytes and room for one
 pub record TellsAll {R S B : Type 0} (f : Feeder R S B) (Sound : S → Type 0) (answer : R → List ℕ → List ℕ → HeardAll) (out : R → List ℕ → List ℕ → List ℕ) : Type 0 where

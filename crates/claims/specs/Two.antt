@@ -14,14 +14,14 @@ use Rattle.packet.specs.Two.{firstOf, inRangeOfTwo}
 use Rattle.pages.specs.declared.two.Whose.the-variants.{First, Second}
 use Rattle.walk.specs.Mode.{running}
 use Rattle.state.specs.declared.two.Readers.{Readers}
-use Rattle.state.specs.Two.{TwoState, Handed, handedFrom, SoundOfTwo}
+use Rattle.state.specs.Two.{TwoState, Handed, handedFrom, readersOf, SoundOfTwo}
 use Rattle.state.proofs.two.fresh.Reads as reader·fresh-two
 use Rattle.reader.specs.declared.Heard.{Heard}
 use Rattle.reader.specs.declared.many.HeardAll.{HeardAll}
 use Rattle.reader.specs.Two.{roomOfTwo, doesForTwo, tunedToTwo}
 use Rattle.reader.proofs.two.feed.Reads as reader·feed-two
 use Rattle.reader.proofs.two.feed_all.Reads as reader·feed-all-two
-use Rattle.claims.specs.Rows as Rows
+use Rattle.claims.specs.Rows.{AsCalls as Rows·AsCalls, Call as Rows·Call, Fed as Rows·Fed, Tells as Rows·Tells, TellsAll as Rows·TellsAll, comesOut as Rows·comesOut, heard as Rows·heard}
 use Rattle.claims.specs.Rows.{Feeder}
 use Rattle.claims.specs.March.{Unreadable}
 
@@ -64,23 +64,23 @@ pub data FeedsAllTwo : Streams → Readers → List ℕ → List ℕ → HeardAl
 -- ---- calls in a row
 
 abbrev pub CallOfTwo : Type 0
-CallOfTwo = Rows.Call roomOfTwo
+CallOfTwo = Rows·Call roomOfTwo
 
 -- the blocks that packets hand out, from a state on, each with whose it is
 abbrev pub heardByTwo : Streams → TwoState → List (List ℕ) → List Handed
-heardByTwo s = Rows.heard (doesForTwo s)
+heardByTwo s = Rows·heard (doesForTwo s)
 
 -- the blocks that the calls write
 abbrev pub comesOutOfTwo : Streams → Readers → List CallOfTwo → List Handed
-comesOutOfTwo s = Rows.comesOut (feederForTwo s)
+comesOutOfTwo s = Rows·comesOut (feederForTwo s)
 
 -- the one call for a list of packets says, hands back and writes what a call for each of those in front does
 abbrev pub AsCallsOfTwo : Streams → Readers → List ℕ → List CallOfTwo → List CallOfTwo → Type 0
-AsCallsOfTwo s = Rows.AsCalls (feederForTwo s)
+AsCallsOfTwo s = Rows·AsCalls (feederForTwo s)
 
 -- packets are fed in order, the state handed on from call to call, each call with room
 abbrev pub FedOfTwo : Streams → Readers → List (List ℕ) → List ℕ → List Handed → Type 0
-FedOfTwo s = Rows.Fed (feederForTwo s) (FeedsTwo s) (FeedsAllTwo s)
+FedOfTwo s = Rows·Fed roomOfTwo (handedIn s) (FeedsTwo s) (FeedsAllTwo s)
 
 -- ---- what the answers owe
 
@@ -92,7 +92,7 @@ EitherRuns st = (running (st .first .mode) ≡ true) ⊎ (running (st .second .m
 abbrev pub TellsOfTwo : (Streams → Readers → List ℕ → List ℕ → Heard) → (Streams → Readers → List ℕ → List ℕ → List ℕ) → Type 0
 TellsOfTwo heard out =
     (s : Streams) → inRangeOfTwo s ≡ true
-    → Rows.Tells (feederForTwo s) SoundOfTwo EitherRuns (Unreadable (firstOf s)) (heard s) (out s)
+    → Rows·Tells roomOfTwo readersOf (handedIn s) SoundOfTwo EitherRuns (Unreadable (firstOf s)) (heard s) (out s)
 
 abbrev pub TellsAllOfTwo : (Streams → Readers → List ℕ → List ℕ → HeardAll) → (Streams → Readers → List ℕ → List ℕ → List ℕ) → Type 0
-TellsAllOfTwo heard out = (s : Streams) → inRangeOfTwo s ≡ true → Rows.TellsAll (feederForTwo s) SoundOfTwo (heard s) (out s)
+TellsAllOfTwo heard out = (s : Streams) → inRangeOfTwo s ≡ true → Rows·TellsAll (feederForTwo s) SoundOfTwo (heard s) (out s)

@@ -11,7 +11,7 @@ use Rattle.walk.specs.Reading.{room}
 use Rattle.pages.specs.Seen.{see}
 use Rattle.state.specs.Acting.{State, act, handed, dropped}
 use Rattle.state.specs.State.{stateOf, readerOf, readerInRange}
-use Rattle.reader.specs.Calls as Calls
+use Rattle.reader.specs.Calls.{feedHeard as Calls·feedHeard, feedOut as Calls·feedOut, feedReader as Calls·feedReader, feedRules as Calls·feedRules, handedBytes as Calls·handedBytes}
 use Rattle.reader.specs.Calls.{Does, Tuned}
 pub use Rattle.reader.specs.Calls.{refusedHeard}
 
@@ -32,18 +32,18 @@ tunedTo s = record { does = doesFor s; fits = inRange s; inRange = readerInRange
 
 -- 16 for setting, state or packet, and after it 1 (SCOPE 3.5)
 abbrev pub feedRules : Setting → Reader → List ℕ → List ℕ → List Rule
-feedRules s = Calls.feedRules (tunedTo s)
+feedRules s = Calls·feedRules (tunedTo s)
 
 -- the records of the blocks that a packet finishes
 abbrev pub handedBytes : Setting → State → List ℕ → List ℕ
-handedBytes s = Calls.handedBytes (doesFor s)
+handedBytes s = Calls·handedBytes (doesFor s)
 
 -- the answer, the reader handed back, and the output afterwards
 abbrev pub feedHeard : Setting → Reader → List ℕ → List ℕ → Heard
-feedHeard s = Calls.feedHeard (tunedTo s)
+feedHeard s = Calls·feedHeard (tunedTo s)
 
 abbrev pub feedReader : Setting → Reader → List ℕ → List ℕ → Reader
-feedReader s = Calls.feedReader (tunedTo s)
+feedReader s = Calls·feedReader (tunedTo s)
 
 abbrev pub feedOut : Setting → Reader → List ℕ → List ℕ → List ℕ
-feedOut s = Calls.feedOut (tunedTo s)
+feedOut s = Calls·feedOut (tunedTo s)

@@ -28,7 +28,7 @@ use Rattle.reader.specs.declared.many.HeardAll.the-variants.{TookAll, Re
 use Rattle.reader.specs.declared.many.Going.{Going}
 use Rattle.reader.specs.declared.many.Taking.{Taking}
 use Rattle.reader.specs.declared.many.Met.{Met}
-use Rattle.reader.specs.Calls as Calls
+use Rattle.reader.specs.Calls.{Ran as Calls·Ran, run as Calls·run}
 use Rattle.reader.specs.Calls.{Does}
 use Rattle.reader.specs.Feeding.{doesFor}
 use Rattle.reader.specs.Many.{Ran, begun, run}
@@ -73,7 +73,7 @@ Acted x st = Stepped (act st x) (handed st x) (dropped st x)
 -- ---- packets one after the other, whatever a packet does
 
 -- they have come to b: so many packets, so many blocks, as so many bytes at the front of the output, and whether one was dropped
-pub record CameTo {S B : Type 0} (bytes : List B → List ℕ) (b : Calls.Ran S B) (count handed long : ℕ) (drops : Bool) (old new : List ℕ) : Type 0 where
+pub record CameTo {S B : Type 0} (bytes : List B → List ℕ) (b : Calls·Ran S B) (count handed long : ℕ) (drops : Bool) (old new : List ℕ) : Type 0 where
   pub packets : count ≡ b .packets
   pub blocks : handed ≡ length (b .blocks)
   pub written : long ≡ length (bytes (b .blocks))
@@ -81,9 +81,9 @@ pub record CameTo {S B : Type 0} (bytes : List B → List ℕ) (b : Calls.Ran S 
   pub out : new ≡ sets old 0 (bytes (b .blocks))
 
 -- what has come holds so, and what is left from the place `at` comes to the whole
-abbrev pub ReachedBy : {S B : Type 0} → Does S B → ℕ → List ℕ → ℕ → (Calls.Ran S B → Type 0) → Calls.Ran S B → Type 0
+abbrev pub ReachedBy : {S B : Type 0} → Does S B → ℕ → List ℕ → ℕ → (Calls·Ran S B → Type 0) → Calls·Ran S B → Type 0
 ReachedBy {S} {B} d long packets at Has whole =
-    (b : Calls.Ran S B) × Has b × (Calls.run d long ((length packets - at) / packetLength) b (drop at packets) ≡ whole)
+    (b : Calls·Ran S B) × Has b × (Calls·run d long ((length packets - at) / packetLength) b (drop at packets) ≡ whole)
 
 -- ---- of one stream
 

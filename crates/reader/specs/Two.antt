@@ -12,7 +12,7 @@ use Rattle.state.specs.declared.two.Readers.{Readers}
 use Rattle.state.specs.Two.{TwoState, Handed, actOfTwo, handedOfTwo, droppedOfTwo, readersInRange, twoStateOf, readersOf}
 use Rattle.reader.specs.declared.Heard.{Heard}
 use Rattle.reader.specs.declared.many.HeardAll.{HeardAll}
-use Rattle.reader.specs.Calls as Calls
+use Rattle.reader.specs.Calls.{Ran as Calls·Ran, feedAllHeard as Calls·feedAllHeard, feedAllOut as Calls·feedAllOut, feedAllReader as Calls·feedAllReader, feedAllRules as Calls·feedAllRules, feedHeard as Calls·feedHeard, feedOut as Calls·feedOut, feedReader as Calls·feedReader, feedRules as Calls·feedRules}
 use Rattle.reader.specs.Calls.{Does, Tuned}
 
 -- the bytes of output that a reader of two must be lent for one packet (SCOPE 27.5)
@@ -55,32 +55,32 @@ tunedToTwo s =
 
 -- what packets taken one after the other have come to
 abbrev pub RanOfTwo : Type 0
-RanOfTwo = Calls.Ran TwoState Handed
+RanOfTwo = Calls·Ran TwoState Handed
 
 -- ---- a list of packets: the answer, the state handed back, and the output afterwards
 
 abbrev pub feedAllRulesOfTwo : Streams → Readers → List ℕ → List ℕ → List Rule
-feedAllRulesOfTwo s = Calls.feedAllRules (tunedToTwo s)
+feedAllRulesOfTwo s = Calls·feedAllRules (tunedToTwo s)
 
 abbrev pub feedAllHeardOfTwo : Streams → Readers → List ℕ → List ℕ → HeardAll
-feedAllHeardOfTwo s = Calls.feedAllHeard (tunedToTwo s)
+feedAllHeardOfTwo s = Calls·feedAllHeard (tunedToTwo s)
 
 abbrev pub feedAllReadersOfTwo : Streams → Readers → List ℕ → List ℕ → Readers
-feedAllReadersOfTwo s = Calls.feedAllReader (tunedToTwo s)
+feedAllReadersOfTwo s = Calls·feedAllReader (tunedToTwo s)
 
 abbrev pub feedAllOutOfTwo : Streams → Readers → List ℕ → List ℕ → List ℕ
-feedAllOutOfTwo s = Calls.feedAllOut (tunedToTwo s)
+feedAllOutOfTwo s = Calls·feedAllOut (tunedToTwo s)
 
 -- ---- one packet
 
 abbrev pub feedRulesOfTwo : Streams → Readers → List ℕ → List ℕ → List Rule
-feedRulesOfTwo s = Calls.feedRules (tunedToTwo s)
+feedRulesOfTwo s = Calls·feedRules (tunedToTwo s)
 
 abbrev pub feedHeardOfTwo : Streams → Readers → List ℕ → List ℕ → Heard
-feedHeardOfTwo s = Calls.feedHeard (tunedToTwo s)
+feedHeardOfTwo s = Calls·feedHeard (tunedToTwo s)
 
 abbrev pub feedReadersOfTwo : Streams → Readers → List ℕ → List ℕ → Readers
-feedReadersOfTwo s = Calls.feedReader (tunedToTwo s)
+feedReadersOfTwo s = Calls·feedReader (tunedToTwo s)
 
 abbrev pub feedOutOfTwo : Streams → Readers → List ℕ → List ℕ → List ℕ
-feedOutOfTwo s = Calls.feedOut (tunedToTwo s)
+feedOutOfTwo s = Calls·feedOut (tunedToTwo s)
