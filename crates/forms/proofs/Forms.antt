@@ -3,7 +3,7 @@ use mathlib.Core.Path.{_≡_, _∙_, refl, sym, ap, ap₂}
 use mathlib.Core.Bool.{Bool, true, false}
 use mathlib.Core.List.{List, [], _∷_, _++_}
 use Prim.Native.Nat.{ℕ, zero, suc, _+_, _-_, _*_, _/_, _%_, _^_, _≤_, _<_}
-use native.Mathlib.Nat.{add-zero, mod-eq-of-lt, mul-comm, mul-div-cancel-left}
+use native.Mathlib.Nat.{add-zero, mod-eq-of-lt, mul-div-cancel-left}
 use native.Mathlib.Omega.{arith}
 use borrow.Author.Tests.{ltb-true, lt-ltb, le-ltb, eqb-true, eq-eqb}
 use lib.Dec.{ltb, eqb}
@@ -19,7 +19,7 @@ use Rattle.fields.proofs.Laid.{fitting-append, whole-parts, whole-first, whole-
 use Rattle.forms.specs.Writing.{formNumbered}
 use Rattle.forms.specs.Tables.{Descriptor, Table, TI, LI, known, numbered, per, entries, loops, bits, entire, fits}
 use Rattle.forms.specs.Form.{spelled, listed, openingOf, form, wordsIn, descriptorsIn, tableIn}
-use Rattle.forms.proofs.Sendable.{Sendable, Sound, sendable, sends, all-back}
+use Rattle.forms.proofs.Sendable.{Sendable, Sound, sendable, sends, parted}
 use Rattle.forms.proofs.Measures.{per-pos, length-spelled, length-listed, length-form, bits-of, eights}
 
 -- ---- the table out of its form
@@ -52,7 +52,10 @@ descriptors-back :
     (kind : ℕ) (ds : List Descriptor) → entire kind ds ≡ true → fitting (loops kind ds) ≡ true
     → descriptorsIn (per kind) (length ds) (listed kind ds) ≡ ds
 unfolding descriptorsIn
-descriptors-back kind = all-back kind (descriptorsIn (per kind)) (listed kind) (λ f. refl) (descriptor-back kind)
+descriptors-back kind [] h k = refl
+descriptors-back kind (d ∷ ds) h k =
+    let p = parted kind d ds h k in
+    descriptor-back kind d ds (p .0) ∙ ap (λ (xs : List Descriptor). d ∷ xs) (descriptors-back kind ds (p .1) (p .2))
 
 pub form-in : (t : Table) → Sendable t → tableIn (form t) ≡ t
 unfolding tableIn form openingOf whole
@@ -228,12 +231,9 @@ entire-in kind zero f = refl
 entire-in kind (suc k) f =
     let c = getD f 1 0 in
     let ws = wordsIn (per kind * c) (drop 2 f) in
-    let e : entries kind ws * per kind ≡ length ws =
-    ap (λ (n : ℕ). n / per kind * per kind) (length-words (per kind * c) (drop 2 f))
-    ∙ ap (λ (n : ℕ). n * per kind) (mul-div-cancel-left c (per-pos kind))
-    ∙ mul-comm c (per kind)
-    ∙ sym (length-words (per kind * c) (drop 2 f)) in
-    rw (eq-eqb (entries kind ws * per kind) (length ws) e) (entire-in kind k _)
+    let e : length ws ≡ per kind * entries kind ws =
+    length-words (per kind * c) (drop 2 f) ∙ ap (λ (n : ℕ). per kind * n) (sym (entries-in kind c (per kind * c) (drop 2 f) refl)) in
+    rw (eq-eqb (length ws) (per kind * entries kind ws) e) (entire-in kind k _)
 
 known-small : (kind : ℕ) → known kind ≡ true → kind < 64
 known-small kind e = go (eqb kind TI) refl (eqb kind LI) refl e

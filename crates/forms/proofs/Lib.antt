@@ -3,3 +3,4 @@ pub mod Sendable
 pub mod Forms
 pub mod Judging
 mod Words
+pub mod Formats

@@ -34,7 +34,7 @@ unfolding width loops
 width-loops kind d ds = rw (width-append, width-row) (omega arith)
 
 pub bits-of : (t : Table) → bits t ≡ 58 + width (loops (t .kind) (t .descriptors))
-unfolding width fields
+unfolding width fields loops
 bits-of t = omega arith
 
 -- ---- bytes of the form

@@ -1,11 +1,11 @@
--- A TI or LI table as a value, and the fields that tables 15 and 17 lay out for it.
-use mathlib.Core.Bool.{Bool, true}
-use mathlib.Core.List.{List, [], _∷_, _++_}
+-- A TI or LI table as a value, and the format that tables 15 and 17 have for it.
+use mathlib.Core.Bool.{Bool}
+use mathlib.Core.List.{List}
 use Prim.Native.Nat.{ℕ, _+_, _*_, _/_, _-_}
-use lib.Dec.{eqb}
 use lib.ListN.{length}
 use Rattle.laws.specs.Pick.{both}
-use Rattle.fields.specs.Fields.{Field, alike, width, fitting}
+use Rattle.fields.specs.Fields.{Field, width}
+use Rattle.codecs.specs.Codec.{Codec, fit, number, numbers, then, rowFields, rowWhole, seen, counted}
 pub use Rattle.forms.specs.Kinds.{TI, LI, known, numbered}
 unfoldable pub use Rattle.forms.specs.Kinds.{per}
 
@@ -26,26 +26,58 @@ pub record Table : Type 0 where
 abbrev pub entries : ℕ → List ℕ → ℕ
 entries kind words = length words / per kind
 
--- the loops of tables 15 and 17
-unfoldable pub loops : ℕ → List Descriptor → List Field
-loops kind [] = []
-loops kind (d ∷ ds) =
-    (6, d .id) ∷ (4, entries kind (d .words)) ∷ alike 24 (d .words) ++ loops kind ds
+-- a descriptor of tables 15 and 17, whose entries have `each` words: descriptor_id, the number of entries, the entries
+abbrev pub descriptor : ℕ → Codec Descriptor
+descriptor each =
+    seen (λ d. (d .id, (length (d .words) / each, d .words))) (λ r. record { id = r .0; words = r .1 .1 })
+    (then (number 6) (λ id. then (number 4) (λ entries. numbers 24 (each * entries))))
 
--- tables 15 and 17 from checksum on (SCOPE 12.2, 12.3), with what isn't the table's own: checksum, control_block_size and
--- reserved_for_future_use. CA_mode is 0: free to everyone (11.1.3; SCOPE 12.8)
+-- what a block of a table carries: the table, with what isn't its own
+pub record Sent : Type 0 where
+  pub checksum : ℕ
+  pub control : ℕ
+  pub access : ℕ
+  pub reserved : ℕ
+  pub table : Table
+
+-- its values in the order in which they stand
+abbrev pub Ordered : Type 0
+Ordered = ℕ × (ℕ × (ℕ × (ℕ × (ℕ × (ℕ × (ℕ × (ℕ × List Descriptor)))))))
+
+abbrev pub ordered : Sent → Ordered
+ordered s =
+    let t = s .table in
+    (s .checksum, (s .control, (t .kind, (s .access, (t .copyright, (s .reserved, (t .block, (t .network, t .descriptors))))))))
+
+abbrev pub named : Ordered → Sent
+named (checksum, (control, (kind, (access, (copyright, (reserved, (block, (network, descriptors)))))))) =
+    record {
+      checksum = checksum;
+      control = control;
+      access = access;
+      reserved = reserved;
+      table = record { kind = kind; copyright = copyright; block = block; network = network; descriptors = descriptors };
+    }
+
+-- tables 15 and 17 from checksum on (SCOPE 12.2, 12.3): checksum, control_block_size, datatype_id, CA_mode, copyright,
+-- reserved_for_future_use, block_no, netwop_no, the number of descriptors, the descriptors
+abbrev pub format : Codec Sent
+format =
+    seen ordered named
+    (then (number 8) (λ checksum. then (number 10) (λ control. then (number 6) (λ kind. then (number 2) (λ access.
+    then (number 1) (λ copyright. then (number 1) (λ reserved. then (number 16) (λ block. then (number 8) (λ network.
+    counted 6 (descriptor (per kind)))))))))))
+
+-- a table with what isn't its own. CA_mode is 0: free to everyone (11.1.3; SCOPE 12.8)
+abbrev pub sent : ℕ → ℕ → ℕ → Table → Sent
+sent checksum control reserved t = record { checksum = checksum; control = control; access = 0; reserved = reserved; table = t }
+
+-- the fields that are laid for it, and those of its loops
 unfoldable pub fields : ℕ → ℕ → ℕ → Table → List Field
-fields checksum control reserved t =
-    (8, checksum)
-    ∷ (10, control)
-    ∷ (6, t .kind)
-    ∷ (2, 0)
-    ∷ (1, t .copyright)
-    ∷ (1, reserved)
-    ∷ (16, t .block)
-    ∷ (8, t .network)
-    ∷ (6, length (t .descriptors))
-    ∷ loops (t .kind) (t .descriptors)
+fields checksum control reserved t = format .fields (sent checksum control reserved t)
+
+unfoldable pub loops : ℕ → List Descriptor → List Field
+loops kind ds = rowFields (descriptor (per kind)) ds
 
 -- how many bits these are
 abbrev pub bits : Table → ℕ
@@ -65,12 +97,9 @@ size t = 2 * control t
 
 -- every entry is whole
 unfoldable pub entire : ℕ → List Descriptor → Bool
-entire kind [] = true
-entire kind (d ∷ ds) = both (eqb (entries kind (d .words) * per kind) (length (d .words))) (entire kind ds)
+entire kind ds = rowWhole (descriptor (per kind)) ds
 
 -- a table that can be sent: of a kind that is read, with a block number of this edition, its entries whole, and each value fitting its
 -- field; what doesn't fit control_block_size is a table of more than 8,184 bits (SCOPE 2.1, number 15)
 unfoldable pub fits : Table → Bool
-fits t =
-    both (known (t .kind))
-    (both (numbered (t .block)) (both (entire (t .kind) (t .descriptors)) (fitting (fields 0 (control t) 0 t))))
+fits t = both (known (t .kind)) (both (numbered (t .block)) (fit format (sent 0 (control t) 0 t)))

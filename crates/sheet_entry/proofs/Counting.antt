@@ -3,7 +3,7 @@ use mathlib.Core.Path.{_≡_, _∙_, refl, sym, ap}
 use mathlib.Core.Bool.{Bool, true, false}
 use mathlib.Core.List.{List, [], _∷_, _++_}
 use Prim.Native.Nat.{ℕ, _+_, _*_, _^_, _≤_, _<_}
-use native.Mathlib.Nat.{mul-comm, mul-add, mul-zero}
+use native.Mathlib.Nat.{mul-add, mul-zero}
 use native.Mathlib.Omega.{arith}
 use borrow.Author.Tests.{lt-ltb, le-ltb, ltb-true, ltb-false, lt-leb, leb-true, leb-false, eq-eqb, eqb-true}
 use lib.Dec.{eqb, ltb, leb}
@@ -36,9 +36,8 @@ all-entire : (kind : ℕ) (ds : List Descriptor) → Each same descriptorAt Desc
 unfolding entire
 all-entire kind [] none = refl
 all-entire kind (d ∷ ds) (more p ps) =
-    both-holds (eqb (entries kind (d .words) * per kind) (length (d .words))) (entire kind ds)
-    (eq-eqb (entries kind (d .words) * per kind) (length (d .words)) (mul-comm (entries kind (d .words)) (per kind) ∙ sym (words-count kind d p)))
-    (all-entire kind ds ps)
+    let n = per kind * entries kind (d .words) in
+    both-holds (eqb (length (d .words)) n) (entire kind ds) (eq-eqb (length (d .words)) n (words-count kind d p)) (all-entire kind ds ps)
 
 -- each count fits its field where none is over it
 loops-fit : (kind : ℕ) (ds : List Descriptor) → Each same descriptorAt Described kind ds → overIn kind ds ≡ false → fitting (loops kind ds) ≡ true

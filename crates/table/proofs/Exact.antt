@@ -5,7 +5,7 @@ use mathlib.Core.Path.{_≡_, _∙_, refl, sym, ap, ap₂, subst}
 use mathlib.Core.Bool.{true}
 use mathlib.Core.Logic.{_↔_}
 use mathlib.Core.List.{List}
-use Prim.Native.Nat.{ℕ, _+_, _-_, _*_, _/_, _%_, _^_, _≤_, _<_}
+use Prim.Native.Nat.{ℕ, _+_, _*_, _/_, _%_, _^_, _≤_, _<_}
 use native.Mathlib.Nat.{mod-eq-of-lt}
 use native.Mathlib.Omega.{arith}
 use borrow.Author.Tests.{le-ltb, eqb-true, eq-eqb}
@@ -19,9 +19,11 @@ use Rattle.answer.proofs.Lent.{front-holds, back-holds}
 use Rattle.answer.proofs.Steps.{first-holds, others-hold}
 use Rattle.octet.specs.Decoding.{nib}
 use Rattle.octet.proofs.Hearing.{harms-le}
-use Rattle.fields.specs.Fields.{width, laid, field, parts, whole}
+use Rattle.fields.specs.Fields.{width, laid, fitting, parts, whole}
 use Rattle.fields.proofs.Laid.{laid-lt, field-lt, length-parts, whole-lt, whole-parts}
-use Rattle.forms.specs.Tables.{Table, known, numbered, fields, bits, control, fill, size}
+use Rattle.codecs.specs.Codec.{fit}
+use Rattle.forms.specs.Tables.{Table, Sent, known, numbered, format, sent, fields, bits, control, fill, size}
+use Rattle.forms.proofs.Formats.{format-lawful}
 use Rattle.sums.specs.Block.{header, headOf, nibblesOf, mendedIn, InRange, nibbles, checksumOf, Says}
 use Rattle.sums.specs.Sums.{checksum, sound}
 use Rattle.table.specs.Control.{tableOf}
@@ -29,31 +31,34 @@ use Rattle.frames.specs.Framing.{framing}
 use Rattle.frames.proofs.Framed.{Framed, framed, frame-holds, header-of, headed, accepts}
 use Rattle.table.specs.Reading.{accepted, refused, frontRules, wholeRules, bodyRules, readRules, tableRead, readBlock}
 use Rattle.table.specs.Lengths.{blockNumbered, lengthRules}
-use Rattle.forms.proofs.Sendable.{Sendable, sendable, sends}
+use Rattle.forms.proofs.Sendable.{Sendable, fit-sendable, sendable, sent-fits, sends}
 use Rattle.sums.proofs.Summing.{checksum-lt}
 use Rattle.sums.proofs.Nibbles.{sound-parts, parts-sound, sound-take, sum-apart}
-use Rattle.table.proofs.Inverse.{relaid, read-sendable, reread, at-sum, at-control, at-access}
 use Rattle.forms.proofs.Measures.{bits-of}
 
 -- ---- accepted: every rule holds
 
--- what every rule of reading says, of a record whose nibbles make n
-record Taken (application : ℕ) (r : List ℕ) (n : ℕ) : Type 0 where
+-- what every rule of reading says, of a record that carries s
+record Taken (application : ℕ) (r : List ℕ) (s : Sent) : Type 0 where
   frame : Framed application r
-  known-kind : known (field 18 6 n) ≡ true
-  clear : field 24 2 n ≡ 0
+  known-kind : known (s .table .kind) ≡ true
+  clear : s .access ≡ 0
   decodes : sound (nibblesOf r) ≡ length (nibblesOf r)
-  agrees : field 0 8 n ≡ checksum (headOf r) (nibblesOf r)
-  edition : numbered (field 28 16 n) ≡ true
-  control-said : field 8 10 n ≡ control (tableOf n)
-  size-said : headOf r / 32 ≡ size (tableOf n)
+  agrees : s .checksum ≡ checksum (headOf r) (nibblesOf r)
+  edition : numbered (s .table .block) ≡ true
+  control-said : s .control ≡ control (s .table)
+  size-said : headOf r / 32 ≡ size (s .table)
+
+-- what a record carries
+carried : List ℕ → Sent
+carried r = format .read (whole 4 (nibblesOf r))
 
 -- a block of 12 bytes or more holds its number
 held-number : (blockSize block : ℕ) → 12 ≤ blockSize → blockNumbered blockSize block ≡ true → numbered block ≡ true
 held-number blockSize block h e = rw (le-ltb blockSize 12 h) at e
 
-taken : (application : ℕ) (r : List ℕ) → Every (readRules application r) → Taken application r (whole 4 (nibblesOf r))
-unfolding frontRules wholeRules lengthRules tableOf
+taken : (application : ℕ) (r : List ℕ) → Every (readRules application r) → Taken application r (carried r)
+unfolding frontRules wholeRules lengthRules carried
 taken application r e₀ =
     let body = bodyRules (headOf r) (nibblesOf r) in
     let e₆ = others-hold (back-holds (framing application r) body e₀) in
@@ -61,18 +66,19 @@ taken application r e₀ =
     let e₉ = others-hold e₈ in
     let e₁₀ = others-hold e₉ in
     let e₁₁ = others-hold e₁₀ in
-    let n = whole 4 (nibblesOf r) in
-    let p = both-true (known (field 18 6 n)) (eqb (field 24 2 n) 0) (first-holds e₆) in
-    let q = both-true (eqb (field 8 10 n) (control (tableOf n))) (eqb (headOf r / 32) (size (tableOf n))) (first-holds e₁₁) in
-    let size-said : headOf r / 32 ≡ size (tableOf n) = eqb-true (headOf r / 32) (size (tableOf n)) (q .1) in
+    let s = carried r in
+    let t = s .table in
+    let p = both-true (known (t .kind)) (eqb (s .access) 0) (first-holds e₆) in
+    let q = both-true (eqb (s .control) (control t)) (eqb (headOf r / 32) (size t)) (first-holds e₁₁) in
+    let size-said : headOf r / 32 ≡ size t = eqb-true (headOf r / 32) (size t) (q .1) in
     record {
       frame = framed application r (front-holds (framing application r) body e₀);
       known-kind = p .0;
-      clear = eqb-true (field 24 2 n) 0 (p .1);
+      clear = eqb-true (s .access) 0 (p .1);
       decodes = eqb-true (sound (nibblesOf r)) (length (nibblesOf r)) (first-holds e₈);
-      agrees = eqb-true (field 0 8 n) (checksum (headOf r) (nibblesOf r)) (first-holds e₉);
-      edition = held-number (headOf r / 32) (field 28 16 n) (omega (arith, size-said, bits-of (tableOf n))) (first-holds e₁₀);
-      control-said = eqb-true (field 8 10 n) (control (tableOf n)) (q .0);
+      agrees = eqb-true (s .checksum) (checksum (headOf r) (nibblesOf r)) (first-holds e₉);
+      edition = held-number (headOf r / 32) (t .block) (omega (arith, size-said, bits-of t)) (first-holds e₁₀);
+      control-said = eqb-true (s .control) (control t) (q .0);
       size-said = size-said;
     }
 
@@ -86,98 +92,93 @@ nibbles-sound : (sum reserved filling : ℕ) (t : Table) → sound (nibbles sum 
 unfolding nibbles
 nibbles-sound sum reserved filling t = parts-sound (size t) _
 
+-- the width goes by the table alone
+bits-any : (s : Sent) → width (format .fields s) ≡ bits (s .table)
+unfolding width fields
+bits-any s = refl
+
 -- ---- accepted as the table that it says
 
-says : (application : ℕ) (r : List ℕ) → Taken application r (whole 4 (nibblesOf r)) → Says application r (tableRead r)
+says : (application : ℕ) (r : List ℕ) → Taken application r (carried r) → Says application r (carried r .table)
+unfolding carried fields
 says application r k =
     let ns = nibblesOf r in
     let n = whole 4 ns in
-    let t = tableOf n in
-    let reserved = field 27 1 n in
+    let s = carried r in
+    let t = s .table in
     let filling = n / 2 ^ bits t in
-    let s : Sendable t = read-sendable n (k .known-kind) (k .edition) (k .control-said) in
+    let fits-it : fit format s ≡ true = both-holds (format .whole s) (fitting (format .fields s)) (format-lawful .entire n) (format-lawful .fits n) in
+    let can : Sendable t = fit-sendable s (k .known-kind) (k .edition) (k .control-said) fits-it in
     let long : length ns ≡ size t =
     unfold nibblesOf in omega (arith, length-map (drop 4 r) nib, length-drop 4 r, k .frame .long, k .size-said) in
     let wide : length ns * 4 ≡ fill t + bits t = omega arith in
     let below : n < 2 ^ (fill t + bits t) = subst (λ (x : ℕ). n < 2 ^ x) wide (whole-lt 4 ns) in
     let h : headOf r ≡ laid (header application (size t)) 0 =
-    header-of application (size t) (headOf r) (k .frame .within) (omega (arith, s .control-fits)) (k .frame .ours) (k .size-said) in
-    let all : n ≡ laid (fields (field 0 8 n) (control t) reserved t) filling =
-    relaid n (k .clear) ∙ ap (λ (c : ℕ). laid (fields (field 0 8 n) c reserved t) filling) (k .control-said) in
-    let own : ns ≡ nibbles (field 0 8 n) reserved filling t =
-    sym (sound-parts ns (k .decodes)) ∙ ap₂ (parts 4) long all ∙ unfold-nibbles (field 0 8 n) reserved filling t in
-    let sum : field 0 8 n ≡ checksumOf application reserved filling t =
+    header-of application (size t) (headOf r) (k .frame .within) (omega (arith, can .control-fits)) (k .frame .ours) (k .size-said) in
+    let own-fields : format .fields s ≡ fields (s .checksum) (control t) (s .reserved) t =
+    ap₂ (λ (a c : ℕ). format .fields (record { checksum = s .checksum; control = c; access = a; reserved = s .reserved; table = t })) (k .clear) (k .control-said) in
+    let all : n ≡ laid (fields (s .checksum) (control t) (s .reserved) t) filling =
+    format-lawful .again n ∙ ap₂ laid own-fields (ap (λ (x : ℕ). n / 2 ^ x) (bits-any s)) in
+    let own : ns ≡ nibbles (s .checksum) (s .reserved) filling t =
+    sym (sound-parts ns (k .decodes)) ∙ ap₂ (parts 4) long all ∙ unfold-nibbles (s .checksum) (s .reserved) filling t in
+    let sum : s .checksum ≡ checksumOf application (s .reserved) filling t =
     k .agrees ∙ ap₂ checksum h own
-    ∙ (unfold checksumOf in sum-apart (laid (header application (size t)) 0) (field 0 8 n) 0 reserved filling t) in
+    ∙ (unfold checksumOf in sum-apart (laid (header application (size t)) 0) (s .checksum) 0 (s .reserved) filling t) in
     record {
-      reserved = reserved;
+      reserved = s .reserved;
       filling = filling;
       within = k .frame .within;
-      sendable = sends t s;
-      bit = field-lt 27 1 n;
+      sendable = sends t can;
+      bit = field-lt 0 1 _;
       filled = shr-lt (fill t) (bits t) below;
       head = h;
-      body = own ∙ ap (λ (x : ℕ). nibbles x reserved filling t) sum;
+      body = own ∙ ap (λ (x : ℕ). nibbles x (s .reserved) filling t) sum;
     }
 
 -- ---- what says a table is accepted as it
-
--- the width goes by the table alone
-bits-any : (sum c reserved : ℕ) (t : Table) → width (fields sum c reserved t) ≡ bits t
-unfolding width fields
-bits-any sum c reserved t = refl
 
 module _ (application : ℕ) (r : List ℕ) (t : Table) (s : Says application r t) where
   sum : ℕ
   sum = checksumOf application (s .reserved) (s .filling) t
 
-  block : ℕ
-  block = laid (fields sum (control t) (s .reserved) t) (s .filling)
+  -- what it carries
+  its-own : Sent
+  its-own = sent sum (control t) (s .reserved) t
 
   can : Sendable t
   can = sendable t (s .sendable)
 
-  whole-said : whole 4 (nibblesOf r) ≡ block
-  unfolding block nibbles sum
-  whole-said =
-      let wide : fill t + width (fields sum (control t) (s .reserved) t) ≡ size t * 4 =
-      ap (λ (x : ℕ). fill t + x) (bits-any sum (control t) (s .reserved) t) ∙ omega arith in
-      let below = subst (λ (x : ℕ). block < 2 ^ x) wide (laid-lt (fields sum (control t) (s .reserved) t) (s .filling) (fill t) (s .filled)) in
-      ap (whole 4) (s .body) ∙ whole-parts 4 (size t) block ∙ mod-eq-of-lt below
+  sum-lt : sum < 256
+  unfolding sum checksumOf
+  sum-lt = checksum-lt (laid (header application (size t)) 0) (nibbles 0 (s .reserved) (s .filling) t)
 
-  table-said : tableRead r ≡ t
-  unfolding block
-  table-said = ap tableOf whole-said ∙ reread sum (control t) (s .reserved) (s .filling) t can
+  carried-said : its-own ≡ carried r
+  unfolding nibbles sum carried its-own fields
+  carried-said =
+      let block = laid (format .fields its-own) (s .filling) in
+      let wide : fill t + width (format .fields its-own) ≡ size t * 4 = ap (λ (x : ℕ). fill t + x) (bits-any its-own) ∙ omega arith in
+      let below = subst (λ (x : ℕ). block < 2 ^ x) wide (laid-lt (format .fields its-own) (s .filling) (fill t) (s .filled)) in
+      let f = both-true (format .whole its-own) _ (sent-fits sum (control t) (s .reserved) t can sum-lt (can .control-fits) (s .bit)) in
+      sym (ap (format .read) (ap (whole 4) (s .body) ∙ whole-parts 4 (size t) block ∙ mod-eq-of-lt below) ∙ format-lawful .back its-own (s .filling) (f .0) (f .1))
 
   long-said : length (nibblesOf r) ≡ size t
   unfolding nibbles
   long-said = ap length (s .body) ∙ length-parts 4 (size t) _
 
-  kind-said : t .kind ≡ field 18 6 (whole 4 (nibblesOf r))
-  unfolding tableOf
-  kind-said = ap (λ (x : Table). x .kind) (sym table-said)
-
-  block-said : t .block ≡ field 28 16 (whole 4 (nibblesOf r))
-  unfolding tableOf
-  block-said = ap (λ (x : Table). x .block) (sym table-said)
-
-  sum-said : sum % 256 ≡ checksum (headOf r) (nibblesOf r)
+  sum-said : sum ≡ checksum (headOf r) (nibblesOf r)
   unfolding sum checksumOf
   sum-said =
       let head = laid (header application (size t)) 0 in
-      let own = checksumOf application (s .reserved) (s .filling) t in
-      mod-eq-of-lt (checksum-lt head (nibbles 0 (s .reserved) (s .filling) t))
-      ∙ sum-apart head 0 own (s .reserved) (s .filling) t
-      ∙ sym (ap₂ checksum (s .head) (s .body))
+      sum-apart head 0 (checksumOf application (s .reserved) (s .filling) t) (s .reserved) (s .filling) t ∙ sym (ap₂ checksum (s .head) (s .body))
 
-  said : InRange r → Taken application r (whole 4 (nibblesOf r))
-  unfolding block sum
+  said : InRange r → Taken application r (carried r)
+  unfolding sum its-own
   said i =
       let head = headed application (size t) (headOf r) (s .within) (omega (arith, can .control-fits)) (s .head) in
       let long : length r ≡ 4 + size t =
       unfold nibblesOf in omega (arith, long-said, length-map (drop 4 r) nib, length-drop 4 r, bits-of t) in
-      let c = control t in
-      record {
+      subst (Taken application r) carried-said
+      (record {
         frame =
             record {
               within = s .within;
@@ -186,38 +187,37 @@ module _ (application : ℕ) (r : List ℕ) (t : Table) (s : Says application r 
               ours = head .0;
               eight = omega (arith, head .1, bits-of t);
             };
-        known-kind = rw kind-said at (can .kind-known);
-        clear = rw whole-said (at-access sum c (s .reserved) (s .filling) t can);
+        known-kind = can .kind-known;
+        clear = refl;
         decodes = ap sound (s .body) ∙ nibbles-sound sum (s .reserved) (s .filling) t ∙ sym long-said;
-        agrees = rw whole-said (at-sum sum c (s .reserved) (s .filling) t can) ∙ sum-said;
-        edition = rw block-said at (can .edition);
-        control-said =
-            rw table-said (rw whole-said (at-control sum c (s .reserved) (s .filling) t can ∙ mod-eq-of-lt (can .control-fits)));
-        size-said = rw table-said (head .1);
-      }
+        agrees = sum-said;
+        edition = can .edition;
+        control-said = refl;
+        size-said = head .1;
+      })
 
 -- ---- and so every rule holds
 
-every : (application : ℕ) (r : List ℕ) → Taken application r (whole 4 (nibblesOf r)) → Every (readRules application r)
-unfolding frontRules wholeRules lengthRules tableOf
+every : (application : ℕ) (r : List ℕ) → Taken application r (carried r) → Every (readRules application r)
+unfolding frontRules wholeRules lengthRules carried
 every application r k =
     let ns = nibblesOf r in
-    let n = whole 4 ns in
-    let t = tableOf n in
+    let s = carried r in
+    let t = s .table in
     let long : length ns ≡ headOf r / 32 =
     unfold nibblesOf in omega (arith, length-map (drop 4 r) nib, length-drop 4 r, k .frame .long) in
     let front = sound-take 8 ns (k .decodes) (omega (arith, k .frame .eight)) in
-    let numbers : blockNumbered (headOf r / 32) (field 28 16 n) ≡ true = rw (k .edition) (either-true (ltb (headOf r / 32) 12)) in
+    let numbers : blockNumbered (headOf r / 32) (t .block) ≡ true = rw (k .edition) (either-true (ltb (headOf r / 32) 12)) in
     let even : headOf r / 32 % 2 ≡ 0 = omega (arith, k .size-said) in
     every-append (frame-holds application r (k .frame))
     (more (eq-eqb (sound (take 8 ns)) 8 front)
-    (more (both-holds (known (field 18 6 n)) (eqb (field 24 2 n) 0) (k .known-kind) (eq-eqb (field 24 2 n) 0 (k .clear)))
+    (more (both-holds (known (t .kind)) (eqb (s .access) 0) (k .known-kind) (eq-eqb (s .access) 0 (k .clear)))
     (more (eq-eqb (headOf r / 32 % 2) 0 even)
     (more (eq-eqb (sound ns) (length ns) (k .decodes))
-    (more (eq-eqb (field 0 8 n) (checksum (headOf r) ns) (k .agrees))
+    (more (eq-eqb (s .checksum) (checksum (headOf r) ns) (k .agrees))
     (more numbers
     (more
-    (both-holds (eqb (field 8 10 n) (control t)) (eqb (headOf r / 32) (size t)) (eq-eqb (field 8 10 n) (control t) (k .control-said))
+    (both-holds (eqb (s .control) (control t)) (eqb (headOf r / 32) (size t)) (eq-eqb (s .control) (control t) (k .control-said))
     (eq-eqb (headOf r / 32) (size t) (k .size-said)))
     none)))))))
 
@@ -228,7 +228,7 @@ every application r k =
 pub accepted-says :
     (application : ℕ) (r : List ℕ) (t : Table) (c : ℕ) → readBlock application r ≡ accepted t c
     → Says application r t × (c ≡ mendedIn r) × InRange r
-unfolding readBlock
+unfolding readBlock carried tableOf
 accepted-says application r t c e =
     let a = accepts (readRules application r) (tableRead r) t (mendedIn r) c e in
     let k = taken application r (a .0) in
@@ -236,10 +236,10 @@ accepted-says application r t c e =
 
 pub says-accepted :
     (application : ℕ) (r : List ℕ) (t : Table) → InRange r → Says application r t → readBlock application r ≡ accepted t (mendedIn r)
-unfolding readBlock
+unfolding readBlock carried tableOf its-own
 says-accepted application r t i s =
     passes refused (accepted (tableRead r) (mendedIn r)) (every application r (said application r t s i))
-    ∙ ap (λ (x : Table). accepted x (mendedIn r)) (table-said application r t s)
+    ∙ ap (λ (x : Sent). accepted (x .table) (mendedIn r)) (sym (carried-said application r t s))
 
 pub reads-exactly :
     (application : ℕ) (r : List ℕ) (t : Table) (c : ℕ) → InRange r
@@ -254,12 +254,11 @@ reads-exactly application r t c i = (to, from)
 
 -- a count is at most 5 and the greatest size that a table can have
 pub mended-most : (application : ℕ) (r : List ℕ) → Every (readRules application r) → mendedIn r ≤ 2051
-unfolding mendedIn
+unfolding mendedIn carried
 mended-most application r e =
     let k = taken application r e in
-    let n = whole 4 (nibblesOf r) in
     let harmed = harms-le (drop 4 r) in
-    let c : control (tableOf n) < 1024 = rw (k .control-said) at (field-lt 8 10 n) in
+    let c : control (carried r .table) < 1024 = subst (λ (x : ℕ). x < 1024) (k .control-said) (field-lt 0 10 _) in
     omega (arith, harmed, length-drop 4 r, k .frame .long, k .size-said, k .frame .in-range .part)
 
 -- in particular each of its bytes decodes

@@ -1,5 +1,5 @@
 pub mod Judging
-pub mod Inverse
+pub mod Places
 pub mod Exact
 pub mod Back
 pub mod Noise

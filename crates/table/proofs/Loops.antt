@@ -1,6 +1,7 @@
 -- The descriptors of a block as they are read: how a walk along them counts the bits, and what room their form takes. Assumes
 -- nothing.
 use mathlib.Core.Path.{_≡_, _∙_, sym, ap, subst}
+use mathlib.Core.List.{List}
 use Prim.Native.Nat.{ℕ, suc, _+_, _-_, _*_, _/_, _^_, _≤_, _<_}
 use native.Mathlib.Nat.{add-zero}
 use native.Mathlib.Omega.{arith}
@@ -9,11 +10,12 @@ use lib.Pow.{shr-shr}
 use Rattle.fields.specs.Fields.{width, field}
 use Rattle.fields.specs.declared.Opening.{Opening}
 use Rattle.fields.proofs.Laid.{length-parts, field-past}
-use Rattle.forms.specs.Tables.{per, loops, bits}
+use Rattle.forms.specs.Tables.{Descriptor, per, format, loops, bits}
 use Rattle.forms.specs.Form.{form}
 use Rattle.forms.proofs.Measures.{width-loops, bits-of, length-form, eights}
-use Rattle.table.specs.Control.{descriptorsOf, tableBy}
-use Rattle.table.proofs.Written.{length-descriptors}
+use Rattle.table.specs.Control.{descriptorsOf}
+use Rattle.table.specs.Internal.{openingBy}
+use Rattle.table.proofs.Places.{descriptors-on, loops-at}
 
 -- one descriptor on, at the place `at` of the bits n
 pub walk-step :
@@ -21,8 +23,7 @@ pub walk-step :
     → let words = each * field (at + 6) 4 n in
     width (loops kind (descriptorsOf each (suc k) (n / 2 ^ at)))
     ≡ 10 + 24 * words + width (loops kind (descriptorsOf each k (n / 2 ^ (at + (10 + 24 * words)))))
-unfolding descriptorsOf
-walk-step kind each k n at = rw (width-loops, length-parts, field-past, shr-shr)
+walk-step kind each k n at = rw (descriptors-on, width-loops, length-parts, field-past, shr-shr)
 
 -- the same as the loop has it: what is passed and what is left make the whole
 pub walk-on :
@@ -46,12 +47,16 @@ walk-end kind left n at whole h inv =
     ∙ subst (λ (k : ℕ). at + width (loops kind (descriptorsOf (per kind) k (n / 2 ^ at))) ≡ whole) e inv
 
 -- what is measured are the table's bits, and the form's bytes go by them
-module _ (o : Opening) (n b : ℕ) where
+module _ (o : Opening) (n b : ℕ) (opens : o ≡ openingBy (format .read n)) where
   pub measured :
-      b ≡ 58 + width (loops (o .kind) (descriptorsOf (per (o .kind)) (o .count) (n / 2 ^ 58))) → b ≡ bits (tableBy o n)
-  measured e = e ∙ sym (bits-of (tableBy o n))
+      b ≡ 58 + width (loops (o .kind) (descriptorsOf (per (o .kind)) (o .count) (n / 2 ^ 58))) → b ≡ bits (format .read n .table)
+  measured e =
+      let t = format .read n .table in
+      e ∙ ap (λ (p : Opening). 58 + width (loops (p .kind) (descriptorsOf (per (p .kind)) (p .count) (n / 2 ^ 58)))) opens
+      ∙ ap (λ (ds : List Descriptor). 58 + width (loops (t .kind) ds)) (sym (loops-at n))
+      ∙ sym (bits-of t)
 
-  pub form-need : b ≡ bits (tableBy o n) → 6 + (b - 58 + 6 * o .count) / 8 ≡ length (form (tableBy o n))
+  pub form-need : b ≡ bits (format .read n .table) → 6 + (b - 58 + 6 * o .count) / 8 ≡ length (form (format .read n .table))
   form-need e =
-      let ds = tableBy o n .descriptors in
-      omega (arith, bits-of (tableBy o n), length-form (tableBy o n), eights (o .kind) ds, length-descriptors (per (o .kind)) (o .count) (n / 2 ^ 58))
+      let t = format .read n .table in
+      omega (arith, bits-of t, length-form t, eights (t .kind) (t .descriptors), ap (λ (p : Opening). p .count) opens)

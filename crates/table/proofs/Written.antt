@@ -1,8 +1,8 @@
 -- Writing the table form: one word, one descriptor on. Each says that what is left to be stored from here makes what was to be
 -- stored from the start. Assumes nothing.
-use mathlib.Core.Path.{_≡_, _∙_, refl, sym, ap, ap₂, subst}
+use mathlib.Core.Path.{_≡_, _∙_, sym, ap, ap₂, subst}
 use mathlib.Core.List.{List, [], _∷_, _++_}
-use Prim.Native.Nat.{ℕ, zero, suc, _+_, _-_, _*_, _/_, _%_, _^_, _≤_, _<_}
+use Prim.Native.Nat.{ℕ, suc, _+_, _-_, _*_, _/_, _%_, _^_, _≤_, _<_}
 use native.Mathlib.Nat.{add-zero, mul-div-cancel-left}
 use native.Mathlib.Omega.{arith}
 use lib.ListN.{length, set}
@@ -11,11 +11,13 @@ use lib.Seq.{sets}
 use Rattle.laws.proofs.Lists.{sets-append}
 use Rattle.fields.specs.Fields.{field, parts}
 use Rattle.fields.specs.declared.Opening.{Opening}
-use Rattle.forms.specs.Tables.{Table, per}
+use Rattle.forms.specs.Tables.{Descriptor, per, format}
 use Rattle.forms.specs.Form.{spelled, listed, openingOf, form}
-use Rattle.table.specs.Control.{descriptorsOf, tableBy}
+use Rattle.table.specs.Control.{descriptorsOf}
+use Rattle.table.specs.Internal.{openingBy}
 use Rattle.fields.proofs.Laid.{field-past, length-parts}
 use Rattle.forms.proofs.Measures.{length-spelled, per-pos}
+use Rattle.table.proofs.Places.{descriptors-on, loops-at}
 
 -- ---- one store, and those behind it
 
@@ -44,20 +46,6 @@ words-end left n at p out whole h inv =
     let e : left ≡ 0 = omega arith in
     subst (λ (k : ℕ). sets out p (spelled (parts 24 k (n / 2 ^ at))) ≡ whole) e inv
 
--- ---- the opening
-
-pub length-descriptors : (each k n : ℕ) → length (descriptorsOf each k n) ≡ k
-unfolding descriptorsOf
-length-descriptors each zero n = refl
-length-descriptors each (suc k) n = ap suc (length-descriptors each k _)
-
--- the six bytes that open a form
-pub opened :
-    (o : Opening) (n : ℕ)
-    → o .kind ∷ o .copyright ∷ o .block % 256 ∷ o .block / 256 ∷ o .network ∷ o .count ∷ [] ≡ openingOf (tableBy o n)
-unfolding openingOf
-opened o n = rw length-descriptors
-
 -- ---- descriptors
 
 -- a descriptor as it is stored is the first of the form's, and the others follow
@@ -66,9 +54,9 @@ pub listed-first :
     → listed kind (descriptorsOf (per kind) (suc left) (n / 2 ^ at))
     ≡ (field at 6 n ∷ field (at + 6) 4 n ∷ spelled (parts 24 words (n / 2 ^ (at + 10))))
     ++ listed kind (descriptorsOf (per kind) left (n / 2 ^ (at + (10 + 24 * words))))
-unfolding listed descriptorsOf
+unfolding listed
 listed-first kind left n at words e =
-    rw (e, field-past 0 6 at n, field-past 6 4 at n, add-zero at, shr-shr n at 10, shr-shr n at _, length-parts, mul-div-cancel-left, per-pos kind)
+    rw (descriptors-on (per kind) left (n / 2 ^ at), e, field-past 0 6 at n, field-past 6 4 at n, add-zero at, shr-shr n at 10, shr-shr n at _, length-parts, mul-div-cancel-left, per-pos kind)
 
 module _ (kind left n at words : ℕ) (h : 0 < left) (e : words ≡ per kind * field (at + 6) 4 n) where
   first : List ℕ
@@ -105,11 +93,20 @@ descriptors-end kind left n at q out whole h inv =
     let e : left ≡ 0 = omega arith in
     subst (λ (k : ℕ). sets out q (listed kind (descriptorsOf (per kind) k (n / 2 ^ at))) ≡ whole) e inv
 
--- the opening and then the descriptors are the form
-pub form-stored :
-    (t : Table) (out out₁ out₂ : List ℕ) → out₁ ≡ sets out 0 (openingOf t)
-    → out₂ ≡ sets out₁ 6 (listed (t .kind) (t .descriptors))
-    → out₂ ≡ sets out 0 (form t)
+-- ---- the form
+
+-- what a block opens with, and then the descriptors, are the form of its table
+pub form-at :
+    (o : Opening) (n : ℕ) → o ≡ openingBy (format .read n) → (out out₁ out₂ : List ℕ)
+    → out₁ ≡ sets out 0 (o .kind ∷ o .copyright ∷ o .block % 256 ∷ o .block / 256 ∷ o .network ∷ o .count ∷ [])
+    → out₂ ≡ sets out₁ 6 (listed (o .kind) (descriptorsOf (per (o .kind)) (o .count) (n / 2 ^ 58)))
+    → out₂ ≡ sets out 0 (form (format .read n .table))
 unfolding form openingOf
-form-stored t out out₁ out₂ e₁ e₂ =
-    e₂ ∙ (rw e₁ (sym (sets-append out 0 (openingOf t) (listed (t .kind) (t .descriptors)))))
+form-at o n e out out₁ out₂ p q =
+    let t = format .read n .table in
+    let front : out₁ ≡ sets out 0 (openingOf t) =
+    p ∙ ap (λ (x : Opening). sets out 0 (x .kind ∷ x .copyright ∷ x .block % 256 ∷ x .block / 256 ∷ x .network ∷ x .count ∷ [])) e in
+    let behind : out₂ ≡ sets out₁ 6 (listed (t .kind) (t .descriptors)) =
+    q ∙ ap (λ (x : Opening). sets out₁ 6 (listed (x .kind) (descriptorsOf (per (x .kind)) (x .count) (n / 2 ^ 58)))) e
+    ∙ ap (λ (ds : List Descriptor). sets out₁ 6 (listed (t .kind) ds)) (sym (loops-at n)) in
+    behind ∙ (rw front (sym (sets-append out 0 (openingOf t) (listed (t .kind) (t .descriptors)))))

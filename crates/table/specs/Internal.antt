@@ -1,6 +1,23 @@
--- What only private calls cite; nothing here needs to be believed. How long a table and its form can be, by its counts: four bits of
--- entries, and a byte of descriptors.
+-- What only private calls cite; nothing here needs to be believed. The fields that a block opens with, and how long a table and its form
+-- can be, by its counts: four bits of entries, and a byte of descriptors.
 use Prim.Native.Nat.{ℕ, _+_, _*_}
+use lib.ListN.{length}
+use Rattle.fields.specs.declared.Opening.{Opening}
+use Rattle.forms.specs.Tables.{Sent}
+
+-- what a block opens with, of what it carries
+abbrev pub openingBy : Sent → Opening
+openingBy s =
+    record {
+      checksum = s .checksum;
+      control = s .control;
+      kind = s .table .kind;
+      access = s .access;
+      copyright = s .table .copyright;
+      block = s .table .block;
+      network = s .table .network;
+      count = length (s .table .descriptors);
+    }
 
 -- the bits of a descriptor: its id, its number of entries, and 15 entries of two words
 abbrev pub descriptorBits : ℕ

@@ -5,17 +5,15 @@ use Prim.Native.Nat.{ℕ}
 use lib.Dec.{eqb, ltb}
 use Rattle.laws.specs.Pick.{both, either}
 use Rattle.answer.specs.Rules.{Rule, rule}
-use Rattle.fields.specs.declared.Opening.{Opening}
-use Rattle.forms.specs.Tables.{numbered, control, size}
-use Rattle.table.specs.Control.{tableBy}
+use Rattle.forms.specs.Tables.{Sent, numbered, control, size}
 
 -- a block of so many bytes is too short to hold a block number, or holds one of this edition
 abbrev pub blockNumbered : ℕ → ℕ → Bool
 blockNumbered blockSize block = either (ltb blockSize 12) (numbered block)
 
 -- 22: by the block's size, whatever its control size is. 14: loops, control size and fill fit where both sizes are those of the table that
--- opens with these fields, and whose loops are those of control data n
-unfoldable pub lengthRules : ℕ → Opening → ℕ → List Rule
-lengthRules blockSize o n =
-    rule (blockNumbered blockSize (o .block)) 22 0
-    ∷ rule (both (eqb (o .control) (control (tableBy o n))) (eqb blockSize (size (tableBy o n)))) 14 0 ∷ []
+-- the block carries
+unfoldable pub lengthRules : ℕ → Sent → List Rule
+lengthRules blockSize s =
+    rule (blockNumbered blockSize (s .table .block)) 22 0
+    ∷ rule (both (eqb (s .control) (control (s .table))) (eqb blockSize (size (s .table)))) 14 0 ∷ []

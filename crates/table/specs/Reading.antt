@@ -7,8 +7,7 @@ use Rattle.laws.specs.Pick.{both}
 use Rattle.answer.specs.Rules.{Rule, rule, judged}
 use Rattle.blocks.specs.Block.{sizeOf}
 use Rattle.fields.specs.Fields.{whole}
-use Rattle.fields.specs.Opening.{openingIn}
-use Rattle.forms.specs.Tables.{Table, known}
+use Rattle.forms.specs.Tables.{Table, Sent, known, format}
 use Rattle.table.specs.Control.{tableOf}
 use Rattle.table.specs.Lengths.{lengthRules}
 use Rattle.sums.specs.Sums.{checksum, sound}
@@ -17,26 +16,25 @@ use Rattle.frames.specs.Framing.{framing}
 pub use Rattle.frames.specs.Outcome.{Outcome, accepted, refused}
 
 -- 10 in its first eight bytes, 12 for kind and access, 13 for an odd size: what can be said of a block before it is read whole
-unfoldable pub frontRules : ℕ → List ℕ → List Rule
-frontRules blockSize ns =
-    let o = openingIn (whole 4 ns) in
+unfoldable pub frontRules : ℕ → List ℕ → Sent → List Rule
+frontRules blockSize ns s =
     rule (eqb (sound (take 8 ns)) 8) 10 (headLength + sound (take 8 ns))
-    ∷ rule (both (known (o .kind)) (eqb (o .access) 0)) 12 0
+    ∷ rule (both (known (s .table .kind)) (eqb (s .access) 0)) 12 0
     ∷ rule (eqb (blockSize % 2) 0) 13 0
     ∷ []
 
 -- 10 in any other byte, 11 for the sum
-unfoldable pub wholeRules : ℕ → List ℕ → List Rule
-wholeRules head ns =
+unfoldable pub wholeRules : ℕ → List ℕ → Sent → List Rule
+wholeRules head ns s =
     rule (eqb (sound ns) (length ns)) 10 (headLength + sound ns)
-    ∷ rule (eqb (openingIn (whole 4 ns) .checksum) (checksum head ns)) 11 0
+    ∷ rule (eqb (s .checksum) (checksum head ns)) 11 0
     ∷ []
 
--- what follows the frame
+-- what follows the frame, by what the nibbles carry
 abbrev pub bodyRules : ℕ → List ℕ → List Rule
 bodyRules head ns =
-    let n = whole 4 ns in
-    frontRules (sizeOf head) ns ++ (wholeRules head ns ++ lengthRules (sizeOf head) (openingIn n) n)
+    let s = format .read (whole 4 ns) in
+    frontRules (sizeOf head) ns s ++ (wholeRules head ns s ++ lengthRules (sizeOf head) s)
 
 abbrev pub readRules : ℕ → List ℕ → List Rule
 readRules application r = framing application r ++ bodyRules (headOf r) (nibblesOf r)

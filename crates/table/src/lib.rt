@@ -13,12 +13,13 @@ ghost use Rattle.answer.specs.Writing.{answered, left};
 ghost use Rattle.answer.specs.declared.Answer.the-variants.{Done};
 ghost use Rattle.octet.specs.Decoding.{nib};
 ghost use Rattle.forms.specs.Form.{form};
-ghost use Rattle.fields.specs.Opening.{openingIn};
+ghost use Rattle.forms.specs.Tables.{format};
 ghost use Rattle.fields.specs.Compound.{compound};
 ghost use Rattle.sums.specs.Block.{mendedIn};
 ghost use Rattle.frames.specs.Values.{counted};
 ghost use Rattle.table.specs.Reading.{frontRules, wholeRules, bodyRules, readRules, tableRead};
 ghost use Rattle.table.specs.Control.{tableOf};
+ghost use Rattle.table.specs.Internal.{openingBy};
 use answer::Answer;
 use blocks::HEAD;
 use fields::Opening;
@@ -87,7 +88,7 @@ fn read_body(head: usize, body: &[u8], out: &mut [u8]) -> Answer
 
 // All rules after those of the frame but the room; where they hold, the bytes of the table's form.
 fn judge_body(head: usize, opening: Opening, body: &[u8]) -> Answer
-    requires { ⌜ (8 ≤ length (now body)) × (opening ≡ openingIn (compound (now body))) ⌝ }
+    requires { ⌜ (8 ≤ length (now body)) × (opening ≡ openingBy (format .read (compound (now body)))) ⌝ }
     ensures { λ r.
         ⌜ r
         ≡ judged refused (bodyRules head (map nib (now (body .entry))))
@@ -104,8 +105,8 @@ fn judge_body(head: usize, opening: Opening, body: &[u8]) -> Answer
 
 // 10 in its first eight bytes, 12, 13: what can be said of a block before it is read whole.
 fn judge_front(size: usize, opening: Opening, body: &[u8]) -> Answer
-    requires { ⌜ (8 ≤ length (now body)) × (opening ≡ openingIn (compound (now body))) ⌝ }
-    ensures { λ r. ⌜ r ≡ judged refused (frontRules size (map nib (now (body .entry)))) (Done 0) ⌝ }
+    requires { ⌜ (8 ≤ length (now body)) × (opening ≡ openingBy (format .read (compound (now body)))) ⌝ }
+    ensures { λ r. ⌜ r ≡ judged refused (frontRules size (map nib (now (body .entry))) (format .read (compound (now (body .entry))))) (Done 0) ⌝ }
 {
     let good = sums::sound(&body[..8]);
     if good != 8 {
@@ -125,8 +126,8 @@ fn judge_front(size: usize, opening: Opening, body: &[u8]) -> Answer
 
 // 10 in any other byte, 11.
 fn judge_whole(head: usize, opening: Opening, body: &[u8]) -> Answer
-    requires { ⌜ opening ≡ openingIn (compound (now body)) ⌝ }
-    ensures { λ r. ⌜ r ≡ judged refused (wholeRules head (map nib (now (body .entry)))) (Done 0) ⌝ }
+    requires { ⌜ opening ≡ openingBy (format .read (compound (now body))) ⌝ }
+    ensures { λ r. ⌜ r ≡ judged refused (wholeRules head (map nib (now (body .entry))) (format .read (compound (now (body .entry))))) (Done 0) ⌝ }
 {
     let sum = sums::sum_of(head, body);
     if 255 < sum {

@@ -6,9 +6,10 @@ ghost use lib.ListN.{set};
 ghost use lib.Seq.{sets};
 ghost use Rattle.fields.specs.Fields.{field, parts};
 ghost use Rattle.fields.specs.Compound.{compound};
-ghost use Rattle.forms.specs.Tables.{per};
+ghost use Rattle.forms.specs.Tables.{per, format};
 ghost use Rattle.forms.specs.Form.{form, spelled, listed};
-ghost use Rattle.table.specs.Control.{tableBy, descriptorsOf};
+ghost use Rattle.table.specs.Control.{tableOf, descriptorsOf};
+ghost use Rattle.table.specs.Internal.{openingBy};
 use fields::Opening;
 use forms::HEADING;
 use forms::LOOPS;
@@ -18,7 +19,8 @@ use forms::WORD;
 // The form of the table that a block holds, which opens with these fields, to the front of `out`; what
 // lies past its end isn't written.
 pub(crate) fn write_form(opening: Opening, body: &[u8], out: &mut [u8])
-    ensures { λ _. ⌜ now (out .exit) ≡ sets (now (out .entry)) 0 (form (tableBy opening (compound (now (body .entry))))) ⌝ }
+    requires { ⌜ opening ≡ openingBy (format .read (compound (now body))) ⌝ }
+    ensures { λ _. ⌜ now (out .exit) ≡ sets (now (out .entry)) 0 (form (tableOf (compound (now (body .entry))))) ⌝ }
 {
     write_opening(opening, out);
     write_descriptors(opening.kind as usize, opening.count as usize, body, out);

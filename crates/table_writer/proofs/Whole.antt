@@ -28,23 +28,23 @@ pub laid-all : Table → List Field
 laid-all t = firstFields (control t) t ++ (secondFields t ++ (loops (t .kind) (t .descriptors) ++ lastField t))
 
 pub first-width : (c : ℕ) (t : Table) → width (firstFields c t) ≡ 28
-unfolding width
+unfolding width fields
 first-width c t = refl
 
 pub second-width : (t : Table) → width (secondFields t) ≡ 30
-unfolding width
+unfolding width fields
 second-width t = refl
 
 pub first-laid :
     (c : ℕ) (t : Table) → c < 1024 → t .kind < 64 → t .copyright < 2
     → ((t .copyright * 256 + t .kind) * 1024 + c) * 256 ≡ laid (firstFields c t) 0
-unfolding laid
+unfolding laid fields
 first-laid c t hc hk hy = omega arith
 
 pub second-laid :
     (t : Table) → t .block < 65536 → t .network < 256 → length (t .descriptors) < 64
     → (length (t .descriptors) * 256 + t .network) * 65536 + t .block ≡ laid (secondFields t) 0
-unfolding laid
+unfolding laid fields
 second-laid t hb hn hd = omega arith
 
 -- the pen at its start: behind the head, with nothing in hand
@@ -55,7 +55,7 @@ pub start-fine : Fine start
 start-fine = record { few = omega arith; low = pow-pos 0 }
 
 pub all-fields : (t : Table) → laid-all t ≡ fields 0 (control t) 0 t ++ lastField t
-unfolding laid-all fields
+unfolding laid-all fields loops
 all-fields t = refl
 
 pub all-ready : (t : Table) → ready start (laid-all t) ≡ size t

@@ -1,13 +1,13 @@
 -- What only private calls cite; nothing here needs to be believed. A pen lays fields, lowest bit first, as protected nibbles: it stands at
 -- a place of the output and holds the bits, fewer than four, that don't make a nibble yet. The checksum is put into its place last.
-use mathlib.Core.List.{List, [], _∷_, map}
+use mathlib.Core.List.{List, _∷_, map}
 use Prim.Native.Nat.{ℕ, suc, _+_, _*_, _/_, _%_, _^_, _<_}
-use lib.ListN.{length, take, drop, set}
+use lib.ListN.{take, drop, set}
 use lib.Seq.{sets}
 use Rattle.octet.specs.Image.{image}
 use Rattle.octet.specs.Decoding.{nib}
 use Rattle.fields.specs.Fields.{Field, width, laid, parts}
-use Rattle.forms.specs.Tables.{Table}
+use Rattle.forms.specs.Tables.{Table, fields}
 use Rattle.sums.specs.Block.{headLength}
 use Rattle.sums.specs.Sums.{checksum}
 use Rattle.table_writer.specs.declared.Pen.{Pen}
@@ -40,11 +40,11 @@ pub record Fine (p : Pen) : Type 0 where
 
 -- checksum, which is 0 until it is known, control_block_size, datatype_id, CA_mode, copyright, reserved
 abbrev pub firstFields : ℕ → Table → List Field
-firstFields c t = (8, 0) ∷ (10, c) ∷ (6, t .kind) ∷ (2, 0) ∷ (1, t .copyright) ∷ (1, 0) ∷ []
+firstFields c t = take 6 (fields 0 c 0 t)
 
 -- block_no, netwop_no, the number of descriptors
 abbrev pub secondFields : Table → List Field
-secondFields t = (16, t .block) ∷ (8, t .network) ∷ (6, length (t .descriptors)) ∷ []
+secondFields t = take 3 (drop 6 (fields 0 0 0 t))
 
 -- the checksum of the block that stands in a record
 abbrev pub sumIn : ℕ → ℕ → List ℕ → ℕ

@@ -1,20 +1,13 @@
 -- `table::judge_body` meets its contract: the three parts are judged one after the other. Assumes nothing.
 use borrow.Author.Needs.{needs}
-use mathlib.Core.Path.{_∙_, ap}
+use mathlib.Core.Path.{_∙_}
 use mathlib.Core.List.{map, _++_}
 use Prim.Native.Nat.{_/_}
-use lib.ListN.{length}
 use denote.Ref.{now}
-use Rattle.answer.specs.Rules.{judged}
-use Rattle.answer.specs.Values.{refused}
-use Rattle.answer.specs.declared.Answer.the-variants.{Done}
 use Rattle.answer.proofs.Steps.{ends, goes-on}
 use Rattle.octet.specs.Decoding.{nib}
 use Rattle.fields.specs.Fields.{whole}
-use Rattle.fields.specs.Opening.{openingIn}
-use Rattle.fields.specs.declared.Opening.{Opening}
-use Rattle.forms.specs.Form.{form}
-use Rattle.table.specs.Control.{tableBy, tableOf}
+use Rattle.forms.specs.Tables.{format}
 use Rattle.table.specs.Reading.{frontRules, wholeRules}
 use Rattle.table.specs.Lengths.{lengthRules}
 use Rattle.table.proofs.judge_body.Statement.{statement}
@@ -27,30 +20,30 @@ returns : tie.Need-returns
 returns c =
     let a = c .before .before .before .before .before .args in
     let ns = map nib (now (a .body)) in
-    let lengths = lengthRules (a .head / 32) (openingIn (whole 4 ns)) (whole 4 ns) in
-    ends (frontRules (a .head / 32) ns) (wholeRules (a .head) ns ++ lengths) 0 (c .before .before .before .judge-front .ensures) _ (c .before .why .given .1)
+    let s = format .read (whole 4 ns) in
+    let lengths = lengthRules (a .head / 32) s in
+    ends (frontRules (a .head / 32) ns s) (wholeRules (a .head) ns s ++ lengths) 0 (c .before .before .before .judge-front .ensures) _ (c .before .why .given .1)
 
 returns-2 : tie.Need-returns-2
 returns-2 c =
     let a = c .before .before .before .before .before .before .before .before .args in
     let ns = map nib (now (a .body)) in
-    let lengths = lengthRules (a .head / 32) (openingIn (whole 4 ns)) (whole 4 ns) in
+    let s = format .read (whole 4 ns) in
+    let lengths = lengthRules (a .head / 32) s in
     let front = c .before .before .before .before .before .before .judge-front .ensures in
-    ends (wholeRules (a .head) ns) lengths 0 (c .before .before .before .judge-whole .ensures) _ (c .before .why2 .given .1)
-    ∙ goes-on (frontRules (a .head / 32) ns) (wholeRules (a .head) ns ++ lengths) 0 front _ (c .before .before .before .before .enum-told .given .1)
+    ends (wholeRules (a .head) ns s) lengths 0 (c .before .before .before .judge-whole .ensures) _ (c .before .why2 .given .1)
+    ∙ goes-on (frontRules (a .head / 32) ns s) (wholeRules (a .head) ns s ++ lengths) 0 front _ (c .before .before .before .before .enum-told .given .1)
 
 returns-3 : tie.Need-returns-3
-unfolding tableOf
 returns-3 c =
     let a = c .before .before .before .before .before .before .before .before .args in
-    let opens = c .before .before .before .before .before .before .before .before .pre .1 in
     let ns = map nib (now (a .body)) in
-    let lengths = lengthRules (a .head / 32) (openingIn (whole 4 ns)) (whole 4 ns) in
+    let s = format .read (whole 4 ns) in
+    let lengths = lengthRules (a .head / 32) s in
     let front = c .before .before .before .before .before .before .judge-front .ensures in
     c .judge-lengths .ensures
-    ∙ ap (λ (o : Opening). judged refused (lengthRules (a .head / 32) o (whole 4 ns)) (Done (length (form (tableBy o (whole 4 ns)))))) opens
-    ∙ goes-on (wholeRules (a .head) ns) lengths 0 (c .before .before .before .judge-whole .ensures) _ (c .before .enum-told2 .given .1)
-    ∙ goes-on (frontRules (a .head / 32) ns) (wholeRules (a .head) ns ++ lengths) 0 front _ (c .before .before .before .before .enum-told .given .1)
+    ∙ goes-on (wholeRules (a .head) ns s) lengths 0 (c .before .before .before .judge-whole .ensures) _ (c .before .enum-told2 .given .1)
+    ∙ goes-on (frontRules (a .head / 32) ns s) (wholeRules (a .head) ns s ++ lengths) 0 front _ (c .before .before .before .before .enum-told .given .1)
 
 pub judge-body-spec : {M : Type 1} → statement M
 judge-body-spec =

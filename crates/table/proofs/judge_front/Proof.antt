@@ -31,7 +31,7 @@ returns : tie.Need-returns
 returns c =
     let s : List ℕ = now (c .before .before .before .before .before .args .body) in
     let e : c .before .before .sound .result ≡ sound (take 8 (map nib s)) = c .before .before .sound .ensures ∙ ap sound (map-take nib 8 s) in
-    rw e at (c .refuse .ensures) ∙ sym (front-10 _ (map nib s) _ (rw e at (c .before .if1 .taken)))
+    rw e at (c .refuse .ensures) ∙ sym (front-10 _ (map nib s) _ _ (rw e at (c .before .if1 .taken)))
 
 returns-2 : tie.Need-returns-2
 returns-2 c =
@@ -39,7 +39,7 @@ returns-2 c =
     let p = c .before .before .before .before .before .before .before .before .pre .1 in
     let e : c .before .before .before .before .before .sound .result ≡ sound (take 8 (map nib s)) = c .before .before .before .before .before .sound .ensures ∙ ap sound (map-take nib 8 s) in
     let k = c .before .before .known .ensures ∙ ap (λ (o : Opening). known (o .kind)) p in
-    c .refuse2 .ensures ∙ sym (front-12 _ (map nib s) _ (sym e ∙ c .before .before .before .before .if1 .left) (sym k ∙ not-true _ (c .before .if2 .taken)))
+    c .refuse2 .ensures ∙ sym (front-12 _ (map nib s) _ _ (sym e ∙ c .before .before .before .before .if1 .left) (sym k ∙ not-true _ (c .before .if2 .taken)))
 
 returns-3 : tie.Need-returns-3
 returns-3 c =
@@ -50,7 +50,7 @@ returns-3 c =
     let k = c .before .before .before .before .known .ensures ∙ ap (λ (o : Opening). known (o .kind)) p in
     let eight = sym e ∙ c .before .before .before .before .before .before .if1 .left in
     let kind = sym k ∙ not-false _ (c .before .before .before .if2 .left) in
-    c .refuse3 .ensures ∙ sym (front-12′ _ (map nib s) _ eight kind (λ q. omega (arith, ap (λ (o : Opening). o .access) p, q)))
+    c .refuse3 .ensures ∙ sym (front-12′ _ (map nib s) _ _ eight kind (λ q. omega (arith, ap (λ (o : Opening). o .access) p, q)))
 
 returns-4 : tie.Need-returns-4
 returns-4 c =
@@ -62,7 +62,7 @@ returns-4 c =
     let eight = sym e ∙ c .before .before .before .before .before .before .before .if1 .left in
     let kind = sym k ∙ not-false _ (c .before .before .before .before .if2 .left) in
     let access = ap (λ (o : Opening). o .access) p in
-    c .refuse4 .ensures ∙ sym (front-13 _ (map nib s) _ eight kind (omega (arith, access)) (c .before .if4 .taken))
+    c .refuse4 .ensures ∙ sym (front-13 _ (map nib s) _ _ eight kind (omega (arith, access)) (c .before .if4 .taken))
 
 returns-5 : tie.Need-returns-5
 returns-5 c =
@@ -74,7 +74,7 @@ returns-5 c =
     let eight = sym e ∙ c .before .before .before .before .before .before .if1 .left in
     let kind = sym k ∙ not-false _ (c .before .before .before .if2 .left) in
     let access = ap (λ (o : Opening). o .access) p in
-    sym (front-done _ (map nib s) _ eight kind (omega (arith, access)) (c .if4 .left))
+    sym (front-done _ (map nib s) _ _ eight kind (omega (arith, access)) (c .if4 .left))
 
 pub judge-front-spec : {M : Type 1} → statement M
 judge-front-spec =

@@ -24,21 +24,21 @@ returns : tie.Need-returns
 returns c =
     let s : List ℕ = now (c .before .before .before .before .before .args .body) in
     rw (c .before .sound .ensures) at (c .refuse .ensures)
-    ∙ sym (whole-10 _ (map nib s) _ (λ e. absurd (omega (arith, c .before .before .before .sum-of .ensures .0 (c .before .before .if1 .taken), e, length-map s nib))))
+    ∙ sym (whole-10 _ (map nib s) _ _ (λ e. absurd (omega (arith, c .before .before .before .sum-of .ensures .0 (c .before .before .if1 .taken), e, length-map s nib))))
 
 returns-2 : tie.Need-returns-2
 returns-2 c =
     let s : List ℕ = now (c .before .before .before .before .before .before .args .body) in
     let w = c .before .before .before .before .sum-of .ensures .1 .0 (omega (arith, c .before .before .before .if1 .left)) in
     let p = ap (λ (o : Opening). o .checksum) (c .before .before .before .before .before .before .pre) in
-    c .refuse2 .ensures ∙ sym (whole-11 _ (map nib s) _ (w .0 ∙ sym (length-map s nib)) (rw (p, w .1) at (c .before .if2 .taken)))
+    c .refuse2 .ensures ∙ sym (whole-11 _ (map nib s) _ _ (w .0 ∙ sym (length-map s nib)) (rw (p, w .1) at (c .before .if2 .taken)))
 
 returns-3 : tie.Need-returns-3
 returns-3 c =
     let s : List ℕ = now (c .before .before .before .before .before .args .body) in
     let w = c .before .before .before .sum-of .ensures .1 .0 (omega (arith, c .before .before .if1 .left)) in
     let p = ap (λ (o : Opening). o .checksum) (c .before .before .before .before .before .pre) in
-    sym (whole-done _ (map nib s) _ (w .0 ∙ sym (length-map s nib)) (rw (p, w .1) at (c .if2 .left)))
+    sym (whole-done _ (map nib s) _ _ (w .0 ∙ sym (length-map s nib)) (rw (p, w .1) at (c .if2 .left)))
 
 pub judge-whole-spec : {M : Type 1} → statement M
 judge-whole-spec =

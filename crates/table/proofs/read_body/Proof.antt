@@ -4,18 +4,26 @@ use borrow.Author.Needs.{needs}
 use mathlib.Core.Path.{_∙_, ap}
 use mathlib.Core.List.{map}
 use native.Mathlib.Omega.{arith}
-use lib.Seq.{sets}
 use denote.Ref.{now}
 use Rattle.answer.specs.declared.Answer.the-variants.{Done}
 use Rattle.answer.proofs.Lent.{lent-refused, lent-short, lent-done, lent-value}
 use Rattle.octet.specs.Decoding.{nib}
 use Rattle.fields.specs.Compound.{compound}
-use Rattle.fields.specs.declared.Opening.{Opening}
 use Rattle.forms.specs.Form.{form}
-use Rattle.table.specs.Control.{tableBy, tableOf}
+use Rattle.table.specs.Control.{tableOf}
 use Rattle.table.specs.Reading.{bodyRules}
+use Rattle.table.proofs.Places.{opening-at}
 use Rattle.table.proofs.read_body.Statement.{statement}
 use Rattle.table.proofs.read_body.Tie as tie
+
+judge-body-requires : tie.Need-judge-body-requires
+judge-body-requires c κs =
+    (search needs, c .opening-of .ensures ∙ opening-at (compound (now (c .before .before .before .args .body))))
+
+write-form-requires : tie.Need-write-form-requires
+write-form-requires c κs =
+    let s = c .before .before .before .before .before .before in
+    s .opening-of .ensures ∙ opening-at (compound (now (s .before .before .before .args .body)))
 
 returns : tie.Need-returns
 returns c =
@@ -37,7 +45,6 @@ returns-2 c =
     lent-refused rules (form (tableOf n)) (now (a .out)) _ j (c .before .why .given .1)
 
 returns-3 : tie.Need-returns-3
-unfolding tableOf
 returns-3 c =
     let a = c .before .before .before .before .before .before .before .before .before .before .before .before .args in
     let n = compound (now (a .body)) in
@@ -47,9 +54,7 @@ returns-3 c =
     let e = lent-value rules (form (tableOf n)) (now (a .out)) _ j d in
     let p = lent-done rules (form (tableOf n)) (now (a .out)) _ j d (omega (arith, e)) in (
       ap Done e ∙ p .0,
-      c .before .before .write-form .ensures
-          ∙ ap (λ (o : Opening). sets (now (a .out)) 0 (form (tableBy o n))) (c .before .before .before .before .before .before .before .before .before .opening-of .ensures)
-          ∙ p .1,
+      c .before .before .write-form .ensures ∙ p .1,
     )
 
 pub read-body-spec : {M : Type 1} → statement M
@@ -57,12 +62,12 @@ read-body-spec =
     tie.close
     (tie.spec
     (λ c κs. search needs)
-    (λ c κs. search needs)
+    judge-body-requires
     (λ c. search needs)
     (λ c. search needs)
     (λ c κs. search needs)
     returns
-    (λ c κs. search needs)
+    write-form-requires
     returns-2
     (λ c. search needs)
     returns-3)

@@ -1,0 +1,1 @@
+// Formats as data: definitions in specs/, their laws in proofs/Lawful.antt, and no code.
