@@ -27,7 +27,7 @@ use Rattle.day_sheet.specs.Calls.{limited, entriesOf}
 use Rattle.day_sheet.specs.AnyOrder.{InForm}
 use Rattle.day_sheet.specs.Internal.{Halfway, withoutKey, spotOf, spotFrom, mostWith}
 use Rattle.day_sheet.proofs.AnyOrder.{sheet-of, text-of}
-use Rattle.day_sheet.proofs.Turning.{Sheet, found, found-text, sheet-rest, spans, front-fits}
+use Rattle.day_sheet.proofs.Meeting.{Sheet, found, found-text, sheet-rest, spans, front-fits}
 use Rattle.day_sheet.proofs.Exact.{read-written}
 
 -- ---- a sheet in form at its front

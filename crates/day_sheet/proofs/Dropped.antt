@@ -33,7 +33,7 @@ use Rattle.day_sheet.specs.Calls.{entriesOf, dropRules, dropResult}
 use Rattle.day_sheet.specs.AnyOrder.{InForm, Joins, Captured, sheetOfOne, Adds, Takes, sizeOf}
 use Rattle.day_sheet.specs.Dropped.{Drops}
 use Rattle.day_sheet.proofs.AnyOrder.{Fit, decides, sheet-of, text-length, joins}
-use Rattle.day_sheet.proofs.Turning.{Sheet}
+use Rattle.day_sheet.proofs.Meeting.{Sheet}
 use Rattle.day_sheet.proofs.Choosing.{written-sendable}
 use Rattle.day_sheet.proofs.Exact.{read-written}
 use Rattle.day_sheet.proofs.Asked.{named-known}

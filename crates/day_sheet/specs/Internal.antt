@@ -11,7 +11,6 @@ use Rattle.listing_reader.specs.Many.{Many}
 use Rattle.sheet_entry.specs.declared.Found.{Found}
 use Rattle.forms.specs.Tables.{TI, LI}
 use Rattle.sheet_entry.specs.Entries.{Entry, keyIn, keyOf, entryText}
-use Rattle.sheet_entry.specs.Reading.{entryAt, foundOf}
 use Rattle.day_sheet.specs.declared.entries.Sheet.{Sheet}
 use Rattle.day_sheet.specs.declared.joining.Turn.{Turn}
 use Rattle.day_sheet.specs.declared.dropping.Spot.{Spot}
@@ -37,25 +36,6 @@ unfoldable pub secondStays : List ℕ → Found → List ℕ → Found → Bool
 secondStays a f b g =
     pick (ltb (f .stamp) (g .stamp)) true
     (pick (ltb (g .stamp) (f .stamp)) false (before (foundLines a f) (foundLines b g)))
-
--- no entry, as at the end of a sheet
-abbrev pub absent : Found
-absent = record { more = false; fine = true; long = 0; key = 0; stamp = 0; head = 0 }
-
-abbrev pub turn : Found → Found → Turn
-turn f g = record { first = f; second = g }
-
--- which of two entries has the next key, or both
-unfoldable pub turnBy : Found → Found → Turn
-turnBy f g =
-    pick (f .more)
-    (pick (g .more)
-    (pick (ltb (f .key) (g .key)) (turn f absent) (pick (ltb (g .key) (f .key)) (turn absent g) (turn f g)))
-    (turn f g))
-    (turn f g)
-
-unfoldable pub turnOf : List ℕ → List ℕ → Turn
-turnOf a b = turnBy (foundOf (entryAt 0 a)) (foundOf (entryAt 0 b))
 
 -- whether it is the second's entry that stays
 unfoldable pub secondPut : Turn → List ℕ → List ℕ → Bool

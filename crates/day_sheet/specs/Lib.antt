@@ -2,6 +2,7 @@
 pub mod Entries
 pub mod Reading
 pub mod Along
+pub mod Turns
 pub mod Joining
 pub mod Dropping
 pub mod Calls

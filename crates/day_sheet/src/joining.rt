@@ -11,7 +11,8 @@ ghost use Rattle.answer.specs.Values.{refused};
 ghost use Rattle.answer.specs.Writing.{answered, left};
 ghost use Rattle.day_sheet.specs.Entries.{sheetText, entryLimit, byteLimit};
 ghost use Rattle.day_sheet.specs.Calls.{joinRules, joinResult};
-ghost use Rattle.day_sheet.specs.Internal.{Halfway, Lies, Met, absent, secondStays, secondPut, turnOf, turnText};
+ghost use Rattle.day_sheet.specs.Internal.{Halfway, Lies, Met, secondStays, secondPut, turnText};
+ghost use Rattle.day_sheet.specs.Turns.{absent, turnOf};
 use crate::BYTES;
 use crate::ENTRIES;
 use crate::entries;
@@ -172,8 +173,8 @@ fn second_put(first: &[u8], i: usize, second: &[u8], j: usize, t: Turn) -> bool
     second_stays(first, i, a, second, j, b)
 }
 
-// Which of the two sheets, or both, has the next key, and the entry of it.
-fn next_turn(first: &[u8], i: usize, second: &[u8], j: usize) -> Turn
+// Which of the two sheets, or both, has the next key from these places on, and the entry of it.
+pub fn next_turn(first: &[u8], i: usize, second: &[u8], j: usize) -> Turn
     ensures { λ r. ⌜ r ≡ turnOf (drop i (now (first .entry))) (drop j (now (second .entry))) ⌝ }
 {
     let a = sheet_entry::entry_at(first, i, 0);

@@ -41,8 +41,8 @@ pub fn rewrite(sheet: &[u8], out: &mut [u8]) -> Answer
     }
 }
 
-// 21, 20, 21: whether a sheet can be written again.
-fn judge(sheet: &[u8]) -> Answer
+// 21, 20, 21: whether a sheet can be written again; then its length.
+pub fn judge(sheet: &[u8]) -> Answer
     ensures { λ r. ⌜ r ≡ judged refused (rewriteRules (now (sheet .entry))) (Done (length (now (sheet .entry)))) ⌝ }
 {
     if BYTES < sheet.len() {

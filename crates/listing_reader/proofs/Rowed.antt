@@ -301,6 +301,22 @@ pub table-within : (kind : ℕ) (bytes : List ℕ) → descriptorsOf kind bytes 
 unfolding descriptorsOf
 table-within kind bytes = row-within same descriptorAt descriptor-stepping (length bytes) kind bytes
 
+-- bytes at whose front no line of a table stands
+pub record Closed (tail : List ℕ) : Type 0 where
+  pub no-language : languageAt tail .long ≡ 0
+  pub no-descriptor : (kind : ℕ) → descriptorAt kind tail ≡ stop true 0
+
+pub table-before :
+    (kind : ℕ) (ds : List Descriptor) (tail : List ℕ) → Each same descriptorAt Described kind ds → Closed tail
+    → descriptorsOf kind (descriptorLines kind ds ++ tail) ≡ record { items = ds; fine = true; long = length (descriptorLines kind ds) }
+unfolding descriptorsOf
+table-before kind ds tail each closed =
+    let back =
+    row-back same descriptorAt descriptor-stepping Described descriptorText (λ r. languageAt r .long ≡ 0)
+    (λ s d r p m. descriptor-back s d r p m) (λ s d r p. ends-words s d r) tail (closed .no-language) (closed .no-descriptor) ds
+    (length (texts same descriptorAt descriptorText kind ds ++ tail)) kind each (omega arith) in
+    rw (descriptor-lines kind ds) at back
+
 -- before an empty line
 no-language : (rest : List ℕ) → languageAt (10 ∷ rest) .long ≡ 0
 unfolding languageAt languageLine beginsWith
@@ -313,10 +329,5 @@ no-descriptor kind rest = rw (both-false (leb (numberFrom 10 0 (drop 10 rest)) 6
 pub table-read :
     (kind : ℕ) (ds : List Descriptor) (rest : List ℕ) → Each same descriptorAt Described kind ds
     → descriptorsOf kind (descriptorLines kind ds ++ (10 ∷ rest)) ≡ record { items = ds; fine = true; long = length (descriptorLines kind ds) }
-unfolding descriptorsOf
 table-read kind ds rest each =
-    let back =
-    row-back same descriptorAt descriptor-stepping Described descriptorText (λ r. languageAt r .long ≡ 0)
-    (λ s d r p m. descriptor-back s d r p m) (λ s d r p. ends-words s d r) (10 ∷ rest) (no-language rest) (λ s. no-descriptor s rest) ds
-    (length (texts same descriptorAt descriptorText kind ds ++ (10 ∷ rest))) kind each (omega arith) in
-    rw (descriptor-lines kind ds) at back
+    table-before kind ds (10 ∷ rest) each (record { no-language = no-language rest; no-descriptor = λ k. no-descriptor k rest })

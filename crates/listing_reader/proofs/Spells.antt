@@ -98,17 +98,21 @@ read-digits (suc k) a (b ∷ ds) rest e d l n =
     let p = both-true (isDigit b) (digital ds) d in
     rw (p .0) (read-digits k (a * 10 + (b - 48)) ds rest e (p .1) (omega arith) n)
 
+-- a number is read back from its digits, up to the byte behind them
+pub digits-back : (n e : ℕ) (rest : List ℕ) → n < 10 ^ 10 → isDigit e ≡ false → numberFrom digitsMost 0 (decimal n ++ (e ∷ rest)) ≡ n
+digits-back n e rest h d =
+    read-digits 10 0 (decimal n) rest e (digits-digital 20 n) (digits-few 20 9 n h) d ∙ decimal-valued n (omega arith)
+
 pub number-back :
     (name : List ℕ) (most n : ℕ) (rest : List ℕ) → n ≤ most → most < 10 ^ 10
     → numberAt name most (numberLine name n ++ rest) ≡ lineOf true n (numberLine name n)
 unfolding numberAt numberLine
 number-back name most n rest h m =
     let ds = decimal n in
-    let few : length ds ≤ 10 = digits-few 20 9 n (omega arith) in
     let e : drop (length name) (((name ++ ds) ++ (10 ∷ [])) ++ rest) ≡ ds ++ (10 ∷ rest) =
     rw (append-assoc (name ++ ds) (10 ∷ []) rest, append-assoc name ds (10 ∷ rest)) (drop-append-seam name (ds ++ (10 ∷ rest))) in
     let v : numberFrom digitsMost 0 (drop (length name) (((name ++ ds) ++ (10 ∷ [])) ++ rest)) ≡ n =
-    ap (numberFrom digitsMost 0) e ∙ read-digits 10 0 ds rest 10 (digits-digital 20 n) few refl ∙ decimal-valued n (omega arith) in
+    ap (numberFrom digitsMost 0) e ∙ digits-back n 10 rest (omega arith) refl in
     rw (v, le-leb n most h, begins-append ((name ++ ds) ++ (10 ∷ [])) rest)
 
 -- ---- kinds

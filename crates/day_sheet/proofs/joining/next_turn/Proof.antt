@@ -6,7 +6,7 @@ use native.Mathlib.Omega.{arith}
 use lib.ListN.{drop}
 use denote.Ref.{now}
 use Rattle.sheet_entry.specs.declared.Found.{Found}
-use Rattle.day_sheet.specs.Internal.{turn}
+use Rattle.day_sheet.specs.Turns.{turn}
 use Rattle.day_sheet.proofs.Turning.{by-first, by-second, by-less, by-more, by-same, turn-found}
 use Rattle.day_sheet.proofs.joining.next_turn.Statement.{statement}
 use Rattle.day_sheet.proofs.joining.next_turn.Tie as tie
