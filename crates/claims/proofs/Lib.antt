@@ -38,6 +38,7 @@ pub mod EachStream
 pub mod Calls
 pub mod Sheets
 pub mod Leaving
+pub mod Changes
 pub mod CutLineCalls
 pub mod BothCalls
 pub mod Again

@@ -34,6 +34,7 @@ use Rattle.menu_listing.specs.Listing.{listRules, levelsRules}
 use Rattle.menu_listing.specs.Kept.{keptRules}
 use Rattle.shelf.specs.Putting.{putRules}
 use Rattle.day_sheet.specs.Calls.{rewriteRules, joinRules, addRules, dropRules}
+use Rattle.changes.specs.Calls.{compareRules}
 use Rattle.claims.specs.Calls.{Feeds, feed, FeedsAll, feed-all}
 use Rattle.claims.specs.Judges.{Judges}
 
@@ -80,6 +81,10 @@ adds-table stamp sheet form = refl
 pub drops-entry : (network kind block : ℕ) (sheet : List ℕ) → allRefusing (dropRules network kind block sheet) ≡ true
 unfolding allRefusing dropRules
 drops-entry network kind block sheet = refl
+
+pub compares-sheets : (first second : List ℕ) → allRefusing (compareRules first second) ≡ true
+unfolding allRefusing compareRules rewriteRules
+compares-sheets first second = refl
 
 module _ (pes : List ℕ) where
   unit : (at : ℕ) → allRefusing (rulesAt pes at) ≡ true

@@ -129,6 +129,10 @@ use Rattle.day_sheet.proofs.rewrite.Reads as day-sheet·rewrite
 use Rattle.day_sheet.proofs.joining.join.Reads as day-sheet·join
 use Rattle.day_sheet.proofs.adding.add.Reads as day-sheet·add
 use Rattle.day_sheet.proofs.dropping.drop.Reads as day-sheet·drop
+use Rattle.day_sheet.proofs.judge.Reads as day-sheet·judge
+use Rattle.day_sheet.proofs.joining.next_turn.Reads as day-sheet·next-turn
+use Rattle.changes.specs.declared.Compared.{Compared}
+use Rattle.changes.proofs.compare.Reads as changes·compare
 use Rattle.listing.proofs.list_table.Reads as listing·list-table
 use Rattle.listing.proofs.list_descriptors.Reads as listing·list-descriptors
 use Rattle.table_writer.proofs.write_block.Reads as table-writer·write-block
@@ -578,6 +582,18 @@ pub day-sheet·drop-settled :
     (κs : _) (a : _) (x y : _) (s t : _) → day-sheet·drop.Post κs a x s → day-sheet·drop.Post κs a y t
     → (x ≡ y) × (now (s .1 .1 .1 .1 .0) ≡ now (t .1 .1 .1 .1 .0))
 day-sheet·drop-settled κs a x y s t p q = (same (p .0) (q .0), same (p .1) (q .1))
+
+pub day-sheet·judge-settled : (κs : _) (a : _) (x y : _) (s t : _) → day-sheet·judge.Post κs a x s → day-sheet·judge.Post κs a y t → x ≡ y
+day-sheet·judge-settled κs a x y s t p q = same p q
+
+pub day-sheet·next-turn-settled :
+    (κs : _) (a : _) (x y : _) (s t : _) → day-sheet·next-turn.Post κs a x s → day-sheet·next-turn.Post κs a y t → x ≡ y
+day-sheet·next-turn-settled κs a x y s t p q = same p q
+
+pub changes·compare-settled :
+    (κs : _) (a : _) (x y : Compared) (s t : _) → changes·compare.Post κs a x s → changes·compare.Post κs a y t
+    → (x .answer ≡ y .answer) × (x .sheet ≡ y .sheet) × (now (s .1 .1 .0) ≡ now (t .1 .1 .0))
+changes·compare-settled κs a x y s t p q = (same (p .0) (q .0), same (p .1 .0) (q .1 .0), same (p .1 .1) (q .1 .1))
 
 pub parity·letter-settled : (κs : _) (a : _) (x y : _) (s t : _) → parity·letter.Post κs a x s → parity·letter.Post κs a y t → x ≡ y
 parity·letter-settled κs a x y s t p q = same p q

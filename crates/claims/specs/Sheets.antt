@@ -13,6 +13,8 @@ use Rattle.day_sheet.proofs.rewrite.Reads as day-sheet·rewrite
 use Rattle.day_sheet.proofs.joining.join.Reads as day-sheet·join
 use Rattle.day_sheet.proofs.adding.add.Reads as day-sheet·add
 use Rattle.day_sheet.proofs.dropping.drop.Reads as day-sheet·drop
+use Rattle.changes.specs.declared.Compared.{Compared}
+use Rattle.changes.proofs.compare.Reads as changes·compare
 use Rattle.texts.proofs.entries.Reads as texts·entries
 use Rattle.claims.specs.Calls.{reported}
 
@@ -39,6 +41,12 @@ pub data DropsEntry : ℕ → ℕ → ℕ → List ℕ → List ℕ → Answer �
   drop-entry :
       (κs : _) (a : _) (x : _) (t : _) → day-sheet·drop.Post κs a x t
       → DropsEntry (a .0) (a .1 .0) (a .1 .1 .0) (now (a .1 .1 .1 .0)) (now (a .1 .1 .1 .1 .0)) x (now (t .1 .1 .1 .1 .0))
+
+-- two sheets and lent output; the answer with the number of the sheet at fault, and the output afterwards
+pub data ComparesSheets : List ℕ → List ℕ → List ℕ → Compared → List ℕ → Type 0 where
+  compare-sheets :
+      (κs : _) (a : _) (x : _) (t : _) → changes·compare.Post κs a x t
+      → ComparesSheets (now (a .0)) (now (a .1 .0)) (now (a .1 .1 .0)) x (now (t .1 .1 .0))
 
 -- a text, and the number that comes back
 pub data Counts : List ℕ → ℕ → Type 0 where

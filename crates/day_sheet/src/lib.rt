@@ -7,6 +7,7 @@ pub mod joining;
 pub use adding::add;
 pub use dropping::drop;
 pub use joining::join;
+pub use joining::next_turn;
 ghost use mathlib.Core.Path.{_≡_};
 ghost use mathlib.Core.List.{_∷_, []};
 ghost use Prim.Native.Nat.{_≤_};

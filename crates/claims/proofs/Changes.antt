@@ -1,0 +1,54 @@
+-- The promises of `compare` of the call itself, from its contract alone: what it reports as written, applied to the first sheet's tables, gives
+-- the second's; nothing is reported exactly when the tables are equal; and for one first sheet two seconds print alike exactly when their
+-- tables are. Assumes nothing.
+use mathlib.Core.Path.{_≡_, _∙_, sym, ap, ap₂}
+use mathlib.Core.Logic.{_↔_}
+use mathlib.Core.List.{List, []}
+use Prim.Native.Nat.{ℕ}
+use lib.ListN.{length, drop}
+use lib.Seq.{take-append-seam}
+use Rattle.answer.specs.declared.Answer.the-variants.{Done}
+use Rattle.answer.proofs.Lent.{lent-accepted, lent-all}
+use Rattle.changes.specs.declared.Compared.{Compared}
+use Rattle.changes.specs.Calls.{compareRules, compareText, compareAnswer, compareLeft, faultIn, tablesOf}
+use Rattle.changes.specs.Applying.{applied}
+use Rattle.changes.specs.Saying.{Prints}
+use Rattle.changes.proofs.Told.{prints-apply, prints-nothing, prints-alike}
+use Rattle.claims.specs.Calls.{reported}
+use Rattle.claims.specs.Sheets.{ComparesSheets, compare-sheets, Accepted}
+
+compares :
+    {first second old out : List ℕ} {x : Compared} → ComparesSheets first second old x out
+    → (x .answer ≡ compareAnswer first second old) × (x .sheet ≡ faultIn first second) × (out ≡ compareLeft first second old)
+compares (compare-sheets κs a x t post) = (post .0, post .1 .0, post .1 .1)
+
+-- what the call reports is what it prints
+reports : {first second old out : List ℕ} {x : Compared} → ComparesSheets first second old x out → Accepted (x .answer) → Prints first second (reported (x .answer) out)
+reports {first} {second} {old} {out} {x} call (n, d) =
+    let c = compares call in
+    let rules = compareRules first second in
+    let text = compareText first second in
+    let w = lent-all rules text old n (sym (c .0) ∙ d) in
+    let a = lent-accepted rules text old (w .0) (w .1) in
+    let e : reported (x .answer) out ≡ text =
+    ap₂ reported (d ∙ ap Done (w .2)) (c .2 ∙ a .1) ∙ take-append-seam text (drop (length text) old) in
+    rw e (record { out = old; answers = a .0; writes = a .1 })
+
+-- applied to the first sheet's tables, it gives the second's
+pub compare-applies :
+    {first second old out : List ℕ} {x : Compared} → ComparesSheets first second old x out → Accepted (x .answer)
+    → applied (reported (x .answer) out) (tablesOf first) ≡ tablesOf second
+compare-applies call a = prints-apply (reports call a)
+
+-- nothing is printed exactly when the tables are equal
+pub compare-nothing :
+    {first second old out : List ℕ} {x : Compared} → ComparesSheets first second old x out → Accepted (x .answer)
+    → (reported (x .answer) out ≡ []) ↔ (tablesOf first ≡ tablesOf second)
+compare-nothing call a = prints-nothing (reports call a)
+
+-- for one first sheet two seconds print alike exactly when their tables are equal
+pub compare-alike :
+    {first second other old old′ out out′ : List ℕ} {x y : Compared} → ComparesSheets first second old x out → Accepted (x .answer)
+    → ComparesSheets first other old′ y out′ → Accepted (y .answer)
+    → (reported (x .answer) out ≡ reported (y .answer) out′) ↔ (tablesOf second ≡ tablesOf other)
+compare-alike call a call′ b = prints-alike (reports call a) (reports call′ b)
