@@ -1,4 +1,5 @@
-// Runs cases of day sheets: op 50 writes one again, op 51 adds a table to one, op 52 joins two, op 56 drops an entry.
+// Runs cases of day sheets: op 50 writes one again, op 51 adds a table to one, op 52 joins two, op 53 compares two, op 56 drops an
+// entry.
 ghost use Prim.Native.Nat.{_≤_, _<_};
 use vectors::Case;
 use vectors::Line;
@@ -44,6 +45,7 @@ fn call(op: u8, payload: &[u8], out: &mut [u8]) -> Line {
         },
         51 => add(op, payload, out),
         52 => join(op, payload, out),
+        53 => compare(op, payload, out),
         56 => drop(op, payload, out),
         _ => Line::Unknown(op),
     }
@@ -79,6 +81,25 @@ fn join(op: u8, payload: &[u8], out: &mut [u8]) -> Line {
     Line::Answered {
         op: op,
         answer: day_sheet::join(&payload[4..end], &payload[end..], out),
+    }
+}
+
+// The same; the sheet at fault is told, too.
+fn compare(op: u8, payload: &[u8], out: &mut [u8]) -> Line {
+    if payload.len() < 4 {
+        return Line::Unknown(op);
+    }
+    let long = number_at(payload, 0);
+    if payload.len() - 4 < long {
+        return Line::Unknown(op);
+    }
+    let end = 4 + long;
+    let found = changes::compare(&payload[4..end], &payload[end..], out);
+    let answer = found.answer;
+    Line::Compared {
+        op: op,
+        answer: answer,
+        sheet: found.sheet,
     }
 }
 

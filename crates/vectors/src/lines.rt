@@ -1,5 +1,5 @@
-// The line that a program try_NAME prints for a case: `op=N no=N at=N out=HEX kept=yes`, with ` blocks=N dropped=yes` or
-// ` mended=N joined=N` behind it for some calls, or `op=N unknown`;
+// The line that a program try_NAME prints for a case: `op=N no=N at=N out=HEX kept=yes`, with ` blocks=N dropped=yes`,
+// ` mended=N joined=N` or ` sheet=N` behind it for some calls, or `op=N unknown`;
 // for a case that the end of input cuts short it is `short=N`, with the number of bytes left over.
 //
 // A line is put together in lent space and written to standard output by one call. 131,200 bytes hold the
@@ -30,6 +30,12 @@ pub enum Line {
         answer: Answer,
         mended: u16,
         joined: u8,
+    },
+    // The answer of two sheets compared, and the number of the sheet at fault; 0 where it is neither.
+    Compared {
+        op: u8,
+        answer: Answer,
+        sheet: usize,
     },
     // An op that the program doesn't know, or whose payload is too short.
     Unknown(u8),
@@ -75,12 +81,27 @@ fn put_line(line: Line, out: &[u8], text: &mut [u8]) -> usize
             let n = crate::words::put_number(text, n, b" mended=", mended as u64);
             crate::words::put_number(text, n, b" joined=", joined as u64)
         }
+        Line::Compared { op, answer, sheet } => {
+            let n = put_answer(op, answer, out, text);
+            put_sheet(sheet, text, n)
+        }
         Line::Unknown(op) => {
             let n = crate::words::put_number(text, 0, b"op=", op as u64);
             crate::words::put(text, n, b" unknown")
         }
         Line::Short(left) => crate::words::put_number(text, 0, b"short=", left as u64),
     }
+}
+
+// Puts the number of the sheet at fault, where one is.
+fn put_sheet(sheet: usize, text: &mut [u8], n: usize) -> usize
+    requires { ⌜ Counts n (now text) ⌝ }
+    ensures { λ r. ⌜ Counts r (now (text .exit)) ⌝ }
+{
+    if sheet == 0 {
+        return n;
+    }
+    crate::words::put_number(text, n, b" sheet=", sheet as u64)
 }
 
 // Puts a call's answer, up to `kept=yes`.
