@@ -12,7 +12,8 @@ and prints a line for each case:
 no and at are the refusal's number and offset, both 0 where it is accepted; out
 is what the call reports as written; kept is whether every other byte is still
 A5. Ops 21 and 25 add blocks=N dropped=yes or no, ops 30 and 32 mended=N joined=N (0 and 0 where refused;
-joined is the record's second byte). An op that isn't known, or a payload that is too short for it: op=N unknown. A case that the end cuts short: short=N.
+joined is the record's second byte), op 53 sheet=1 or sheet=2 where that sheet is refused with 20 or 21, and nothing otherwise.
+An op that isn't known, or a payload that is too short for it: op=N unknown. A case that the end cuts short: short=N.
 
     op  program      payload                                  out
     1   try_octet    a byte                                   its nibble, or 16
@@ -45,6 +46,7 @@ joined is the record's second byte). An op that isn't known, or a payload that i
                      length (4, low first), it, a table form
     52  try_sheet    the first sheet's length (4, low first), the two joined
                      it, the second
+    53  try_sheet    as op 52                                 what changed from the first to the second
     56  try_sheet    network, kind, block number (2, low      the sheet without the entry of that key
                      first), a sheet
 """

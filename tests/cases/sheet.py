@@ -1,6 +1,6 @@
-"""The day sheet: read and written again, a table added, two joined, an entry dropped; every line's faults, and the limits."""
+"""The day sheet: read and written again, a table added, two joined, two compared, an entry dropped; every line's faults, and the limits."""
 
-from model import sheet, table
+from model import changes, sheet, table
 from model.sheet import MOST_BYTES, MOST_ENTRIES, MOST_STAMP, Entry
 from model.table import LI, TI, Table
 
@@ -26,6 +26,20 @@ def some_stamp(dice):
 def some_sheet(dice, count, networks=256):
     """At most so many entries; keys that come twice are one."""
     return sheet.joined([some_entry(dice, dice.below(networks)) for _ in range(count)])
+
+
+def overnight(dice, entries, networks=256):
+    """What a night may make of a sheet: entries go, stay as they are, get another stamp or another table; others come."""
+    left = []
+    for entry in entries:
+        loop, fate = entry.table.descriptors, dice.below(5)
+        if fate > 1:
+            entry = entry._replace(stamp=some_stamp(dice))
+        if fate > 2:
+            loop = dice.pick([loop[:-1], loop[1:], loop + [(dice.below(64), [])], [(63 - id, words) for id, words in loop], []])
+        if fate > 0:
+            left.append(entry._replace(table=entry.table._replace(descriptors=loop)))
+    return sheet.joined(left, some_sheet(dice, dice.below(3), networks))
 
 
 def small(count, stamp=0):
@@ -85,8 +99,22 @@ def add_call(payload, room=65536):
     return sheet.add(int.from_bytes(payload[:4], "little"), payload[8:lent(payload, 4)], payload[lent(payload, 4):], room)
 
 
+def two_sheets(payload):
+    return payload[4:lent(payload, 0)], payload[lent(payload, 0):]
+
+
 def join_call(payload, room=65536):
-    return sheet.join(payload[4:lent(payload, 0)], payload[lent(payload, 0):], room)
+    return sheet.join(*two_sheets(payload), room)
+
+
+def compare_call(payload, room=65536):
+    return changes.compare(*two_sheets(payload), room)
+
+
+def compare_line(payload, room):
+    """A line with the number of the sheet at fault, where one is."""
+    number = changes.at_fault(*two_sheets(payload))
+    return line(compare_call, payload, room) + (f" sheet={number}" if number else "")
 
 
 def drop_call(payload, room=65536):
@@ -107,13 +135,14 @@ def drop_payload(key, text):
 
 
 class Sheets:
-    """The four ops as cases."""
+    """The five ops as cases."""
 
     def __init__(self):
         self.script = Script({
             50: (0, lambda payload, room: line(sheet.rewrite, payload, room)),
             51: (8, lambda payload, room: line(add_call, payload, room) if lent(payload, 4) else "unknown"),
             52: (4, lambda payload, room: line(join_call, payload, room) if lent(payload, 0) else "unknown"),
+            53: (4, lambda payload, room: compare_line(payload, room) if lent(payload, 0) else "unknown"),
             56: (4, lambda payload, room: line(drop_call, payload, room)),
         })
 
@@ -129,13 +158,20 @@ class Sheets:
     def both(self, first, second, room=MOST_BYTES):
         self.join(first, second, room), self.join(second, first, room)
 
+    def compare(self, first, second, room=2 * MOST_BYTES):
+        self.script.case(53, room, join_payload(first, second))
+
+    def held(self, first, second, room=2 * MOST_BYTES):
+        """Either one against the other."""
+        self.compare(first, second, room), self.compare(second, first, room)
+
     def drop(self, key, text, room=MOST_BYTES):
         self.script.case(56, room, drop_payload(key, text))
 
     def everywhere(self, text):
         """A sheet in each place where one is lent."""
         self.rewrite(text), self.add(1, text, form_of(SAMPLE[1])), self.both(text, sheet.written(SAMPLE[1:2]))
-        self.drop(named(SAMPLE[1]), text)
+        self.drop(named(SAMPLE[1]), text), self.held(text, sheet.written(SAMPLE[1:2]))
 
 
 # --- reading --------------------------------------------------------------------
@@ -442,6 +478,86 @@ def drop_limits(sheets):
     sheets.drop(first, most), sheets.drop(last, most, 0), sheets.drop(none, most), sheets.drop(middle, most[:-1])
 
 
+# --- comparing ------------------------------------------------------------------
+
+def compare_cases(sheets, dice, size):
+    """What of one key stands in either sheet; keys before, between and behind; sheets of two mornings."""
+    rivals = RIVALS[:7] + RIVALS[10:]
+    for one in rivals:                                                  # tables that are prefixes of others, both ways
+        for other in rivals:
+            sheets.compare(sheet.written([Entry(3, one)]), sheet.written([Entry(dice.below(5), other)]))
+    pages = [table_with(*words, kind=TI) for words in ((), (0x647574, 0x000888), (0x647574, 0x000888) * 2, (0x647574, 0x000889))]
+    for one in pages:
+        for other in pages:
+            sheets.compare(sheet.written([Entry(3, one)]), sheet.written([Entry(3, other)]))
+    text = sheet.written(FIVE)
+    for stamp in (0, 3, MOST_STAMP):                                    # stamps alone differ: nothing comes out, and then no room is needed
+        again = sheet.written([entry._replace(stamp=stamp) for entry in FIVE])
+        sheets.held(text, again), sheets.held(text, again, 0)
+    for at in range(len(FIVE)):                                         # the first, each between, the last: gone, new, changed
+        other = Entry(0, FIVE[at].table._replace(descriptors=[]))
+        sheets.held(text, sheet.written(FIVE[:at] + FIVE[at + 1:])), sheets.held(text, sheet.written(FIVE[:at] + [other] + FIVE[at + 1:]))
+    keys = [(network, kind, block) for network in (9, 10, 99, 100) for kind in (LI, TI) for block in BLOCKS]
+    entries = [Entry(1, Table(kind, 0, block, network, [])) for network, kind, block in keys]
+    for step in (2, 3):                                                 # by turns
+        sheets.held(sheet.written(entries[::step]), sheet.written(entries[1::step])), sheets.held(sheet.written(entries), sheet.written(entries[::step]))
+    for cut in (1, 8, 15):                                              # all of one sheet before all of the other
+        sheets.held(sheet.written(entries[:cut]), sheet.written(entries[cut:]))
+    for _ in range(30 * size):                                          # both kinds and blocks of a network, each in neither, one or both
+        four = [(entry, dice.below(5)) for entry in FIVE[:4]]
+        first = [entry for entry, fate in four if fate in (1, 2, 3)]
+        second = [entry._replace(table=entry.table._replace(descriptors=[])) if fate == 3 else entry for entry, fate in four if fate in (2, 3, 4)]
+        sheets.compare(sheet.written(first), sheet.written(second))
+    for _ in range(24 * size):
+        first = some_sheet(dice, dice.below(6), 4)
+        sheets.compare(sheet.written(first), sheet.written(overnight(dice, first, 4)))
+
+
+def compare_rooms(sheets):
+    """Just the room, and one less; payloads that are too short."""
+    text, later = sheet.written(FIVE[1:3]), sheet.written(SAMPLE)
+    changed = sheet.written([Entry(9, entry.table._replace(descriptors=entry.table.descriptors * 2)) for entry in FIVE[1:3]])
+    for first, second in ((text, b""), (b"", text), (text, changed), (changed, text), (text, later), (later, text), (text, text)):
+        room_tried(sheets.script, 53, join_payload(first, second), compare_call)
+    for room in (MOST_BYTES + 1, 65536, 65537, 2 ** 32 - 1):
+        sheets.compare(text, later, room)
+    for payload in (b"", bytes(3), bytes(4), b"\x01\x00\x00\x00", b"\x01\x00\x00\x80" + bytes(90), b"\xff\xff\xff\xff" + text, join_payload(text, b""),
+                    join_payload(text, b"")[:-1], join_payload(text, b"")[:4], len(text).to_bytes(3, "little")):
+        sheets.script.case(53, 999, payload)
+
+
+def compare_faults(sheets):
+    """A sheet out of form is 20 at its own place, whatever the room; with both out of form it is the first's."""
+    text = sheet.written(FIVE[1:3])
+    for at in range(0, len(text), 9):
+        spoiled, cut = text[:at] + b"?" + text[at + 1:], text[:at + 1]
+        sheets.held(text, spoiled, at % 2 * 99), sheets.compare(spoiled, cut), sheets.compare(cut, spoiled, 0)
+    for whole in (b"\n", text + b"\n", text + b"x", b"\n" + text, text + text, text[:-1], text.replace(b"\n", b"\r\n")):
+        sheets.held(whole, b""), sheets.held(whole, text, 0), sheets.held(whole, b"x")
+
+
+def lent_pairs():
+    """Sheets of each size and fault, as a first one and as a second, whose tables or place of fault are others."""
+    full, over = (sheet.written(sized(length)) for length in (MOST_BYTES, MOST_BYTES + 1))
+    one, more, bad = sheet.written(FIVE[2:3]), sheet.written(small(65)), sheet.written(SAMPLE)
+    many = [entry._replace(stamp=at, table=entry.table._replace(descriptors=[(at % 64, [])] * (at % 3))) for at, entry in enumerate(small(68)[4:])]
+    return ((b"", b""), (one, one.replace(b"dut", b"eng")), (sheet.written(small(64)), sheet.written(many)), (more, more), (more + b"stamp=01\n", more + b"stamp=1\nkind=\n"),
+            (full, full.replace(b"dut", b"eng")), (over, b"x" * len(over)), (bad.replace(b"block=0", b"block=00", 1), bad.replace(b"kind=TI", b"kind=ti", 1)))
+
+
+def compare_limits(sheets):
+    """Every pair of sheets: empty, one entry, 64, 65, 65 and a bad line, 16,384 bytes, 16,385, out of form. The first is judged whole before the second is
+    looked at, and the room last. A long print is shown with just its room, and once with one less."""
+    pairs = lent_pairs()
+    for at, (first, _) in enumerate(pairs):
+        for to, (_, second) in enumerate(pairs):
+            if changes.at_fault(first, second):
+                sheets.compare(first, second, (at + to) % 2 * 2 * MOST_BYTES)
+                continue
+            need = len(changes.compare(first, second))
+            sheets.compare(first, second, need - (need > 9999 and at == 1))
+
+
 def spoilt(dice, text):
     at = dice.below(len(text))
     end = text.find(b"\n", at) + 1
@@ -464,7 +580,8 @@ def script_of(dice, size):
     lent_faults(sheets), full_cases(sheets), many_cases(sheets)
     add_cases(sheets, dice, size), join_cases(sheets, dice, size), grouping_cases(sheets)
     drop_cases(sheets, dice, size), drop_faults(sheets), drop_limits(sheets)
-    for op in (0, 49, 53, 55, 57, 255):
+    compare_cases(sheets, dice, size), compare_rooms(sheets), compare_faults(sheets), compare_limits(sheets)
+    for op in (0, 49, 55, 57, 58, 255):
         sheets.script.case(op, 99, sheet.written(SAMPLE))
     sheets.script.cut_short(b"\x32\x40\x00\x00\x00\x08\x00\x00\x00stamp=1")
     return sheets.script

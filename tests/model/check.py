@@ -13,9 +13,9 @@ from cases.form import LOST, Dice, with_bytes
 from cases import both as both_cases
 from cases.reader import Air, all_cases
 from cases.menu import EMPTY, SAMPLE, filled, linked, listed, some_menu, worded
-from cases.sheet import largest, named, sized, small, some_entry, some_sheet
+from cases.sheet import FIVE, RIVALS, largest, lent_pairs, named, overnight, sized, small, some_entry, some_sheet
 from cases.table import CASE_G, L1_PRINTED, L1_SUM, l1_records, later, shaped, some_table
-from model import Refused, both, guide, listing, menu, octet, pes, sheet, streams, survey, table, unpes
+from model import Refused, both, changes, guide, listing, menu, octet, pes, sheet, streams, survey, table, unpes
 from model.listing import DESK
 from samples import aired_both
 
@@ -164,6 +164,57 @@ def dropping():
     over = sheet.written(sized(16385))
     assert [number(sheet.drop, 0, table.TI, 0, lent, 0) for lent in (over, b"x" + over, b"x" + more, b"x", over[:-1], more)] == \
         [(21, 0), (21, 0), (20, 0), (20, 0), (20, 16384), (1, 0)]
+
+
+def comparing():
+    """Applied to the first sheet's tables the print gives the second's, nothing is printed exactly when the tables are equal, and for one first
+    sheet two seconds print alike exactly when their tables are; a print is no longer than the two sheets."""
+    dice, alike = Dice(30), {True: 0, False: 0}
+    rising = [None, RIVALS[0], RIVALS[1], RIVALS[4], RIVALS[6]]         # the lines of each table begin those of the next
+    few = [[sheet.Entry(1, t._replace(network=n)) for n, t in ((7, low), (9, high)) if t] for low in rising for high in rising]
+    families = [(first, few) for first in few]
+    for _ in range(300):
+        first = some_sheet(dice, dice.below(9), 3)
+        families.append((first, [overnight(dice, first, 3), overnight(dice, first, 3), some_sheet(dice, dice.below(9), 3), [entry._replace(stamp=8) for entry in first], []]))
+    families.append((sized(16384), [all_changed(sized(16384)), sized(16384), small(64), []]))
+    for first, seconds in families:
+        text, tables = sheet.written(first), [entry.table for entry in first]
+        made = [([entry.table for entry in second], changes.compare(text, sheet.written(second))) for second in seconds]
+        for second, (theirs, came) in zip(seconds, made):
+            assert changes.applied(came, tables) == theirs and (came == b"") == (tables == theirs)
+            assert len(came) <= len(text) + len(sheet.written(second)) and came == changes.printed(tables, theirs)
+            for others, other in made:
+                assert (came == other) == (theirs == others)
+                alike[came == other] += 1
+    assert min(alike.values()) > 1000
+    empty, five = (sheet.written([sheet.Entry(0, t)]) for t in RIVALS[:2])          # the print alone doesn't say which of the two it was
+    assert changes.compare(empty, five) == changes.compare(five, empty) == b"changed=LI,7,0\ndescriptor=5\n"
+    two = [FIVE[1], FIVE[2]._replace(table=CASE_G._replace(descriptors=[(5, [0x647574, 0x000888])])), *FIVE[3:4]]
+    assert changes.compare(sheet.written(FIVE[:3]), sheet.written(two)) == (
+        b"gone=LI,2,0\nchanged=TI,2,0\ndescriptor=3\nlanguage=dut\npage=647574\ndescriptor=5\nlanguage=dut\npage=000888\n"
+        b"new=TI,2,32768\ndescriptor=4\nlanguage=dut\npage=647574\n")
+
+
+def all_changed(entries):
+    """Every table another one of its length."""
+    return [e._replace(table=e.table._replace(descriptors=[(id, [word ^ 1 for word in words]) for id, words in e.table.descriptors])) for e in entries]
+
+
+def compared_faults():
+    """The first sheet is judged whole, then the second, as `rewrite` judges each alone, then the room; the number is that of the sheet that is told."""
+    pairs = lent_pairs()
+    for first in (one for pair in pairs for one in pair):
+        for second in (one for pair in pairs for one in pair):
+            faults = [number(sheet.rewrite, lent) for lent in (first, second)]
+            bad = next((at for at, fault in enumerate(faults, 1) if fault != (0, 0)), 0)
+            assert changes.at_fault(first, second) == bad
+            for room in (0, 2 ** 15):
+                expected = faults[bad - 1] if bad else (1, 0) if room == 0 and changes.compare(first, second) else (0, 0)
+                assert number(changes.compare, first, second, room) == expected
+    more, over, bad = sheet.written(small(65)), sheet.written(sized(16385)), b"stamp=1\nkind=\n"
+    told = [(number(changes.compare, *two, 0), changes.at_fault(*two)) for two in (
+        (bad, over), (over, bad), (bad, more), (more, bad), (b"", over), (b"", more), (b"", bad), (b"", more + b"x"), (over, more), (sheet.written(small(64)), b""), (b"", b""))]
+    assert told == [((20, 8), 1), ((21, 0), 1), ((20, 8), 1), ((21, 0), 1), ((21, 0), 2), ((21, 0), 2), ((20, 8), 2), ((20, len(more)), 2), ((21, 0), 1), ((1, 0), 0), ((0, 0), 0)]
 
 
 def menus():
@@ -563,7 +614,7 @@ def noise(rounds, most):
 
 
 def main():
-    for check in (images, cases_a_to_f, case_g, cases_h_to_k, annex_l1, editions, lost_pes, pages, day_sheet, dropping, menus, menu_levels, joined_blocks, cut_line, side_by_side,
+    for check in (images, cases_a_to_f, case_g, cases_h_to_k, annex_l1, editions, lost_pes, pages, day_sheet, dropping, comparing, compared_faults, menus, menu_levels, joined_blocks, cut_line, side_by_side,
                   untouched, two_said, desk_of_two, sheet_of_two, menus_of_two):
         check()
         print(f"{check.__name__}: ok")
