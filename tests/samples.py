@@ -1,11 +1,11 @@
 """Small captures for the desk and `menus`, and what they print for each (magazine 1, page DF,
-stream 1, or 1 and 2, application 1). Made by the model's writer; nothing is off the air."""
+stream 1, or 1 and 2, application 1); sheets of a day and of two mornings. Made by the model's writer; nothing is off the air."""
 
 from cases.both import mixed
 from cases.form import LOST, Dice, with_bytes
 from cases.reader import Air
 from cases.table import CASE_G
-from model import Refused, both, guide, listing, menu, octet, pes, sheet, table, unpes
+from model import Refused, both, changes, guide, listing, menu, octet, pes, sheet, table, unpes
 from model.listing import DESK
 from model.menu import Event, Menu, String
 from model.table import LI, TI, Table
@@ -164,6 +164,33 @@ def sheet_run():
     yield "stdout", sheet.fed(b"", [(EVENING, made["evening.t42"]), (MORNING, made["morning.t42"])])[1].encode()
 
 
+MONDAY, TUESDAY = MORNING, MORNING + 24 * 60 * 60
+
+
+def mornings():
+    """The sheets of two mornings, and what changed between them. On Tuesday Monday's sheet is copied, the tables of that night's capture are added, and
+    an entry is dropped. Network 2's languages aren't sent again, and network 5's are, as they were."""
+    dut, eng, fre, ger, ita, spa, swe, tur = LANGUAGES
+    monday = (Table(LI, 0, 0, 2, [(0, [dut, eng])]), Table(TI, 0, 0, 2, [(0, [dut, 0x000888])]), Table(LI, 0, 0, 5, [(0, [swe]), (1, [swe, eng])]),
+              Table(TI, 0, 0, 5, [(0, [swe, 0x000899]), (1, [swe, 0x000899, eng, 0x00089A])]), Table(TI, 0, 0x8000, 5, [(0, [ger, 0x000850])]))
+    tuesday = (Table(TI, 0, 0, 2, [(0, [dut, 0x000888, tur, 0x000889])]), Table(LI, 0, 0, 3, [(0, [fre]), (2, [fre, ita])]), monday[2],
+               Table(TI, 0, 0, 5, [(0, [swe, 0x000899])]), Table(TI, 0, 0, 9, [(0, [spa, 0x000877])]))
+    first = added(MONDAY, b"", monday)
+    second = sheet.drop(5, TI, 0x8000, added(TUESDAY, first, tuesday))
+    text = changes.compare(first, second)
+    assert {line.split("=")[0] for line in text.decode().split("\n") if "," in line} == {"gone", "new", "changed"}
+    old, new = ({sheet.key(entry): entry for entry in sheet.read(data)} for data in (first, second))
+    kept = [at for at in old if at in new and old[at].table == new[at].table]
+    assert sorted(new[at].stamp for at in kept) == [MONDAY, TUESDAY]
+    return {"monday.sheet": first, "tuesday.sheet": second, "overnight.txt": text}
+
+
+def added(stamp, text, tables):
+    for t in tables:
+        text = sheet.add(stamp, text, table.form_of(t))
+    return text
+
+
 # --- menus ----------------------------------------------------------------------------
 
 def offered(number, header, *events):
@@ -245,5 +272,6 @@ def make():
         yield name[:-4] + ".txt", listing.desk(fed[name])
     yield "night.err", said.encode()        # what unpes says last on standard error
     yield from day().items()
+    yield from mornings().items()
     yield from zip(("menus.t42", "menus.txt"), guide_menus())
     yield from zip(("both.t42", "both.txt"), both_streams())
