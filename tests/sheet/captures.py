@@ -3,7 +3,8 @@
 `sheet add`, NAME.words (options, then a stamp and a capture in turn, one word to a line), NAME.before (the sheet that stands, where there
 is one), NAME.after (the sheet afterwards), NAME.line (what is printed) and NAME.said (what is said of captures that gave nothing). And for late files: orders (every order of four captures, a
 line each), four.after; twenty (a stamp and a capture, a line each), twenty.after, groupings (pairs of sheets to be joined, the second
-into the first, a grouping after each empty line)."""
+into the first, a grouping after each empty line). And of two sheets that are compared NAME.first and NAME.second, with NAME.print, or NAME.fault where one
+of them is refused: which, the number and the offset."""
 
 import itertools
 import pathlib
@@ -15,9 +16,9 @@ sys.path.insert(0, str(pathlib.Path(__file__).resolve().parent.parent))
 import samples
 from cases.form import Dice
 from cases.reader import Air
-from cases.sheet import SAMPLE, small
+from cases.sheet import FIVE, SAMPLE, lent_pairs, overnight, small, some_sheet
 from cases.table import CASE_G, some_table
-from model import both, guide, pes, sheet, streams, survey, table
+from model import Refused, both, changes, guide, pes, sheet, streams, survey, table
 from model.guide import Setting
 from model.listing import DESK
 from samples import EVENING, MORNING, TWO, aired, aired_both, both_streams, packets_in
@@ -120,6 +121,7 @@ def main(folder):
     (folder / "crowd").write_bytes(sheet.written([sheet.Entry(1, CASE_G._replace(network=100 + n, copyright=0)) for n in range(64)]))    # no other network has room in it
     drops(folder, dice)
     late(folder, dice)
+    compares(folder, dice)
 
 
 def drops(folder, dice):
@@ -160,6 +162,26 @@ def late(folder, dice):
                 left.append(into)
                 groupings.write(f"{into} {other}\n")
             groupings.write("\n")
+
+
+def compares(folder, dice):
+    """Two sheets side by side: alike, of stamps alone that differ, the longest prints, nights of every kind, and each fault in either."""
+    text, restamped = sheet.written(FIVE), sheet.written([entry._replace(stamp=9) for entry in FIVE])
+    pairs = {"alike": (text, text), "restamped": (text, restamped), "all-gone": (text, b""), "all-new": (b"", text)}
+    for at in range(12):
+        first = some_sheet(dice, dice.below(9), 5)
+        pairs[f"night{at}"] = sheet.written(first), sheet.written(overnight(dice, first, 5))
+    kinds = list(zip(("none", "one", "64", "65", "65bad", "full", "over", "bad"), lent_pairs(), strict=True))
+    for kind, (first, _) in kinds:
+        for other, (_, second) in kinds:
+            pairs[f"{kind}-{other}"] = first, second
+    for name, (first, second) in pairs.items():
+        (folder / f"{name}.first").write_bytes(first)
+        (folder / f"{name}.second").write_bytes(second)
+        try:
+            (folder / f"{name}.print").write_bytes(changes.compare(first, second))
+        except Refused as refused:
+            (folder / f"{name}.fault").write_text(f"{changes.at_fault(first, second)} {refused.no} {refused.at}\n")
 
 
 main(pathlib.Path(sys.argv[1]))
