@@ -95,8 +95,8 @@ module _ (v : Verdict) (k : ℕ) (page : Page) (h : Half) (store p : List ℕ) (
   pub heeded-few : a .got .written + a .got .blocks ≤ 2120
   heeded-few = omega (arith, its-bytes, its-blocks, few .0, few .1)
 
-  pub heeded-laid : (q : ℕ) (out : List ℕ) → RoomFor v k page h store p q out → Laid k held (a .got .written) q out
-  heeded-laid q out r = (bs, drop (length (recordsOf bs)) hold, sized, laid-out, its-bytes, r)
+  pub heeded-laid : (q : ℕ) (out : List ℕ) → RoomFor v page h store p q out → Laid k held (a .got .written) q out
+  heeded-laid q out r = (bs, drop (length (recordsOf bs)) hold, sized, laid-out, its-bytes, omega (arith, r, tagged-length k bs))
 
   pub heeded-gave :
       (q : ℕ) {old new : List ℕ} → new ≡ sets old q (tagged k (blocks (take (a .got .written) held)))
@@ -228,9 +228,10 @@ module _ (s : Streams) (a : Pair) (was1 was2 p : List ℕ) (whole : length p ≡
 
   pub room-first :
       {page : Page} (out : List ℕ) → page ≡ pageFor First (a .page) → a .written + roomOfTwo ≤ length out
-      → RoomFor (v .first) (s .first) page (a .first) was1 p (a .written) out
+      → RoomFor (v .first) page (a .first) was1 p (a .written) out
   room-first out g h =
-      rw (verdict, g, blocks-fit First (a .page) (a .first .index) (stateFor First at-hand) p seen (shaped-two s p)) (omega (arith, both-long, h))
+      rw (verdict, g, blocks-fit First (a .page) (a .first .index) (stateFor First at-hand) p seen (shaped-two s p))
+      (omega (arith, both-long, h, tagged-length (s .first) (blocksAfter First at-hand seen)))
 
   pub fit-first : {n : ℕ} → n ≡ length ones → a .written + n ≤ a .written + 2120
   fit-first m = omega (arith, both-long, m)
@@ -244,9 +245,10 @@ module _ (s : Streams) (a : Pair) (was1 was2 p : List ℕ) (whole : length p ≡
 
   pub room-second :
       {page : Page} {n : ℕ} (out : List ℕ) → page ≡ pageFor Second (a .page) → a .written + roomOfTwo ≤ length out → n ≡ length ones
-      → RoomFor (v .second) (s .second) page (a .second) was2 p (a .written + n) out
+      → RoomFor (v .second) page (a .second) was2 p (a .written + n) out
   room-second out g h m =
-      rw (verdict, g, blocks-fit Second (a .page) (a .second .index) (stateFor Second at-hand) p seen (shaped-two s p)) (omega (arith, both-long, h, m))
+      rw (verdict, g, blocks-fit Second (a .page) (a .second .index) (stateFor Second at-hand) p seen (shaped-two s p))
+      (omega (arith, both-long, h, m, tagged-length (s .second) (blocksAfter Second at-hand seen)))
 
   pub gave-second :
       {page : Page} {q : ℕ} {r : Gave} {store old new : List ℕ} → page ≡ pageFor Second (a .page)

@@ -25,7 +25,7 @@ use Rattle.reader.specs.Feeding.{doesFor}
 use Rattle.reader.specs.Many.{Ran, begun}
 use Rattle.walk.specs.Internal.{Kept}
 use Rattle.walk.specs.Mode.{Good}
-use Rattle.reader.specs.Internal.{CameTo, ReachedBy, Acted, stateIn, RanTo, taking, packetAt, Reached, Elsewhere, none-passed, one-passed, Passed}
+use Rattle.reader.specs.Internal.{CameTo, ReachedBy, Acted, stateIn, RanTo, taking, packetAt, Reached, OthersOnly, none-passed, one-passed, Passed}
 use Rattle.walk.proofs.Keeping.{holds-mode, holds-kept}
 use Rattle.walk.proofs.Adding.{recordsOf-append}
 use Rattle.walk.proofs.Room.{head-each}
@@ -159,7 +159,7 @@ passed-one s packets from at p h e t =
 pub passed-by :
     {s : Setting} {packets : List ℕ} {from at : ℕ} (Step : ℕ → Type 0)
     → ((k : ℕ) → k + packetLength ≤ length packets → elsewhere s (addressOf (packetAt packets k)) ≡ true → Step k → Step (k + packetLength))
-    → Elsewhere s packets from at → Step from → Step at
+    → OthersOnly s packets from at → Step from → Step at
 passed-by Step keeps none-passed x = x
 passed-by Step keeps (one-passed {at = k} w h e) x = keeps k h e (passed-by Step keeps w x)
 

@@ -117,18 +117,18 @@ abbrev pub packetAt : List ℕ → ℕ → List ℕ
 packetAt packets at = take (at + packetLength - at) (drop at packets)
 
 -- from one place to another only other magazines' packets stand
-pub data Elsewhere (s : Setting) (packets : List ℕ) (from : ℕ) : ℕ → Type 0 where
-  none-passed : Elsewhere s packets from from
+pub data OthersOnly (s : Setting) (packets : List ℕ) (from : ℕ) : ℕ → Type 0 where
+  none-passed : OthersOnly s packets from from
   one-passed :
-      {at : ℕ} → Elsewhere s packets from at → at + packetLength ≤ length packets → elsewhere s (addressOf (packetAt packets at)) ≡ true
-      → Elsewhere s packets from (at + packetLength)
+      {at : ℕ} → OthersOnly s packets from at → at + packetLength ≤ length packets → elsewhere s (addressOf (packetAt packets at)) ≡ true
+      → OthersOnly s packets from (at + packetLength)
 
 -- and they are whole packets
 pub record Passed (s : Setting) (packets : List ℕ) (from at : ℕ) : Type 0 where
   pub onward : from ≤ at
   pub within : at ≤ length packets
   pub even : (length packets - at) % packetLength ≡ 0
-  pub by : Elsewhere s packets from at
+  pub by : OthersOnly s packets from at
 
 -- and the packet that is met there, if one is, has this address
 abbrev pub PassedTo : Setting → List ℕ → ℕ → Met → Type 0

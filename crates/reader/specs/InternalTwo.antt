@@ -70,10 +70,11 @@ HeededFor v k page h store p =
     GaveTo k (ownOf (heeded v (nib (getD p 2 0)) (drop 3 p) st)) (heededBlocks v (nib (getD p 2 0)) (drop 3 p) st)
     (heededDrops v (nib (getD p 2 0)) (drop 3 p) st)
 
--- there is room for what it gives
-abbrev pub RoomFor : Verdict → ℕ → Page → Half → List ℕ → List ℕ → ℕ → List ℕ → Type 0
-RoomFor v k page h store p q out =
-    q + length (tagged k (heededBlocks v (nib (getD p 2 0)) (drop 3 p) (aloneIn page h store))) ≤ length out
+-- there is room for what it gives: the records, and a byte before each
+abbrev pub RoomFor : Verdict → Page → Half → List ℕ → List ℕ → ℕ → List ℕ → Type 0
+RoomFor v page h store p q out =
+    let bs = heededBlocks v (nib (getD p 2 0)) (drop 3 p) (aloneIn page h store) in
+    q + (length (recordsOf bs) + length bs) ≤ length out
 
 -- ---- one packet more
 

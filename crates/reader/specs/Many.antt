@@ -23,8 +23,7 @@ abbrev pub ranOn : Setting → Ran → List ℕ → Ran
 ranOn s = Calls·ranOn (doesFor s)
 
 -- at most n packets from the front of l, into an output so long
-unfoldable abbrev pub run : Setting → ℕ → ℕ → Ran → List ℕ → Ran
-unfolding doesFor
+abbrev pub run : Setting → ℕ → ℕ → Ran → List ℕ → Ran
 run s = Calls·run (doesFor s)
 
 abbrev pub ranAll : Setting → Reader → List ℕ → List ℕ → Ran

@@ -283,7 +283,7 @@ fn heed_for(
     requires { ⌜ Kept (half .run) (now store) ⌝ }
     requires { ⌜ length (now packet) ≡ packetLength ⌝ }
     requires { ⌜ length (now hold) ≡ room ⌝ }
-    requires { ⌜ RoomFor v stream page half (now store) (now packet) q (now out) ⌝ }
+    requires { ⌜ RoomFor v page half (now store) (now packet) q (now out) ⌝ }
     ensures { λ r. ⌜ HeededFor v stream page half (now (store .entry)) (now (packet .entry)) q r (now (store .exit)) (now (out .entry)) (now (out .exit)) ⌝ }
 {
     let run = half.run;
