@@ -9,6 +9,7 @@ pub fn put() -> bool {
     let on = line(on, b"       sheet join [--] SHEET OTHER ...\n");
     let on = line(on, b"       sheet drop [--] SHEET KIND NETWORK BLOCK\n");
     let on = line(on, b"       sheet check [--] SHEET ...\n");
+    let on = line(on, b"       sheet compare [--] FIRST SECOND\n");
     let on = line(
         on,
         b"  add        add the tables of captures to the sheet; a stamp is the second at which the capture behind it started\n",
@@ -21,6 +22,10 @@ pub fn put() -> bool {
     let on = line(
         on,
         b"  check      print a line for each sheet, and change none\n",
+    );
+    let on = line(
+        on,
+        b"  compare    print what went, came and changed from the first sheet to the second\n",
     );
     let on = line(on, b"  -m 1..8    the magazine, usually 1\n");
     let on = line(on, b"  -p 00..FF  the page, usually DF\n");

@@ -1,5 +1,5 @@
-// The day sheet, a file with an entry for each table: captures' tables are added to it, other sheets are joined to it, or it is looked
-// at (SCOPE 20.11). What it says is settled by the rooms `day_sheet` and `words`; here are its files.
+// The day sheet, a file with an entry for each table: captures' tables are added to it, other sheets are joined to it, it is looked
+// at (SCOPE 20.11), or two are held side by side (SCOPE 28.7). What it says is settled by the rooms `day_sheet`, `changes` and `words`; here are its files.
 //
 // The file is replaced whole or not at all (`placing`). Whatever fails before that leaves the file as it was. Where another has taken its place meanwhile, the work is done
 // anew on that: captures aren't read again, since their tables are kept.
@@ -7,6 +7,7 @@
 // A line on standard error that tells of a failure begins `sheet: `. Words that the program is called with are heard twice: first all
 // are judged, then the files are opened.
 mod capture;
+mod comparing;
 mod files;
 mod help;
 mod kept;
@@ -54,7 +55,7 @@ const OPTIONS: [u32; 20] = [
 ];
 
 // The rows (SCOPE 20.12, 20.13). A name is `f` the sheet, `s` a stamp, `c` a capture, `o` another sheet, or `k`, `n` and `b` an entry's kind, network and block.
-const TASKS: [u8; 45] = *b"add mpsa f+sc\njoin  f+o\ndrop  fknb\ncheck  +f\n";
+const TASKS: [u8; 57] = *b"add mpsa f+sc\njoin  f+o\ndrop  fknb\ncheck  +f\ncompare  fo\n";
 
 // The tasks that change a sheet.
 const ADD: u8 = 1;
@@ -99,6 +100,10 @@ fn main() {
     }
     if words::is_task(&TASKS, said, b"check") {
         check_all();
+        return;
+    }
+    if words::is_task(&TASKS, said, b"compare") {
+        compare();
         return;
     }
     change(Job {
@@ -148,7 +153,7 @@ fn is_bad_stamp(place: u8, n: usize, word: &mut [u8; 4096]) -> bool {
 
 // Adds captures to a sheet, or joins sheets to it, all of them or none; or drops an entry of it. A link leads to the sheet's own place.
 fn change(job: Job) {
-    let named = sheet_word();
+    let named = word_of(b'f');
     let mut shown = io::buffer();
     let m = told::argument(named, &mut shown);
     told::plain(&mut shown);
@@ -163,15 +168,15 @@ fn change(job: Job) {
     change_at(job, way.linked, path, shown);
 }
 
-// Which word names the sheet.
-fn sheet_word() -> usize {
+// Which word is the first name at a place.
+fn word_of(place: u8) -> usize {
     let mut word = io::buffer();
     let count = os::arg_count();
     let mut said = words::start(&TASKS);
     let mut i = 1;
     while i < count {
         let heard = command_line::hear(&OPTIONS, &TASKS, said, i, &mut word);
-        if heard.place == b'f' {
+        if heard.place == place {
             return i;
         }
         said = heard.said;
@@ -485,4 +490,13 @@ fn check(place: u8, n: usize, word: &mut [u8; 4096]) -> bool {
         return files::check(word, n);
     }
     true
+}
+
+// Holds two sheets side by side.
+fn compare() {
+    let mut name = io::buffer();
+    let n = told::argument(word_of(b'f'), &mut name);
+    let mut other = io::buffer();
+    let m = told::argument(word_of(b'o'), &mut other);
+    comparing::compare(&mut name, n, &mut other, m);
 }

@@ -18,8 +18,9 @@ pub fn usage() {
         b"sheet: usage: sheet add [-m 1..8] [-p 00..FF] [-s 0..15[,0..15]] [-a 0..31] [--] SHEET STAMP CAPTURE [STAMP CAPTURE ...], ",
     );
     say(
-        b"sheet join [--] SHEET OTHER ..., sheet drop [--] SHEET KIND NETWORK BLOCK, sheet check [--] SHEET ...\n",
+        b"sheet join [--] SHEET OTHER ..., sheet drop [--] SHEET KIND NETWORK BLOCK, sheet check [--] SHEET ..., ",
     );
+    say(b"sheet compare [--] FIRST SECOND\n");
 }
 
 // A word that has to be a stamp and isn't.
@@ -113,6 +114,21 @@ pub fn refuse_sheet(name: &[u8], no: u8, at: usize, sheet: &[u8]) {
         return;
     }
     say_cause(no);
+    say(b"\n");
+}
+
+// A sheet that can't be compared. Of 20 the line at fault is told too.
+pub fn refuse_compared(name: &[u8], no: u8, at: usize, sheet: &[u8]) {
+    refuse(name, no, at);
+    if no == 20 {
+        lines::say_fault(sheet, at);
+        say(b"\n");
+        return;
+    }
+    if no == 21 {
+        say(b": more than 64 entries or 16384 bytes\n");
+        return;
+    }
     say(b"\n");
 }
 

@@ -117,6 +117,22 @@ sheet-drop :
 unfolding before upTo behind rowFrom digitOf decimalFrom decimalOf numberOf hexPairOf kindOf isMark passed letterAt turned after mayEnd isKind fits formOf optionFrom isIn putOne putTwo saidBy startSaid isName chosen named heardLast heardLetter heardOption heardAll valueAt secondAt beginsWith standsIn
 sheet-drop = refl
 
+-- the row of `compare`, by itself
+abbrev compareRow : List ℕ
+compareRow = 99 ∷ 111 ∷ 109 ∷ 112 ∷ 97 ∷ 114 ∷ 101 ∷ 32 ∷ 32 ∷ 102 ∷ 111 ∷ 10 ∷ []
+
+-- `compare a b`; `compare -- -a b`; `compare a`; `compare a b c`, a third name; `compare -m 2 a b`, which takes no option
+sheet-compare :
+    map (good (setting []) compareRow)
+    (((99 ∷ 111 ∷ 109 ∷ 112 ∷ 97 ∷ 114 ∷ 101 ∷ []) ∷ (97 ∷ []) ∷ (98 ∷ []) ∷ []) ∷
+    ((99 ∷ 111 ∷ 109 ∷ 112 ∷ 97 ∷ 114 ∷ 101 ∷ []) ∷ (45 ∷ 45 ∷ []) ∷ (45 ∷ 97 ∷ []) ∷ (98 ∷ []) ∷ []) ∷
+    ((99 ∷ 111 ∷ 109 ∷ 112 ∷ 97 ∷ 114 ∷ 101 ∷ []) ∷ (97 ∷ []) ∷ []) ∷
+    ((99 ∷ 111 ∷ 109 ∷ 112 ∷ 97 ∷ 114 ∷ 101 ∷ []) ∷ (97 ∷ []) ∷ (98 ∷ []) ∷ (99 ∷ []) ∷ []) ∷
+    ((99 ∷ 111 ∷ 109 ∷ 112 ∷ 97 ∷ 114 ∷ 101 ∷ []) ∷ (45 ∷ 109 ∷ []) ∷ (50 ∷ []) ∷ (97 ∷ []) ∷ (98 ∷ []) ∷ []) ∷ [])
+    ≡ true ∷ true ∷ false ∷ false ∷ false ∷ []
+unfolding before upTo behind rowFrom digitOf decimalFrom decimalOf numberOf hexPairOf kindOf isMark passed letterAt turned after mayEnd isKind fits formOf optionFrom isIn putOne putTwo saidBy startSaid isName chosen named heardLast heardLetter heardOption heardAll valueAt secondAt beginsWith standsIn
+sheet-compare = refl
+
 -- `-s 2`, `-s 1,2`; `-s 2,2`, the same twice; `-s 1,2,3`; `-s 1,`
 pair :
     map (good deskOptions deskRows)

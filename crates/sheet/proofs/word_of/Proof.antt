@@ -1,14 +1,14 @@
--- `sheet::sheet_word` is safe and ends: it counts the words. Assumes nothing.
+-- `sheet::word_of` is safe and ends: it counts the words. Assumes nothing.
 use borrow.Author.Needs.{needs}
 use Prim.Native.Nat.{_-_}
-use Rattle.sheet.proofs.sheet_word.Statement.{statement}
-use Rattle.sheet.proofs.sheet_word.Tie as tie
+use Rattle.sheet.proofs.word_of.Statement.{statement}
+use Rattle.sheet.proofs.word_of.Tie as tie
 
 abbrev Inv-loop : tie.InvT-loop
-Inv-loop word₀ count said₀ i₀ t7 t8 word said i = Unit {0}
+Inv-loop place word₀ count said₀ i₀ t7 t8 word said i = Unit {0}
 
 abbrev μ-loop : tie.MeasureT-loop
-μ-loop word₀ count said₀ i₀ t7 t8 word said i = count - i
+μ-loop place word₀ count said₀ i₀ t7 t8 word said i = count - i
 
 loop-holds : tie.Need-loop-holds Inv-loop μ-loop
 loop-holds c = search needs
@@ -25,8 +25,8 @@ loop-again c = search needs
 returns-2 : tie.Need-returns-2 Inv-loop μ-loop
 returns-2 c = search needs
 
-pub sheet-word-spec : {M : Type 1} → statement M
-sheet-word-spec =
+pub word-of-spec : {M : Type 1} → statement M
+word-of-spec =
     tie.close
     (tie.spec
     Inv-loop
