@@ -37,7 +37,7 @@ english = 0x656E67
 abbrev evening : List Entry
 evening =
     entry 5 LI 1 0 (record { id = 3; words = english ∷ [] } ∷ [])
-    ∷ entry 5 TI 1 7 (bare 5 ∷ [])
+    ∷ entry 5 TI 1 0 (bare 5 ∷ [])
     ∷ entry 5 LI 2 0 (bare 9 ∷ [])
     ∷ entry 5 TI 2 0 []
     ∷ []
@@ -45,21 +45,21 @@ evening =
 -- and one that comes
 abbrev morning : List Entry
 morning =
-    entry 6 TI 1 7 (record { id = 5; words = english ∷ 0x0188FF ∷ [] } ∷ [])
+    entry 6 TI 1 0 (record { id = 5; words = english ∷ 0x0188FF ∷ [] } ∷ [])
     ∷ entry 6 LI 2 0 (bare 9 ∷ [])
     ∷ entry 5 TI 2 0 []
-    ∷ entry 6 LI 255 65535 (bare 0 ∷ bare 63 ∷ [])
+    ∷ entry 6 LI 255 32768 (bare 0 ∷ bare 63 ∷ [])
     ∷ []
 
 abbrev print : List ℕ
 print =
     line (codes "gone=LI,1,0")
-    ++ line (codes "changed=TI,1,7")
+    ++ line (codes "changed=TI,1,0")
     ++ line (codes "descriptor=5")
     ++ line (codes "descriptor=5")
     ++ line (codes "language=eng")
     ++ line (codes "page=0188ff")
-    ++ line (codes "new=LI,255,65535")
+    ++ line (codes "new=LI,255,32768")
     ++ line (codes "descriptor=0")
     ++ line (codes "descriptor=63")
 
