@@ -28,12 +28,12 @@ use Rattle.claims.specs.Lists.{Among}
 use Rattle.claims.specs.March.{Unreadable}
 use Rattle.claims.specs.Tables.{recordsOf, sent}
 use Rattle.claims.specs.Calls.{Fed, MadeWhole, countedForms}
-use Rattle.claims.specs.CutLine.{Held, fromPage, fromThere, Resumed, Delivered, AfterOne}
+use Rattle.claims.specs.CutLine.{Held, fromPage, Delivered, AfterOne}
 use Rattle.claims.specs.Two as Two
 use Rattle.claims.specs.Two.{StartsTwo, FeedsTwo, FeedsAllTwo, FedOfTwo, heardByTwo}
 use Rattle.claims.specs.Differing.{theOther, Differing}
 use Rattle.claims.specs.Woven.{cutFor, BothShared, BothClean}
-use Rattle.claims.specs.Both.{ThroughBoth, DeliversBoth, HeldOfTwo, LeavesOfTwo}
+use Rattle.claims.specs.Both.{ThroughBoth, DeliversBoth, HeldOfTwo, LeavesOfTwo, ResumedFor, comingFor}
 use Rattle.claims.proofs.Noise.{near}
 use Rattle.claims.proofs.Losing.{came-exactly, came-among, among-map}
 use Rattle.claims.proofs.Mingling.{mingled-long, rightly-long}
@@ -170,17 +170,10 @@ leaves-held-of-two =
 module _ (s : Streams) (within : inRangeOfTwo s ≡ true) (index k : Whose → ℕ) (low : (w : Whose) → index w < 16) (least : (w : Whose) → 1 ≤ k w)
     (most : (w : Whose) → k w ≤ 25) (records : Whose → List ℕ) (fit : (w : Whose) → Each Fits (blocks (records w))) (ours : Whose → List (List ℕ))
     (qs : List (List ℕ)) {r : Readers} {numbers : List ℕ} {out : List Handed} (fed : FedOfTwo s r qs numbers out) where
-  -- a stream's run from page j on, and what comes of it
-  abbrev pub ResumedFor : Whose → ℕ → Type 0
-  ResumedFor w j = Resumed (settingFor w s) (k w) j (cutFor s index k records w) (ours w) qs
-
-  abbrev pub comingFor : Whose → ℕ → List Block
-  comingFor w j = fromThere (settingFor w s) (index w) (k w) j (records w)
-
   -- from any reader of two in range, of one stream: where its run goes on, undamaged, with nothing between but packets that can be read, whatever the
   -- other stream's are
   pub after-cut-line-either :
-      (st : TwoState) → HeldOfTwo r st → (w : Whose) (j : ℕ) → ResumedFor w j → Delivered (stateFor w st .mode) (comingFor w j) numbers (blocksFor w out)
+      (st : TwoState) → HeldOfTwo r st → (w : Whose) (j : ℕ) → ResumedFor s index k records ours qs w j → Delivered (stateFor w st .mode) (comingFor s index k records w j) numbers (blocksFor w out)
   after-cut-line-either st h w j resumed =
       let one = settingFor w s in
       let long = mingled-long (readable-long one) (forty-drop (j * (k w + 1)) (packets-forty one (index w) (k w) (records w))) resumed in
@@ -194,13 +187,13 @@ module _ (s : Streams) (within : inRangeOfTwo s ≡ true) (index k : Whose → �
   pub after-cut-line-of-two :
       (st : TwoState) → HeldOfTwo r st → (j : Whose → ℕ)
       → BothClean s k (λ w. fromPage (k w) (j w) (cutFor s index k records w)) ours qs
-      → (w : Whose) → Delivered (stateFor w st .mode) (comingFor w (j w)) numbers (blocksFor w out)
+      → (w : Whose) → Delivered (stateFor w st .mode) (comingFor s index k records w (j w)) numbers (blocksFor w out)
   after-cut-line-of-two st h j clean w =
       after-cut-line-either st h w (j w) (each-resumed s within k most index low records j ours clean w)
 
   -- from any that calls can leave, begun from a fresh one
   pub after-cut-line-fresh-of-two :
-      {fresh : Readers} → StartsTwo fresh → LeavesOfTwo fresh r → (w : Whose) (j : ℕ) → ResumedFor w j → AfterOne (comingFor w j) numbers (blocksFor w out)
+      {fresh : Readers} → StartsTwo fresh → LeavesOfTwo fresh r → (w : Whose) (j : ℕ) → ResumedFor s index k records ours qs w j → AfterOne (comingFor s index k records w j) numbers (blocksFor w out)
   after-cut-line-fresh-of-two start leaves w j resumed =
       let held = leaves-held-of-two leaves (freshOfTwo, record { sound = both-sound-fresh; whole = starts-two start }) in
       let d = after-cut-line-either (held .0) (held .1) w j resumed in

@@ -3,7 +3,7 @@ use mathlib.Core.Path.{_≡_}
 use mathlib.Core.List.{List, map}
 use Prim.Native.Nat.{ℕ}
 use Rattle.laws.specs.Each.{Each}
-use Rattle.blocks.specs.Block.{blocks as Block·blocks}
+use Rattle.blocks.specs.Block.{Block, blocks as Block·blocks}
 use Rattle.packet.specs.declared.two.Streams.{Streams}
 use Rattle.pages.specs.declared.two.Whose.{Whose}
 use Rattle.pages.specs.Two.{settingFor}
@@ -13,9 +13,9 @@ use Rattle.forms.specs.Tables.{Table}
 use Rattle.claims.specs.Noise.{Came}
 use Rattle.claims.specs.Damage.{streamIn, sendings, landed, Counted}
 use Rattle.claims.specs.Calls.{Made, MadeWhole, ReadAgain, countedForms}
-use Rattle.claims.specs.CutLine.{HeldBy, LeavesBy}
+use Rattle.claims.specs.CutLine.{HeldBy, LeavesBy, fromThere, Resumed}
 use Rattle.claims.specs.Two.{StartsTwo, FeedsTwo, FeedsAllTwo, FedOfTwo}
-use Rattle.claims.specs.Woven.{BothShared}
+use Rattle.claims.specs.Woven.{cutFor, BothShared}
 
 -- tables go through our calls, in each stream its own, and these forms come out of that stream with their counts; noise does to each byte what R
 -- says. Index, packets of a page and tables are each stream's own
@@ -51,3 +51,10 @@ HeldOfTwo = HeldBy SoundOfTwo readersOf
 
 abbrev pub LeavesOfTwo : Readers → Readers → Type 0
 LeavesOfTwo = LeavesBy FeedsTwo FeedsAllTwo
+
+-- after a cut line a stream's run goes on from its page j; and the blocks that come of that
+abbrev pub ResumedFor : Streams → (Whose → ℕ) → (Whose → ℕ) → (Whose → List ℕ) → (Whose → List (List ℕ)) → List (List ℕ) → Whose → ℕ → Type 0
+ResumedFor s index k records ours qs w j = Resumed (settingFor w s) (k w) j (cutFor s index k records w) (ours w) qs
+
+abbrev pub comingFor : Streams → (Whose → ℕ) → (Whose → ℕ) → (Whose → List ℕ) → Whose → ℕ → List Block
+comingFor s index k records w j = fromThere (settingFor w s) (index w) (k w) j (records w)

@@ -16,7 +16,7 @@ use Rattle.pages.specs.Judging.{verdictOf}
 use Rattle.pages.proofs.Judged.{Shaped, shaped}
 use Rattle.walk.specs.declared.Got.{Got}
 use Rattle.walk.specs.Mode.{Mode, off, scan, heading, body, running}
-use Rattle.walk.specs.Reading.{dropIf, goesOn, readMode}
+use Rattle.walk.specs.Reading.{dropIf, spansStill, readMode}
 use Rattle.walk.specs.Store.{modeOf, runOf}
 use Rattle.walk.specs.Internal.{Kept, Went, ReadPacket, runs}
 use Rattle.walk.proofs.Keeping.{holds-mode}
@@ -43,7 +43,7 @@ module _ (v : Verdict) (p : ℕ) (l : List ℕ) (st : State) {a : Going} {g : Go
 
   pub heed-read :
       {h : Got} {j k : Bool} {store new : List ℕ} → v .reads ≡ true → j ≡ spans v st
-      → ReadPacket j (modeOf (g .run) between) p l g h store old new → k ≡ goesOn j p (runs (h .run))
+      → ReadPacket j (modeOf (g .run) between) p l g h store old new → k ≡ spansStill j p (runs (h .run))
       → Heeded v p l st a (record { page = v .page; index = v .index; joined = k; got = h }) store old new
   heed-read {h} {j} {k} {store} {new} e f z q =
       let m = holds-mode (dropIf (v .drops) (st .mode)) (w .holds) in

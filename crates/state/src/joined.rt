@@ -3,7 +3,7 @@
 use pages::Verdict;
 ghost use mathlib.Core.Path.{_≡_};
 ghost use Rattle.octet.specs.Decoding.{nib};
-ghost use Rattle.walk.specs.Reading.{goesOn};
+ghost use Rattle.walk.specs.Reading.{spansStill};
 ghost use Rattle.state.specs.Acting.{spansBy};
 
 // Whether the block that ran, if one did, spans pages once the verdict is heeded: it lives through a packet 0 that opens a page of
@@ -26,7 +26,7 @@ pub fn spans(v: Verdict, runs: bool, joined: bool) -> bool
 // Whether the block that runs after a packet was read, if one does, spans pages: only where the packet's pointer says that no block
 // starts there can it have run before.
 pub fn goes_on(joined: bool, pointer: u8, runs: bool) -> bool
-    ensures { λ r. ⌜ r ≡ goesOn joined (nib pointer) runs ⌝ }
+    ensures { λ r. ⌜ r ≡ spansStill joined (nib pointer) runs ⌝ }
 {
     if !joined {
         return false;

@@ -45,11 +45,11 @@ readBlocks joined m p l =
     (pick (eqb p 13) (ended joined (continues false m l)) [])
 
 -- whether the block that runs after them, if one runs, spans pages: only where no start is pointed at can it be the one that ran before
-abbrev pub goesOn : Bool → ℕ → Bool → Bool
-goesOn joined p runs = both joined (both (eqb p 13) runs)
+abbrev pub spansStill : Bool → ℕ → Bool → Bool
+spansStill joined p runs = both joined (both (eqb p 13) runs)
 
 abbrev pub readJoined : Bool → Mode → ℕ → List ℕ → Bool
-readJoined joined m p l = goesOn joined p (running (readMode m p l))
+readJoined joined m p l = spansStill joined p (running (readMode m p l))
 
 -- whether they drop a block: the running one, or one whose header can't be decoded
 abbrev pub readDrops : Mode → ℕ → List ℕ → Bool

@@ -9,7 +9,7 @@ use Rattle.octet.specs.Decoding.{nib}
 use Rattle.blocks.specs.Block.{recordsOf}
 use Rattle.walk.proofs.Keeping.{holds-kept}
 use Rattle.walk.proofs.Adding.{runs-mode}
-use Rattle.walk.specs.Reading.{goesOn}
+use Rattle.walk.specs.Reading.{spansStill}
 use Rattle.state.specs.Acting.{spansBy, spans}
 use Rattle.reader.specs.Internal.{stateIn}
 use Rattle.reader.proofs.Heeding.{heed-only, heed-read}
@@ -39,7 +39,7 @@ returns c =
     let a = b .before .before .before .before .before .before .before .args in
     heed-read (a .v) (nib (getD (now (a .packet)) 2 0)) (drop 3 (now (a .packet))) (stateIn (a .a) (now (a .store)))
     (b .lose .ensures (now (a .out))) (c .before .before .before .before .before .before .before .before .if1 .taken) (spanned (b .before .before))
-    (c .before .before .before .before .before .read .ensures) (c .goes-on .ensures ∙ ap (goesOn (b .before .before .spans .result) (nib (getD (now (a .packet)) 2 0))) (c .before .before .is-running2 .ensures))
+    (c .before .before .before .before .before .read .ensures) (c .goes-on .ensures ∙ ap (spansStill (b .before .before .spans .result) (nib (getD (now (a .packet)) 2 0))) (c .before .before .is-running2 .ensures))
 
 returns-2 : tie.Need-returns-2
 returns-2 c =
