@@ -25,11 +25,13 @@ use Rattle.day_sheet.specs.Along.{Stands, inFirst, inSecond, inBoth, along}
 use Rattle.day_sheet.specs.Turns.{turnOf}
 use Rattle.day_sheet.specs.Calls.{entriesOf}
 use Rattle.day_sheet.specs.Internal.{Halfway, Lies, Met, foundLines}
-use Rattle.day_sheet.proofs.Meeting.{spans, lines-found, Front, front-first, front-second, front-both, Turned, turned, along-out}
+use Rattle.day_sheet.specs.Entries.{sheetText}
+use Rattle.day_sheet.proofs.Meeting.{spans, lines-found, Front, front-first, front-second, front-both, Turned, turned, along-out, along-less, along-more, along-same, along-first, along-second, along-none}
 use Rattle.day_sheet.proofs.Turning.{part-length}
 use Rattle.changes.specs.Lines.{goneName, newName, changedName, kindWord, keyName, keyLine, changeLines, changesOf, printed}
 use Rattle.changes.specs.Calls.{compareText}
 use Rattle.changes.specs.Internal.{kindIn, frontOf, keyText, bothText, turnChange, placeMost}
+use Rattle.changes.proofs.Applied.{going, printed-on}
 use Rattle.changes.proofs.Keys.{key-line}
 
 -- ---- the line of a key
@@ -162,16 +164,22 @@ key-short name e h =
     let y = length-append blockName m in
     omega arith
 
--- a change is no longer than what was found
-change-short : {a b : List ℕ} {t : Turn} {s : Stands} → Front a b t s → length (changeLines s) ≤ t .first .long + t .second .long
+-- the entries that stand at a key
+abbrev standing : Stands → ℕ
+standing (inFirst x) = length (entryText x)
+standing (inSecond y) = length (entryText y)
+standing (inBoth x y) = length (entryText x) + length (entryText y)
+
+-- a change is no longer than they are
+change-fits : (s : Stands) → length (changeLines s) ≤ standing s
 unfolding changeLines
-change-short (front-first x rest v e) = let k = key-short goneName x (omega arith) in let s = spans x in omega arith
-change-short (front-second y more w e) =
+change-fits (inFirst x) = let k = key-short goneName x (omega arith) in let s = spans x in omega arith
+change-fits (inSecond y) =
     let k = key-short newName y (omega arith) in
     let s = spans y in
     let l = length-append (keyLine newName (y .table)) (tableLines y) in
     omega arith
-change-short (front-both x y rest more v w k e d) = go (sameText (tableLines x) (tableLines y))
+change-fits (inBoth x y) = go (sameText (tableLines x) (tableLines y))
   where
     go :
         (z : Bool)
@@ -184,6 +192,43 @@ change-short (front-both x y rest more v w k e d) = go (sameText (tableLines x) 
         let l = length-append (keyLine changedName (y .table)) (tableLines x ++ tableLines y) in
         let m = length-append (tableLines x) (tableLines y) in
         omega arith
+
+-- nor than what was found
+change-short : {a b : List ℕ} {t : Turn} {s : Stands} → Front a b t s → length (changeLines s) ≤ t .first .long + t .second .long
+change-short (front-first x rest v e) = let h = change-fits (inFirst x) in omega arith
+change-short (front-second y more w e) = let h = change-fits (inSecond y) in omega arith
+change-short (front-both x y rest more v w k e d) = change-fits (inBoth x y)
+
+sheet-long : (x : Entry) (xs : List Entry) → length (sheetText (x ∷ xs)) ≡ length (entryText x) + length (sheetText xs)
+unfolding sheetText
+sheet-long x xs = length-append (entryText x) (sheetText xs)
+
+abbrev Short : List Entry → List Entry → Type 0
+Short xs ys = length (printed xs ys) ≤ length (sheetText xs) + length (sheetText ys)
+
+short-on :
+    (xs ys xs′ ys′ : List Entry) {s : Stands} → along xs ys ≡ s ∷ along xs′ ys′ → Short xs′ ys′
+    → standing s + length (sheetText xs′) + length (sheetText ys′) ≤ length (sheetText xs) + length (sheetText ys) → Short xs ys
+short-on xs ys xs′ ys′ {s} e i m =
+    let h = change-fits s in
+    let p = ap length (printed-on xs ys xs′ ys′ e) ∙ length-append (changeLines s) (printed xs′ ys′) in
+    omega arith
+
+short-none : Short [] []
+unfolding printed changesOf
+short-none = rw along-none (omega arith)
+
+-- the print is at most as long as the two sheets together
+pub print-short : (xs ys : List Entry) → length (printed xs ys) ≤ length (sheetText xs) + length (sheetText ys)
+print-short =
+    going Short short-none (λ x xs i. let l = sheet-long x xs in short-on (x ∷ xs) [] xs [] (along-first x xs) i (omega arith))
+    (λ y ys i. let l = sheet-long y ys in short-on [] (y ∷ ys) [] ys (along-second y ys) i (omega arith))
+    (λ x xs y ys k i. let l = sheet-long x xs in short-on (x ∷ xs) (y ∷ ys) xs (y ∷ ys) (along-less x xs y ys k) i (omega arith))
+    (λ x xs y ys k i. let l = sheet-long y ys in short-on (x ∷ xs) (y ∷ ys) (x ∷ xs) ys (along-more x xs y ys k) i (omega arith))
+    (λ x xs y ys k i.
+    let l = sheet-long x xs in
+    let m = sheet-long y ys in
+    short-on (x ∷ xs) (y ∷ ys) xs ys (along-same x xs y ys k) i (omega arith))
 
 -- ---- along both sheets
 

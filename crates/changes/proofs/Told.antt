@@ -17,12 +17,14 @@ use Rattle.sheet_entry.specs.Entries.{Entry}
 use Rattle.day_sheet.specs.Calls.{entriesOf, rewriteRules}
 use Rattle.day_sheet.specs.AnyOrder.{InForm}
 use Rattle.day_sheet.proofs.AnyOrder.{sheet-of}
+use Rattle.day_sheet.proofs.Exact.{read-written}
 use Rattle.changes.specs.Lines.{printed}
 use Rattle.changes.specs.Calls.{compareRules, compareText, compareAnswer, compareLeft, tablesOf}
 use Rattle.changes.specs.Applying.{applied}
 use Rattle.changes.specs.Saying.{Prints}
 use Rattle.changes.proofs.Applied.{print-applied, nothing-applied}
 use Rattle.changes.proofs.Alike.{printed-alike, printed-itself}
+use Rattle.changes.proofs.Putting.{print-short}
 
 -- ---- of sheets in form
 
@@ -110,3 +112,14 @@ prints-alike {first} {second} {other} {text} {more} p q =
     let u = prints-text q in
     let n = printed-exactly first second (t .1) (t .2) other (u .2) in
     (λ e. n .0 (sym (t .0) ∙ e ∙ u .0), λ e. t .0 ∙ n .1 e ∙ sym (u .0))
+
+-- what is written is at most as long as the two sheets together
+pub prints-short : {first second text : List ℕ} → Prints first second text → length text ≤ length first + length second
+unfolding compareText
+prints-short {first} {second} p =
+    let t = prints-text p in
+    let l = ap length (t .0) in
+    let a = ap length (read-written first 0 (t .1) .0) in
+    let b = ap length (read-written second 0 (t .2) .0) in
+    let s = print-short (entriesOf first) (entriesOf second) in
+    omega arith

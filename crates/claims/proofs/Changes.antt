@@ -4,7 +4,7 @@
 use mathlib.Core.Path.{_≡_, _∙_, sym, ap, ap₂}
 use mathlib.Core.Logic.{_↔_}
 use mathlib.Core.List.{List, []}
-use Prim.Native.Nat.{ℕ}
+use Prim.Native.Nat.{ℕ, _+_, _≤_}
 use lib.ListN.{length, drop}
 use lib.Seq.{take-append-seam}
 use Rattle.answer.specs.declared.Answer.the-variants.{Done}
@@ -13,7 +13,7 @@ use Rattle.changes.specs.declared.Compared.{Compared}
 use Rattle.changes.specs.Calls.{compareRules, compareText, compareAnswer, compareLeft, faultIn, tablesOf}
 use Rattle.changes.specs.Applying.{applied}
 use Rattle.changes.specs.Saying.{Prints}
-use Rattle.changes.proofs.Told.{prints-apply, prints-nothing, prints-alike}
+use Rattle.changes.proofs.Told.{prints-apply, prints-nothing, prints-alike, prints-short}
 use Rattle.claims.specs.Calls.{reported}
 use Rattle.claims.specs.Sheets.{ComparesSheets, compare-sheets, Accepted}
 
@@ -52,3 +52,9 @@ pub compare-alike :
     → ComparesSheets first other old′ y out′ → Accepted (y .answer)
     → (reported (x .answer) out ≡ reported (y .answer) out′) ↔ (tablesOf second ≡ tablesOf other)
 compare-alike call a call′ b = prints-alike (reports call a) (reports call′ b)
+
+-- it is at most as long as the two sheets together
+pub compare-short :
+    {first second old out : List ℕ} {x : Compared} → ComparesSheets first second old x out → Accepted (x .answer)
+    → length (reported (x .answer) out) ≤ length first + length second
+compare-short call a = prints-short (reports call a)
