@@ -34,8 +34,8 @@ enum { ROUNDS = 25, BYTES = 1 << 16 };
 #define RECORD_HEAD 4
 #endif
 
-static uint8_t *input, *both, out[1 << 22], records[1 << 22];
-static size_t length, both_length, blocks;
+static uint8_t *input, out[1 << 22], records[1 << 22];
+static size_t length, blocks;
 
 static void load(const char *name)
 {
@@ -96,6 +96,9 @@ static unsigned long our_feed(void) { return bench_feed(input, length, out, size
 static unsigned long our_feed_all(void) { return bench_feed_all(input, length, out, sizeof out); }
 
 #ifndef ONE_STREAM
+static uint8_t *both;
+static size_t both_length;
+
 /* One stream's packets twice over, and as many of two streams. */
 static unsigned long our_feed_twice(void) { return our_feed_all() + our_feed_all(); }
 static unsigned long our_feed_both(void) { return bench_feed_both(both, both_length, out, sizeof out); }
