@@ -1,11 +1,11 @@
 // Two sheets held side by side: what changed from the first to the second goes to standard output in one piece (SCOPE 28.7). No file changes.
 use crate::files::SHEET;
 use crate::help::PROGRAM;
-use crate::kinds;
-use crate::kinds::NOT_PLAIN;
 use crate::says;
 use answer::Answer;
 use captures::Got;
+use sheet_file::kinds;
+use sheet_file::kinds::NOT_PLAIN;
 
 // The most that is printed: two sheets together.
 const PRINT: usize = 32768;

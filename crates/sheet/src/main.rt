@@ -1,7 +1,7 @@
 // The day sheet, a file with an entry for each table: captures' tables are added to it, other sheets are joined to it, it is looked
-// at (SCOPE 20.11), or two are held side by side (SCOPE 28.7). What it says is settled by the rooms `day_sheet`, `changes` and `words`; here are its files.
+// at (SCOPE 20.11), or two are held side by side (SCOPE 28.7). What it says is settled by the rooms `day_sheet`, `changes` and `words`; here are the tasks.
 //
-// The file is replaced whole or not at all (`placing`). Whatever fails before that leaves the file as it was. Where another has taken its place meanwhile, the work is done
+// The file is replaced whole or not at all (`sheet_file`). Whatever fails before that leaves the file as it was. Where another has taken its place meanwhile, the work is done
 // anew on that: captures aren't read again, since their tables are kept.
 //
 // A line on standard error that tells of a failure begins `sheet: `. Words that the program is called with are heard twice: first all
@@ -11,20 +11,19 @@ mod comparing;
 mod files;
 mod help;
 mod kept;
-mod kinds;
 mod lines;
-mod paths;
-mod placing;
 mod says;
 mod work;
 
 use capture::Source;
 use files::SHEET;
-use files::Stand;
 use kept::KEPT;
 use packet::two::Streams;
-use paths::Way;
-use placing::Placed;
+use sheet_file::Stand;
+use sheet_file::paths;
+use sheet_file::paths::Way;
+use sheet_file::placing;
+use sheet_file::placing::Placed;
 use words::Said;
 use words::numbers::MOST;
 use words::numbers::NO_NUMBER;
@@ -208,7 +207,7 @@ fn is_place(way: Way, path: &[u8], shown: &[u8]) -> bool {
 fn change_at(job: Job, is_linked: bool, path: &[u8], shown: &[u8]) {
     let mut base = [0u8; SHEET];
     let mut spare = [0u8; SHEET];
-    let stand = files::read(path, shown, &mut base);
+    let stand = sheet_file::read(path, shown, &mut base);
     if !stand.sound {
         return;
     }

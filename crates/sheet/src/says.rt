@@ -7,6 +7,8 @@ use captures::Course;
 use captures::PAGES;
 use captures::lack;
 use libc::STDOUT_FILENO;
+pub use sheet_file::says::fail;
+pub use sheet_file::says::tell;
 use told::say;
 use told::say_number;
 
@@ -30,23 +32,6 @@ pub fn bad_stamp(word: &[u8]) {
     say(
         b": it is no stamp, and the sheet stays as it was: a stamp is 0, or digits without a leading zero, up to 4294967295\n",
     );
-}
-
-// Tells of a call that failed on what is named, and what follows from it.
-pub fn fail(name: &[u8], what: &[u8]) {
-    told::begin(&PROGRAM);
-    say(name);
-    say(b": ");
-    os::fail(what);
-}
-
-// Tells of what is named that it can't be so, where no call failed.
-pub fn tell(name: &[u8], what: &[u8]) {
-    told::begin(&PROGRAM);
-    say(name);
-    say(b": ");
-    say(what);
-    say(b"\n");
 }
 
 // A sheet without the entry that was to be dropped.
@@ -88,14 +73,6 @@ pub fn note_left(name: &[u8], count: u64) {
     say(b": ");
     say_number(count);
     say(b" bytes at its end make no packet\n");
-}
-
-// The new sheet stands, and may not after a power cut.
-pub fn note_unsynced(name: &[u8]) {
-    say(b"note: ");
-    say(name);
-    say(b": ");
-    os::fail(b"the new sheet stands, but its folder can't be synced");
 }
 
 // A capture that the reader doesn't go on with, which never comes.
@@ -218,8 +195,8 @@ pub fn put_sheet(name: &[u8], entries: u64, bytes: u64) -> bool {
 }
 
 fn sheet_line(name: &[u8], entries: u64, bytes: u64, line: &mut [u8; LINE]) -> usize {
-    let n = text(b"file=", line, 0);
-    let n = text(name, line, n);
+    let n = text_lines::put(b"file=", line, 0);
+    let n = text_lines::put(name, line, n);
     size(entries, bytes, line, n)
 }
 
@@ -227,28 +204,15 @@ fn sheet_line(name: &[u8], entries: u64, bytes: u64, line: &mut [u8; LINE]) -> u
 fn size(entries: u64, bytes: u64, line: &mut [u8], at: usize) -> usize {
     let n = count(b" entries=", entries, line, at);
     let n = count(b" bytes=", bytes, line, n);
-    text(b"\n", line, n)
+    text_lines::put(b"\n", line, n)
 }
 
 // A name and its number, put at a place; the place after them.
 fn count(name: &[u8], number: u64, line: &mut [u8], at: usize) -> usize {
     let mut digits = [0u8; 20];
     let n = io::decimal(number, &mut digits);
-    let at = text(name, line, at);
-    text(&digits[..n], line, at)
-}
-
-fn text(text: &[u8], line: &mut [u8], at: usize) -> usize {
-    lent_bytes::copy(text, 0, text.len(), line, at);
-    plus(at, text.len())
-}
-
-// The sum, or the greatest number where it is more.
-pub fn plus(a: usize, b: usize) -> usize {
-    if usize::MAX - a < b {
-        return usize::MAX;
-    }
-    a + b
+    let at = text_lines::put(name, line, at);
+    text_lines::put(&digits[..n], line, at)
 }
 
 fn is_put(line: &[u8; LINE], n: usize) -> bool {

@@ -1,7 +1,6 @@
 // The new sheet takes the place of the old one, whole or not at all: it goes to a temporary file beside it, which is written, synced and closed;
 // then the old one is read once more; then the new one is renamed over it, and the folder is synced (SCOPE 20.16). The line is the caller's to print.
-use crate::files;
-use crate::files::Stand;
+use crate::Stand;
 use crate::kinds;
 use crate::paths;
 use crate::says;
@@ -65,7 +64,7 @@ fn put_in(
     if !is_written(fd, stand, shown, sheet) {
         return failed(stand);
     }
-    let now = files::read(path, shown, again);
+    let now = crate::read(path, shown, again);
     if !now.sound {
         return failed(stand);
     }

@@ -1,9 +1,9 @@
--- `sheet::paths::name_at` is safe and ends: the place falls. Assumes nothing.
+-- `sheet_file::paths::name_at` is safe and ends: the place falls. Assumes nothing.
 use Prim.Native.Nat.{_≤_}
 use lib.ListN.{length}
 use borrow.Author.Needs.{needs}
-use Rattle.sheet.proofs.paths.name_at.Statement.{statement}
-use Rattle.sheet.proofs.paths.name_at.Tie as tie
+use Rattle.sheet_file.proofs.paths.name_at.Statement.{statement}
+use Rattle.sheet_file.proofs.paths.name_at.Tie as tie
 
 abbrev Inv-loop : tie.InvT-loop
 Inv-loop path at₀ at = at ≤ length path

@@ -1,7 +1,6 @@
 // Where the sheet's file is: links are followed to it, and the temporary file is made beside it (SCOPE 20.16).
 use crate::kinds;
 use crate::kinds::PATH;
-use crate::says;
 ghost use Prim.Native.Nat.{_≤_};
 ghost use lib.ListN.{length};
 
@@ -60,7 +59,7 @@ fn read_link(path: &[u8], n: usize, target: &mut [u8]) -> usize {
 fn go(path: &mut [u8], n: usize, target: &[u8], long: usize) -> usize {
     let at = begins_at(told::front(path, n), told::front(target, long));
     lent_bytes::copy(target, 0, long, path, at);
-    says::plus(at, long)
+    plus(at, long)
 }
 
 // Where the words of a link begin: behind the folder of the link, or at the root.
@@ -107,7 +106,7 @@ pub fn has_room(path: &[u8]) -> bool {
 
 // Makes a new file beside the path that stands in the first n bytes, under a name of our own, and answers a descriptor, or -1. Behind the
 // path stands what its name has more.
-pub fn create_beside(temp: &mut [u8], n: usize) -> i32 {
+pub(crate) fn create_beside(temp: &mut [u8], n: usize) -> i32 {
     let mut left = TRIES;
     while left > 0 {
         left -= 1;
@@ -141,8 +140,16 @@ fn create(temp: &mut [u8], n: usize) -> i32 {
 }
 
 // How long a temporary file's path is.
-pub fn temp_length(n: usize) -> usize {
-    says::plus(n, MORE)
+pub(crate) fn temp_length(n: usize) -> usize {
+    plus(n, MORE)
+}
+
+// The sum, or the greatest number where it is more.
+fn plus(a: usize, b: usize) -> usize {
+    if usize::MAX - a < b {
+        return usize::MAX;
+    }
+    a + b
 }
 
 fn letter(b: u8) -> u8 {
@@ -150,7 +157,7 @@ fn letter(b: u8) -> u8 {
 }
 
 // Syncs the folder of a path, and answers whether that was done. A new name stands after a power cut only then.
-pub fn is_folder_synced(path: &[u8]) -> bool {
+pub(crate) fn is_folder_synced(path: &[u8]) -> bool {
     let fd = open_folder(path);
     if fd < 0 {
         return false;

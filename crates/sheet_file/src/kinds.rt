@@ -5,7 +5,7 @@ use libc::types::timespec;
 ghost use Rattle.libc.specs.Io.{Ended};
 
 // The most bytes of a path, with the 0 that ends it.
-pub const PATH: usize = 4096;
+pub(crate) const PATH: usize = 4096;
 
 // What an open answers where the file is no plain one; where it can't be opened it is -1, and errno says why.
 pub const NOT_PLAIN: i32 = -2;
@@ -39,7 +39,7 @@ fn at(path: &[u8]) -> u32 {
 }
 
 // The mode of an open file; 0 where it can't be had.
-pub fn of(fd: i32) -> u32 {
+pub(crate) fn of(fd: i32) -> u32 {
     fstat_mode(fd, blank())
 }
 
@@ -49,12 +49,12 @@ fn is_plain(mode: u32) -> bool {
 }
 
 // Who may read a file, change it and start it.
-pub fn rights(mode: u32) -> u32 {
+pub(crate) fn rights(mode: u32) -> u32 {
     mode % 4096
 }
 
 // A path as C takes it: as much of it as leaves room for a 0, and then zeros.
-pub fn ended(path: &[u8]) -> [u8; PATH]
+pub(crate) fn ended(path: &[u8]) -> [u8; PATH]
     ensures { λ r. ⌜ Ended r ⌝ }
 {
     let mut ended = io::buffer();
