@@ -49,13 +49,15 @@ An op that isn't known, or a payload that is too short for it: op=N unknown. A c
     53  try_sheet    as op 52                                 what changed from the first to the second
     56  try_sheet    network, kind, block number (2, low      the sheet without the entry of that key
                      first), a sheet
+    70  try_dvb      a table form                             the descriptor
+    71  try_dvb      a descriptor                             how many subtitles, how many passed over, the subtitles
 """
 
-from cases import guide, listing, menu, octet, pes, sheet, table, unpes
+from cases import dvb, guide, listing, menu, octet, pes, sheet, table, unpes
 from cases.form import Dice
 from model import unpes as model_unpes
 
-CASES = {"octet": octet, "pes": pes, "guide": guide, "table": table, "listing": listing, "menu": menu, "sheet": sheet}
+CASES = {"octet": octet, "pes": pes, "guide": guide, "table": table, "listing": listing, "menu": menu, "sheet": sheet, "dvb": dvb}
 
 
 def make(name, seed=1, size=1):

@@ -1,7 +1,7 @@
 #!/usr/bin/env python3
 """Holds the model to what SCOPE and EN 300 707 print: the sixteen images, cases
 A to K, annex L.1, and the third demand, counts included, under random noise; and
-the programs with two streams to what they do with one."""
+the programs with two streams to what they do with one; and descriptors for digital sets to those that are known, with what they keep and lose."""
 
 import pathlib
 import sys
@@ -11,11 +11,12 @@ sys.path.insert(0, str(pathlib.Path(__file__).resolve().parent.parent))
 
 from cases.form import LOST, Dice, with_bytes
 from cases import both as both_cases
+from cases import dvb as dvb_cases
 from cases.reader import Air, all_cases
 from cases.menu import EMPTY, SAMPLE, filled, linked, listed, some_menu, worded
 from cases.sheet import FIVE, RIVALS, largest, lent_pairs, named, overnight, sized, small, some_entry, some_sheet
 from cases.table import CASE_G, L1_PRINTED, L1_SUM, l1_records, later, shaped, some_table
-from model import Refused, both, changes, guide, listing, menu, octet, pes, sheet, streams, survey, table, unpes
+from model import Refused, both, changes, dvb, guide, listing, menu, octet, pes, sheet, streams, survey, table, unpes
 from model.listing import DESK
 from samples import aired_both
 
@@ -569,6 +570,97 @@ def menus_of_two():
     assert contested > 30
 
 
+def descriptors():
+    """The descriptors that are known; which bit of a page field goes where; annex L.2.2's reference is page 23 with X/27's subcode for any."""
+    write = lambda made: dvb.write_descriptor(table.form_of(made)).hex()
+    assert write(CASE_G) == "56056475741088" and write(shaped(table.TI, [])) == write(shaped(table.TI, [0] * 63)) == "5600"
+    assert [write(dvb_cases.dutch(word)) for word in dvb_cases.OTHER_PAGES] == ["5605647574" + last for last in dvb_cases.OTHER_PAGES.values()]
+    assert write(dvb_cases.dutch(*dvb_cases.OTHER_PAGES)) == "560f" + "".join("647574" + last for last in dvb_cases.OTHER_PAGES.values())
+    assert sum(width for _, width in dvb.PAGE_REFERENCE) == table.WORD
+    goes = {bit: (0x10, 1 << bit) for bit in range(8)} | {15: (0x11, 0), 22: (0x12, 0), 23: (0x14, 0)}
+    for bit in range(24):
+        assert write(dvb_cases.dutch(1 << bit)) == "5605647574" + bytes(goes.get(bit, (0x10, 0))).hex()
+    parts = dvb.reference(dvb_cases.ANY_123)
+    assert [parts[name] for name in ("M2", "M1", "M0", "tens", "units", "S4", "S3", "S2", "S1")] == [0, 0, 0, 2, 3, 0x3, 0xF, 0x7, 0xF]
+    assert dvb.read_descriptor(bytes.fromhex("5600")).hex() == "0000" and dvb.read_descriptor(bytes.fromhex("56056475741088")).hex() == "01006475740088"
+    assert dvb.read_descriptor(bytes.fromhex("560a" "6475742988" "6475741123")).hex() == "01016475740123"
+
+
+def descriptors_judged():
+    """The first fault decides, of every set of rules and of every two ways to break two; what is read is what has tag and length."""
+    for faults, no in dvb_cases.fault_sets():
+        assert number(dvb.write_descriptor, *dvb_cases.broken(faults)) == (no, 0), faults
+    eleven, twelve = ([15] * count for count in (11, 12))
+    assert table.width(shaped(table.TI, twelve)) == 8818
+    counted = [number(dvb.write_descriptor, table.form_of(shaped(table.TI, counts))) for counts in ([15, 15, 15, 6], [15, 15, 15, 7], eleven, twelve, [51], [52])]
+    assert counted == [(0, 0), (26, 0), (26, 0), (15, 0), (15, 0), (15, 0)]
+    other = table.form_of(CASE_G._replace(block_no=3))
+    for kind in (table.TI, table.LI, 0):
+        assert [number(dvb.write_descriptor, with_bytes(other, (0, kind))[:n])[0] for n in range(1, 8)] == [13] * 3 + [22] * 4
+        short = with_bytes(table.form_of(CASE_G), (0, kind))
+        assert [number(dvb.write_descriptor, short[:n])[0] for n in range(1, 15)] == [13] * 5 + ([13] * 8 + [0] if kind == table.TI else [15] * 9)
+    assert number(dvb.write_descriptor, b"", 0) == (13, 0) and number(dvb.read_descriptor, b"", 0) == (27, 0)
+    for tag in (0x46, 0x55, 0x56, 0x57, 0xD6):
+        for length in range(256):
+            for own in {0, 1, length - 1, length, length + 1, length + 5, length + 256} - {-1}:
+                lent = bytes([tag, length]) + b"\x10" * own
+                fits = tag == 0x56 and length in range(0, 256, 5) and own == length
+                assert number(dvb.read_descriptor, lent) == ((0, 0) if fits else (27, 0))
+                assert number(dvb.read_descriptor, lent, 1) == ((1, 0) if fits else (27, 0))
+
+
+def pairs_of(made):
+    """The languages and page fields of a TI table, over all its descriptors."""
+    return [pair for _, words in made.descriptors for pair in zip(words[::2], words[1::2])]
+
+
+def grouped(dice, pairs):
+    """A TI table of these, all else as it falls: descriptors and their numbers, network, block number, copyright."""
+    loop = []
+    while pairs or dice.chance(3):
+        count = dice.below(16)
+        loop.append((dice.below(64), [word for pair in pairs[:count] for word in pair]))
+        pairs = pairs[count:]
+    return table.Table(table.TI, dice.below(2), dice.pick(table.NUMBERS), dice.below(256), loop)
+
+
+def descriptors_back():
+    """A table's descriptor, read, has its subtitles and none passed over; two tables have one descriptor exactly when languages, magazines and
+    pages are the same in order."""
+    dice, alike = Dice(31), {True: 0, False: 0}
+    kept = lambda made: [(language, word >> 15 & 1 | word >> 22 << 1, word & 0xFF) for language, word in pairs_of(made)]
+    for _ in range(60):
+        made = some_table(dice, table.TI, dice.below(7), 8)
+        pairs = pairs_of(made)
+        family = [made, shaped(table.TI, [])]
+        for _ in range(4):                              # other subpages; one bit elsewhere; one gone; two exchanged
+            others = [(language, word ^ dice.below(1 << 24) & 0x3F7F00) for language, word in pairs]
+            family.append(grouped(dice, others))
+            assert kept(family[-1]) == kept(made)
+            if pairs:
+                at, to = dice.below(len(pairs)), dice.below(len(pairs))
+                bit = 1 << dice.below(24)
+                family.append(grouped(dice, others[:at] + [(others[at][0] ^ bit, others[at][1])] + others[at + 1:]))
+                family.append(grouped(dice, others[:at] + [(others[at][0], others[at][1] ^ bit)] + others[at + 1:]))
+                family.append(grouped(dice, others[:at] + others[at + 1:]))
+                others[at], others[to] = others[to], others[at]
+                family.append(grouped(dice, others))
+        written = [dvb.write_descriptor(table.form_of(one)) for one in family]
+        for one, lent in zip(family, written):
+            subtitles = b"".join(language.to_bytes(3, "big") + bytes(rest) for language, *rest in kept(one))
+            assert dvb.read_descriptor(lent) == bytes([len(kept(one)), 0]) + subtitles and len(lent) == len(dvb.read_descriptor(lent))
+            for other, theirs in zip(family, written):
+                assert (lent == theirs) == (kept(one) == kept(other))
+                alike[lent == theirs] += 1
+    assert min(alike.values()) > 1000
+    for _ in range(300):                                # entries of other types are passed over, wherever they stand
+        entries = [dvb_cases.some_entry(dice) for _ in range(dice.below(52))]
+        ours = [one for one in entries if one[3] in range(0x10, 0x18)]
+        out = dvb.read_descriptor(dvb.descriptor(entries))
+        assert out[:2] == bytes([len(ours), len(entries) - len(ours)])
+        assert out == out[:2] + dvb.read_descriptor(dvb.descriptor(ours))[2:] == out[:2] + b"".join(one[:3] + bytes([one[3] - 0x10, one[4]]) for one in ours)
+
+
 def subsequence(some, whole):
     rest = iter(whole)
     return all(thing in rest for thing in some)
@@ -615,7 +707,7 @@ def noise(rounds, most):
 
 def main():
     for check in (images, cases_a_to_f, case_g, cases_h_to_k, annex_l1, editions, lost_pes, pages, day_sheet, dropping, comparing, compared_faults, menus, menu_levels, joined_blocks, cut_line, side_by_side,
-                  untouched, two_said, desk_of_two, sheet_of_two, menus_of_two):
+                  untouched, two_said, desk_of_two, sheet_of_two, menus_of_two, descriptors, descriptors_judged, descriptors_back):
         check()
         print(f"{check.__name__}: ok")
     for most in (1, 2):

@@ -57,12 +57,12 @@ def form_of(table):
     return form
 
 
-def table_of(form):
-    """A table form's table: 22 (its number, where it has one), 13 (its length isn't that of its counts), then 15."""
+def table_of(form, kinds=WORDS):
+    """A table form's table, of one of these kinds: 22 (its number, where it has one), 13 (its length isn't that of its counts), then 15."""
     need(len(form) < 4 or int.from_bytes(form[2:4], "little") in NUMBERS, 22)
     need(len(form) >= 6, 13)
     kind, copyright, low, high, network, count = form[:6]
-    need(kind in WORDS, 15)         # its entries can't be measured
+    need(kind in kinds, 15)         # its entries can't be measured, or needn't be
     descriptors, at = [], 6
     for _ in range(count):
         need(at + 2 <= len(form), 13)
