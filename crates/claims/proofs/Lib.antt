@@ -39,6 +39,7 @@ pub mod Calls
 pub mod Sheets
 pub mod Leaving
 pub mod Changes
+pub mod Descriptors
 pub mod CutLineCalls
 pub mod BothCalls
 pub mod Again

@@ -110,6 +110,8 @@ use Rattle.text_lines.proofs.puts.put.Reads as text-lines·put
 use Rattle.text_lines.proofs.put_number.Reads as text-lines·put-number
 use Rattle.text_lines.proofs.put_language.Reads as text-lines·put-language
 use Rattle.text_lines.proofs.put_page.Reads as text-lines·put-page
+use Rattle.dvb_descriptor.proofs.write_descriptor.Reads as dvb-descriptor·write-descriptor
+use Rattle.dvb_descriptor.proofs.read_descriptor.Reads as dvb-descriptor·read-descriptor
 use Rattle.parity.proofs.letter.Reads as parity·letter
 use Rattle.parity.proofs.odds.Reads as parity·odds
 use Rattle.menu_forms.proofs.info_bytes.Reads as menu-forms·info-bytes
@@ -433,6 +435,14 @@ listing·list-table-settled κs a x y s t p q = (same (p .0) (q .0), same (p .1)
 pub listing·list-descriptors-settled :
     (κs : _) (a : _) (x y : _) (s t : _) → listing·list-descriptors.Post κs a x s → listing·list-descriptors.Post κs a y t → (x ≡ y) × (now (s .1 .0) ≡ now (t .1 .0))
 listing·list-descriptors-settled κs a x y s t p q = (same (p .0) (q .0), same (p .1) (q .1))
+
+pub dvb-descriptor·write-descriptor-settled :
+    (κs : _) (a : _) (x y : _) (s t : _) → dvb-descriptor·write-descriptor.Post κs a x s → dvb-descriptor·write-descriptor.Post κs a y t → (x ≡ y) × (now (s .1 .0) ≡ now (t .1 .0))
+dvb-descriptor·write-descriptor-settled κs a x y s t p q = (same (p .0) (q .0), same (p .1) (q .1))
+
+pub dvb-descriptor·read-descriptor-settled :
+    (κs : _) (a : _) (x y : _) (s t : _) → dvb-descriptor·read-descriptor.Post κs a x s → dvb-descriptor·read-descriptor.Post κs a y t → (x ≡ y) × (now (s .1 .0) ≡ now (t .1 .0))
+dvb-descriptor·read-descriptor-settled κs a x y s t p q = (same (p .0) (q .0), same (p .1) (q .1))
 
 pub octet·quick-decode-settled : (κs : _) (a : _) (x y : _) (s t : _) → octet·quick-decode.Post κs a x s → octet·quick-decode.Post κs a y t → x ≡ y
 octet·quick-decode-settled κs a x y s t p q = same p q
