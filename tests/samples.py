@@ -27,6 +27,11 @@ def case_g():
     return packets, listing.desk(packets)
 
 
+def dvb_run():
+    """The stored run of `dvb`: case G's 84 bytes, and its descriptor as SCOPE 29 has it."""
+    return case_g()[0], b"network=2 block=0 dvb=56056475741088\ntables=1 over=0\n"
+
+
 def packets_in(data):
     return [data[i:i + guide.PACKET] for i in range(0, len(data), guide.PACKET)]
 
