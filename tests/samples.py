@@ -8,6 +8,7 @@ from cases.table import CASE_G
 from model import Refused, both, changes, guide, listing, menu, octet, pes, sheet, table, unpes
 from model.listing import DESK
 from model.menu import Event, Menu, String
+from model.sheet import KEPT
 from model.table import LI, TI, Table
 
 LANGUAGES = [int.from_bytes(name, "big") for name in (b"dut", b"eng", b"fre", b"ger", b"ita", b"spa", b"swe", b"tur")]
@@ -154,9 +155,9 @@ def day():
     """Two captures of a day, the second with some tables sent anew, and the sheet that they give in either order."""
     dice = Dice(8)
     evening, morning = (b"".join(aired(dice, night_list(dice, networks), 20)) for networks in (5, 7))
-    text, _ = sheet.fed(b"", [(EVENING, evening), (MORNING, morning)])
-    assert text == sheet.fed(b"", [(MORNING, morning), (EVENING, evening)])[0]
-    assert {entry.stamp for entry in sheet.read(text)} == {EVENING, MORNING}
+    text, _ = sheet.fed(KEPT, b"", [(EVENING, evening), (MORNING, morning)])
+    assert text == sheet.fed(KEPT, b"", [(MORNING, morning), (EVENING, evening)])[0]
+    assert {entry.stamp for entry in sheet.read(KEPT, text)} == {EVENING, MORNING}
     return {"evening.t42": evening, "morning.t42": morning, "day.sheet": text}
 
 
@@ -166,7 +167,7 @@ def sheet_run():
     yield "args", f"add\nday\n{EVENING}\nevening.t42\n{MORNING}\nmorning.t42\n".encode()
     for name in ("evening.t42", "morning.t42"):
         yield f"data/{name}", made[name]
-    yield "stdout", sheet.fed(b"", [(EVENING, made["evening.t42"]), (MORNING, made["morning.t42"])])[1].encode()
+    yield "stdout", sheet.fed(KEPT, b"", [(EVENING, made["evening.t42"]), (MORNING, made["morning.t42"])])[1].encode()
 
 
 MONDAY, TUESDAY = MORNING, MORNING + 24 * 60 * 60
@@ -181,10 +182,10 @@ def mornings():
     tuesday = (Table(TI, 0, 0, 2, [(0, [dut, 0x000888, tur, 0x000889])]), Table(LI, 0, 0, 3, [(0, [fre]), (2, [fre, ita])]), monday[2],
                Table(TI, 0, 0, 5, [(0, [swe, 0x000899])]), Table(TI, 0, 0, 9, [(0, [spa, 0x000877])]))
     first = added(MONDAY, b"", monday)
-    second = sheet.drop(5, TI, 0x8000, added(TUESDAY, first, tuesday))
-    text = changes.compare(first, second)
+    second = sheet.drop(KEPT, 5, TI, 0x8000, added(TUESDAY, first, tuesday))
+    text = changes.compare(KEPT, first, second)
     assert {line.split("=")[0] for line in text.decode().split("\n") if "," in line} == {"gone", "new", "changed"}
-    old, new = ({sheet.key(entry): entry for entry in sheet.read(data)} for data in (first, second))
+    old, new = ({sheet.key(entry): entry for entry in sheet.read(KEPT, data)} for data in (first, second))
     kept = [at for at in old if at in new and old[at].table == new[at].table]
     assert sorted(new[at].stamp for at in kept) == [MONDAY, TUESDAY]
     return {"monday.sheet": first, "tuesday.sheet": second, "overnight.txt": text}
@@ -192,7 +193,7 @@ def mornings():
 
 def added(stamp, text, tables):
     for t in tables:
-        text = sheet.add(stamp, text, table.form_of(t))
+        text = sheet.add(KEPT, stamp, 0, text, table.form_of(t))
     return text
 
 
@@ -252,7 +253,7 @@ def both_streams():
     capture = b"".join(aired_both(dice, (
         night_list(dice, 3) + [offered(0, b"TV Guide", (b"Themes", 1, 5), (b"Help", 1, 9))],
         [offered(5, b"Themes", (b"Film", 2, 12), (b"Golf", 2, 40))] + night_list(dice, 4)), (5, 4), (4, 11)))
-    text, keys = listing.desk(capture, TWO), [{sheet.key(e) for e in sheet.read(sheet.fed(b"", [(0, capture)], TWO.of(whose))[0])} for whose in both.BOTH]
+    text, keys = listing.desk(capture, TWO), [{sheet.key(e) for e in sheet.read(KEPT, sheet.fed(KEPT, b"", [(0, capture)], TWO.of(whose))[0])} for whose in both.BOTH]
     assert text == listing.desk(capture, TWO._replace(first=TWO.second, second=TWO.first)) and keys[0] & keys[1] and keys[0] ^ keys[1]
     assert all(line in text for line in (b"stream=1\nkind=TI\n", b"stream=1\nkind=LI\n", b"stream=2\nkind=TI\n", b"stream=2\nkind=LI\n", b"\njoined=1\n"))
     assert any(octet.decode(packet[0]) % 8 != TWO.magazine for packet in packets_in(capture))

@@ -1,10 +1,10 @@
-"""What changed between two day sheets: the print, and what a print makes of the first sheet's tables. Stamps aren't compared."""
+"""What changed between two day sheets: the print, and what a print makes of the first sheet's tables. Stamps aren't compared, and numbers of mended bytes neither."""
 
 import re
 
 from . import Refused, need
 from .listing import NAMES
-from .sheet import MOST_BYTES, Entry, key, lines_of, read, rewrite, text_of
+from .sheet import OLD, Entry, key, lines_of, read, rewrite, text_of
 from .table import LI, TI, Table
 
 
@@ -44,25 +44,25 @@ def printed(first, second):
 
 # --- the call -------------------------------------------------------------------
 
-def tables_of(data):
+def tables_of(form, data):
     """A sheet's tables, where `rewrite` takes the sheet: 21 (its length), 20, 21 (over 64 entries)."""
-    return [entry.table for entry in read(rewrite(data))]
+    return [entry.table for entry in read(form, rewrite(form, data))]
 
 
-def at_fault(first, second):
+def at_fault(form, first, second):
     """The number of the first sheet at fault, 1 or 2; 0 where none is. A refusal with 1 names none."""
     for number, data in enumerate((first, second), 1):
         try:
-            tables_of(data)
+            tables_of(form, data)
         except Refused:
             return number
     return 0
 
 
-def compare(first, second, room=2 * MOST_BYTES):
+def compare(form, first, second, room=65536):
     """The first sheet is judged whole, then the second, then the room."""
-    old = tables_of(first)
-    new = tables_of(second)
+    old = tables_of(form, first)
+    new = tables_of(form, second)
     text = printed(old, new)
     need(len(text) <= room, 1)
     return text
@@ -71,9 +71,9 @@ def compare(first, second, room=2 * MOST_BYTES):
 # --- applying -------------------------------------------------------------------
 
 def table_under(head, text):
-    """The table of a heading, read from the lines up to the next heading or the end; and the text behind them."""
+    """The table of a heading, read from the lines up to the next heading or the end, which are those of either form; and the text behind them."""
     under = re.match(rb"(?:(?!gone=|new=|changed=)[^\n]*\n)*", text).group()
-    entry, = read(text_of(Entry(0, head._replace(descriptors=[])))[:-1] + under + b"\n")
+    entry, = read(OLD, text_of(OLD, Entry(0, head._replace(descriptors=[])))[:-1] + under + b"\n")
     return entry.table, text[len(under):]
 
 

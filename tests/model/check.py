@@ -3,6 +3,7 @@
 A to K, annex L.1, and the third demand, counts included, under random noise; and
 the programs with two streams to what they do with one; and descriptors for digital sets to those that are known, with what they keep and lose."""
 
+import functools
 import pathlib
 import sys
 
@@ -14,10 +15,11 @@ from cases import both as both_cases
 from cases import dvb as dvb_cases
 from cases.reader import Air, all_cases
 from cases.menu import EMPTY, SAMPLE, filled, linked, listed, some_menu, worded
-from cases.sheet import FIVE, RIVALS, largest, lent_pairs, named, overnight, sized, small, some_entry, some_sheet
+from cases.sheet import FIVE, RIVALS, SAMPLE as ENTRIES, Sheets, largest, lent_pairs, most_entries, named, overnight, sized, small, some_entry, some_sheet, with_numbers
 from cases.table import CASE_G, L1_PRINTED, L1_SUM, l1_records, later, shaped, some_table
 from model import Refused, both, changes, dvb, guide, listing, menu, octet, pes, sheet, streams, survey, table, unpes
 from model.listing import DESK
+from model.sheet import NEW, OLD, Entry
 from samples import aired_both
 
 
@@ -91,9 +93,9 @@ def editions():
     assert [number(table.read_block, 1, later(CASE_G, n))[0] for n in (0, 0x8000, 1, 3, 0x7FFF, 0x8001, 0xFFFF)] == [0, 0] + [22] * 5
     other = table.form_of(CASE_G._replace(block_no=3))
     assert [number(table.write_block, 1, other[:n])[0] for n in range(len(other) + 1)] == [13] * 4 + [22] * (len(other) - 3)
-    assert number(table.write_block, 32, other) == (16, 0) and number(listing.list_table, other) == (22, 0) and number(sheet.add, 0, b"x", other) == (22, 0)
-    text = sheet.written([sheet.Entry(0, CASE_G._replace(block_no=3))])
-    assert number(sheet.rewrite, text) == (20, len(text) - 1)
+    assert number(table.write_block, 32, other) == (16, 0) and number(listing.list_table, other) == (22, 0) and number(sheet.add, OLD, 0, 0, b"x", other) == (22, 0)
+    text = sheet.written(OLD, [Entry(0, CASE_G._replace(block_no=3))])
+    assert number(sheet.rewrite, OLD, text) == (20, len(text) - 1)
 
 
 def lost_pes():
@@ -120,78 +122,89 @@ def pages():
     assert len(guide.cut(DESK, 0, 25, records)) == 26 * guide.PACKET
 
 
-def day_sheet():
+def in_either_form(check):
+    """A check of sheets, for the old form and for the new one."""
+    @functools.wraps(check)
+    def in_turn():
+        check(OLD), check(NEW)
+    return in_turn
+
+
+@in_either_form
+def day_sheet(form):
     """Reading and writing come back; joining goes in either order and grouping, and a sheet joined with itself is itself."""
-    text = sheet.add(7, b"", table.form_of(CASE_G._replace(copyright=1)))
-    assert text == b"stamp=7\nkind=TI\nnetwork=2\nblock=0\ndescriptor=5\nlanguage=dut\npage=000888\n\n"
-    assert [number(sheet.rewrite, text[:n])[0] for n in range(len(text) + 1)] == [0] + [20] * (len(text) - 1) + [0]
-    assert number(sheet.rewrite, text[:-1]) == (20, len(text) - 1) and number(sheet.rewrite, text + text) == (20, 2 * len(text) - 1)
-    assert number(sheet.rewrite, sheet.written(sized(16385))) == (21, 0) and len(sheet.rewrite(sheet.written(sized(16384)))) == 16384
+    text = sheet.add(form, 7, 0, b"", table.form_of(CASE_G._replace(copyright=1)))
+    assert text == b"stamp=7\n" + (b"mended=0\n" if form is NEW else b"") + b"kind=TI\nnetwork=2\nblock=0\ndescriptor=5\nlanguage=dut\npage=000888\n\n"
+    assert [number(sheet.rewrite, form, text[:n])[0] for n in range(len(text) + 1)] == [0] + [20] * (len(text) - 1) + [0]
+    assert number(sheet.rewrite, form, text[:-1]) == (20, len(text) - 1) and number(sheet.rewrite, form, text + text) == (20, 2 * len(text) - 1)
+    assert number(sheet.rewrite, form, sheet.written(form, sized(form, form.most_bytes + 1))) == (21, 0) and len(sheet.rewrite(form, sheet.written(form, sized(form, form.most_bytes)))) == form.most_bytes
     dice = Dice(3)
     for _ in range(100):
-        sheets = [some_sheet(dice, dice.below(9), 3) for _ in range(3)]
-        a, b, c = map(sheet.written, sheets)
-        assert [sheet.read(one) for one in (a, b, c)] == sheets and sheet.rewrite(a) == a
-        assert sheet.join(a, b) == sheet.join(b, a) and sheet.join(a, a) == a
-        assert sheet.join(sheet.join(a, b), c) == sheet.join(a, sheet.join(b, c))
+        sheets = [some_sheet(dice, dice.below(9), 3, form) for _ in range(3)]
+        a, b, c = (sheet.written(form, one) for one in sheets)
+        assert [sheet.read(form, one) for one in (a, b, c)] == sheets and sheet.rewrite(form, a) == a
+        assert sheet.join(form, a, b) == sheet.join(form, b, a) and sheet.join(form, a, a) == a
+        assert sheet.join(form, sheet.join(form, a, b), c) == sheet.join(form, a, sheet.join(form, b, c))
         came = sheet.joined(*sheets)
         for entry in (entry for one in sheets for entry in one):        # never back, and nothing made up
             assert max(e.stamp for e in came if sheet.key(e) == sheet.key(entry)) >= entry.stamp
         assert all(any(entry in one for one in sheets) for entry in came)
     # "together" can't be the joined sheet's size: three of the largest, the third outdone by an empty table, joined in two groupings
-    one, two, three = ([largest()._replace(stamp=5, table=largest().table._replace(network=n))] for n in (1, 2, 3))
-    last = [sheet.Entry(6, three[0].table._replace(descriptors=[]))]
-    wide, thin, late = sheet.written(sheet.joined(one, two)), sheet.written(three), sheet.written(last)
-    assert number(sheet.join, wide, thin) == (21, 0) and len(sheet.join(wide, sheet.join(thin, late))) < 16384
+    one, two, three = ([largest(form)._replace(stamp=5, table=largest(form).table._replace(network=n))] for n in (1, 2, 3))
+    last = [Entry(6, three[0].table._replace(descriptors=[]))]
+    wide, thin, late = sheet.written(form, sheet.joined(one, two)), sheet.written(form, three), sheet.written(form, last)
+    assert number(sheet.join, form, wide, thin) == (21, 0) and len(sheet.join(form, wide, sheet.join(form, thin, late))) < form.most_bytes
 
 
-def dropping():
+@in_either_form
+def dropping(form):
     """A key's entry goes and the others stay; what goes comes back by adding it or joining with what was. Of 65 entries one may go."""
     dice = Dice(5)
-    for entries in (sized(16384), small(64), *(some_sheet(dice, dice.below(9), 3) for _ in range(100))):
-        text = sheet.written(entries)
+    for entries in (sized(form, form.most_bytes), small(64), *(some_sheet(dice, dice.below(9), 3, form) for _ in range(100))):
+        text = sheet.written(form, entries)
         for entry in entries:
-            rest = sheet.drop(*named(entry), text)
-            assert sheet.read(rest) == [other for other in entries if other is not entry]
-            assert len(rest) + len(sheet.text_of(entry)) == len(text) and sheet.drop(*named(entry), rest) == rest
-            assert sheet.add(entry.stamp, rest, table.form_of(entry.table)) == text == sheet.join(rest, text)
+            rest = sheet.drop(form, *named(entry), text)
+            assert sheet.read(form, rest) == [other for other in entries if other is not entry]
+            assert len(rest) + len(sheet.text_of(form, entry)) == len(text) and sheet.drop(form, *named(entry), rest) == rest
+            assert sheet.add(form, entry.stamp, entry.mended, rest, table.form_of(entry.table)) == text == sheet.join(form, rest, text)
         for other in (named(some_entry(dice, dice.below(3))), (0, 9, 0), (1, 0, 0), (2, table.TI, 3)):
-            assert other in map(named, entries) or sheet.drop(*other, text) == text
-    more = sheet.written(small(65))
-    assert number(sheet.rewrite, more) == (21, 0) and number(sheet.drop, 255, table.TI, 0, more) == (21, 0)
+            assert other in map(named, entries) or sheet.drop(form, *other, text) == text
+    more = sheet.written(form, small(65))
+    assert number(sheet.rewrite, form, more) == (21, 0) and number(sheet.drop, form, 255, table.TI, 0, more) == (21, 0)
     for entry in small(65):
-        assert len(sheet.read(sheet.rewrite(sheet.drop(*named(entry), more)))) == 64
-    assert number(sheet.drop, *named(small(1)[0]), sheet.written(small(66))) == (21, 0)
-    over = sheet.written(sized(16385))
-    assert [number(sheet.drop, 0, table.TI, 0, lent, 0) for lent in (over, b"x" + over, b"x" + more, b"x", over[:-1], more)] == \
-        [(21, 0), (21, 0), (20, 0), (20, 0), (20, 16384), (1, 0)]
+        assert len(sheet.read(form, sheet.rewrite(form, sheet.drop(form, *named(entry), more)))) == 64
+    assert number(sheet.drop, form, *named(small(1)[0]), sheet.written(form, small(66))) == (21, 0)
+    over = sheet.written(form, sized(form, form.most_bytes + 1))
+    assert [number(sheet.drop, form, 0, table.TI, 0, lent, 0) for lent in (over, b"x" + over, b"x" + more, b"x", over[:-1], more)] == \
+        [(21, 0), (21, 0), (20, 0), (20, 0), (20, form.most_bytes), (1, 0)]
 
 
-def comparing():
+@in_either_form
+def comparing(form):
     """Applied to the first sheet's tables the print gives the second's, nothing is printed exactly when the tables are equal, and for one first
     sheet two seconds print alike exactly when their tables are; a print is no longer than the two sheets."""
     dice, alike = Dice(30), {True: 0, False: 0}
     rising = [None, RIVALS[0], RIVALS[1], RIVALS[4], RIVALS[6]]         # the lines of each table begin those of the next
-    few = [[sheet.Entry(1, t._replace(network=n)) for n, t in ((7, low), (9, high)) if t] for low in rising for high in rising]
+    few = [[Entry(1, t._replace(network=n)) for n, t in ((7, low), (9, high)) if t] for low in rising for high in rising]
     families = [(first, few) for first in few]
     for _ in range(300):
-        first = some_sheet(dice, dice.below(9), 3)
-        families.append((first, [overnight(dice, first, 3), overnight(dice, first, 3), some_sheet(dice, dice.below(9), 3), [entry._replace(stamp=8) for entry in first], []]))
-    families.append((sized(16384), [all_changed(sized(16384)), sized(16384), small(64), []]))
+        first = some_sheet(dice, dice.below(9), 3, form)
+        families.append((first, [overnight(dice, first, 3, form), overnight(dice, first, 3, form), some_sheet(dice, dice.below(9), 3, form), [entry._replace(stamp=8, mended=form.most_mended) for entry in first], []]))
+    families.append((sized(form, form.most_bytes), [all_changed(sized(form, form.most_bytes)), sized(form, form.most_bytes), small(64), []]))
     for first, seconds in families:
-        text, tables = sheet.written(first), [entry.table for entry in first]
-        made = [([entry.table for entry in second], changes.compare(text, sheet.written(second))) for second in seconds]
+        text, tables = sheet.written(form, first), [entry.table for entry in first]
+        made = [([entry.table for entry in second], changes.compare(form, text, sheet.written(form, second))) for second in seconds]
         for second, (theirs, came) in zip(seconds, made):
             assert changes.applied(came, tables) == theirs and (came == b"") == (tables == theirs)
-            assert len(came) <= len(text) + len(sheet.written(second)) and came == changes.printed(tables, theirs)
+            assert len(came) <= len(text) + len(sheet.written(form, second)) and came == changes.printed(tables, theirs)
             for others, other in made:
                 assert (came == other) == (theirs == others)
                 alike[came == other] += 1
     assert min(alike.values()) > 1000
-    empty, five = (sheet.written([sheet.Entry(0, t)]) for t in RIVALS[:2])          # the print alone doesn't say which of the two it was
-    assert changes.compare(empty, five) == changes.compare(five, empty) == b"changed=LI,7,0\ndescriptor=5\n"
+    empty, five = (sheet.written(form, [Entry(0, t)]) for t in RIVALS[:2])          # the print alone doesn't say which of the two it was
+    assert changes.compare(form, empty, five) == changes.compare(form, five, empty) == b"changed=LI,7,0\ndescriptor=5\n"
     two = [FIVE[1], FIVE[2]._replace(table=CASE_G._replace(descriptors=[(5, [0x647574, 0x000888])])), *FIVE[3:4]]
-    assert changes.compare(sheet.written(FIVE[:3]), sheet.written(two)) == (
+    assert changes.compare(form, sheet.written(form, FIVE[:3]), sheet.written(form, two)) == (
         b"gone=LI,2,0\nchanged=TI,2,0\ndescriptor=3\nlanguage=dut\npage=647574\ndescriptor=5\nlanguage=dut\npage=000888\n"
         b"new=TI,2,32768\ndescriptor=4\nlanguage=dut\npage=647574\n")
 
@@ -201,21 +214,160 @@ def all_changed(entries):
     return [e._replace(table=e.table._replace(descriptors=[(id, [word ^ 1 for word in words]) for id, words in e.table.descriptors])) for e in entries]
 
 
-def compared_faults():
+@in_either_form
+def compared_faults(form):
     """The first sheet is judged whole, then the second, as `rewrite` judges each alone, then the room; the number is that of the sheet that is told."""
-    pairs = lent_pairs()
+    pairs = lent_pairs(Sheets(None, form))
     for first in (one for pair in pairs for one in pair):
         for second in (one for pair in pairs for one in pair):
-            faults = [number(sheet.rewrite, lent) for lent in (first, second)]
+            faults = [number(sheet.rewrite, form, lent) for lent in (first, second)]
             bad = next((at for at, fault in enumerate(faults, 1) if fault != (0, 0)), 0)
-            assert changes.at_fault(first, second) == bad
+            assert changes.at_fault(form, first, second) == bad
             for room in (0, 2 ** 15):
-                expected = faults[bad - 1] if bad else (1, 0) if room == 0 and changes.compare(first, second) else (0, 0)
-                assert number(changes.compare, first, second, room) == expected
-    more, over, bad = sheet.written(small(65)), sheet.written(sized(16385)), b"stamp=1\nkind=\n"
-    told = [(number(changes.compare, *two, 0), changes.at_fault(*two)) for two in (
-        (bad, over), (over, bad), (bad, more), (more, bad), (b"", over), (b"", more), (b"", bad), (b"", more + b"x"), (over, more), (sheet.written(small(64)), b""), (b"", b""))]
+                expected = faults[bad - 1] if bad else (1, 0) if room == 0 and changes.compare(form, first, second) else (0, 0)
+                assert number(changes.compare, form, first, second, room) == expected
+    more, over, bad = sheet.written(form, small(65)), sheet.written(form, sized(form, form.most_bytes + 1)), b"stamp=1\nkind=\n" if form is OLD else b"stamp=1\nkind=TI\n"
+    told = [(number(changes.compare, form, *two, 0), changes.at_fault(form, *two)) for two in (
+        (bad, over), (over, bad), (bad, more), (more, bad), (b"", over), (b"", more), (b"", bad), (b"", more + b"x"), (over, more), (sheet.written(form, small(64)), b""), (b"", b""))]
     assert told == [((20, 8), 1), ((21, 0), 1), ((20, 8), 1), ((21, 0), 1), ((21, 0), 2), ((21, 0), 2), ((20, 8), 2), ((20, len(more)), 2), ((21, 0), 1), ((1, 0), 0), ((0, 0), 0)]
+
+
+# --- the sheet's two forms ------------------------------------------------------------
+
+NIGHT = (b"stamp=7\nmended=12\nkind=LI\nnetwork=9\nblock=0\ndescriptor=5\nlanguage=dut\n\n"
+         b"stamp=0\nmended=0\nkind=TI\nnetwork=9\nblock=0\n\n"
+         b"stamp=4294967295\nmended=2051\nkind=TI\nnetwork=10\nblock=32768\ndescriptor=63\nlanguage=eng\npage=000888\n\n")
+SECOND = 8                      # where an entry's second line begins, with a stamp of one digit
+
+
+def the_new_form():
+    """Its lines, its greatest number, its limits: as Wish 12 has them."""
+    assert [(entry.stamp, entry.mended, *named(entry)) for entry in sheet.read(NEW, NIGHT)] == \
+        [(7, 12, 9, table.LI, 0), (0, 0, 9, table.TI, 0), (4294967295, 2051, 10, table.TI, 0x8000)]
+    assert sheet.rewrite(NEW, NIGHT) == NIGHT and number(sheet.rewrite, NEW, NIGHT, len(NIGHT) - 1) == (1, 0)
+    assert (OLD.most_bytes, NEW.most_bytes) == (16384, 17152) == (16384, 16384 + 64 * len(b"mended=2051\n"))
+    assert [len(sheet.text_of(form, largest(form))) for form in (OLD, NEW)] == [5924, 5936]
+    assert [len(most_entries(form)) for form in (OLD, NEW)] == [448, 377]
+    least = sorted(len(sheet.text_of(NEW, Entry(0, t))) for t in (table.Table(kind, 0, block, network, []) for kind in table.WORDS for block in table.NUMBERS for network in range(256)))
+    assert sum(least[:377]) <= 17152 < sum(least[:378])
+    assert sheet.rewrite(OLD, b"") == sheet.rewrite(NEW, b"") == sheet.up(b"", 0) == sheet.down(b"", 0) == b""
+    for value in (b"0", b"1", b"9", b"10", b"255", b"256", b"999", b"1000", b"2050", b"2051"):
+        assert sheet.rewrite(NEW, NIGHT.replace(b"=12\n", b"=" + value + b"\n")).count(b"mended=" + value + b"\n") >= 1
+    for value in (b"2052", b"2060", b"2100", b"3000", b"9999", b"10000", b"65536", b"4294967296", b"18446744073709551616", b"1" + b"0" * 5000, b"00", b"01", b"012", b"02051", b"", b"-0",
+                  b"+1", b" 1", b"1 ", b"1\r", b"1x", b"x", b"0x1", b"1.0", b"\xd9\xa1"):
+        assert number(sheet.rewrite, NEW, NIGHT.replace(b"=12\n", b"=" + value + b"\n")) == (20, SECOND), value
+    for line in (b"", b"\n", b"kind=LI\n", b"Mended=12\n", b"mended 12\n", b"mended:12\n", b"mend=12\n", b" mended=12\n", b"stamp=12\n", b"mended=12", b"\nmended=12\n", b"mended=12\r\n"):
+        assert number(sheet.rewrite, NEW, NIGHT.replace(b"mended=12\n", line)) == (20, SECOND), line
+    assert number(sheet.rewrite, NEW, NIGHT.replace(b"mended=12\n", b"mended=12\nmended=12\n")) == (20, 18)
+    assert number(sheet.rewrite, NEW, NIGHT.replace(b"mended=12\nkind=LI\n", b"kind=LI\nmended=12\n")) == (20, SECOND)
+    assert [number(sheet.rewrite, NEW, NIGHT[:at]) for at in (8, 9, 17, 18)] == [(20, 8), (20, 8), (20, 8), (20, 18)]
+    for form in (OLD, NEW):
+        texts = [sheet.written(form, sized(form, form.most_bytes + more)) for more in (0, 1)]
+        assert [number(sheet.rewrite, form, text) for text in texts] == [(0, 0), (21, 0)]
+        assert [number(sheet.rewrite, form, sheet.written(form, small(count))) for count in (64, 65)] == [(0, 0), (21, 0)]
+        assert number(sheet.rewrite, form, sheet.written(form, most_entries(form))) == (21, 0)
+
+
+def smaller_numbers():
+    """The smaller number stays at equal stamp and lines, in either order; before it the stamp decides, then the lines. Comparing doesn't look at it."""
+    empty, five = RIVALS[:2]
+    text = lambda stamp, t, mended: sheet.written(NEW, [Entry(stamp, t, mended)])
+    for one in (0, 1, 9, 10, 255, 256, 2050, 2051):
+        for other in (0, 1, 9, 10, 255, 256, 2050, 2051):
+            assert sheet.join(NEW, text(3, five, one), text(3, five, other)) == text(3, five, min(one, other)) == sheet.add(NEW, 3, other, text(3, five, one), table.form_of(five))
+            assert sheet.join(NEW, text(3, five, one), text(3, empty, other)) == text(3, five, one) == sheet.join(NEW, text(3, empty, other), text(3, five, one))
+            assert sheet.join(NEW, text(4, empty, one), text(3, five, other)) == text(4, empty, one) == sheet.join(NEW, text(3, five, other), text(4, empty, one))
+            assert changes.compare(NEW, text(3, five, one), text(5, five, other), 0) == b""
+            assert changes.compare(NEW, text(3, empty, one), text(5, five, other)) == b"changed=LI,7,0\ndescriptor=5\n"
+            fates = [sheet.fate(Entry(stamp, t, other), Entry(3, five, one)) for stamp, t in ((3, five), (4, five), (2, five), (3, empty))]
+            assert fates == ["replaced" if other < one else "same", "replaced", "older", "older"]
+    three = [text(3, five, mended) for mended in (2, 1, 3)]
+    assert sheet.join(NEW, sheet.join(NEW, three[0], three[1]), three[2]) == sheet.join(NEW, three[0], sheet.join(NEW, three[1], three[2])) == three[1]
+
+
+def adding_order():
+    """22, 13, 15 (the table form), 15 (the number), 21 (the length), 20, 21 (the result), 1: of any two faults that one which comes first."""
+    for form in (OLD, NEW):
+        good, full = table.form_of(CASE_G._replace(network=255)), sheet.written(form, small(64))
+        over = sheet.written(form, sized(form, form.most_bytes + 1))
+        fits = {False: sheet.written(form, small(63)), True: full}
+        wrong = ("22", "13", "15 form", "15 number", "21 length", "20", "21 result", "1")
+        for one in range(len(wrong)):
+            for other in range(one, len(wrong)):
+                faults = {wrong[one], wrong[other]}
+                lent = with_bytes(good, (1, 2 if "15 form" in faults else 0), (2, 3 if "22" in faults else 0))
+                lent = lent[:-1] if "13" in faults else lent
+                data = over if "21 length" in faults else fits["21 result" in faults]
+                data = b"x" + data if "20" in faults else data
+                mended = form.most_mended + 1 if "15 number" in faults else form.most_mended
+                assert number(sheet.add, form, 1, mended, data, lent, 0 if "1" in faults else 65536) == (int(wrong[one].split()[0]), 0), (form, faults)
+        assert number(sheet.add, form, 1, form.most_mended, fits[False], good) == (0, 0)
+        assert all(number(sheet.add, form, 1, mended, b"", good) == (15, 0) for mended in (form.most_mended + 1, 2052, 4096, 32768, 65535))
+
+
+def moving():
+    """Over and back gives the same bytes; what the old join gives the new one gives of the sheets moved up; each refusal of the two moves, and 25 before 21."""
+    assert sheet.down(NIGHT.replace(b"=12\n", b"=0\n").replace(b"=2051\n", b"=0\n")) == b"".join(line for line in NIGHT.splitlines(True) if b"mended" not in line)
+    assert sheet.up(b"stamp=7\nkind=LI\nnetwork=9\nblock=0\n\n") == b"stamp=7\nmended=0\nkind=LI\nnetwork=9\nblock=0\n\n"
+    dice, lost = Dice(31), 0
+    for _ in range(200):
+        entries, others = (some_sheet(dice, dice.below(9), 3) for _ in range(2))
+        old, other = sheet.written(OLD, entries), sheet.written(OLD, others)
+        assert sheet.up(old) == sheet.written(NEW, entries) and sheet.down(sheet.up(old)) == old
+        assert sheet.join(NEW, sheet.up(old), sheet.up(other)) == sheet.up(sheet.join(OLD, old, other))
+        assert changes.compare(NEW, sheet.up(old), sheet.up(other)) == changes.compare(OLD, old, other)
+        new = some_sheet(dice, dice.below(3), 3, NEW)
+        if any(entry.mended for entry in new):
+            assert number(sheet.down, sheet.written(NEW, new), 0) == (25, 0)
+            lost += 1
+        else:
+            assert sheet.up(sheet.down(sheet.written(NEW, new))) == sheet.written(NEW, new)
+    assert 50 < lost < 150
+    # 64 entries in 16,384 bytes become 16,960, and these 16,384 again
+    longest = sheet.written(OLD, sized(OLD, 16384, 64))
+    assert len(sheet.up(longest, 16960)) == 16960 and number(sheet.up, longest, 16959) == (1, 0)
+    assert sheet.down(sheet.up(longest), 16384) == longest and number(sheet.down, sheet.up(longest), 16383) == (1, 0)
+    over, more, most = sheet.written(OLD, sized(OLD, 16385)), sheet.written(OLD, small(65)), sheet.written(OLD, most_entries(OLD))
+    assert [number(sheet.up, lent, 0) for lent in (over, b"x" + over, over[:-1], more, more + b"x", more[:-1], most, b"x" + longest, b"x", longest)] == \
+        [(21, 0), (21, 0), (20, 16384), (21, 0), (20, len(more)), (20, len(more) - 1), (21, 0), (21, 0), (20, 0), (1, 0)]
+    # a new sheet whose old one has 16,385 bytes, one over 17,152, 65 entries and 377; each with a number, and each with a line out of form
+    for entries, no in ((sized(NEW, 16385 + 20 * 9), 21), (sized(NEW, 17152), 21), (small(65), 21), (most_entries(NEW), 21), (sized(NEW, 16384 + 20 * 9), 1), (small(64), 1)):
+        assert number(sheet.down, sheet.written(NEW, entries), 0) == (no, 0)
+        for at in (0, len(entries) // 2, len(entries) - 1):
+            numbered = entries[:at] + [entries[at]._replace(mended=1)] + entries[at + 1:]
+            text = sheet.written(NEW, numbered)
+            assert number(sheet.down, text, 0) == (25, 0)
+            if len(text) < 17152:
+                assert number(sheet.down, text + b"x", 0) == (20, len(text)) and number(sheet.down, b"x" + text, 0) == (20, 0)
+            assert number(sheet.down, text[:-1], 0) == (20, len(text) - 1)
+    assert number(sheet.down, sheet.written(NEW, with_numbers(NEW, sized(NEW, 17153), 1))) == (21, 0)
+    # at 16,385 bytes the old join is 21, and that of the sheets moved up isn't
+    parts = sized(OLD, 16385)
+    halves = [sheet.written(OLD, part) for part in (parts[:10], parts[10:])]
+    assert number(sheet.join, OLD, *halves) == (21, 0) and len(sheet.join(NEW, *map(sheet.up, halves))) == 16385 + 20 * 9
+    # room by the sum isn't carried over: 390 sheets of one 35-byte entry of one key
+    one = sheet.written(OLD, small(1))
+    assert (390 * len(one), 390 * len(sheet.up(one))) == (13650, 17160)
+
+
+def the_other_form():
+    """A reader of one form with a sheet of the other that has an entry: 20 at its first `mended=` line, or at its first `kind=` line; 21 where it is too long."""
+    form = table.form_of(CASE_G)
+    for reader, other, move in ((OLD, NEW, sheet.up), (NEW, OLD, sheet.down)):
+        own = sheet.written(reader, ENTRIES)
+        for entries, at in ((ENTRIES, 8), (FIVE, 8), (small(64), 8), (small(65), 8), (sized(other, reader.most_bytes), None), (ENTRIES[2:], 17), (with_numbers(other, ENTRIES, 5, 2051), 8)):
+            text = sheet.written(other, entries)
+            at = text.index(b"\n") + 1 if at is None else at
+            assert text[at:at + 5] == (b"mende" if other is NEW else b"kind=")
+            told = [number(call, *given) for call, *given in (
+                (sheet.rewrite, reader, text, 0), (move, text, 0), (sheet.join, reader, text, own), (sheet.join, reader, own, text), (sheet.add, reader, 1, 0, text, form),
+                (sheet.drop, reader, 1, table.TI, 0, text), (changes.compare, reader, text, b"x"), (changes.compare, reader, own, text))]
+            assert told == [(20, at)] * len(told)
+        over = sheet.written(other, sized(other, reader.most_bytes + 1))
+        told = [number(call, *given) for call, *given in (
+            (sheet.rewrite, reader, over), (move, over), (sheet.join, reader, b"x", over), (sheet.add, reader, 1, 0, over, form), (changes.compare, reader, own, over))]
+        assert told == [(21, 0)] * len(told)
+    assert number(sheet.rewrite, OLD, sheet.written(NEW, sized(NEW, 17152))) == (21, 0)
 
 
 def menus():
@@ -535,20 +687,21 @@ def desk_of_two():
     assert min(seen.values()) > 9
 
 
-def sheet_of_two():
+@in_either_form
+def sheet_of_two(form):
     """Both streams in one add give the sheet that two adds with one stamp give, in either order (SCOPE 25.6): where they have room together."""
     dice, changed = Dice(15), 0
     for pair, data in captures_of_two(dice, 150, 6):
-        stamp, before = dice.below(3), sheet.written(some_sheet(dice, dice.below(6), 3))
-        after, line = sheet.fed(before, [(stamp, data)], pair)
-        assert (after, line) == sheet.fed(before, [(stamp, data)], turned_about(pair))
+        stamp, before = dice.below(3), sheet.written(form, some_sheet(dice, dice.below(6), 3, form))
+        after, line = sheet.fed(form, before, [(stamp, data)], pair)
+        assert (after, line) == sheet.fed(form, before, [(stamp, data)], turned_about(pair))
         for order in ((0, 1), (1, 0)):
             text, tables = before, 0
             for whose in order:
-                text, one = sheet.fed(text, [(stamp, data)], pair.of(whose))
+                text, one = sheet.fed(form, text, [(stamp, data)], pair.of(whose))
                 tables += numbers(one)[1]
             assert text == after and numbers(line)[:2] == [1, tables]
-        changed += after not in [sheet.fed(before, [(stamp, data)], pair.of(whose))[0] for whose in both.BOTH]
+        changed += after not in [sheet.fed(form, before, [(stamp, data)], pair.of(whose))[0] for whose in both.BOTH]
     assert changed > 30
 
 
@@ -706,8 +859,9 @@ def noise(rounds, most):
 
 
 def main():
-    for check in (images, cases_a_to_f, case_g, cases_h_to_k, annex_l1, editions, lost_pes, pages, day_sheet, dropping, comparing, compared_faults, menus, menu_levels, joined_blocks, cut_line, side_by_side,
-                  untouched, two_said, desk_of_two, sheet_of_two, menus_of_two, descriptors, descriptors_judged, descriptors_back):
+    for check in (images, cases_a_to_f, case_g, cases_h_to_k, annex_l1, editions, lost_pes, pages, day_sheet, dropping, comparing, compared_faults,
+                  the_new_form, smaller_numbers, adding_order, moving, the_other_form, menus, menu_levels, joined_blocks, cut_line, side_by_side, untouched, two_said, desk_of_two, sheet_of_two, menus_of_two,
+                  descriptors, descriptors_judged, descriptors_back):
         check()
         print(f"{check.__name__}: ok")
     for most in (1, 2):

@@ -1,4 +1,4 @@
-"""The day sheet: entries of text, each a table with the second at which its capture began."""
+"""The day sheet: entries of text, each a table with the second at which its capture began; in the new form also with how many of its block's bytes were mended."""
 
 import re
 from typing import NamedTuple
@@ -8,13 +8,25 @@ from .listing import DESK, NAMES, table_lines
 from .streams import blocks
 from .table import LI, TI, Table, read_block, table_of, writable
 
-MOST_BYTES, MOST_ENTRIES = 16384, 64
+MOST_ENTRIES = 64
 MOST_STAMP = 2 ** 32 - 1
+
+
+class Form(NamedTuple):
+    """What the two forms of a sheet differ in; all else is said once for both."""
+    numbered: bool              # whether an entry has a `mended=` line
+    most_mended: int
+    most_bytes: int
+
+
+OLD = Form(False, 0, 16384)
+NEW = Form(True, 2051, 17152)
 
 
 class Entry(NamedTuple):
     stamp: int
     table: Table                # without copyright, which the lines don't say
+    mended: int = 0             # in the old form, which has no line for it, always so
 
 
 def key(entry):
@@ -27,14 +39,15 @@ def lines_of(entry):
     return "".join(line + "\n" for line in table_lines(entry.table)).encode()
 
 
-def text_of(entry):
-    table = entry.table
-    head = f"stamp={entry.stamp}\nkind={NAMES[table.kind]}\nnetwork={table.network}\nblock={table.block_no}\n"
+def text_of(form, entry):
+    assert form.numbered or entry.mended == 0
+    table, mended = entry.table, f"mended={entry.mended}\n" if form.numbered else ""
+    head = f"stamp={entry.stamp}\n{mended}kind={NAMES[table.kind]}\nnetwork={table.network}\nblock={table.block_no}\n"
     return head.encode() + lines_of(entry) + b"\n"
 
 
-def written(entries):
-    return b"".join(map(text_of, entries))
+def written(form, entries):
+    return b"".join(text_of(form, entry) for entry in entries)
 
 
 # --- reading --------------------------------------------------------------------
@@ -87,9 +100,10 @@ class Lines:
         return word
 
 
-def entry_in(lines):
+def entry_in(form, lines):
     """One entry, up to its empty line."""
     stamp = lines.number(lines.take(), b"stamp", MOST_STAMP)
+    mended = lines.number(lines.take(), b"mended", form.most_mended) if form.numbered else 0
     kind = {b"LI": LI, b"TI": TI}.get(lines.value(lines.take(), b"kind")) or lines.fault()
     network = lines.number(lines.take(), b"network", 255)
     block = lines.number(lines.take(), b"block", 65535)
@@ -97,7 +111,7 @@ def entry_in(lines):
     while True:
         line = lines.take()
         if line == b"":
-            return Entry(stamp, Table(kind, 0, block, network, descriptors))
+            return Entry(stamp, Table(kind, 0, block, network, descriptors), mended)
         if descriptors and line.startswith(b"language="):
             words = descriptors[-1][1]
             words.append(lines.language(line))
@@ -107,11 +121,11 @@ def entry_in(lines):
             descriptors.append((lines.number(line, b"descriptor", 63), []))
 
 
-def read(data):
+def read(form, data):
     """The entries that a sheet says. A key that doesn't rise, and a table that can't be written, are told at the entry's empty line."""
     lines, entries = Lines(data), []
     while lines.next < len(data):
-        entry = entry_in(lines)
+        entry = entry_in(form, lines)
         if entries and key(entry) <= key(entries[-1]) or not writable(entry.table):
             lines.fault()
         entries.append(entry)
@@ -121,8 +135,9 @@ def read(data):
 # --- joining --------------------------------------------------------------------
 
 def rank(entry):
-    """Of two entries with one key the greater stays: by stamp, then by their lines, byte by byte, a prefix first."""
-    return entry.stamp, lines_of(entry)
+    """Of two entries with one key the greater stays: by stamp, then by their lines, byte by byte, a prefix first; then the one with the
+    smaller number, which never decides between old entries."""
+    return entry.stamp, lines_of(entry), -entry.mended
 
 
 def joined(*sheets):
@@ -136,59 +151,81 @@ def joined(*sheets):
 
 # --- the calls ------------------------------------------------------------------
 
-def settled(entries, room):
+def entries_of(form, *lent):
+    """The entries of each lent sheet: 21 for a length of any of them, then 20 of the first at fault."""
+    need(all(len(data) <= form.most_bytes for data in lent), 21)
+    return [read(form, data) for data in lent]
+
+
+def settled(form, entries, room):
     """A result's bytes, where they are within the limits and the room."""
-    text = written(entries)
-    need(len(entries) <= MOST_ENTRIES and len(text) <= MOST_BYTES, 21)
+    text = written(form, entries)
+    need(len(entries) <= MOST_ENTRIES and len(text) <= form.most_bytes, 21)
     need(len(text) <= room, 1)
     return text
 
 
-def rewrite(data, room=MOST_BYTES):
-    need(len(data) <= MOST_BYTES, 21)
-    return settled(read(data), room)
+def rewrite(form, data, room=65536):
+    entries, = entries_of(form, data)
+    return settled(form, entries, room)
 
 
-def add(stamp, data, form, room=MOST_BYTES):
-    """The sheet joined with one entry; the form's own refusals, 22, 13 and 15, as in writing, come first."""
-    table = table_of(form)
-    need(len(data) <= MOST_BYTES, 21)
-    return settled(joined(read(data), [Entry(stamp, table._replace(copyright=0))]), room)
+def add(form, stamp, mended, data, table_form, room=65536):
+    """The sheet joined with one entry; the table form's own refusals, 22, 13 and 15, as in writing, come first, then 15 for a number that the form can't have."""
+    table = table_of(table_form)
+    need(mended <= form.most_mended, 15)
+    entries, = entries_of(form, data)
+    return settled(form, joined(entries, [Entry(stamp, table._replace(copyright=0), mended)]), room)
 
 
-def join(first, second, room=MOST_BYTES):
-    need(len(first) <= MOST_BYTES and len(second) <= MOST_BYTES, 21)
-    return settled(joined(read(first), read(second)), room)
+def join(form, first, second, room=65536):
+    return settled(form, joined(*entries_of(form, first, second)), room)
 
 
-def drop(network, kind, block_no, data, room=MOST_BYTES):
+def drop(form, network, kind, block_no, data, room=65536):
     """The sheet without the entry of a key, or as it was where no entry has it. The entries that are left are judged, so one of 65 may go."""
-    need(len(data) <= MOST_BYTES, 21)
-    return settled([e for e in read(data) if (e.table.network, e.table.kind, e.table.block_no) != (network, kind, block_no)], room)
+    entries, = entries_of(form, data)
+    return settled(form, [e for e in entries if (e.table.network, e.table.kind, e.table.block_no) != (network, kind, block_no)], room)
+
+
+def up(data, room=65536):
+    """An old sheet's entries in the new form, where each has the number 0 by reading."""
+    entries, = entries_of(OLD, data)
+    return settled(NEW, entries, room)
+
+
+def down(data, room=65536):
+    """A new sheet's entries in the old form: 25 where a number would be lost."""
+    entries, = entries_of(NEW, data)
+    need(all(entry.mended == 0 for entry in entries), 25)
+    return settled(OLD, entries, room)
 
 
 # --- the program ----------------------------------------------------------------
 
-def fed(data, captures, setting=DESK):
+KEPT = OLD                      # the form of the files that it keeps
+
+
+def fed(form, data, captures, setting=DESK):
     """What `sheet add` makes of a sheet and of captures, (stamp, bytes) each, and the line that it prints; of one stream or of two."""
-    sheet, fates = rewrite(data), []
+    sheet, fates = rewrite(form, data), []
     for stamp, capture in captures:
         for _, record in blocks(setting, capture):
             try:
-                form = read_block(setting.application, record).form
+                came = read_block(setting.application, record)
             except Refused:
                 continue
-            entry = Entry(stamp, table_of(form)._replace(copyright=0))
-            fates.append(fate(entry, {key(e): e for e in read(sheet)}.get(key(entry))))
-            sheet = add(stamp, sheet, form)
+            entry = Entry(stamp, table_of(came.form)._replace(copyright=0), came.mended if form.numbered else 0)
+            fates.append(fate(entry, {key(e): e for e in read(form, sheet)}.get(key(entry))))
+            sheet = add(form, stamp, entry.mended, sheet, came.form)
     counts = " ".join(f"{name}={fates.count(name)}" for name in ("new", "replaced", "older", "same"))
-    return sheet, f"captures={len(captures)} tables={len(fates)} {counts} entries={len(read(sheet))} bytes={len(sheet)}\n"
+    return sheet, f"captures={len(captures)} tables={len(fates)} {counts} entries={len(read(form, sheet))} bytes={len(sheet)}\n"
 
 
 def fate(entry, stood):
-    """What becomes of a table where an entry with its key stood, or none."""
+    """What becomes of a table where an entry with its key stood, or none. One that says what stands there with a greater number is the same."""
     if stood is None:
         return "new"
-    if entry == stood:
-        return "same"
-    return "replaced" if rank(entry) > rank(stood) else "older"
+    if rank(entry) > rank(stood):
+        return "replaced"
+    return "same" if rank(entry)[:2] == rank(stood)[:2] else "older"

@@ -16,11 +16,12 @@ sys.path.insert(0, str(pathlib.Path(__file__).resolve().parent.parent))
 import samples
 from cases.form import Dice
 from cases.reader import Air
-from cases.sheet import FIVE, SAMPLE, lent_pairs, overnight, small, some_sheet
+from cases.sheet import FIVE, SAMPLE, Sheets, lent_pairs, overnight, small, some_sheet
 from cases.table import CASE_G, some_table
 from model import Refused, both, changes, guide, pes, sheet, streams, survey, table
 from model.guide import Setting
 from model.listing import DESK
+from model.sheet import KEPT
 from samples import EVENING, MORNING, TWO, aired, aired_both, both_streams, packets_in
 
 DAY = 1794787200
@@ -37,7 +38,7 @@ def night(dice, networks, count):
 
 
 def entries(dice, count):
-    return sheet.written(sheet.joined([sheet.Entry(DAY + dice.below(9), some_table(dice)._replace(copyright=0)) for _ in range(count)]))
+    return sheet.written(KEPT, sheet.joined([sheet.Entry(DAY + dice.below(9), some_table(dice)._replace(copyright=0)) for _ in range(count)]))
 
 
 def runs(dice):
@@ -46,19 +47,19 @@ def runs(dice):
     yield "day", "", DESK, None, [(EVENING, "evening.t42", evening), (MORNING, "morning.t42", morning)]
     yield "late", "", DESK, None, [(MORNING, "morning.t42", morning), (EVENING, "evening.t42", evening)]
     yield "again", "", DESK, samples.day()["day.sheet"], [(EVENING, "evening.t42", evening)]
-    yield "kept", "", DESK, sheet.written(SAMPLE), [(DAY, "night.t42", night(dice, 5, 20))]
+    yield "kept", "", DESK, sheet.written(KEPT, SAMPLE), [(DAY, "night.t42", night(dice, 5, 20))]
     yield "one", "", DESK, b"", [(0, "g.t42", sent(DESK, [CASE_G]))]
     yield "most", "", DESK, None, [(2 ** 32 - 1, "twice.t42", sent(DESK, [CASE_G, CASE_G]))]
     shared = night(dice, 2, 12)
     yield "equal", "", DESK, None, [(DAY, "a.t42", shared), (DAY, "b.t42", night(dice, 2, 12)), (DAY, "a.t42", shared)]
     other = Setting(8, 0xFE, 2, 31)
-    yield "elsewhere", "-m 8 -p fE -s 2 -a 31", other, sheet.written(SAMPLE), [(7, "other.t42", sent(other, [CASE_G, some_table(dice)]))]
+    yield "elsewhere", "-m 8 -p fE -s 2 -a 31", other, sheet.written(KEPT, SAMPLE), [(7, "other.t42", sent(other, [CASE_G, some_table(dice)]))]
     others = b"".join(Air(dice, DESK).stream(3, [20, 40], 0)) + b"\x15" * 5          # blocks that are no tables, and bytes left over
     yield "none", "", DESK, entries(dice, 9), [(DAY, "others.t42", others)]
     elsewhere = sent(other, [CASE_G])
     some = [(DAY, "g.t42", sent(DESK, [CASE_G])), (DAY, "elsewhere.t42", elsewhere), (DAY, "empty.t42", b""), (DAY, "others.t42", others), (DAY, "short.t42", sent(DESK, [CASE_G]) + b"\x15" * 41)]
     yield "some", "", DESK, entries(dice, 9), some
-    yield "full", "", DESK, sheet.written(small(63)), [(1, "last.t42", sent(DESK, [CASE_G._replace(network=255)]))]
+    yield "full", "", DESK, sheet.written(KEPT, small(63)), [(1, "last.t42", sent(DESK, [CASE_G._replace(network=255)]))]
     yield "long", "", DESK, entries(dice, 30), [(DAY + i, f"long{i}.t42", night(dice, 9, 25)) for i in range(3)]
 
 
@@ -71,7 +72,7 @@ def night_of_two(dice, networks, count):
 def runs_of_two(dice):
     """With -s: two streams in either order, the last of several words, one that isn't there, neither; and captures that give no table."""
     sample, night_ = both_streams()[0], night_of_two(dice, 4, 12)
-    before = sheet.written(sheet.joined([sheet.Entry(DAY + dice.below(2), some_table(dice, most=2)._replace(network=dice.below(4), copyright=0)) for _ in range(12)]))
+    before = sheet.written(KEPT, sheet.joined([sheet.Entry(DAY + dice.below(2), some_table(dice, most=2)._replace(network=dice.below(4), copyright=0)) for _ in range(12)]))
     blank = b"".join(Air(dice, TWO.of(whose)).header(0, 3) for whose in both.BOTH)         # both came, and brought nothing
     for name, words, stands, captures in (
             ("two", "1,2", None, [(DAY, "two.t42", sample)]),
@@ -94,7 +95,7 @@ def runs_of_two(dice):
 
 def said(name, data, setting):
     """What is said of a capture that gives no table, and of bytes at its end that make no packet."""
-    if " tables=0 " in sheet.fed(b"", [(0, data)], setting)[1]:
+    if " tables=0 " in sheet.fed(KEPT, b"", [(0, data)], setting)[1]:
         yield f"sheet: {name}: it gave no table{survey.lack(data, setting)}\n"
     if len(data) % 42:
         yield f"note: {name}: {len(data) % 42} bytes at its end make no packet\n"
@@ -108,7 +109,7 @@ def main(folder):
             assert not (folder / capture).exists() or (folder / capture).read_bytes() == data, capture
             (folder / capture).write_bytes(data)
             words += [str(stamp), str(folder / capture)]
-        after, line = sheet.fed(before or b"", [(stamp, data) for stamp, _, data in captures], setting)
+        after, line = sheet.fed(KEPT, before or b"", [(stamp, data) for stamp, _, data in captures], setting)
         if before is not None:
             (folder / f"{name}.before").write_bytes(before)
         (folder / f"{name}.words").write_text("".join(word + "\n" for word in words))
@@ -118,7 +119,7 @@ def main(folder):
     evening = packets_in(samples.day()["evening.t42"])
     (folder / "evening.pes").write_bytes(b"".join(pes.write(0x10, b"\x02\xe7" + packet) for packet in evening))
     (folder / "many.t42").write_bytes(sent(DESK, [CASE_G._replace(network=n) for n in range(65)]))      # more than a sheet holds
-    (folder / "crowd").write_bytes(sheet.written([sheet.Entry(1, CASE_G._replace(network=100 + n, copyright=0)) for n in range(64)]))    # no other network has room in it
+    (folder / "crowd").write_bytes(sheet.written(KEPT, [sheet.Entry(1, CASE_G._replace(network=100 + n, copyright=0)) for n in range(64)]))    # no other network has room in it
     drops(folder, dice)
     late(folder, dice)
     compares(folder, dice)
@@ -127,15 +128,15 @@ def main(folder):
 def drops(folder, dice):
     """Entries dropped: a line each of kind, network, block and a name; NAME.before, and NAME.after, or NAME.no where the sheet is refused."""
     many = [sheet.Entry(1, CASE_G._replace(network=n, copyright=0)) for n in range(66)]
-    day = sheet.read(samples.day()["day.sheet"])
+    day = sheet.read(KEPT, samples.day()["day.sheet"])
     cases = [("d65", many[:65], many[7]), ("d64", many[:64], many[63]), ("d1", many[:1], many[0])]
     cases += [(f"day{i}", day, entry) for i, entry in enumerate(day)]
     lines = []
     for name, before, entry in cases:
-        (folder / f"{name}.before").write_bytes(sheet.written(before))
-        (folder / f"{name}.after").write_bytes(sheet.written([e for e in before if e != entry]))
+        (folder / f"{name}.before").write_bytes(sheet.written(KEPT, before))
+        (folder / f"{name}.after").write_bytes(sheet.written(KEPT, [e for e in before if e != entry]))
         lines.append((entry, name))
-    for name, data, no in (("d66", sheet.written(many), 21), ("cut", sheet.written(many[:3])[:-1], 20), ("over", b"x" * 16385, 21)):
+    for name, data, no in (("d66", sheet.written(KEPT, many), 21), ("cut", sheet.written(KEPT, many[:3])[:-1], 20), ("over", b"x" * 16385, 21)):
         (folder / f"{name}.before").write_bytes(data)
         (folder / f"{name}.no").write_text(str(no))
         lines.append((many[1], name))
@@ -149,7 +150,7 @@ def late(folder, dice):
         for at, (stamp, data) in enumerate(captures):
             (folder / f"{name}{at}.t42").write_bytes(data)
         (folder / name).write_text("".join(f"{stamp} {folder}/{name}{at}.t42\n" for at, (stamp, _) in enumerate(captures)))
-        (folder / f"{name}.after").write_bytes(sheet.fed(b"", captures)[0])
+        (folder / f"{name}.after").write_bytes(sheet.fed(KEPT, b"", captures)[0])
     (folder / "orders").write_text("".join(" ".join(map(str, order)) + "\n" for order in itertools.permutations(range(4))))
     with open(folder / "groupings", "w") as groupings:
         for _ in range(5):
@@ -166,12 +167,12 @@ def late(folder, dice):
 
 def compares(folder, dice):
     """Two sheets side by side: alike, of stamps alone that differ, the longest prints, nights of every kind, and each fault in either."""
-    text, restamped = sheet.written(FIVE), sheet.written([entry._replace(stamp=9) for entry in FIVE])
+    text, restamped = sheet.written(KEPT, FIVE), sheet.written(KEPT, [entry._replace(stamp=9) for entry in FIVE])
     pairs = {"alike": (text, text), "restamped": (text, restamped), "all-gone": (text, b""), "all-new": (b"", text)}
     for at in range(12):
         first = some_sheet(dice, dice.below(9), 5)
-        pairs[f"night{at}"] = sheet.written(first), sheet.written(overnight(dice, first, 5))
-    kinds = list(zip(("none", "one", "64", "65", "65bad", "full", "over", "bad"), lent_pairs(), strict=True))
+        pairs[f"night{at}"] = sheet.written(KEPT, first), sheet.written(KEPT, overnight(dice, first, 5))
+    kinds = list(zip(("none", "one", "64", "65", "65bad", "full", "over", "bad"), lent_pairs(Sheets(None, KEPT)), strict=True))
     for kind, (first, _) in kinds:
         for other, (_, second) in kinds:
             pairs[f"{kind}-{other}"] = first, second
@@ -179,9 +180,9 @@ def compares(folder, dice):
         (folder / f"{name}.first").write_bytes(first)
         (folder / f"{name}.second").write_bytes(second)
         try:
-            (folder / f"{name}.print").write_bytes(changes.compare(first, second))
+            (folder / f"{name}.print").write_bytes(changes.compare(KEPT, first, second))
         except Refused as refused:
-            (folder / f"{name}.fault").write_text(f"{changes.at_fault(first, second)} {refused.no} {refused.at}\n")
+            (folder / f"{name}.fault").write_text(f"{changes.at_fault(KEPT, first, second)} {refused.no} {refused.at}\n")
 
 
 main(pathlib.Path(sys.argv[1]))
