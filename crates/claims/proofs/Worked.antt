@@ -23,8 +23,7 @@ use Rattle.frames.specs.Outcome.{accepted}
 use Rattle.table.specs.Reading.{readBlock}
 use Rattle.table.proofs.Back.{writes-back}
 use Rattle.parity.specs.Parity.{ones, letter}
-use Rattle.menu_forms.specs.Rows.{each}
-use Rattle.menu_forms.specs.Menus.{Menu, infoBytes, textFields, eventFields, fillFields, fields as Menu·fields, strings, sevens, fits as Menu·fits}
+use Rattle.menu_forms.specs.Menus.{Menu, infoBytes, textFormat, eventFormat, fillUp, fields as Menu·fields, strings, sevens, fits as Menu·fits}
 use Rattle.menu_forms.specs.Block.{inNibbles, checksumOf as Menu·checksumOf, blockWith as Menu·blockWith, recordOf as Menu·recordOf}
 use Rattle.menu_reader.specs.Reading.{readMenu}
 use Rattle.menu_reader.proofs.Written.{writes-back as Menu·writes-back}
@@ -139,11 +138,10 @@ unfolding
     total
     inNibbles
     Menu·fields
-    textFields
-    eventFields
+    textFormat
+    eventFormat
     infoBytes
-    fillFields
-    each
+    fillUp
     strings
     width
     laid
@@ -156,7 +154,7 @@ unfolding
 menu-written = refl
 
 menu-fits : Menu·fits menu ≡ true
-unfolding Menu·fits fitting Menu·fields textFields eventFields infoBytes fillFields each strings sevens width
+unfolding Menu·fits fitting Menu·fields textFormat eventFormat infoBytes fillUp strings sevens width
 menu-fits = refl
 
 pub menu-read : readMenu 22 menuBytes ≡ accepted menu 0

@@ -1,55 +1,91 @@
--- What is laid is read back, and what is read fits and is laid again as it was: for a number, for numbers in a row, for one thing behind
--- another, for a row, for a value that another stands for, for a row with its count. Assumes nothing.
-use mathlib.Core.Path.{_≡_, _∙_, refl, sym, ap, ap₂}
-use mathlib.Core.Bool.{true}
-use mathlib.Core.List.{List, [], _∷_, _++_, append-nil}
+-- What is laid is read back, and what is read fits and is laid again as it was: for a number, for bits that fill, for numbers in a row,
+-- for a string, for one thing behind another, for a row, for a value that another stands for, for a row with its count. Assumes nothing.
+use mathlib.Core.Path.{_≡_, _∙_, refl, sym, ap, ap₂, subst}
+use mathlib.Core.Bool.{Bool, true, false}
+use mathlib.Core.List.{List, [], _∷_, _++_, append-nil, append-assoc}
 use Prim.Native.Nat.{ℕ, zero, suc, _+_, _*_, _/_, _^_}
 use native.Mathlib.Nat.{div-one, mod-eq-of-lt}
 use native.Mathlib.Omega.{arith}
 use borrow.Author.Tests.{ltb-true, lt-ltb, eqb-true, eq-eqb}
 use lib.Dec.{ltb, eqb}
-use lib.ListN.{length}
+use lib.ListN.{length, drop}
 use lib.Pow.{shr-shr}
+use lib.Seq.{drop-append-seam}
 use Rattle.laws.specs.Pick.{both}
 use Rattle.laws.proofs.Tests.{both-true, both-holds}
 use Rattle.fields.specs.Fields.{Field, alike, width, laid, fitting, field, parts}
 use Rattle.fields.proofs.Laid.{field-lt, field-first, laid-first, laid-append, laid-drop, width-append, width-row, fitting-append, fitting-parts, length-parts, parts-laid, lay, lay-parts}
-use Rattle.codecs.specs.Codec.{Codec, past, number, numbers, then, rowFields, rowRead, rowWhole, row, seen, counted}
+use Rattle.codecs.specs.Rows.{each, codesIn}
+use Rattle.codecs.specs.Codec.{Codec, past, left, number, filling, numbers, codes, then, rowRead, rowWhole, row, seen, counted}
+use Rattle.codecs.proofs.Codes.{Begins, begins-none, begins-append, begins-codes, codes-back, codes-count}
 
 pub record Lawful {A : Type 0} (c : Codec A) : Type 0 where
-  -- what is laid is read back
-  pub back : (a : A) (rest : ℕ) → c .whole a ≡ true → fitting (c .fields a) ≡ true → c .read (laid (c .fields a) rest) ≡ a
-  -- what is read fits, and laid again it is what stood there
-  pub entire : (n : ℕ) → c .whole (c .read n) ≡ true
-  pub fits : (n : ℕ) → fitting (c .fields (c .read n)) ≡ true
-  pub again : (n : ℕ) → n ≡ laid (c .fields (c .read n)) (past c n)
+  -- what is laid is read back, whatever stands above its bits and behind its codes
+  pub back :
+      (a : A) (rest : ℕ) (more : List ℕ) → c .whole a ≡ true → fitting (c .fields a) ≡ true
+      → c .read (laid (c .fields a) rest) (c .strings a ++ more) ≡ a
+  -- what is read fits, and laid again it is what stood there, bits and codes
+  pub entire : (n : ℕ) (cs : List ℕ) → c .whole (c .read n cs) ≡ true
+  pub fits : (n : ℕ) (cs : List ℕ) → fitting (c .fields (c .read n cs)) ≡ true
+  pub again : (n : ℕ) (cs : List ℕ) → n ≡ laid (c .fields (c .read n cs)) (past c n cs)
+  pub begins : (n : ℕ) (cs : List ℕ) → Begins cs (c .strings (c .read n cs))
 
--- ---- numbers
+-- ---- numbers and strings
 
 pub number-lawful : (w : ℕ) → Lawful (number w)
 unfolding fitting width laid
 number-lawful w =
     record {
-      back = λ v rest e h. field-first w _ ∙ laid-first (w, v) [] rest ∙ mod-eq-of-lt (ltb-true v (2 ^ w) (both-true (ltb v (2 ^ w)) true h .0));
-      entire = λ n. refl;
-      fits = λ n. rw (lt-ltb (field 0 w n) (2 ^ w) (field-lt 0 w n));
-      again = λ n. sym (div-one n) ∙ lay 0 w n [] (n / 2 ^ (w + 0)) (ap (λ (x : ℕ). n / 2 ^ x) (omega arith));
+      back = λ v rest more e h. field-first w _ ∙ laid-first (w, v) [] rest ∙ mod-eq-of-lt (ltb-true v (2 ^ w) (both-true (ltb v (2 ^ w)) true h .0));
+      entire = λ n cs. refl;
+      fits = λ n cs. rw (lt-ltb (field 0 w n) (2 ^ w) (field-lt 0 w n));
+      again = λ n cs. sym (div-one n) ∙ lay 0 w n [] (n / 2 ^ (w + 0)) (ap (λ (x : ℕ). n / 2 ^ x) (omega arith));
+      begins = λ n cs. begins-none cs;
     }
 
-numbers-again : (w k n : ℕ) → n ≡ laid (alike w (parts w k n)) (past (numbers w k) n)
+-- no bits
+none-again : (n : ℕ) → n ≡ laid [] (n / 2 ^ width [])
+unfolding laid width
+none-again n = sym (div-one n)
+
+pub filling-lawful : (is : Bool) (w : ℕ) → Lawful (filling is w)
+filling-lawful true w =
+    let p = number-lawful w in
+    record { back = p .back; entire = p .entire; fits = p .fits; again = p .again; begins = p .begins }
+filling-lawful false w =
+    record {
+      back = λ v rest more e h. sym (eqb-true v 0 e);
+      entire = λ n cs. refl;
+      fits = λ n cs. unfold fitting in refl;
+      again = λ n cs. none-again n;
+      begins = λ n cs. begins-none cs;
+    }
+
+numbers-again : (w k n : ℕ) (cs : List ℕ) → n ≡ laid (alike w (parts w k n)) (past (numbers w k) n cs)
 unfolding laid
-numbers-again w k n =
+numbers-again w k n cs =
     let wide : width (alike w (parts w k n)) ≡ k * w = width-row w (parts w k n) ∙ ap (λ (x : ℕ). x * w) (length-parts w k n) in
-    let up : n / 2 ^ (k * w) ≡ past (numbers w k) n = rw wide in
-    lay-parts w k n [] (past (numbers w k) n) up ∙ (rw append-nil)
+    let up : n / 2 ^ (k * w) ≡ past (numbers w k) n cs = rw wide in
+    lay-parts w k n [] (past (numbers w k) n cs) up ∙ (rw append-nil)
 
 pub numbers-lawful : (w k : ℕ) → Lawful (numbers w k)
 numbers-lawful w k =
     record {
-      back = λ l rest e h. ap (λ (j : ℕ). parts w j (laid (alike w l) rest)) (sym (eqb-true (length l) k e)) ∙ parts-laid w l rest h;
-      entire = λ n. eq-eqb (length (parts w k n)) k (length-parts w k n);
-      fits = fitting-parts w k;
+      back = λ l rest more e h. ap (λ (j : ℕ). parts w j (laid (alike w l) rest)) (sym (eqb-true (length l) k e)) ∙ parts-laid w l rest h;
+      entire = λ n cs. eq-eqb (length (parts w k n)) k (length-parts w k n);
+      fits = λ n cs. fitting-parts w k n;
       again = numbers-again w k;
+      begins = λ n cs. begins-none cs;
+    }
+
+pub codes-lawful : (k : ℕ) → Lawful (codes k)
+codes-lawful k =
+    record {
+      back = λ l rest more e h. ap (λ (j : ℕ). codesIn j (l ++ more)) (sym (eqb-true (length l) k e)) ∙ codes-back l more;
+      entire = λ n cs. eq-eqb (length (codesIn k cs)) k (codes-count k cs);
+      fits = λ n cs. unfold fitting in refl;
+      again = λ n cs. none-again n;
+      begins = λ n cs. begins-codes k cs;
     }
 
 -- ---- one thing behind another
@@ -65,78 +101,107 @@ both-again :
 both-again n fs gs p q =
     p ∙ ap (laid fs) q ∙ sym (laid-append fs gs (n / 2 ^ width fs / 2 ^ width gs)) ∙ ap (laid (fs ++ gs)) (past-both n fs gs)
 
--- the first of two is read out of what is laid for both, and the second stands above it
-module _ {A : Type 0} {c : Codec A} (p : Lawful c) (a : A) (gs : List Field) (rest : ℕ) (e : c .whole a ≡ true) (h : fitting (c .fields a ++ gs) ≡ true) where
+-- the first of two is read out of what is laid for both, and the second stands above and behind it
+module _ {A : Type 0} {c : Codec A} (p : Lawful c) (a : A) (gs : List Field) (ss : List ℕ) (rest : ℕ) (more : List ℕ) (e : c .whole a ≡ true)
+    (h : fitting (c .fields a ++ gs) ≡ true) where
   parted : (fitting (c .fields a) ≡ true) × (fitting gs ≡ true)
   parted = both-true (fitting (c .fields a)) (fitting gs) (sym (fitting-append (c .fields a) gs) ∙ h)
 
-  first-back : c .read (laid (c .fields a ++ gs) rest) ≡ a
-  first-back = ap (c .read) (laid-append (c .fields a) gs rest) ∙ p .back a (laid gs rest) e (parted .0)
+  -- what is laid for both: bits and codes
+  abbrev bits : ℕ
+  bits = laid (c .fields a ++ gs) rest
 
-  above-first : past c (laid (c .fields a ++ gs) rest) ≡ laid gs rest
-  above-first =
-      ap (λ (x : A). laid (c .fields a ++ gs) rest / 2 ^ width (c .fields x)) first-back ∙ laid-drop (c .fields a) gs rest
+  abbrev said : List ℕ
+  said = (c .strings a ++ ss) ++ more
+
+  first-back : c .read bits said ≡ a
+  first-back =
+      ap₂ (c .read) (laid-append (c .fields a) gs rest) (append-assoc (c .strings a) ss more) ∙ p .back a (laid gs rest) (ss ++ more) e (parted .0)
+
+  above-first : past c bits said ≡ laid gs rest
+  above-first = ap (λ (x : A). bits / 2 ^ width (c .fields x)) first-back ∙ laid-drop (c .fields a) gs rest
+
+  behind-first : left c bits said ≡ ss ++ more
+  behind-first =
+      ap₂ (λ (x : A) (l : List ℕ). drop (length (c .strings x)) l) first-back (append-assoc (c .strings a) ss more) ∙ drop-append-seam (c .strings a) (ss ++ more)
 
 module _ {A B : Type 0} {c : Codec A} {d : A → Codec B} (p : Lawful c) (q : (a : A) → Lawful (d a)) where
   pub then-lawful : Lawful (then c d)
   then-lawful =
       record {
         back = two-back;
-        entire = λ n. both-holds (c .whole (c .read n)) _ (p .entire n) (q (c .read n) .entire (past c n));
-        fits = λ n. fitting-append (c .fields (c .read n)) _ ∙ both-holds (fitting (c .fields (c .read n))) _ (p .fits n) (q (c .read n) .fits (past c n));
-        again = λ n. both-again n (c .fields (c .read n)) _ (p .again n) (q (c .read n) .again (past c n));
+        entire = λ n cs. both-holds (c .whole (c .read n cs)) _ (p .entire n cs) (q (c .read n cs) .entire (past c n cs) (left c n cs));
+        fits = λ n cs.
+            fitting-append (c .fields (c .read n cs)) _
+            ∙ both-holds (fitting (c .fields (c .read n cs))) _ (p .fits n cs) (q (c .read n cs) .fits (past c n cs) (left c n cs));
+        again = λ n cs. both-again n (c .fields (c .read n cs)) _ (p .again n cs) (q (c .read n cs) .again (past c n cs) (left c n cs));
+        begins = λ n cs. begins-append cs (c .strings (c .read n cs)) _ (p .begins n cs) (q (c .read n cs) .begins (past c n cs) (left c n cs));
       }
     where
       two-back :
-          (x : A × B) (rest : ℕ) → then c d .whole x ≡ true → fitting (then c d .fields x) ≡ true
-          → then c d .read (laid (then c d .fields x) rest) ≡ x
-      two-back x rest e h =
+          (x : A × B) (rest : ℕ) (more : List ℕ) → then c d .whole x ≡ true → fitting (then c d .fields x) ≡ true
+          → then c d .read (laid (then c d .fields x) rest) (then c d .strings x ++ more) ≡ x
+      two-back x rest more e h =
           let gs : List Field = d (x .0) .fields (x .1) in
+          let ss : List ℕ = d (x .0) .strings (x .1) in
           let m = laid (c .fields (x .0) ++ gs) rest in
+          let cs : List ℕ = (c .strings (x .0) ++ ss) ++ more in
           let w = both-true (c .whole (x .0)) (d (x .0) .whole (x .1)) e in
-          let first : c .read m ≡ x .0 = first-back p (x .0) gs rest (w .0) h in
-          let second : d (x .0) .read (past c m) ≡ x .1 =
-          ap (d (x .0) .read) (above-first p (x .0) gs rest (w .0) h) ∙ q (x .0) .back (x .1) rest (w .1) (parted p (x .0) gs rest (w .0) h .1) in
-          ap (λ (r : A). (r, d r .read (past c m))) first ∙ ap (λ (y : B). (x .0, y)) second
+          let first : c .read m cs ≡ x .0 = first-back p (x .0) gs ss rest more (w .0) h in
+          let second : d (x .0) .read (past c m cs) (left c m cs) ≡ x .1 =
+          ap₂ (d (x .0) .read) (above-first p (x .0) gs ss rest more (w .0) h) (behind-first p (x .0) gs ss rest more (w .0) h)
+          ∙ q (x .0) .back (x .1) rest more (w .1) (parted p (x .0) gs ss rest more (w .0) h .1) in
+          ap (λ (r : A). (r, d r .read (past c m cs) (left c m cs))) first ∙ ap (λ (y : B). (x .0, y)) second
 
 -- ---- a row
 
-pub row-length : {A : Type 0} (c : Codec A) (k n : ℕ) → length (rowRead c k n) ≡ k
-row-length c zero n = refl
-row-length c (suc k) n = ap suc (row-length c k (past c n))
+pub row-length : {A : Type 0} (c : Codec A) (k n : ℕ) (cs : List ℕ) → length (rowRead c k n cs) ≡ k
+row-length c zero n cs = refl
+row-length c (suc k) n cs = ap suc (row-length c k (past c n cs) (left c n cs))
 
 module _ {A : Type 0} {c : Codec A} (p : Lawful c) where
   row-back :
-      (l : List A) (rest : ℕ) → rowWhole c l ≡ true → fitting (rowFields c l) ≡ true → rowRead c (length l) (laid (rowFields c l) rest) ≡ l
-  row-back [] rest e h = refl
-  row-back (a ∷ l) rest e h =
-      let gs : List Field = rowFields c l in
+      (l : List A) (rest : ℕ) (more : List ℕ) → rowWhole c l ≡ true → fitting (each (c .fields) l) ≡ true
+      → rowRead c (length l) (laid (each (c .fields) l) rest) (each (c .strings) l ++ more) ≡ l
+  row-back [] rest more e h = refl
+  row-back (a ∷ l) rest more e h =
+      let gs : List Field = each (c .fields) l in
+      let ss : List ℕ = each (c .strings) l in
       let w = both-true (c .whole a) (rowWhole c l) e in
-      ap₂ (λ (x : A) (xs : List A). x ∷ xs) (first-back p a gs rest (w .0) h)
-      (ap (rowRead c (length l)) (above-first p a gs rest (w .0) h) ∙ row-back l rest (w .1) (parted p a gs rest (w .0) h .1))
+      ap₂ (λ (x : A) (xs : List A). x ∷ xs) (first-back p a gs ss rest more (w .0) h)
+      (ap₂ (rowRead c (length l)) (above-first p a gs ss rest more (w .0) h) (behind-first p a gs ss rest more (w .0) h)
+      ∙ row-back l rest more (w .1) (parted p a gs ss rest more (w .0) h .1))
 
-  row-entire : (k n : ℕ) → rowWhole c (rowRead c k n) ≡ true
-  row-entire zero n = refl
-  row-entire (suc k) n = both-holds (c .whole (c .read n)) _ (p .entire n) (row-entire k (past c n))
+  row-entire : (k n : ℕ) (cs : List ℕ) → rowWhole c (rowRead c k n cs) ≡ true
+  row-entire zero n cs = refl
+  row-entire (suc k) n cs = both-holds (c .whole (c .read n cs)) _ (p .entire n cs) (row-entire k (past c n cs) (left c n cs))
 
-  row-fits : (k n : ℕ) → fitting (rowFields c (rowRead c k n)) ≡ true
-  row-fits zero n = unfold fitting in refl
-  row-fits (suc k) n =
-      fitting-append (c .fields (c .read n)) _ ∙ both-holds (fitting (c .fields (c .read n))) _ (p .fits n) (row-fits k (past c n))
+  row-fits : (k n : ℕ) (cs : List ℕ) → fitting (each (c .fields) (rowRead c k n cs)) ≡ true
+  row-fits zero n cs = unfold fitting in refl
+  row-fits (suc k) n cs =
+      fitting-append (c .fields (c .read n cs)) _
+      ∙ both-holds (fitting (c .fields (c .read n cs))) _ (p .fits n cs) (row-fits k (past c n cs) (left c n cs))
 
-  row-again : (k n : ℕ) → n ≡ laid (rowFields c (rowRead c k n)) (past (row c k) n)
-  row-again zero n = unfold laid width in sym (div-one n)
-  row-again (suc k) n = both-again n (c .fields (c .read n)) _ (p .again n) (row-again k (past c n))
+  row-again : (k n : ℕ) (cs : List ℕ) → n ≡ laid (each (c .fields) (rowRead c k n cs)) (past (row c k) n cs)
+  row-again zero n cs = none-again n
+  row-again (suc k) n cs = both-again n (c .fields (c .read n cs)) _ (p .again n cs) (row-again k (past c n cs) (left c n cs))
+
+  row-begins : (k n : ℕ) (cs : List ℕ) → Begins cs (each (c .strings) (rowRead c k n cs))
+  row-begins zero n cs = begins-none cs
+  row-begins (suc k) n cs = begins-append cs (c .strings (c .read n cs)) _ (p .begins n cs) (row-begins k (past c n cs) (left c n cs))
 
   pub row-lawful : (k : ℕ) → Lawful (row c k)
   row-lawful k =
       record {
-        back = λ l rest e h.
+        back = λ l rest more e h.
             let w = both-true (eqb (length l) k) (rowWhole c l) e in
-            ap (λ (j : ℕ). rowRead c j (laid (rowFields c l) rest)) (sym (eqb-true (length l) k (w .0))) ∙ row-back l rest (w .1) h;
-        entire = λ n. both-holds (eqb (length (rowRead c k n)) k) _ (eq-eqb (length (rowRead c k n)) k (row-length c k n)) (row-entire k n);
+            ap (λ (j : ℕ). rowRead c j (laid (each (c .fields) l) rest) (each (c .strings) l ++ more)) (sym (eqb-true (length l) k (w .0)))
+            ∙ row-back l rest more (w .1) h;
+        entire = λ n cs.
+            both-holds (eqb (length (rowRead c k n cs)) k) _ (eq-eqb (length (rowRead c k n cs)) k (row-length c k n cs)) (row-entire k n cs);
         fits = row-fits k;
         again = row-again k;
+        begins = row-begins k;
       }
 
 -- ---- a value that another stands for
@@ -145,19 +210,30 @@ module _
     {A B : Type 0} {c : Codec A} (to : B → A) (from : A → B) (p : Lawful c) (there : (b : B) → from (to b) ≡ b)
     (here : (a : A) → c .whole a ≡ true → to (from a) ≡ a)
   where
-    same : (n : ℕ) → c .read n ≡ to (from (c .read n))
-    same n = sym (here (c .read n) (p .entire n))
+    same : (n : ℕ) (cs : List ℕ) → c .read n cs ≡ to (from (c .read n cs))
+    same n cs = sym (here (c .read n cs) (p .entire n cs))
 
     pub seen-lawful : Lawful (seen to from c)
     seen-lawful =
         record {
-          back = λ b rest e h. ap from (p .back (to b) rest e h) ∙ there b;
-          entire = λ n. ap (c .whole) (sym (same n)) ∙ p .entire n;
-          fits = λ n. ap (λ (a : A). fitting (c .fields a)) (sym (same n)) ∙ p .fits n;
-          again = λ n. p .again n ∙ ap (λ (a : A). laid (c .fields a) (n / 2 ^ width (c .fields a))) (same n);
+          back = λ b rest more e h. ap from (p .back (to b) rest more e h) ∙ there b;
+          entire = λ n cs. ap (c .whole) (sym (same n cs)) ∙ p .entire n cs;
+          fits = λ n cs. ap (λ (a : A). fitting (c .fields a)) (sym (same n cs)) ∙ p .fits n cs;
+          again = λ n cs. p .again n cs ∙ ap (λ (a : A). laid (c .fields a) (n / 2 ^ width (c .fields a))) (same n cs);
+          begins = λ n cs. subst (λ (a : A). Begins cs (c .strings a)) (same n cs) (p .begins n cs);
         }
 
 pub counted-lawful : {A : Type 0} {c : Codec A} (w : ℕ) → Lawful c → Lawful (counted w c)
 counted-lawful {A} {c} w p =
     seen-lawful (λ l. (length l, l)) (λ x. x .1) (then-lawful (number-lawful w) (row-lawful p)) (λ l. refl)
     (λ x e. ap (λ (k : ℕ). (k, x .1)) (eqb-true (length (x .1)) (x .0) (both-true (eqb (length (x .1)) (x .0)) (rowWhole c (x .1)) e .0)))
+
+-- ---- counts that are always those of what they count
+
+module _ {A : Type 0} (c : Codec A) (always : (a : A) → c .whole a ≡ true) where
+  pub row-whole : (l : List A) → rowWhole c l ≡ true
+  row-whole [] = refl
+  row-whole (a ∷ l) = both-holds (c .whole a) (rowWhole c l) (always a) (row-whole l)
+
+  pub counted-whole : (w : ℕ) (l : List A) → counted w c .whole l ≡ true
+  counted-whole w l = both-holds (eqb (length l) (length l)) (rowWhole c l) (eq-eqb (length l) (length l) refl) (row-whole l)

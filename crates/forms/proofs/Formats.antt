@@ -1,12 +1,16 @@
 -- The format of tables 15 and 17 is lawful: what is laid is read back, and what is read fits and is laid again as it was. The law is put
 -- together as the format is. Assumes nothing.
-use mathlib.Core.Path.{_∙_, refl, ap}
+use mathlib.Core.Path.{_≡_, _∙_, refl, sym, ap}
+use mathlib.Core.Bool.{true}
+use mathlib.Core.List.{List, [], _++_}
 use Prim.Native.Nat.{ℕ, _*_, _/_, _<_}
 use native.Mathlib.Nat.{mul-div-cancel-left}
 use borrow.Author.Tests.{eqb-true}
 use lib.ListN.{length}
+use Rattle.fields.specs.Fields.{laid, fitting}
+use Rattle.codecs.proofs.Codes.{each-none}
 use Rattle.codecs.proofs.Lawful.{Lawful, number-lawful, numbers-lawful, then-lawful, seen-lawful, counted-lawful}
-use Rattle.forms.specs.Tables.{per, descriptor, ordered, named, format}
+use Rattle.forms.specs.Tables.{Sent, per, descriptor, ordered, named, format}
 use Rattle.forms.proofs.Measures.{per-pos}
 
 descriptor-lawful : (each : ℕ) → 0 < each → Lawful (descriptor each)
@@ -24,3 +28,8 @@ format-lawful =
     then-lawful (number-lawful _) (λ block. then-lawful (number-lawful _) (λ network.
     counted-lawful _ (descriptor-lawful (per kind) (per-pos kind)))))))))))
     (λ s. refl) (λ r e. refl)
+
+-- it has no strings: what is laid is read back with none behind it
+pub sent-back : (s : Sent) (rest : ℕ) → format .whole s ≡ true → fitting (format .fields s) ≡ true → format .read (laid (format .fields s) rest) [] ≡ s
+sent-back s rest e h =
+    ap (λ (cs : List ℕ). format .read (laid (format .fields s) rest) (cs ++ [])) (sym (each-none (s .table .descriptors))) ∙ format-lawful .back s rest [] e h

@@ -1,11 +1,12 @@
 -- A TI or LI table as a value, and the format that tables 15 and 17 have for it.
 use mathlib.Core.Bool.{Bool}
-use mathlib.Core.List.{List}
+use mathlib.Core.List.{List, []}
 use Prim.Native.Nat.{ℕ, _+_, _*_, _/_, _-_}
 use lib.ListN.{length}
 use Rattle.laws.specs.Pick.{both}
 use Rattle.fields.specs.Fields.{Field, width}
-use Rattle.codecs.specs.Codec.{Codec, fit, number, numbers, then, rowFields, rowWhole, seen, counted}
+use Rattle.codecs.specs.Rows.{each}
+use Rattle.codecs.specs.Codec.{Codec, fit, number, numbers, then, rowWhole, seen, counted}
 pub use Rattle.forms.specs.Kinds.{TI, LI, known, numbered}
 unfoldable pub use Rattle.forms.specs.Kinds.{per}
 
@@ -68,6 +69,10 @@ format =
     then (number 1) (λ copyright. then (number 1) (λ reserved. then (number 16) (λ block. then (number 8) (λ network.
     counted 6 (descriptor (per kind)))))))))))
 
+-- what control data n carries: no strings follow it
+abbrev pub sentIn : ℕ → Sent
+sentIn n = format .read n []
+
 -- a table with what isn't its own. CA_mode is 0: free to everyone (11.1.3; SCOPE 12.8)
 abbrev pub sent : ℕ → ℕ → ℕ → Table → Sent
 sent checksum control reserved t = record { checksum = checksum; control = control; access = 0; reserved = reserved; table = t }
@@ -77,7 +82,7 @@ unfoldable pub fields : ℕ → ℕ → ℕ → Table → List Field
 fields checksum control reserved t = format .fields (sent checksum control reserved t)
 
 unfoldable pub loops : ℕ → List Descriptor → List Field
-loops kind ds = rowFields (descriptor (per kind)) ds
+loops kind ds = each (descriptor (per kind) .fields) ds
 
 -- how many bits these are
 abbrev pub bits : Table → ℕ

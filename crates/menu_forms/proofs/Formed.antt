@@ -14,29 +14,8 @@ use Rattle.menu_forms.specs.Rows.{each, inRow}
 use Rattle.menu_forms.specs.Menus.{Descriptor, Escape, Attribute, Event, NI, infoBytes}
 use Rattle.menu_forms.specs.Form.{highFirst, descriptorForm, escapeForm, attributeForm, textForm, eventForm, opening, form}
 use Rattle.menu_forms.specs.Form.{numberIn, codesIn, descriptorIn, escapeIn, attributeIn, textIn, eventIn, menuIn}
-use Rattle.menu_forms.proofs.Forms.{row-count, codes-count, codes-back}
-
--- l begins with xs; past its end it reads as zeros
-abbrev pub Begins : List ℕ → List ℕ → Type 0
-Begins l xs = codesIn (length xs) l ≡ xs
-
-codes-join : (a b : ℕ) (l : List ℕ) → codesIn (a + b) l ≡ codesIn a l ++ codesIn b (drop a l)
-unfolding codesIn
-codes-join zero b l = ap (λ (k : ℕ). codesIn k l) (zero-add b)
-codes-join (suc a) b [] =
-    rw suc-add (ap (λ (x : List ℕ). 0 ∷ x) (codes-join a b [] ∙ ap (λ (x : List ℕ). codesIn a [] ++ codesIn b x) (drop-nil a)))
-codes-join (suc a) b (c ∷ l) = rw suc-add (ap (λ (x : List ℕ). c ∷ x) (codes-join a b l))
-
-pub begins-append : (l xs ys : List ℕ) → Begins l xs → Begins (drop (length xs) l) ys → Begins l (xs ++ ys)
-begins-append l xs ys p q =
-    ap (λ (k : ℕ). codesIn k l) (length-append xs ys) ∙ codes-join (length xs) (length ys) l ∙ ap₂ (λ (x y : List ℕ). x ++ y) p q
-
-pub begins-codes : (k : ℕ) (l : List ℕ) → Begins l (codesIn k l)
-begins-codes k l = ap (λ (n : ℕ). codesIn n l) (codes-count k l)
-
--- and is all of it where it is as long
-pub begins-all : (l xs : List ℕ) → Begins l xs → length l ≡ length xs → l ≡ xs
-begins-all l xs b e = sym (ap (codesIn (length l)) (sym (append-nil l)) ∙ codes-back l []) ∙ ap (λ (k : ℕ). codesIn k l) e ∙ b
+use Rattle.codecs.proofs.Codes.{Begins, codes-count, codes-join, begins-none, begins-append, begins-codes, begins-all}
+use Rattle.menu_forms.proofs.Forms.{row-count}
 
 -- the byte at place k, and what follows it
 begins-at : (k : ℕ) (l xs : List ℕ) → Begins (drop (k + 1) l) xs → Begins (drop k l) (getD l k 0 ∷ xs)
@@ -44,10 +23,6 @@ unfolding codesIn
 begins-at k l xs b =
     ap₂ (λ (x : ℕ) (ys : List ℕ). x ∷ ys) (getD-drop k l 0 0 ∙ ap (λ (i : ℕ). getD l i 0) (add-zero k))
     (ap (codesIn (length xs)) (drop-drop 1 k l) ∙ b)
-
-begins-none : (l : List ℕ) → Begins l []
-unfolding codesIn
-begins-none l = refl
 
 -- ---- numbers
 
@@ -95,7 +70,7 @@ attribute-begins f h =
 
 module _ {E : Type 0} (spell : E → List ℕ) (read : List ℕ → E) (begins : (f : List ℕ) → Bytes f → Begins f (spell (read f))) where
   row-begins : (k : ℕ) (f : List ℕ) → Bytes f → Begins f (each spell (inRow spell read k f))
-  unfolding each inRow
+  unfolding inRow
   row-begins zero f h = begins-none f
   row-begins (suc k) f h =
       let n = length (spell (read f)) in

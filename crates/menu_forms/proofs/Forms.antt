@@ -14,10 +14,11 @@ use Rattle.laws.specs.Pick.{both}
 use Rattle.laws.proofs.Tests.{both-true, both-first, both-second}
 use Rattle.fields.specs.Fields.{Field, fitting, whole}
 use Rattle.fields.proofs.Laid.{fitting-append}
+use Rattle.codecs.proofs.Codes.{codes-back}
 use Rattle.answer.specs.Rules.{Every, none, more}
 use Rattle.menu_forms.specs.Rows.{each, inRow}
-use Rattle.menu_forms.specs.Menus.{Descriptor, Escape, Text, Attribute, Event, Menu, zeros, infoBytes, fits}
-use Rattle.menu_forms.specs.Menus.{descriptorFields, escapeFields, attributeFields, textFields, eventFields, fillFields, fields}
+use Rattle.menu_forms.specs.Menus.{Descriptor, Escape, Text, Attribute, Event, Menu, Sent, zeros, infoBytes, format, sent, fits}
+use Rattle.menu_forms.specs.Menus.{descriptorFields, escapeFields, attributeFields, textFields, eventFields, fillFields, fields, eventFormat, textFormat}
 use Rattle.menu_forms.specs.Form.{highFirst, descriptorForm, escapeForm, attributeForm, textForm, eventForm, openingOf, form}
 use Rattle.menu_forms.specs.Form.{numberIn, codesIn, descriptorIn, escapeIn, attributeIn, textIn, eventIn, menuIn}
 use Rattle.menu_forms.specs.Writing.{formRules}
@@ -26,7 +27,7 @@ use Rattle.menu_forms.specs.Writing.{formRules}
 module _ {E : Type 0} (spell : E → List ℕ) (read : List ℕ → E) (fieldsOf : E → List Field)
     (back : (e : E) → fitting (fieldsOf e) ≡ true → (rest : List ℕ) → read (spell e ++ rest) ≡ e) where
   pub row-back : (es : List E) → fitting (each fieldsOf es) ≡ true → (rest : List ℕ) → inRow spell read (length es) (each spell es ++ rest) ≡ es
-  unfolding each inRow
+  unfolding inRow
   row-back [] h rest = refl
   row-back (e ∷ es) h rest =
       let p = both-true (fitting (fieldsOf e)) (fitting (each fieldsOf es)) (sym (fitting-append (fieldsOf e) (each fieldsOf es)) ∙ h) in
@@ -84,18 +85,8 @@ attribute-back a h rest =
     let p = high-back k (a .info) rest ∙ mod-eq-of-lt l in
     λ i. record { kind = a .kind; info = p i }
 
-pub codes-back : (cs rest : List ℕ) → codesIn (length cs) (cs ++ rest) ≡ cs
-unfolding codesIn
-codes-back [] rest = refl
-codes-back (c ∷ cs) rest = ap (λ (x : List ℕ). c ∷ x) (codes-back cs rest)
-
-pub codes-count : (k : ℕ) (l : List ℕ) → length (codesIn k l) ≡ k
-unfolding codesIn
-codes-count zero l = refl
-codes-count (suc k) l = ap suc (codes-count k (drop 1 l))
-
 text-back : (t : Text) → fitting (textFields t) ≡ true → (rest : List ℕ) → textIn (textForm t ++ rest) ≡ t
-unfolding textIn textForm textFields fitting
+unfolding textIn textForm textFormat fitting
 text-back t h rest =
     let es = each escapeForm (t .escapes) in
     let p = both-second (ltb (length (t .escapes)) 256) _ h in
@@ -108,7 +99,7 @@ text-back t h rest =
     rw (r, c)
 
 event-back : (e : Event) → fitting (eventFields e) ≡ true → (rest : List ℕ) → eventIn (eventForm e ++ rest) ≡ e
-unfolding eventIn eventForm eventFields fitting
+unfolding eventIn eventForm eventFormat fitting
 event-back e h rest =
     let xs = each attributeForm (e .attributes) in
     let ys = textForm (e .text) in
@@ -137,20 +128,27 @@ pub record Fitting (m : Menu) : Type 0 where
   pub fits-header : fitting (textFields (m .header)) ≡ true
   pub fits-events : fitting (each eventFields (m .events)) ≡ true
 
-pub fits-parts : (m : Menu) → fits m ≡ true → Fitting m
-unfolding fits fields fitting
-fits-parts m h =
+-- of what fits the format
+pub fitting-parts : (s : Sent) → fitting (format .fields s) ≡ true → Fitting (s .menu)
+unfolding fitting
+fitting-parts s h =
+    let m = s .menu in
     let ds = each descriptorFields (m .descriptors) in
-    let fl = fillFields (length (m .descriptors)) 0 in
+    let fl = fillFields (length (m .descriptors)) (s .spare .second) in
     let tx = textFields (m .header) in
     let ev = each eventFields (m .events) in
-    let a = both-first (fitting (fields 0 0 zeros m)) _ h in
-    let c = both-true (ltb (m .copyright) 2) _ a in
-    let b = both-true (ltb (m .block) 65536) _ (c .1) in
+    let a₁ = both-second (ltb (s .checksum) 256) _ h in
+    let a₂ = both-second (ltb (s .control) 1024) _ a₁ in
+    let a₃ = both-second (ltb (s .kind) 64) _ a₂ in
+    let a₄ = both-second (ltb (s .access) 4) _ a₃ in
+    let c = both-true (ltb (m .copyright) 2) _ a₄ in
+    let r = both-second (ltb (s .spare .reserved) 2) _ (c .1) in
+    let b = both-true (ltb (m .block) 65536) _ r in
     let d₁ = both-true (ltb (m .headerSize) 4) _ (b .1) in
     let d₂ = both-true (ltb (length (m .events)) 16) _ (d₁ .1) in
     let d₃ = both-true (ltb (m .messageSize) 8) _ (d₂ .1) in
-    let d₄ = both-true (ltb (length (m .descriptors)) 64) _ (d₃ .1) in
+    let f = both-second (ltb (s .spare .first) 2) _ (d₃ .1) in
+    let d₄ = both-true (ltb (length (m .descriptors)) 64) _ f in
     let e₁ = both-true (fitting ds) (fitting (fl ++ (tx ++ (8, m .message) ∷ ev))) (sym (fitting-append ds (fl ++ (tx ++ (8, m .message) ∷ ev))) ∙ d₄ .1) in
     let e₂ = both-second (fitting fl) (fitting (tx ++ (8, m .message) ∷ ev)) (sym (fitting-append fl (tx ++ (8, m .message) ∷ ev)) ∙ e₁ .1) in
     let e₃ = both-true (fitting tx) (fitting ((8, m .message) ∷ ev)) (sym (fitting-append tx ((8, m .message) ∷ ev)) ∙ e₂) in
@@ -167,6 +165,11 @@ fits-parts m h =
       fits-header = e₃ .0;
       fits-events = e₄ .1;
     }
+
+-- and of a menu that can be sent
+pub fits-parts : (m : Menu) → fits m ≡ true → Fitting m
+unfolding fits fields
+fits-parts m h = fitting-parts (sent 0 0 zeros m) (both-first (fitting (fields 0 0 zeros m)) _ h)
 
 -- the form of a menu that can be sent stands for it, whatever follows
 pub form-back-on : (m : Menu) → fits m ≡ true → (rest : List ℕ) → menuIn (form m ++ rest) ≡ m

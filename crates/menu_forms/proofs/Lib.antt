@@ -3,3 +3,4 @@ pub mod Formed
 pub mod Nibbled
 pub mod Saying
 pub mod Spelling
+pub mod Formats

@@ -4,7 +4,7 @@ use mathlib.Core.Bool.{Bool, true, false}
 use mathlib.Core.List.{List, [], _∷_, _++_}
 use Prim.Native.Nat.{ℕ, zero, suc, _+_, _*_, _/_, _%_, _<_, _≤_}
 use native.Mathlib.Omega.{arith}
-use borrow.Author.Tests.{eqb-true, eqb-false}
+use borrow.Author.Tests.{lt-ltb, eqb-true, eqb-false}
 use lib.Dec.{eqb}
 use lib.ListN.{length, length-append}
 use Rattle.laws.specs.Pick.{pick}
@@ -12,7 +12,7 @@ use Rattle.fields.specs.Fields.{Field, width, fitting}
 use Rattle.fields.proofs.Laid.{width-append}
 use Rattle.menu_forms.specs.Rows.{each}
 use Rattle.menu_forms.specs.Menus.{Descriptor, Escape, Text, Attribute, Event, Menu, Spare, zeros, size, control as controlSize}
-use Rattle.menu_forms.specs.Menus.{descriptorFields, escapeFields, attributeFields, textFields, eventFields, fillFields, fields}
+use Rattle.menu_forms.specs.Menus.{descriptorFields, escapeFields, attributeFields, textFields, eventFields, fillFields, fields, eventFormat, fillUp, textFormat}
 use Rattle.menu_forms.specs.Form.{attributeForm}
 use Rattle.menu_forms.proofs.Forms.{high-length}
 use Rattle.menu_forms.proofs.Spelling.{each-nibbled}
@@ -30,12 +30,12 @@ unfolding width
 descriptor-nibbled d = refl
 
 pub escapes-width : (es : List Escape) → width (each escapeFields es) ≡ 24 * length es
-unfolding each width
+unfolding width
 escapes-width [] = refl
 escapes-width (e ∷ es) = width-append (escapeFields e) (each escapeFields es) ∙ (rw (escapes-width es) (omega arith))
 
 pub text-nibbled : (t : Text) → width (textFields t) % 4 ≡ 0
-unfolding textFields width
+unfolding textFormat width
 text-nibbled t =
     let e = width-append (each escapeFields (t .escapes)) ((8, length (t .codes)) ∷ []) in
     let w = escapes-width (t .escapes) in
@@ -43,14 +43,14 @@ text-nibbled t =
 
 -- an attribute takes as many bytes of control data as of a form
 pub attributes-width : (xs : List Attribute) → width (each attributeFields xs) ≡ 8 * length (each attributeForm xs)
-unfolding each width
+unfolding width
 attributes-width [] = refl
 attributes-width (a ∷ xs) =
     width-append (attributeFields a) (each attributeFields xs)
     ∙ (rw (attributes-width xs, length-append (attributeForm a) (each attributeForm xs), high-length) (omega arith))
 
 pub event-nibbled : (e : Event) → width (eventFields e) % 4 ≡ 0
-unfolding eventFields width
+unfolding eventFormat width
 event-nibbled e =
     let w = width-append (each attributeFields (e .attributes)) (textFields (e .text)) in
     let a = attributes-width (e .attributes) in
@@ -59,7 +59,7 @@ event-nibbled e =
 
 -- fill_up_2 is one nibble or none, whatever its value
 pub fill-same : (d x y : ℕ) → width (fillFields d x) ≡ width (fillFields d y)
-unfolding fillFields width
+unfolding fillUp width
 fill-same d x y = go (eqb (d % 2) 0)
   where
     go : (b : Bool) → width (pick b ((4, x) ∷ []) []) ≡ width (pick b ((4, y) ∷ []) [])
@@ -67,20 +67,20 @@ fill-same d x y = go (eqb (d % 2) 0)
     go false = refl
 
 pub fill-nibbled : (d filling : ℕ) → width (fillFields d filling) % 4 ≡ 0
-unfolding fillFields width
+unfolding fillUp width
 fill-nibbled d filling = go (eqb (d % 2) 0)
   where
     go : (b : Bool) → width (pick b ((4, filling) ∷ []) []) % 4 ≡ 0
     go true = refl
     go false = refl
 
--- and 0 fits there
-pub fill-fits : (d : ℕ) → fitting (fillFields d 0) ≡ true
-unfolding fillFields fitting
-fill-fits d = go (eqb (d % 2) 0)
+-- and a nibble fits there
+pub fill-fits : (d filling : ℕ) → filling < 16 → fitting (fillFields d filling) ≡ true
+unfolding fillUp fitting
+fill-fits d filling h = go (eqb (d % 2) 0)
   where
-    go : (b : Bool) → fitting (pick b ((4, 0) ∷ []) []) ≡ true
-    go true = refl
+    go : (b : Bool) → fitting (pick b ((4, filling) ∷ []) []) ≡ true
+    go true = rw (lt-ltb filling 16 h)
     go false = refl
 
 pub menu-nibbled : (sum control : ℕ) (spare : Spare) (m : Menu) → width (fields sum control spare m) % 4 ≡ 0
@@ -100,7 +100,7 @@ menu-nibbled sum control spare m =
     ))
 
 pub descriptors-width : (ds : List Descriptor) → width (each descriptorFields ds) ≡ 20 * length ds
-unfolding each width
+unfolding width
 descriptors-width [] = refl
 descriptors-width (d ∷ ds) = width-append (descriptorFields d) (each descriptorFields ds) ∙ (rw (descriptors-width ds) (omega arith))
 
@@ -117,7 +117,7 @@ halved k = omega arith
 
 -- fill_up_2 ends the descriptors on a whole byte
 pub fill-width : (d filling : ℕ) → 20 * d + width (fillFields d filling) ≡ 4 + 8 * (5 * d / 2)
-unfolding fillFields width
+unfolding fillUp width
 fill-width d filling = go (eqb (d % 2) 0) refl
   where
     go : (b : Bool) → eqb (d % 2) 0 ≡ b → 20 * d + width (pick b ((4, filling) ∷ []) []) ≡ 4 + 8 * (5 * d / 2)
@@ -145,13 +145,13 @@ menu-bytes sum control spare m =
 
 -- and ends on a byte
 pub text-bytes : (t : Text) → width (textFields t) % 8 ≡ 0
-unfolding textFields width
+unfolding textFormat width
 text-bytes t =
     let e = width-append (each escapeFields (t .escapes)) ((8, length (t .codes)) ∷ []) in
     rw (e, escapes-width (t .escapes)) (omega arith)
 
 pub events-bytes : (es : List Event) → width (each eventFields es) % 8 ≡ 0
-unfolding each eventFields width
+unfolding eventFormat width
 events-bytes [] = refl
 events-bytes (e ∷ es) =
     let w = width-append (eventFields e) (each eventFields es) in

@@ -44,12 +44,10 @@ spelled-first w k v fs h =
 
 module _ {E : Type 0} (fieldsOf : E → List Field) (nibbled : (e : E) → width (fieldsOf e) % 4 ≡ 0) where
   pub each-nibbled : (es : List E) → width (each fieldsOf es) % 4 ≡ 0
-  unfolding each
   each-nibbled [] = unfold width in refl
   each-nibbled (e ∷ es) = rw width-append (omega (arith, nibbled e, each-nibbled es))
 
   pub each-spelled : (es : List E) → inNibbles (each fieldsOf es) ≡ each (λ (e : E). inNibbles (fieldsOf e)) es
-  unfolding each
   each-spelled [] = unfold inNibbles width parts in refl
   each-spelled (e ∷ es) =
       spelled-append (fieldsOf e) (each fieldsOf es) (nibbled e) ∙ ap (λ (l : List ℕ). inNibbles (fieldsOf e) ++ l) (each-spelled es)

@@ -5,6 +5,7 @@ use mathlib.Core.List.{List, [], _∷_, _++_}
 use Prim.Native.Nat.{ℕ, zero, suc, _+_, _*_, _/_, _%_}
 use lib.ListN.{length, getD, drop}
 use Rattle.fields.specs.Fields.{whole}
+unfoldable pub use Rattle.codecs.specs.Rows.{codesIn}
 use Rattle.menu_forms.specs.Rows.{each, inRow}
 use Rattle.menu_forms.specs.Menus.{Descriptor, Escape, Text, Attribute, Event, Menu, NI, infoBytes}
 
@@ -60,11 +61,6 @@ form m =
 unfoldable pub numberIn : ℕ → List ℕ → ℕ
 numberIn zero f = 0
 numberIn (suc k) f = numberIn k f * 256 + getD f k 0 % 256
-
--- k codes
-unfoldable pub codesIn : ℕ → List ℕ → List ℕ
-codesIn zero f = []
-codesIn (suc k) f = getD f 0 0 ∷ codesIn k (drop 1 f)
 
 abbrev pub descriptorIn : List ℕ → Descriptor
 descriptorIn f = record { which = getD f 0 0; id = getD f 1 0; eval = getD f 2 0 }

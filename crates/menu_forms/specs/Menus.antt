@@ -1,12 +1,12 @@
--- A menu as a value, and the fields that table 19 lays out for it (SCOPE 23.1, 23.2).
+-- A menu as a value, and the format that table 19 has for it (SCOPE 23.1, 23.2).
 use mathlib.Core.Bool.{Bool, true}
-use mathlib.Core.List.{List, [], _∷_, _++_}
+use mathlib.Core.List.{List, [], _∷_}
 use Prim.Native.Nat.{ℕ, _+_, _*_, _/_, _%_}
 use lib.Dec.{eqb, ltb}
-use lib.ListN.{length}
+use lib.ListN.{length, take}
 use Rattle.laws.specs.Pick.{pick, both}
 use Rattle.fields.specs.Fields.{Field, width, fitting}
-use Rattle.menu_forms.specs.Rows.{each}
+use Rattle.codecs.specs.Codec.{Codec, number, filling, codes, then, row, seen, counted}
 
 -- descriptor_type, descriptor_id, descriptor_eval
 pub record Descriptor : Type 0 where
@@ -55,25 +55,40 @@ NI = 3
 unfoldable pub infoBytes : ℕ → ℕ
 infoBytes kind = pick (ltb kind 128) 1 (pick (ltb kind 192) 2 (pick (ltb kind 224) 3 4))
 
-abbrev pub descriptorFields : Descriptor → List Field
-descriptorFields d = (6, d .which) ∷ (6, d .id) ∷ (8, d .eval) ∷ []
+-- ---- table 19, part by part
 
-abbrev pub escapeFields : Escape → List Field
-escapeFields e = (10, e .position) ∷ (6, e .mode) ∷ (8, e .content) ∷ []
+-- three numbers of these widths
+abbrev pub three : ℕ → ℕ → ℕ → Codec (ℕ × (ℕ × ℕ))
+three u v w = then (number u) (λ a. then (number v) (λ b. number w))
 
-abbrev pub attributeFields : Attribute → List Field
-attributeFields a = (8, a .kind) ∷ (8 * infoBytes (a .kind), a .info) ∷ []
+-- descriptor_type, descriptor_id, descriptor_eval
+abbrev pub descriptorFormat : Codec Descriptor
+descriptorFormat = seen (λ d. (d .which, (d .id, d .eval))) (λ r. record { which = r .0; id = r .1 .0; eval = r .1 .1 }) (three 6 6 8)
 
--- a string's part of the control data: its escape sequences and its length
-unfoldable pub textFields : Text → List Field
-textFields t = (8, length (t .escapes)) ∷ each escapeFields (t .escapes) ++ (8, length (t .codes)) ∷ []
+-- insert_pos, escape_mode, escape_data
+abbrev pub escapeFormat : Codec Escape
+escapeFormat = seen (λ e. (e .position, (e .mode, e .content))) (λ r. record { position = r .0; mode = r .1 .0; content = r .1 .1 }) (three 10 6 8)
 
-unfoldable pub eventFields : Event → List Field
-eventFields e =
-    (16, e .link)
-    ∷ (4, e .linkType)
-    ∷ (4, length (e .attributes))
-    ∷ each attributeFields (e .attributes) ++ textFields (e .text)
+-- kind_of_attribute, attribute_info
+abbrev pub attributeFormat : Codec Attribute
+attributeFormat = seen (λ a. (a .kind, a .info)) (λ r. record { kind = r .0; info = r .1 }) (then (number 8) (λ kind. number (8 * infoBytes kind)))
+
+-- a string: the number of its escape sequences, these, its length; its codes
+unfoldable pub textFormat : Codec Text
+textFormat =
+    seen (λ t. (t .escapes, (length (t .codes), t .codes))) (λ r. record { escapes = r .0; codes = r .1 .1 })
+    (then (counted 8 escapeFormat) (λ escapes. then (number 8) codes))
+
+-- next_link_id, next_link_type, the number of attributes, these, the string
+unfoldable pub eventFormat : Codec Event
+eventFormat =
+    seen (λ e. (e .link, (e .linkType, (e .attributes, e .text))))
+    (λ r. record { link = r .0; linkType = r .1 .0; attributes = r .1 .1 .0; text = r .1 .1 .1 })
+    (then (number 16) (λ link. then (number 4) (λ type. then (counted 4 attributeFormat) (λ attributes. textFormat))))
+
+-- fill_up_2 stands where the number of descriptors is even: with it they end on a whole byte
+unfoldable pub fillUp : ℕ → Codec ℕ
+fillUp count = filling (eqb (count % 2) 0) 4
 
 -- the bits that are no part of a menu: reserved_for_future_use, fill_up_1 and fill_up_2. Written ones are 0 (SCOPE 23.3)
 pub record Spare : Type 0 where
@@ -84,42 +99,111 @@ pub record Spare : Type 0 where
 abbrev pub zeros : Spare
 zeros = record { reserved = 0; first = 0; second = 0 }
 
--- fill_up_2 stands where the number of descriptors is even: with it they end on a whole byte
-unfoldable pub fillFields : ℕ → ℕ → List Field
-fillFields count filling = pick (eqb (count % 2) 0) ((4, filling) ∷ []) []
+-- what a block of a menu carries: the menu, with what isn't its own
+pub record Sent : Type 0 where
+  pub checksum : ℕ
+  pub control : ℕ
+  pub kind : ℕ
+  pub access : ℕ
+  pub spare : Spare
+  pub menu : Menu
 
--- table 19 up to the descriptors
-abbrev pub openingFields : ℕ → ℕ → Spare → Menu → List Field
-openingFields checksum control spare m =
-    (8, checksum)
-    ∷ (10, control)
-    ∷ (6, NI)
-    ∷ (2, 0)
-    ∷ (1, m .copyright)
-    ∷ (1, spare .reserved)
-    ∷ (16, m .block)
-    ∷ (2, m .headerSize)
-    ∷ (4, length (m .events))
-    ∷ (3, m .messageSize)
-    ∷ (1, spare .first)
-    ∷ (6, length (m .descriptors))
-    ∷ []
+-- its values in the order in which they stand, with the number of events: up to fill_up_1, and from there on
+abbrev pub Front : Type 0 → Type 0
+Front A = ℕ × (ℕ × (ℕ × (ℕ × (ℕ × (ℕ × (ℕ × (ℕ × (ℕ × (ℕ × (ℕ × A))))))))))
 
--- table 19 from checksum to the strings, with what isn't the menu's own: checksum, control_block_size and the spare bits. CA_mode is 0: free
--- to everyone. message_attribute, of which table 19 prints no category, is control data
+abbrev pub Rest : Type 0
+Rest = List Descriptor × (ℕ × (Text × (ℕ × List Event)))
+
+abbrev pub Ordered : Type 0
+Ordered = Front Rest
+
+abbrev pub ordered : Sent → Ordered
+ordered s =
+    let m = s .menu in
+    let spare = s .spare in
+    let behind : Rest = (m .descriptors, (spare .second, (m .header, (m .message, m .events)))) in
+    let later : ℕ × (ℕ × (ℕ × (ℕ × (ℕ × Rest)))) = (m .block, (m .headerSize, (length (m .events), (m .messageSize, (spare .first, behind))))) in
+    (s .checksum, (s .control, (s .kind, (s .access, (m .copyright, (spare .reserved, later))))))
+
+abbrev pub named : Ordered → Sent
+named (checksum, (control, (kind, (access, (copyright, (reserved, (block, (headerSize, (count, (messageSize, (first, (descriptors, (second, (header, (message, events))))))))))))))) =
+    record {
+      checksum = checksum;
+      control = control;
+      kind = kind;
+      access = access;
+      spare = record { reserved = reserved; first = first; second = second };
+      menu =
+          record {
+            copyright = copyright;
+            block = block;
+            headerSize = headerSize;
+            messageSize = messageSize;
+            message = message;
+            descriptors = descriptors;
+            header = header;
+            events = events;
+          };
+    }
+
+-- table 19 from checksum on (SCOPE 23.1, 23.2): checksum, control_block_size, datatype_id, CA_mode, copyright, reserved_for_future_use,
+-- block_no, header_size, the number of events, message_size, fill_up_1, and what follows
+abbrev pub front : {A : Type 0} → (ℕ → Codec A) → Codec (Front A)
+front follows =
+    then (number 8) (λ checksum. then (number 10) (λ control. then (number 6) (λ kind. then (number 2) (λ access. then (number 1) (λ copyright.
+    then (number 1) (λ reserved. then (number 16) (λ block. then (number 2) (λ headerSize. then (number 4) (λ events. then (number 3) (λ messageSize.
+    then (number 1) (λ first. follows events)))))))))))
+
+-- the number of descriptors, these, fill_up_2, the header's string, message_attribute, the events. message_attribute, of which table 19
+-- prints no category, is control data. Behind it all stand the codes of the strings, in their order
+abbrev pub rest : ℕ → Codec Rest
+rest events =
+    then (counted 6 descriptorFormat) (λ descriptors. then (fillUp (length descriptors)) (λ second. then textFormat (λ header.
+    then (number 8) (λ message. row eventFormat events))))
+
+abbrev pub layout : Codec Ordered
+layout = front rest
+
+abbrev pub format : Codec Sent
+format = seen ordered named layout
+
+-- a menu with what isn't its own. CA_mode is 0: free to everyone
+abbrev pub sent : ℕ → ℕ → Spare → Menu → Sent
+sent checksum control spare m = record { checksum = checksum; control = control; kind = NI; access = 0; spare = spare; menu = m }
+
+-- the fields that are laid for it, and those of its parts
 unfoldable pub fields : ℕ → ℕ → Spare → Menu → List Field
-fields checksum control spare m =
-    openingFields checksum control spare m
-    ++ (each descriptorFields (m .descriptors)
-    ++ (fillFields (length (m .descriptors)) (spare .second)
-    ++ (textFields (m .header) ++ (8, m .message) ∷ each eventFields (m .events))))
+fields checksum control spare m = format .fields (sent checksum control spare m)
+
+-- those up to the descriptors
+abbrev pub openingFields : ℕ → ℕ → Spare → Menu → List Field
+openingFields checksum control spare m = take 12 (format .fields (sent checksum control spare m))
+
+abbrev pub descriptorFields : Descriptor → List Field
+descriptorFields d = descriptorFormat .fields d
+
+abbrev pub escapeFields : Escape → List Field
+escapeFields e = escapeFormat .fields e
+
+abbrev pub attributeFields : Attribute → List Field
+attributeFields a = attributeFormat .fields a
+
+abbrev pub textFields : Text → List Field
+textFields t = textFormat .fields t
+
+abbrev pub eventFields : Event → List Field
+eventFields e = eventFormat .fields e
+
+abbrev pub fillFields : ℕ → ℕ → List Field
+fillFields count filling = fillUp count .fields filling
 
 -- the codes of all strings: the header's, then the events' in their order
+unfoldable pub strings : Menu → List ℕ
+strings m = format .strings (sent 0 0 zeros m)
+
 abbrev pub codesOf : Event → List ℕ
 codesOf e = e .text .codes
-
-unfoldable pub strings : Menu → List ℕ
-strings m = m .header .codes ++ each codesOf (m .events)
 
 -- control_block_size counts whole bytes: the fields end on one
 abbrev pub control : Menu → ℕ

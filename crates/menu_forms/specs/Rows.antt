@@ -1,12 +1,8 @@
 -- Entries in a row, as they are spelled and as they are found again.
-use mathlib.Core.List.{List, [], _∷_, _++_}
+use mathlib.Core.List.{List, [], _∷_}
 use Prim.Native.Nat.{ℕ, zero, suc}
 use lib.ListN.{length, drop}
-
--- what is made of each entry, one after the other
-unfoldable pub each : {E A : Type 0} → (E → List A) → List E → List A
-each spell [] = []
-each spell (e ∷ es) = spell e ++ each spell es
+pub use Rattle.codecs.specs.Rows.{each}
 
 -- the k entries at the front of l: the next stands behind what one takes when it is spelled
 unfoldable pub inRow : {E : Type 0} → (E → List ℕ) → (List ℕ → E) → ℕ → List ℕ → List E

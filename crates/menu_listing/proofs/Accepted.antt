@@ -1,5 +1,5 @@
 -- What is accepted as a menu: its form is no longer than its block, and its number stands where the search looks for it. Assumes nothing.
-use mathlib.Core.Path.{_≡_, refl}
+use mathlib.Core.Path.{_≡_, _∙_, refl, ap}
 use mathlib.Core.Bool.{true}
 use mathlib.Core.List.{List, [], _∷_, _++_, map}
 use Prim.Native.Nat.{ℕ, _+_, _*_, _≤_}
@@ -20,12 +20,14 @@ use Rattle.fields.proofs.Laid.{width-append}
 use Rattle.frames.specs.Outcome.{accepted, refused}
 use Rattle.menu_forms.specs.Rows.{each}
 use Rattle.menu_forms.specs.Menus.{Descriptor, Escape, Text, Attribute, Event, Menu, zeros, infoBytes, descriptorFields, escapeFields, attributeFields, textFields, eventFields}
-use Rattle.menu_forms.specs.Menus.{fillFields, fields, codesOf, strings, control, size, sevens, fits}
+use Rattle.menu_forms.specs.Menus.{fillFields, fields, codesOf, strings, control, size, sevens, fits, eventFormat, textFormat}
 use Rattle.menu_forms.specs.Block.{Says}
 use Rattle.menu_forms.specs.Form.{descriptorForm, escapeForm, attributeForm, textForm, eventForm, form}
 use Rattle.menu_forms.proofs.Forms.{high-length}
-use Rattle.menu_reader.specs.Control.{bitsAt, menuOf}
+use Rattle.menu_forms.proofs.Formats.{strings-are}
+use Rattle.menu_reader.specs.Internal.{bitsAt}
 use Rattle.menu_reader.proofs.Places.{bits-take}
+use Rattle.menu_reader.proofs.Walked.{block-at}
 use Rattle.menu_reader.proofs.Exact.{accepted-says, sent-ends}
 use Rattle.menu_reader.specs.Reading.{controlLength, menuRead, mendedIn, readRules, readMenu}
 
@@ -34,14 +36,13 @@ use Rattle.menu_reader.specs.Reading.{controlLength, menuRead, mendedIn, readRu
 module _ {E : Type 0} (spell : E → List ℕ) (fieldsOf : E → List Field) (codes : E → List ℕ)
     (one : (e : E) → 4 * length (spell e) ≤ width (fieldsOf e) + 4 * length (codes e)) where
   row-most : (es : List E) → 4 * length (each spell es) ≤ width (each fieldsOf es) + 4 * length (each codes es)
-  unfolding each width
+  unfolding width
   row-most [] = omega arith
   row-most (e ∷ es) =
       omega (arith, one e, row-most es, length-append (spell e) (each spell es), width-append (fieldsOf e) (each fieldsOf es), length-append (codes e) (each codes es))
 
 -- entries without codes
 none-of : {E : Type 0} (es : List E) → length (each {A = ℕ} (λ (e : E). []) es) ≡ 0
-unfolding each
 none-of [] = refl
 none-of (e ∷ es) = none-of es
 
@@ -62,14 +63,14 @@ unfolding width
 attribute-most a = omega (arith, high-length (infoBytes (a .kind)) (a .info))
 
 text-most : (t : Text) → 4 * length (textForm t) ≤ width (textFields t) + 4 * length (t .codes)
-unfolding textForm textFields width
+unfolding textForm textFormat width
 text-most t =
     let own = plain-most escapeForm escapeFields escape-most (t .escapes) in
     let formed = length-append (each escapeForm (t .escapes)) (t .codes) in
     omega (arith, own, formed, width-append (each escapeFields (t .escapes)) ((8, length (t .codes)) ∷ []))
 
 event-most : (e : Event) → 4 * length (eventForm e) ≤ width (eventFields e) + 4 * length (codesOf e)
-unfolding eventForm eventFields width
+unfolding eventForm eventFormat width
 event-most e =
     let own = plain-most attributeForm attributeFields attribute-most (e .attributes) in
     let formed = length-append (each attributeForm (e .attributes)) (textForm (e .text)) in
@@ -109,8 +110,7 @@ module _ (m : Menu) where
       omega (arith, length-append ds (tx ++ ev), length-append tx ev)
 
   strings-long : length (strings m) ≡ length (m .header .codes) + length (each codesOf (m .events))
-  unfolding strings
-  strings-long = length-append (m .header .codes) (each codesOf (m .events))
+  strings-long = ap length (strings-are m) ∙ length-append (m .header .codes) (each codesOf (m .events))
 
   pub form-most : length (form m) ≤ size m
   form-most =
@@ -153,5 +153,5 @@ module _ (application : ℕ) (rec : List ℕ) (b : Bytes rec) (e : Every (readRu
   accepted-form = form-fits m accepted-fits
 
   pub accepted-number : m .block ≡ field 28 16 (compound raw)
-  unfolding menuOf
-  accepted-number = bits-within 28 16 (controlLength raw) raw (omega (arith, sent-ends application rec m said, control-least m))
+  accepted-number =
+      block-at _ _ ∙ bits-within 28 16 (controlLength raw) raw (omega (arith, sent-ends application rec m said, control-least m))

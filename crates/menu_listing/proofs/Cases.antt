@@ -13,11 +13,11 @@ use Rattle.parity.specs.Parity.{ones, isOdd, letter, odds}
 use Rattle.sums.specs.Sums.{total, checksum, sound}
 use Rattle.frames.specs.Framing.{frameRules}
 use Rattle.menu_forms.specs.Rows.{each, inRow}
-use Rattle.menu_forms.specs.Menus.{infoBytes, textFields, eventFields, fillFields, fields, strings}
+use Rattle.menu_forms.specs.Menus.{infoBytes, textFields, eventFields, fillFields, fields, strings, eventFormat, fillUp, textFormat}
 use Rattle.menu_forms.specs.Form.{codesIn, textIn, eventIn, menuIn, textForm, eventForm}
 use Rattle.shelf.specs.Shelf.{three, numberIn, wayBack, placeOf}
 use Rattle.menu_forms.specs.Block.{inNibbles}
-use Rattle.menu_reader.specs.Control.{textAt, eventAt, eventsAt, menuOf}
+use Rattle.menu_reader.specs.Control.{sentOf}
 use Rattle.menu_reader.specs.Reading.{frontRules, wholeRules, lengthRules}
 use Rattle.text_lines.specs.Lines.{digitsIn, numberLine}
 use Rattle.menu_listing.specs.Lines.{shown, textLine, linkLine, eventLines, eventsLines, menuLines}
@@ -111,6 +111,6 @@ pub record Listed : Type 0 where
 
 pub case-listed : Listed
 unfolding bits number differing image withParity nib nibbleFrom blocksWithin width field whole laid parts ones isOdd letter odds total checksum sound frameRules
-    each inRow infoBytes textFields eventFields fillFields fields strings codesIn inNibbles textAt eventAt eventsAt menuOf frontRules wholeRules lengthRules
+    inRow infoBytes textFormat eventFormat fillUp fields strings codesIn inNibbles sentOf frontRules wholeRules lengthRules
     digitsIn numberLine shown textLine linkLine eventLines eventsLines menuLines isMenu menusOf linesOf listing three numberIn wayBack placeOf textIn eventIn menuIn formAt keptMenus keptListing textForm eventForm
 case-listed = record { whole = refl; deepest = refl; highest = refl; on-shelf = refl; absent = refl }

@@ -9,7 +9,8 @@ use Rattle.menu_forms.specs.Rows.{each, inRow}
 use Rattle.menu_forms.specs.Menus.{Attribute, Menu, infoBytes}
 use Rattle.menu_forms.specs.Form.{descriptorForm, escapeForm, attributeForm, textForm, eventForm, opening}
 use Rattle.menu_forms.specs.Form.{descriptorIn, escapeIn, attributeIn, textIn, eventIn, menuIn}
-use Rattle.menu_forms.proofs.Forms.{row-count, high-length, codes-count}
+use Rattle.codecs.proofs.Codes.{codes-count}
+use Rattle.menu_forms.proofs.Forms.{row-count, high-length}
 use Rattle.menu_listing.specs.Lines.{eventLines, eventsLines, menuLines}
 use Rattle.menu_listing.specs.Internal.{attributesLength, stringLength, codesAt, textPlace, eventLength}
 use Rattle.menu_listing.specs.Internal.{ownLinesAt, eventLinesAt, eventsLinesAt, headerPlace, eventsPlace, headLinesAt}
@@ -17,7 +18,6 @@ use Rattle.menu_listing.specs.Internal.{ownLinesAt, eventLinesAt, events
 -- entries of one length each
 module _ {E : Type 0} (spell : E → List ℕ) (read : List ℕ → E) (n : ℕ) (each-long : (e : E) → length (spell e) ≡ n) where
   length-each : (es : List E) → length (each spell es) ≡ n * length es
-  unfolding each
   length-each [] = omega arith
   length-each (e ∷ es) =
       let k : n * suc (length es) ≡ n + n * length es = omega arith in
@@ -45,7 +45,7 @@ module _ (g : List ℕ) where
 -- ---- events
 
 attributes-long : (k : ℕ) (g : List ℕ) → attributesLength k g ≡ length (each attributeForm (inRow attributeForm attributeIn k g))
-unfolding attributesLength each inRow
+unfolding attributesLength inRow
 attributes-long zero g = refl
 attributes-long (suc k) g =
     let n = infoBytes (getD g 0 0) in

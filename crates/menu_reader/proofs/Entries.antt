@@ -10,8 +10,9 @@ use Rattle.laws.proofs.Lists.{sets-append}
 use Rattle.fields.specs.Fields.{parts}
 use Rattle.menu_forms.specs.Menus.{NI, infoBytes}
 use Rattle.menu_forms.specs.Form.{highFirst, descriptorForm, escapeForm, attributeForm, codesIn}
-use Rattle.menu_forms.proofs.Forms.{high-length, codes-count}
-use Rattle.menu_reader.specs.Control.{bitsAt, descriptorAt, escapeAt, attributeAt, textAt, eventAt}
+use Rattle.codecs.proofs.Codes.{codes-count}
+use Rattle.menu_forms.proofs.Forms.{high-length}
+use Rattle.menu_reader.specs.Internal.{bitsAt, descriptorAt, escapeAt, attributeAt, textAt, eventAt}
 use Rattle.menu_reader.specs.declared.Spot.{Spot}
 use Rattle.menu_reader.specs.declared.Loop.the-variants.{Descriptors, Escapes, Attributes}
 use Rattle.menu_reader.specs.Internal.{entryNibbles, entryForm, loopNibbles, loopForm, Went, PutText, PutEvent, openingBytes}

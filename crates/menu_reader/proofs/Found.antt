@@ -1,5 +1,5 @@
 -- A menu as the walk spells it: the opening, the descriptors, the header, the events. Assumes nothing.
-use mathlib.Core.Path.{_≡_, _∙_, refl, sym, ap, ap₂}
+use mathlib.Core.Path.{_≡_, _∙_, refl, sym, ap, ap₂, subst}
 use mathlib.Core.List.{List, [], _∷_, _++_}
 use Prim.Native.Nat.{ℕ, _+_, _*_, _/_, _%_}
 use native.Mathlib.Nat.{add-zero, zero-add}
@@ -13,12 +13,14 @@ use Rattle.menu_forms.specs.Form.{textForm, eventForm, form}
 use Rattle.menu_forms.specs.Block.{inNibbles}
 use Rattle.menu_forms.proofs.Spelling.{length-spelled, each-nibbled}
 use Rattle.menu_forms.proofs.Forms.{row-count}
+use Rattle.menu_forms.proofs.Formats.{strings-are}
 use Rattle.menu_forms.proofs.Nibbled.{text-nibbled, event-nibbled, fill-width, menu-bytes}
-use Rattle.menu_reader.specs.Control.{bitsAt, descriptorAt, descriptorNibbles, textAt, eventsAt, menuOf}
+use Rattle.menu_reader.specs.Control.{menuOf}
+use Rattle.menu_reader.specs.Internal.{bitsAt, descriptorAt, descriptorNibbles, textAt, eventsAt, menuAt}
 use Rattle.menu_reader.specs.declared.Spot.{Spot}
 use Rattle.menu_reader.specs.declared.Loop.the-variants.{Descriptors}
 use Rattle.menu_reader.specs.Internal.{loopNibbles, loopForm, Went, PutText, PutEvents, Spelled, openingBytes}
-use Rattle.menu_reader.proofs.Inverse.{events-count}
+use Rattle.menu_reader.proofs.Walked.{events-count, menu-at}
 use Rattle.menu_reader.proofs.Going.{went-on}
 use Rattle.menu_reader.proofs.Rows.{descriptors-long}
 use Rattle.menu_reader.proofs.Texts.{text-long, escapes-count}
@@ -47,7 +49,7 @@ module _ (ns cs : List ℕ) (descriptors events behind escapes message : ℕ) (e
     evs = eventsAt events (drop (at + 2) ns) (drop from cs)
 
     menu-found :
-        menuOf ns cs
+        menuAt ns cs
         ≡ record {
           copyright = bitsAt 26 1 ns;
           block = bitsAt 28 16 ns;
@@ -58,7 +60,7 @@ module _ (ns cs : List ℕ) (descriptors events behind escapes message : ℕ) (e
           header = header;
           events = evs;
         }
-    unfolding menuOf
+    unfolding menuAt
     menu-found =
         let place : 15 + length (each descriptorNibbles ds) + length (inNibbles (fillFields descriptors 0)) ≡ behind =
         ap₂ (λ (x y : ℕ). 15 + x + y) (descriptors-long descriptors (drop 15 ns)) fill-nibbles ∙ sym e in
@@ -77,7 +79,7 @@ module _ (ns cs : List ℕ) (descriptors events behind escapes message : ℕ) (e
         )
 
     all-form :
-        openingBytes ns message ++ (loopForm Descriptors descriptors (drop 15 ns) ++ (textForm header ++ each eventForm evs)) ≡ form (menuOf ns cs)
+        openingBytes ns message ++ (loopForm Descriptors descriptors (drop 15 ns) ++ (textForm header ++ each eventForm evs)) ≡ form (menuAt ns cs)
     unfolding form
     all-form =
         let rest = loopForm Descriptors descriptors (drop 15 ns) ++ (textForm header ++ each eventForm evs) in
@@ -87,7 +89,7 @@ module _ (ns cs : List ℕ) (descriptors events behind escapes message : ℕ) (e
         ∙ sym (ap form menu-found)
 
     all-bits :
-        width (fields 0 0 zeros (menuOf ns cs))
+        width (fields 0 0 zeros (menuAt ns cs))
         ≡ 4 * (15 + (loopNibbles Descriptors descriptors (drop 15 ns) + ((descriptors + 1) % 2 + (length (inNibbles (textFields header)) + (2 + length (inNibbles (each eventFields evs)))))))
     all-bits =
         let count = row-count descriptorNibbles descriptorAt descriptors (drop 15 ns) in
@@ -97,9 +99,9 @@ module _ (ns cs : List ℕ) (descriptors events behind escapes message : ℕ) (e
         ∙ (rw (count, descriptors-long descriptors (drop 15 ns), length-spelled tx, length-spelled (each eventFields evs))
         (omega (arith, fill-width descriptors 0, fill-bits descriptors, text-nibbled header, each-nibbled eventFields event-nibbled evs)))
 
-    all-codes : length (header .codes) + length (each codesOf evs) ≡ length (strings (menuOf ns cs))
-    unfolding strings
-    all-codes = sym (ap (λ (m : Menu). length (strings m)) menu-found ∙ length-append (header .codes) (each codesOf evs))
+    all-codes : length (header .codes) + length (each codesOf evs) ≡ length (strings (menuAt ns cs))
+    all-codes =
+        sym (ap (λ (m : Menu). length (strings m)) menu-found ∙ ap length (strings-are _) ∙ length-append (header .codes) (each codesOf evs))
 
 -- the walk's parts, one behind another, are the menu inNibbles
 pub spelled-all :
@@ -133,12 +135,13 @@ spelled-all ns cs descriptors events behind escapes message d h r out₀ out₁ 
     let bits = all-bits ns cs descriptors events behind escapes message e₁ e₂ e e₃ e₄ (h .at) (h .from) (w₂ .passes) from in
     let codes = all-codes ns cs descriptors events behind escapes message e₁ e₂ e e₃ e₄ (h .at) (h .from) (w₂ .passes) from in
     let bytes = all-form ns cs descriptors events behind escapes message e₁ e₂ e e₃ e₄ (h .at) (h .from) (w₂ .passes) from in
-    record {
+    subst (λ (m : Menu). Spelled r m out₀ out₄) (sym (menu-at ns cs))
+    (record {
       passes = omega (arith, all .passes, bits);
       takes = omega (arith, all .takes, codes);
       fills = all .fills ∙ zero-add _ ∙ ap length bytes;
       writes = all .writes ∙ ap (sets out₀ 0) bytes;
-    }
+    })
 
 -- what a inNibbles menu takes
 module _ {r : Spot} {m : Menu} {old new : List ℕ} (s : Spelled r m old new) where
@@ -149,5 +152,4 @@ module _ {r : Spot} {m : Menu} {old new : List ℕ} (s : Spelled r m old new) wh
   size-spelled = ap₂ (λ (x y : ℕ). 2 * x + y) control-spelled (s .takes)
 
 pub header-read : (ns cs : List ℕ) → bitsAt 44 2 ns ≡ menuOf ns cs .headerSize
-unfolding menuOf
-header-read ns cs = refl
+header-read ns cs = sym (ap (λ (m : Menu). m .headerSize) (menu-at ns cs) ∙ (unfold menuAt in refl))

@@ -1,7 +1,6 @@
-pub mod Back
+pub mod Walked
 pub mod Places
 pub mod Strings
-pub mod Inverse
 pub mod Exact
 pub mod Written
 pub mod Calls

@@ -21,7 +21,7 @@ use Rattle.frames.specs.Outcome.{accepted}
 use Rattle.parity.specs.Parity.{isOdd, ones, letter}
 use Rattle.parity.proofs.Letters.{odds-at}
 use Rattle.menu_forms.specs.Rows.{each}
-use Rattle.menu_forms.specs.Menus.{Menu, textFields, fillFields, fields, strings, control, sevens, fits}
+use Rattle.menu_forms.specs.Menus.{Menu, textFields, fillFields, fields, strings, control, sevens, fits, fillUp, textFormat}
 use Rattle.menu_forms.specs.Block.{inNibbles, checksumOf, blockWith, recordOf, Says}
 use Rattle.menu_reader.specs.Reading.{stringPart, mendedIn, readMenu}
 use Rattle.menu_reader.proofs.Exact.{odd-all, says-accepted}
@@ -110,17 +110,17 @@ pub record Misread : Type 0 where
   pub differs : golf ≡ gold → ⊥
 
 gold-made : damaged ≡ recordOf 1 gold
-unfolding blockWith checksumOf checksum total inNibbles fields textFields fillFields each strings width laid parts letter ones image withParity number
+unfolding blockWith checksumOf checksum total inNibbles fields textFormat fillUp strings width laid parts letter ones image withParity number
 gold-made = refl
 
 pub misread : Misread
 misread =
     record {
-      sent = writes-back 1 golf (omega arith) (unfold fits fitting fields textFields fillFields each strings sevens width in refl);
+      sent = writes-back 1 golf (omega arith) (unfold fits fitting fields textFormat fillUp strings sevens width in refl);
       flipped =
-          unfold blockWith checksumOf checksum total inNibbles fields textFields fillFields each strings width laid parts letter ones differing in refl;
+          unfold blockWith checksumOf checksum total inNibbles fields textFormat fillUp strings width laid parts letter ones differing in refl;
       heard =
           ap (readMenu 1) gold-made
-          ∙ writes-back 1 gold (omega arith) (unfold fits fitting fields textFields fillFields each strings sevens width in refl);
+          ∙ writes-back 1 gold (omega arith) (unfold fits fitting fields textFormat fillUp strings sevens width in refl);
       differs = λ (e : golf ≡ gold). let n = ap (λ (m : Menu). getD (m .header .codes) 3 0) e in omega arith;
     }

@@ -10,7 +10,7 @@ use Rattle.fields.specs.Fields.{Field, width, field, whole}
 use Rattle.fields.proofs.Laid.{whole-first, whole-next, field-past, field-in}
 use Rattle.menu_forms.specs.Block.{inNibbles}
 use Rattle.menu_forms.proofs.Spelling.{length-spelled}
-use Rattle.menu_reader.specs.Control.{bitsAt}
+use Rattle.menu_reader.specs.Internal.{bitsAt}
 
 pub whole-drop : (w k : ℕ) (xs : List ℕ) → whole w (drop k xs) ≡ whole w xs / 2 ^ (k * w)
 whole-drop w zero xs = rw zero-mul (sym (div-one (whole w xs)))

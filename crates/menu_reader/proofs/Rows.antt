@@ -15,7 +15,7 @@ use Rattle.menu_forms.specs.Menus.{Descriptor, Escape, Attribute, infoBytes}
 use Rattle.menu_forms.specs.Form.{highFirst, descriptorForm, escapeForm, attributeForm, codesIn}
 use Rattle.menu_forms.proofs.Spelling.{length-spelled}
 use Rattle.menu_forms.proofs.Forms.{row-count}
-use Rattle.menu_reader.specs.Control.{bitsAt, descriptorAt, escapeAt, attributeAt, descriptorNibbles, escapeNibbles, attributeNibbles}
+use Rattle.menu_reader.specs.Internal.{bitsAt, descriptorAt, escapeAt, attributeAt, descriptorNibbles, escapeNibbles, attributeNibbles}
 use Rattle.menu_reader.specs.Reading.{codeOf}
 use Rattle.menu_reader.specs.declared.Loop.{Loop}
 use Rattle.menu_reader.specs.declared.Loop.the-variants.{Descriptors, Escapes, Attributes}
@@ -28,7 +28,7 @@ module _ {E : Type 0} (spell : E → List ℕ) (read : List ℕ → E) (make : E
       {at′ : ℕ} → 0 < left → at′ ≡ at + length (spell (read (drop at ns)))
       → each make (inRow spell read left (drop at ns))
       ≡ make (read (drop at ns)) ++ each make (inRow spell read (left - 1) (drop at′ ns))
-  unfolding inRow each
+  unfolding inRow
   row-on some e =
       at-more (λ (k : ℕ). each make (inRow spell read k (drop at ns))) left some
       ∙ ap (λ (l : List ℕ). make (read (drop at ns)) ++ each make (inRow spell read (left - 1) l))
@@ -43,7 +43,7 @@ module _ {E : Type 0} (spell : E → List ℕ) (read : List ℕ → E) (make : E
       ∙ length-append (make (read (drop at ns))) (each make (inRow spell read (left - 1) (drop at′ ns)))
 
   row-end : left ≤ 0 → each make (inRow spell read left (drop at ns)) ≡ []
-  unfolding inRow each
+  unfolding inRow
   row-end none = at-none (λ (k : ℕ). each make (inRow spell read k (drop at ns))) left none
 
 module _ (ns : List ℕ) (at left : ℕ) where
@@ -89,7 +89,6 @@ attribute-long a =
 
 -- entries of one length
 each-long : {E : Type 0} (make : E → List ℕ) (n : ℕ) → ((e : E) → length (make e) ≡ n) → (es : List E) → length (each make es) ≡ n * length es
-unfolding each
 each-long make n long [] = omega arith
 each-long make n long (e ∷ es) =
     length-append (make e) (each make es) ∙ ap₂ (λ (x y : ℕ). x + y) (long e) (each-long make n long es) ∙ (omega arith)

@@ -10,13 +10,14 @@ use Rattle.laws.proofs.Countdown.{at-none, at-more}
 use Rattle.fields.specs.Fields.{Field, width}
 use Rattle.fields.proofs.Laid.{width-append}
 use Rattle.menu_forms.specs.Rows.{each, inRow}
-use Rattle.menu_forms.specs.Menus.{Escape, Text, Attribute, Event, escapeFields, attributeFields, textFields, eventFields, codesOf}
+use Rattle.menu_forms.specs.Menus.{Escape, Text, Attribute, Event, escapeFields, attributeFields, textFields, eventFields, codesOf, eventFormat, textFormat}
 use Rattle.menu_forms.specs.Form.{escapeForm, attributeForm, textForm, eventForm, codesIn}
 use Rattle.menu_forms.specs.Block.{inNibbles}
 use Rattle.menu_forms.proofs.Spelling.{length-spelled, spelled-append, each-spelled, each-nibbled}
-use Rattle.menu_forms.proofs.Forms.{row-count, codes-count}
+use Rattle.codecs.proofs.Codes.{codes-count}
+use Rattle.menu_forms.proofs.Forms.{row-count}
 use Rattle.menu_forms.proofs.Nibbled.{attribute-nibbled, text-nibbled, event-nibbled, escapes-width}
-use Rattle.menu_reader.specs.Control.{bitsAt, escapeAt, attributeAt, escapeNibbles, attributeNibbles, textAt, eventAt, eventsAt}
+use Rattle.menu_reader.specs.Internal.{bitsAt, escapeAt, attributeAt, escapeNibbles, attributeNibbles, textAt, eventAt, eventsAt}
 use Rattle.menu_reader.specs.declared.Loop.the-variants.{Escapes, Attributes}
 use Rattle.menu_reader.specs.Internal.{loopNibbles, loopForm}
 use Rattle.menu_reader.proofs.Rows.{escapes-long}
@@ -24,7 +25,7 @@ use Rattle.menu_reader.proofs.Rows.{escapes-long}
 -- ---- a string
 
 text-width : (t : Text) → width (textFields t) ≡ 16 + 24 * length (t .escapes)
-unfolding textFields width
+unfolding textFormat width
 text-width t =
     ap (λ (x : ℕ). 8 + x) (width-append (each escapeFields (t .escapes)) ((8, length (t .codes)) ∷ []))
     ∙ (rw (escapes-width (t .escapes)) (omega arith))
@@ -75,7 +76,7 @@ module _ (ns cs : List ℕ) (at escapes : ℕ) (e₁ : escapes ≡ bitsAt 0 8 (d
 -- ---- an event
 
 event-long : (e : Event) → length (inNibbles (eventFields e)) ≡ 6 + (length (each attributeNibbles (e .attributes)) + length (inNibbles (textFields (e .text))))
-unfolding eventFields width
+unfolding eventFormat width
 event-long e =
     let xs : List Field = each attributeFields (e .attributes) in
     let ts = textFields (e .text) in
@@ -141,7 +142,7 @@ module _ (ns cs : List ℕ) (at from left : ℕ) where
         length (inNibbles (each eventFields (eventsAt left (drop at ns) (drop from cs))))
         ≡ length (inNibbles (eventFields (eventAt (drop at ns) (drop from cs))))
         + length (inNibbles (each eventFields (eventsAt (left - 1) (drop at′ ns) (drop from′ cs))))
-    unfolding each here others
+    unfolding here others
     events-nibbles =
         ap (λ (l : List Event). length (inNibbles (each eventFields l))) events-split
         ∙ ap length (spelled-append (eventFields here) (each eventFields others) (event-nibbled here))
@@ -151,14 +152,14 @@ module _ (ns cs : List ℕ) (at from left : ℕ) where
         length (each codesOf (eventsAt left (drop at ns) (drop from cs)))
         ≡ length (codesOf (eventAt (drop at ns) (drop from cs)))
         + length (each codesOf (eventsAt (left - 1) (drop at′ ns) (drop from′ cs)))
-    unfolding each here others
+    unfolding here others
     events-codes =
         ap (λ (l : List Event). length (each codesOf l)) events-split ∙ length-append (codesOf here) (each codesOf others)
 
     pub events-form :
         each eventForm (eventsAt left (drop at ns) (drop from cs))
         ≡ eventForm (eventAt (drop at ns) (drop from cs)) ++ each eventForm (eventsAt (left - 1) (drop at′ ns) (drop from′ cs))
-    unfolding each here others
+    unfolding here others
     events-form = ap (each eventForm) events-split
 
   pub events-none : left ≤ 0 → eventsAt left (drop at ns) (drop from cs) ≡ []

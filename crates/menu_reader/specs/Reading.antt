@@ -12,12 +12,23 @@ use Rattle.parity.specs.Parity.{odds}
 use Rattle.sums.specs.Sums.{checksum, sound}
 use Rattle.frames.specs.Framing.{framing}
 use Rattle.frames.specs.Outcome.{Outcome, accepted, refused}
-use Rattle.menu_forms.specs.Menus.{Menu, NI, control, size}
-use Rattle.menu_reader.specs.Control.{bitsAt, menuOf}
+use Rattle.menu_forms.specs.Menus.{Menu, Sent, NI, control, size}
+use Rattle.menu_reader.specs.Control.{sentOf, menuOf}
+
+-- the code of a string byte
+abbrev pub codeOf : ℕ → ℕ
+codeOf b = b % 128
+
+-- what control bytes and string bytes carry, and the menu among it
+abbrev pub sentHeld : List ℕ → List ℕ → Sent
+sentHeld control strings = sentOf (map nib control) (map codeOf strings)
+
+abbrev pub menuHeld : List ℕ → List ℕ → Menu
+menuHeld control strings = menuOf (map nib control) (map codeOf strings)
 
 -- the control bytes of a block are the first twice its control size, by its first eight bytes, and at least those (SCOPE 23.4)
 abbrev pub controlLength : List ℕ → ℕ
-controlLength raw = max 8 (min (2 * bitsAt 8 10 (map nib (take 8 raw))) (length raw))
+controlLength raw = max 8 (min (2 * sentHeld (take 8 raw) [] .control) (length raw))
 
 abbrev pub controlPart : List ℕ → List ℕ
 controlPart raw = take (controlLength raw) raw
@@ -26,33 +37,26 @@ controlPart raw = take (controlLength raw) raw
 abbrev pub stringPart : List ℕ → List ℕ
 stringPart raw = drop (controlLength raw) raw
 
--- the code of a string byte
-abbrev pub codeOf : ℕ → ℕ
-codeOf b = b % 128
-
 -- 10 in its first eight bytes, 12 for kind and access
-unfoldable pub frontRules : List ℕ → List Rule
-frontRules ns =
+unfoldable pub frontRules : List ℕ → Sent → List Rule
+frontRules ns s =
     rule (eqb (sound (take 8 ns)) 8) 10 (headLength + sound (take 8 ns))
-    ∷ rule (both (eqb (bitsAt 18 6 ns) NI) (eqb (bitsAt 24 2 ns) 0)) 12 0
+    ∷ rule (both (eqb (s .kind) NI) (eqb (s .access) 0)) 12 0
     ∷ []
 
 -- 10 in any other control byte, 23 where a string byte has an even number of ones, 11 for the sum
-unfoldable pub wholeRules : ℕ → List ℕ → List ℕ → List Rule
-wholeRules head ns strings =
+unfoldable pub wholeRules : ℕ → List ℕ → List ℕ → Sent → List Rule
+wholeRules head ns strings s =
     rule (eqb (sound ns) (length ns)) 10 (headLength + sound ns)
     ∷ rule (eqb (odds strings) (length strings)) 23 (headLength + length ns + odds strings)
-    ∷ rule (eqb (bitsAt 0 8 ns) (checksum head ns)) 11 0
+    ∷ rule (eqb (s .checksum) (checksum head ns)) 11 0
     ∷ []
 
 -- 14: header_size is 0, 1 or 2, and both sizes are those of the menu that is read
-unfoldable pub lengthRules : ℕ → ℕ → Menu → List Rule
-lengthRules controlSize blockSize m =
-    rule (both (ltb (m .headerSize) 3) (both (eqb controlSize (control m)) (eqb blockSize (size m)))) 14 0 ∷ []
-
--- the menu that control bytes and string bytes hold
-abbrev pub menuHeld : List ℕ → List ℕ → Menu
-menuHeld control strings = menuOf (map nib control) (map codeOf strings)
+unfoldable pub lengthRules : ℕ → Sent → List Rule
+lengthRules blockSize s =
+    let m = s .menu in
+    rule (both (ltb (m .headerSize) 3) (both (eqb (s .control) (control m)) (eqb blockSize (size m)))) 14 0 ∷ []
 
 -- the menu that raw bytes hold
 abbrev pub menuRead : List ℕ → Menu
@@ -62,7 +66,8 @@ menuRead raw = menuHeld (controlPart raw) (stringPart raw)
 abbrev pub partRules : ℕ → List ℕ → List ℕ → List Rule
 partRules head control strings =
     let ns = map nib control in
-    frontRules ns ++ (wholeRules head ns strings ++ lengthRules (bitsAt 8 10 ns) (sizeOf head) (menuHeld control strings))
+    let s = sentHeld control strings in
+    frontRules ns s ++ (wholeRules head ns strings s ++ lengthRules (sizeOf head) s)
 
 -- the same by its raw bytes
 abbrev pub bodyRules : ℕ → List ℕ → List Rule

@@ -3,7 +3,7 @@
 mod spelling;
 
 ghost use mathlib.Core.Path.{_≡_};
-ghost use mathlib.Core.List.{map};
+ghost use mathlib.Core.List.{[], map};
 ghost use Prim.Native.Nat.{_<_, _≤_};
 ghost use lib.ListN.{length, drop};
 ghost use Rattle.answer.specs.Rules.{judged};
@@ -14,8 +14,7 @@ ghost use Rattle.blocks.specs.Block.{headLength};
 ghost use Rattle.octet.specs.Decoding.{nib};
 ghost use Rattle.frames.specs.Values.{counted};
 ghost use Rattle.menu_forms.specs.Form.{form};
-ghost use Rattle.menu_reader.specs.Control.{bitsAt};
-ghost use Rattle.menu_reader.specs.Reading.{controlLength, frontRules, wholeRules, partRules, bodyRules, lengthRules, readRules, menuHeld, menuRead, mendedIn};
+ghost use Rattle.menu_reader.specs.Reading.{controlLength, frontRules, wholeRules, partRules, bodyRules, lengthRules, readRules, sentHeld, menuHeld, menuRead, mendedIn};
 use answer::Answer;
 use blocks::HEAD;
 use frames::Frame;
@@ -152,7 +151,7 @@ fn judge_parts(head: usize, control: &[u8], strings: &[u8]) -> Answer
 // 10 in its first eight bytes, 12: what can be said of a block before it is read whole.
 fn judge_front(control: &[u8]) -> Answer
     requires { ⌜ 8 ≤ length (now control) ⌝ }
-    ensures { λ r. ⌜ r ≡ judged refused (frontRules (map nib (now (control .entry)))) (Done 0) ⌝ }
+    ensures { λ r. ⌜ r ≡ judged refused (frontRules (map nib (now (control .entry))) (sentHeld (now (control .entry)) [])) (Done 0) ⌝ }
 {
     let good = sums::sound(&control[..FIRST]);
     if good != FIRST {
@@ -171,7 +170,9 @@ fn judge_front(control: &[u8]) -> Answer
 fn judge_whole(head: usize, control: &[u8], strings: &[u8]) -> Answer
     requires { ⌜ length (now control) ≤ 2046 ⌝ }
     ensures { λ r.
-        ⌜ r ≡ judged refused (wholeRules head (map nib (now (control .entry))) (now (strings .entry))) (Done 0) ⌝ }
+        ⌜ r
+        ≡ judged refused
+        (wholeRules head (map nib (now (control .entry))) (now (strings .entry)) (sentHeld (now (control .entry)) (now (strings .entry)))) (Done 0) ⌝ }
 {
     let sum = sums::sum_of(head, control);
     if 255 < sum {
@@ -193,7 +194,7 @@ fn judge_lengths(size: usize, control: &[u8], strings: &[u8]) -> Answer
     ensures { λ r.
         ⌜ r
         ≡ judged refused
-        (lengthRules (bitsAt 8 10 (map nib (now (control .entry)))) size (menuHeld (now (control .entry)) (now (strings .entry))))
+        (lengthRules size (sentHeld (now (control .entry)) (now (strings .entry))))
         (Done (length (form (menuHeld (now (control .entry)) (now (strings .entry)))))) ⌝ }
 {
     let mut nowhere = [0u8; 0];

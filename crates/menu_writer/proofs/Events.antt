@@ -17,7 +17,7 @@ use Rattle.fields.specs.Fields.{Field, width, laid, fitting, parts, whole}
 use Rattle.fields.proofs.Laid.{fitting-append, width-append, whole-lt}
 use Rattle.parity.specs.Parity.{letter}
 use Rattle.menu_forms.specs.Rows.{each, inRow}
-use Rattle.menu_forms.specs.Menus.{Attribute, Text, Event, attributeFields, textFields, eventFields, codesOf, sevens}
+use Rattle.menu_forms.specs.Menus.{Attribute, Text, Event, attributeFields, textFields, eventFields, codesOf, sevens, eventFormat}
 use Rattle.menu_forms.specs.Form.{attributeForm, attributeIn, textForm, textIn, eventForm, eventIn}
 use Rattle.menu_forms.specs.Block.{inNibbles}
 use Rattle.menu_forms.proofs.Forms.{row-count}
@@ -77,7 +77,7 @@ module _ (f : List ℕ) (at a : ℕ) (ha : a ≡ getD f (at + 3) 0) where
   pub event-width :
       width (eventFields (eventIn (drop at f)))
       ≡ 24 + 8 * loopLength Attributes a (drop (at + 4) f) + width (textFields (textIn (drop (at + 4 + loopLength Attributes a (drop (at + 4) f)) f)))
-  unfolding eventFields width attrs t m
+  unfolding eventFormat width attrs t m
   event-width =
       ap (λ (e : Event). width (eventFields e)) event-is
       ∙ (rw (
@@ -93,7 +93,7 @@ module _ (f : List ℕ) (at a : ℕ) (ha : a ≡ getD f (at + 3) 0) where
       (both (ltb a 16)
       (both (loopFine Attributes a (drop (at + 4) f))
       (fitting (textFields (textIn (drop (at + 4 + loopLength Attributes a (drop (at + 4) f)) f))))))
-  unfolding eventFields fitting attrs t m link
+  unfolding eventFormat fitting attrs t m link
   event-fits =
       ap (λ (e : Event). fitting (eventFields e)) event-is
       ∙ (rw (
@@ -180,7 +180,6 @@ module _ (f : List ℕ) (at left : ℕ) (some : 0 < left) (r : Tally)
   split = events-split f at left (r .end) some (told .ends)
 
   pub ends-on : r .end + length (each eventForm (eventsIn (left - 1) (drop (r .end) f))) ≡ at + length (each eventForm (eventsIn left (drop at f)))
-  unfolding each
   ends-on =
       rw (split, length-append (eventForm (eventIn (drop at f))) (each eventForm (eventsIn (left - 1) (drop (r .end) f)))) (omega (arith, told .ends))
 
@@ -188,7 +187,6 @@ module _ (f : List ℕ) (at left : ℕ) (some : 0 < left) (r : Tally)
       (c : ℕ)
       → 8 * (c + r .control) + width (each eventFields (eventsIn (left - 1) (drop (r .end) f)))
       ≡ 8 * c + width (each eventFields (eventsIn left (drop at f)))
-  unfolding each
   takes-on c =
       rw (split, width-append (eventFields (eventIn (drop at f))) (each eventFields (eventsIn (left - 1) (drop (r .end) f)))) (omega (arith, told .takes))
 
@@ -196,7 +194,6 @@ module _ (f : List ℕ) (at left : ℕ) (some : 0 < left) (r : Tally)
       (c : ℕ)
       → c + r .strings + length (each codesOf (eventsIn (left - 1) (drop (r .end) f)))
       ≡ c + length (each codesOf (eventsIn left (drop at f)))
-  unfolding each
   sends-on c =
       rw (split, length-append (codesOf (eventIn (drop at f))) (each codesOf (eventsIn (left - 1) (drop (r .end) f)))) (omega (arith, told .sends))
 
@@ -204,7 +201,6 @@ module _ (f : List ℕ) (at left : ℕ) (some : 0 < left) (r : Tally)
       (x y : Bool) → y ≡ both x (r .fine)
       → both y (both (fitting (each eventFields (eventsIn (left - 1) (drop (r .end) f)))) (sevens (each codesOf (eventsIn (left - 1) (drop (r .end) f)))))
       ≡ both x (both (fitting (each eventFields (eventsIn left (drop at f)))) (sevens (each codesOf (eventsIn left (drop at f)))))
-  unfolding each
   all-fine-on x y e =
       rw (
         e,
@@ -238,7 +234,7 @@ module _ (f : List ℕ) (at low high kind a : ℕ) (hl : low ≡ getD f at 0) (h
       rw (low-high low high ll lh, zero-mul, zero-add, mod-eq-of-lt l) (ap (parts 4 6) e)
 
   is : eventFields (eventIn (drop at f)) ≡ heading (whole 8 (low ∷ high ∷ [])) kind a ++ (each attributeFields attrs₂ ++ textFields t₂)
-  unfolding eventFields heading attrs₂ t₂ t attrs m link
+  unfolding eventFormat heading attrs₂ t₂ t attrs m link
   is = ap eventFields (event-is f at a ha) ∙ (rw (row-count attributeForm attributeIn a (drop (at + 4) f), ← hl, ← hh, ← hk))
 
   pub event-sent :
@@ -265,11 +261,9 @@ module _ (f : List ℕ) (at low high kind a : ℕ) (hl : low ≡ getD f at 0) (h
 pub sent-split :
     (e : Event) (es : List Event)
     → map image (inNibbles (each eventFields (e ∷ es))) ≡ map image (inNibbles (eventFields e)) ++ map image (inNibbles (each eventFields es))
-unfolding each
 sent-split e es =
     ap (map image) (spelled-append (eventFields e) (each eventFields es) (event-nibbled e))
     ∙ map-append image (inNibbles (eventFields e)) (inNibbles (each eventFields es))
 
 pub codes-split : (e : Event) (es : List Event) → map letter (each codesOf (e ∷ es)) ≡ map letter (codesOf e) ++ map letter (each codesOf es)
-unfolding each
 codes-split e es = map-append letter (codesOf e) (each codesOf es)

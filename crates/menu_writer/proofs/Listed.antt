@@ -23,7 +23,7 @@ use Rattle.menu_writer.specs.Internal.{entryLength, entryFine, entryByte
 
 module _ {E : Type 0} (what : Loop) (spell : E → List ℕ) (read : List ℕ → E) (long : (l : List ℕ) → length (spell (read l)) ≡ entryLength what l) where
   pub row-length : (k : ℕ) (l : List ℕ) → length (each spell (inRow spell read k l)) ≡ loopLength what k l
-  unfolding each inRow loopLength
+  unfolding inRow loopLength
   row-length zero l = refl
   row-length (suc k) l =
       length-append (spell (read l)) (each spell (inRow spell read k (drop (length (spell (read l))) l)))
@@ -33,7 +33,7 @@ module _ {E : Type 0} (what : Loop) (spell : E → List ℕ) (read : List ℕ �
     pub row-fine :
         ((l : List ℕ) → fitting (fieldsOf (read l)) ≡ entryFine what l)
         → (k : ℕ) (l : List ℕ) → fitting (each fieldsOf (inRow spell read k l)) ≡ loopFine what k l
-    unfolding each inRow loopFine
+    unfolding inRow loopFine
     row-fine fine zero l = unfold fitting in refl
     row-fine fine (suc k) l =
         fitting-append (fieldsOf (read l)) (each fieldsOf (inRow spell read k (drop (length (spell (read l))) l)))
@@ -42,7 +42,7 @@ module _ {E : Type 0} (what : Loop) (spell : E → List ℕ) (read : List ℕ �
     pub row-bytes :
         ((e : E) → width (fieldsOf e) % 4 ≡ 0) → ((l : List ℕ) → map image (inNibbles (fieldsOf (read l))) ≡ entryBytes what l)
         → (k : ℕ) (l : List ℕ) → map image (inNibbles (each fieldsOf (inRow spell read k l))) ≡ loopBytes what k l
-    unfolding each inRow loopBytes
+    unfolding inRow loopBytes
     row-bytes nibbled sent k l = ap (map image) (each-spelled fieldsOf nibbled (inRow spell read k l)) ∙ go k l
       where
         go : (k : ℕ) (l : List ℕ) → map image (each (λ (e : E). inNibbles (fieldsOf e)) (inRow spell read k l)) ≡ loopBytes what k l

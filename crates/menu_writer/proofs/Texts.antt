@@ -14,10 +14,11 @@ use Rattle.octet.specs.Image.{image}
 use Rattle.fields.specs.Fields.{Field, width, fitting, parts}
 use Rattle.fields.proofs.Laid.{fitting-append, width-append}
 use Rattle.menu_forms.specs.Rows.{each, inRow}
-use Rattle.menu_forms.specs.Menus.{Escape, Text, escapeFields, textFields, sevens}
+use Rattle.menu_forms.specs.Menus.{Escape, Text, escapeFields, textFields, sevens, textFormat}
 use Rattle.menu_forms.specs.Form.{escapeForm, escapeIn, textForm, textIn, codesIn}
 use Rattle.menu_forms.specs.Block.{inNibbles}
-use Rattle.menu_forms.proofs.Forms.{row-count, codes-count}
+use Rattle.codecs.proofs.Codes.{codes-count}
+use Rattle.menu_forms.proofs.Forms.{row-count}
 use Rattle.menu_forms.proofs.Spelling.{spelled-append, spelled-one, spelled-first, each-nibbled}
 use Rattle.menu_forms.proofs.Nibbled.{escape-nibbled, escapes-width}
 use Rattle.menu_writer.specs.declared.Loop.the-variants.{Codes, Escapes}
@@ -68,7 +69,7 @@ module _ (f : List ℕ) (at e c : ℕ) (he : e ≡ getD f at 0) (hc : c ≡ getD
       (omega arith))
 
   pub text-width : width (textFields (textIn (drop at f))) ≡ 8 * (2 + 3 * e)
-  unfolding textFields width es
+  unfolding textFormat width es
   text-width =
       ap (λ (t : Text). width (textFields t)) text-is
       ∙ (rw (
@@ -79,7 +80,7 @@ module _ (f : List ℕ) (at e c : ℕ) (he : e ≡ getD f at 0) (hc : c ≡ getD
       (omega arith))
 
   pub text-fits : e < 256 → c < 256 → fitting (textFields (textIn (drop at f))) ≡ loopFine Escapes e (drop (at + 2) f)
-  unfolding textFields fitting es cs
+  unfolding textFormat fitting es cs
   text-fits le lc =
       ap (λ (t : Text). fitting (textFields t)) text-is
       ∙ (rw (
@@ -95,7 +96,7 @@ module _ (f : List ℕ) (at e c : ℕ) (he : e ≡ getD f at 0) (hc : c ≡ getD
   pub text-sent :
       map image (inNibbles (textFields (textIn (drop at f))))
       ≡ map image (parts 4 2 e) ++ (loopBytes Escapes e (drop (at + 2) f) ++ map image (parts 4 2 c))
-  unfolding textFields es cs
+  unfolding textFormat es cs
   text-sent =
       let last : List Field = (8, length cs) ∷ [] in
       ap (λ (t : Text). map image (inNibbles (textFields t))) text-is

@@ -16,7 +16,8 @@ use Rattle.fields.specs.Fields.{Field, width, laid, fitting, parts, whole}
 use Rattle.parity.specs.Parity.{letter}
 use Rattle.fields.proofs.Laid.{fitting-append, width-append, whole-lt}
 use Rattle.menu_forms.specs.Rows.{each, inRow}
-use Rattle.menu_forms.specs.Menus.{Descriptor, Menu, zeros, descriptorFields, fillFields, openingFields, textFields, eventFields, fields, strings, codesOf, sevens}
+use Rattle.menu_forms.proofs.Formats.{strings-are}
+use Rattle.menu_forms.specs.Menus.{Descriptor, Menu, zeros, descriptorFields, fillFields, openingFields, textFields, eventFields, fields, strings, codesOf, sevens, fillUp}
 use Rattle.menu_forms.specs.Form.{descriptorForm, descriptorIn, textForm, textIn, eventForm, eventIn, form, menuIn}
 use Rattle.menu_forms.specs.Block.{inNibbles}
 use Rattle.menu_forms.proofs.Forms.{row-count}
@@ -31,11 +32,11 @@ use Rattle.menu_writer.proofs.Events.{eventsIn, sevens-append}
 
 -- what is sent of fill_up_2: a nibble where the number is even, else nothing
 pub even-fill : (d : ℕ) → d % 2 ≡ 0 → map image (inNibbles (fillFields d 0)) ≡ map image (parts 4 1 0)
-unfolding fillFields
+unfolding fillUp
 even-fill d h = rw (eq-eqb (d % 2) 0 h) (ap (map image) (spelled-one 4 1 0 refl))
 
 pub odd-fill : (d : ℕ) → (d % 2 ≡ 0 → ⊥) → map image (inNibbles (fillFields d 0)) ≡ []
-unfolding fillFields inNibbles width parts
+unfolding fillUp inNibbles width parts
 odd-fill d h = rw (ne-eqb (d % 2) 0 h)
 
 order :
@@ -126,9 +127,8 @@ module _ (f : List ℕ) (d n b h : ℕ) (hd : d ≡ getD f 7 0) (hn : n ≡ getD
       )
       (omega (arith, fill-width d 0)))
 
-  pub strings-are : strings (menuIn f) ≡ textIn (drop b f) .codes ++ each codesOf (eventsIn n (drop h f))
-  unfolding strings
-  strings-are = ap strings menu-is
+  pub strings-in : strings (menuIn f) ≡ textIn (drop b f) .codes ++ each codesOf (eventsIn n (drop h f))
+  strings-in = ap strings menu-is ∙ strings-are _
 
   fields-fit :
       fitting (fields 0 0 zeros (menuIn f))
@@ -143,7 +143,7 @@ module _ (f : List ℕ) (d n b h : ℕ) (hd : d ≡ getD f 7 0) (hn : n ≡ getD
       ∙ (rw (
         fitting-append (each descriptorFields ds) (fillFields (length ds) 0 ++ (hdr ++ (8, getD f 6 0) ∷ ev)),
         fitting-append (fillFields (length ds) 0) (hdr ++ (8, getD f 6 0) ∷ ev),
-        fill-fits (length ds),
+        fill-fits (length ds) 0 (omega arith),
         fitting-append hdr ((8, getD f 6 0) ∷ ev),
         row-fine Descriptors descriptorForm descriptorIn (λ (l : List ℕ). refl) descriptorFields (λ (l : List ℕ). refl) d (drop 9 f),
         row-count descriptorForm descriptorIn d (drop 9 f),
@@ -168,7 +168,7 @@ module _ (f : List ℕ) (d n b h : ℕ) (hd : d ≡ getD f 7 0) (hn : n ≡ getD
       record {
         ends = ty .ends ∙ sym form-length;
         takes = omega (arith, tx .takes, ty .takes, fields-width, hc);
-        sends = omega (arith, hs, tx .sends, ty .sends, ap length strings-are, length-append (textIn (drop b f) .codes) (each codesOf (eventsIn n (drop h f))));
+        sends = omega (arith, hs, tx .sends, ty .sends, ap length strings-in, length-append (textIn (drop b f) .codes) (each codesOf (eventsIn n (drop h f))));
         fine =
             hf
             ∙ ap₂ (λ (p q : Bool). both p q)
@@ -181,7 +181,7 @@ module _ (f : List ℕ) (d n b h : ℕ) (hd : d ≡ getD f 7 0) (hn : n ≡ getD
             ∙ sym
             (ap₂ (λ (p q : Bool). both p q) fields-fit
             (ap₂ (λ (p q : Bool). both p q) (ap (λ (m : Menu). ltb (m .headerSize) 3) menu-is)
-            (ap sevens strings-are ∙ sevens-append (textIn (drop b f) .codes) (each codesOf (eventsIn n (drop h f))))));
+            (ap sevens strings-in ∙ sevens-append (textIn (drop b f) .codes) (each codesOf (eventsIn n (drop h f))))));
       }
 
   -- ---- what is sent
@@ -260,7 +260,7 @@ module _ (f : List ℕ) (d n b h : ℕ) (hd : d ≡ getD f 7 0) (hn : n ≡ getD
       (row-bytes Descriptors descriptorForm descriptorIn (λ (l : List ℕ). refl) descriptorFields descriptor-nibbled (λ (l : List ℕ). refl) d (drop 9 f))))
 
   pub all-codes : map letter (strings (menuIn f)) ≡ map letter (textIn (drop b f) .codes) ++ map letter (each codesOf (eventsIn n (drop h f)))
-  all-codes = ap (map letter) strings-are ∙ map-append letter (textIn (drop b f) .codes) (each codesOf (eventsIn n (drop h f)))
+  all-codes = ap (map letter) strings-in ∙ map-append letter (textIn (drop b f) .codes) (each codesOf (eventsIn n (drop h f)))
 
 -- the same, with each value by its name
 pub opening-numbers :

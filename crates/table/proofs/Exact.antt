@@ -4,7 +4,7 @@
 use mathlib.Core.Path.{_≡_, _∙_, refl, sym, ap, ap₂, subst}
 use mathlib.Core.Bool.{true}
 use mathlib.Core.Logic.{_↔_}
-use mathlib.Core.List.{List}
+use mathlib.Core.List.{List, []}
 use Prim.Native.Nat.{ℕ, _+_, _*_, _/_, _%_, _^_, _≤_, _<_}
 use native.Mathlib.Nat.{mod-eq-of-lt}
 use native.Mathlib.Omega.{arith}
@@ -22,8 +22,8 @@ use Rattle.octet.proofs.Hearing.{harms-le}
 use Rattle.fields.specs.Fields.{width, laid, fitting, parts, whole}
 use Rattle.fields.proofs.Laid.{laid-lt, field-lt, length-parts, whole-lt, whole-parts}
 use Rattle.codecs.specs.Codec.{fit}
-use Rattle.forms.specs.Tables.{Table, Sent, known, numbered, format, sent, fields, bits, control, fill, size}
-use Rattle.forms.proofs.Formats.{format-lawful}
+use Rattle.forms.specs.Tables.{Table, Sent, known, numbered, format, sentIn, sent, fields, bits, control, fill, size}
+use Rattle.forms.proofs.Formats.{format-lawful, sent-back}
 use Rattle.sums.specs.Block.{header, headOf, nibblesOf, mendedIn, InRange, nibbles, checksumOf, Says}
 use Rattle.sums.specs.Sums.{checksum, sound}
 use Rattle.table.specs.Control.{tableOf}
@@ -51,7 +51,7 @@ record Taken (application : ℕ) (r : List ℕ) (s : Sent) : Type 0 where
 
 -- what a record carries
 carried : List ℕ → Sent
-carried r = format .read (whole 4 (nibblesOf r))
+carried r = sentIn (whole 4 (nibblesOf r))
 
 -- a block of 12 bytes or more holds its number
 held-number : (blockSize block : ℕ) → 12 ≤ blockSize → blockNumbered blockSize block ≡ true → numbered block ≡ true
@@ -107,7 +107,7 @@ says application r k =
     let s = carried r in
     let t = s .table in
     let filling = n / 2 ^ bits t in
-    let fits-it : fit format s ≡ true = both-holds (format .whole s) (fitting (format .fields s)) (format-lawful .entire n) (format-lawful .fits n) in
+    let fits-it : fit format s ≡ true = both-holds (format .whole s) (fitting (format .fields s)) (format-lawful .entire n []) (format-lawful .fits n []) in
     let can : Sendable t = fit-sendable s (k .known-kind) (k .edition) (k .control-said) fits-it in
     let long : length ns ≡ size t =
     unfold nibblesOf in omega (arith, length-map (drop 4 r) nib, length-drop 4 r, k .frame .long, k .size-said) in
@@ -118,7 +118,7 @@ says application r k =
     let own-fields : format .fields s ≡ fields (s .checksum) (control t) (s .reserved) t =
     ap₂ (λ (a c : ℕ). format .fields (record { checksum = s .checksum; control = c; access = a; reserved = s .reserved; table = t })) (k .clear) (k .control-said) in
     let all : n ≡ laid (fields (s .checksum) (control t) (s .reserved) t) filling =
-    format-lawful .again n ∙ ap₂ laid own-fields (ap (λ (x : ℕ). n / 2 ^ x) (bits-any s)) in
+    format-lawful .again n [] ∙ ap₂ laid own-fields (ap (λ (x : ℕ). n / 2 ^ x) (bits-any s)) in
     let own : ns ≡ nibbles (s .checksum) (s .reserved) filling t =
     sym (sound-parts ns (k .decodes)) ∙ ap₂ (parts 4) long all ∙ unfold-nibbles (s .checksum) (s .reserved) filling t in
     let sum : s .checksum ≡ checksumOf application (s .reserved) filling t =
@@ -159,7 +159,7 @@ module _ (application : ℕ) (r : List ℕ) (t : Table) (s : Says application r 
       let wide : fill t + width (format .fields its-own) ≡ size t * 4 = ap (λ (x : ℕ). fill t + x) (bits-any its-own) ∙ omega arith in
       let below = subst (λ (x : ℕ). block < 2 ^ x) wide (laid-lt (format .fields its-own) (s .filling) (fill t) (s .filled)) in
       let f = both-true (format .whole its-own) _ (sent-fits sum (control t) (s .reserved) t can sum-lt (can .control-fits) (s .bit)) in
-      sym (ap (format .read) (ap (whole 4) (s .body) ∙ whole-parts 4 (size t) block ∙ mod-eq-of-lt below) ∙ format-lawful .back its-own (s .filling) (f .0) (f .1))
+      sym (ap sentIn (ap (whole 4) (s .body) ∙ whole-parts 4 (size t) block ∙ mod-eq-of-lt below) ∙ sent-back its-own (s .filling) (f .0) (f .1))
 
   long-said : length (nibblesOf r) ≡ size t
   unfolding nibbles

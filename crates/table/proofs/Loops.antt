@@ -10,7 +10,7 @@ use lib.Pow.{shr-shr}
 use Rattle.fields.specs.Fields.{width, field}
 use Rattle.fields.specs.declared.Opening.{Opening}
 use Rattle.fields.proofs.Laid.{length-parts, field-past}
-use Rattle.forms.specs.Tables.{Descriptor, per, format, loops, bits}
+use Rattle.forms.specs.Tables.{Descriptor, per, sentIn, loops, bits}
 use Rattle.forms.specs.Form.{form}
 use Rattle.forms.proofs.Measures.{width-loops, bits-of, length-form, eights}
 use Rattle.table.specs.Control.{descriptorsOf}
@@ -47,16 +47,16 @@ walk-end kind left n at whole h inv =
     ∙ subst (λ (k : ℕ). at + width (loops kind (descriptorsOf (per kind) k (n / 2 ^ at))) ≡ whole) e inv
 
 -- what is measured are the table's bits, and the form's bytes go by them
-module _ (o : Opening) (n b : ℕ) (opens : o ≡ openingBy (format .read n)) where
+module _ (o : Opening) (n b : ℕ) (opens : o ≡ openingBy (sentIn n)) where
   pub measured :
-      b ≡ 58 + width (loops (o .kind) (descriptorsOf (per (o .kind)) (o .count) (n / 2 ^ 58))) → b ≡ bits (format .read n .table)
+      b ≡ 58 + width (loops (o .kind) (descriptorsOf (per (o .kind)) (o .count) (n / 2 ^ 58))) → b ≡ bits (sentIn n .table)
   measured e =
-      let t = format .read n .table in
+      let t = sentIn n .table in
       e ∙ ap (λ (p : Opening). 58 + width (loops (p .kind) (descriptorsOf (per (p .kind)) (p .count) (n / 2 ^ 58)))) opens
       ∙ ap (λ (ds : List Descriptor). 58 + width (loops (t .kind) ds)) (sym (loops-at n))
       ∙ sym (bits-of t)
 
-  pub form-need : b ≡ bits (format .read n .table) → 6 + (b - 58 + 6 * o .count) / 8 ≡ length (form (format .read n .table))
+  pub form-need : b ≡ bits (sentIn n .table) → 6 + (b - 58 + 6 * o .count) / 8 ≡ length (form (sentIn n .table))
   form-need e =
-      let t = format .read n .table in
+      let t = sentIn n .table in
       omega (arith, bits-of t, length-form t, eights (t .kind) (t .descriptors), ap (λ (p : Opening). p .count) opens)

@@ -1,6 +1,6 @@
 -- Where the fields of tables 15 and 17 stand. Assumes nothing.
 use mathlib.Core.Path.{_≡_, _∙_, sym, ap, ap₂, subst}
-use mathlib.Core.List.{_∷_}
+use mathlib.Core.List.{[], _∷_}
 use Prim.Native.Nat.{ℕ, suc, _+_, _*_, _/_, _^_}
 use native.Mathlib.Omega.{arith}
 use lib.ListN.{length}
@@ -9,7 +9,7 @@ use Rattle.fields.specs.Fields.{width, field, parts}
 use Rattle.fields.specs.Opening.{openingIn}
 use Rattle.fields.proofs.Laid.{field-past, length-parts, width-row}
 use Rattle.codecs.proofs.Lawful.{row-length}
-use Rattle.forms.specs.Tables.{Descriptor, Sent, per, descriptor, format}
+use Rattle.forms.specs.Tables.{Descriptor, Sent, per, descriptor, sentIn}
 use Rattle.table.specs.Control.{descriptorsOf}
 use Rattle.table.specs.Internal.{openingBy}
 
@@ -25,18 +25,18 @@ unfolding descriptorsOf width
 descriptors-on each k n =
     let words = each * field 6 4 n in
     let d : Descriptor = record { id = field 0 6 n; words = parts 24 words (n / 2 ^ 10) } in
-    let one : descriptor each .read n ≡ d = rw (field-past 0 4 6 n, shr-shr n 6 4) in
+    let one : descriptor each .read n [] ≡ d = rw (field-past 0 4 6 n, shr-shr n 6 4) in
     let wide : width (descriptor each .fields d) ≡ 10 + 24 * words = rw (width-row, length-parts) (heading-words words) in
     ap₂ (λ (x : Descriptor) (y : ℕ). x ∷ descriptorsOf each k (n / 2 ^ y)) one (ap (λ (x : Descriptor). width (descriptor each .fields x)) one ∙ wide)
 
 length-descriptors : (each k n : ℕ) → length (descriptorsOf each k n) ≡ k
 unfolding descriptorsOf
-length-descriptors each k n = row-length (descriptor each) k n
+length-descriptors each k n = row-length (descriptor each) k n []
 
 -- the fields of control data, each at its place
 pub read-at :
     (n : ℕ)
-    → format .read n
+    → sentIn n
     ≡ record {
       checksum = field 0 8 n;
       control = field 8 10 n;
@@ -55,13 +55,13 @@ unfolding descriptorsOf width
 read-at n = simp (shr-shr, field-past)
 
 -- and so those that a block opens with
-pub opening-at : (n : ℕ) → openingIn n ≡ openingBy (format .read n)
+pub opening-at : (n : ℕ) → openingIn n ≡ openingBy (sentIn n)
 opening-at n = sym (ap openingBy (read-at n) ∙ (rw length-descriptors))
 
 -- the loops go by them
 pub loops-at :
     (n : ℕ)
-    → let t = format .read n .table in
+    → let t = sentIn n .table in
     t .descriptors ≡ descriptorsOf (per (t .kind)) (length (t .descriptors)) (n / 2 ^ 58)
 loops-at n =
     let k = per (field 18 6 n) in

@@ -11,7 +11,7 @@ use lib.Seq.{sets}
 use Rattle.laws.proofs.Lists.{sets-append}
 use Rattle.fields.specs.Fields.{field, parts}
 use Rattle.fields.specs.declared.Opening.{Opening}
-use Rattle.forms.specs.Tables.{Descriptor, per, format}
+use Rattle.forms.specs.Tables.{Descriptor, per, sentIn}
 use Rattle.forms.specs.Form.{spelled, listed, openingOf, form}
 use Rattle.table.specs.Control.{descriptorsOf}
 use Rattle.table.specs.Internal.{openingBy}
@@ -97,13 +97,13 @@ descriptors-end kind left n at q out whole h inv =
 
 -- what a block opens with, and then the descriptors, are the form of its table
 pub form-at :
-    (o : Opening) (n : ℕ) → o ≡ openingBy (format .read n) → (out out₁ out₂ : List ℕ)
+    (o : Opening) (n : ℕ) → o ≡ openingBy (sentIn n) → (out out₁ out₂ : List ℕ)
     → out₁ ≡ sets out 0 (o .kind ∷ o .copyright ∷ o .block % 256 ∷ o .block / 256 ∷ o .network ∷ o .count ∷ [])
     → out₂ ≡ sets out₁ 6 (listed (o .kind) (descriptorsOf (per (o .kind)) (o .count) (n / 2 ^ 58)))
-    → out₂ ≡ sets out 0 (form (format .read n .table))
+    → out₂ ≡ sets out 0 (form (sentIn n .table))
 unfolding form openingOf
 form-at o n e out out₁ out₂ p q =
-    let t = format .read n .table in
+    let t = sentIn n .table in
     let front : out₁ ≡ sets out 0 (openingOf t) =
     p ∙ ap (λ (x : Opening). sets out 0 (x .kind ∷ x .copyright ∷ x .block % 256 ∷ x .block / 256 ∷ x .network ∷ x .count ∷ [])) e in
     let behind : out₂ ≡ sets out₁ 6 (listed (t .kind) (t .descriptors)) =

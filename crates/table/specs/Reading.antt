@@ -7,7 +7,7 @@ use Rattle.laws.specs.Pick.{both}
 use Rattle.answer.specs.Rules.{Rule, rule, judged}
 use Rattle.blocks.specs.Block.{sizeOf}
 use Rattle.fields.specs.Fields.{whole}
-use Rattle.forms.specs.Tables.{Table, Sent, known, format}
+use Rattle.forms.specs.Tables.{Table, Sent, known, sentIn}
 use Rattle.table.specs.Control.{tableOf}
 use Rattle.table.specs.Lengths.{lengthRules}
 use Rattle.sums.specs.Sums.{checksum, sound}
@@ -33,7 +33,7 @@ wholeRules head ns s =
 -- what follows the frame, by what the nibbles carry
 abbrev pub bodyRules : ℕ → List ℕ → List Rule
 bodyRules head ns =
-    let s = format .read (whole 4 ns) in
+    let s = sentIn (whole 4 ns) in
     frontRules (sizeOf head) ns s ++ (wholeRules head ns s ++ lengthRules (sizeOf head) s)
 
 abbrev pub readRules : ℕ → List ℕ → List Rule

@@ -12,7 +12,7 @@ ghost use lib.ListN.{length};
 ghost use Rattle.answer.specs.Rules.{judged};
 ghost use Rattle.answer.specs.Values.{refused};
 ghost use Rattle.answer.specs.declared.Answer.the-variants.{Done};
-ghost use Rattle.forms.specs.Tables.{per, format, loops};
+ghost use Rattle.forms.specs.Tables.{per, sentIn, loops};
 ghost use Rattle.forms.specs.Form.{form};
 ghost use Rattle.fields.specs.Fields.{width};
 ghost use Rattle.fields.specs.Compound.{compound};
@@ -23,10 +23,10 @@ ghost use Rattle.table.specs.Internal.{openingBy, tableBits};
 // 22, 14: where the number is one of this edition, and loops, control size and fill fit, the bytes of the table's form. The block opens
 // with these fields.
 pub(crate) fn judge_lengths(size: usize, opening: Opening, body: &[u8]) -> Answer
-    requires { ⌜ opening ≡ openingBy (format .read (compound (now body))) ⌝ }
+    requires { ⌜ opening ≡ openingBy (sentIn (compound (now body))) ⌝ }
     ensures { λ r.
         ⌜ r
-        ≡ judged refused (lengthRules size (format .read (compound (now (body .entry)))))
+        ≡ judged refused (lengthRules size (sentIn (compound (now (body .entry)))))
         (Done (length (form (tableOf (compound (now (body .entry))))))) ⌝ }
 {
     if !is_numbered(size, opening.block as usize) {

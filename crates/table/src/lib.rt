@@ -13,7 +13,7 @@ ghost use Rattle.answer.specs.Writing.{answered, left};
 ghost use Rattle.answer.specs.declared.Answer.the-variants.{Done};
 ghost use Rattle.octet.specs.Decoding.{nib};
 ghost use Rattle.forms.specs.Form.{form};
-ghost use Rattle.forms.specs.Tables.{format};
+ghost use Rattle.forms.specs.Tables.{sentIn};
 ghost use Rattle.fields.specs.Compound.{compound};
 ghost use Rattle.sums.specs.Block.{mendedIn};
 ghost use Rattle.frames.specs.Values.{counted};
@@ -88,7 +88,7 @@ fn read_body(head: usize, body: &[u8], out: &mut [u8]) -> Answer
 
 // All rules after those of the frame but the room; where they hold, the bytes of the table's form.
 fn judge_body(head: usize, opening: Opening, body: &[u8]) -> Answer
-    requires { ⌜ (8 ≤ length (now body)) × (opening ≡ openingBy (format .read (compound (now body)))) ⌝ }
+    requires { ⌜ (8 ≤ length (now body)) × (opening ≡ openingBy (sentIn (compound (now body)))) ⌝ }
     ensures { λ r.
         ⌜ r
         ≡ judged refused (bodyRules head (map nib (now (body .entry))))
@@ -105,8 +105,8 @@ fn judge_body(head: usize, opening: Opening, body: &[u8]) -> Answer
 
 // 10 in its first eight bytes, 12, 13: what can be said of a block before it is read whole.
 fn judge_front(size: usize, opening: Opening, body: &[u8]) -> Answer
-    requires { ⌜ (8 ≤ length (now body)) × (opening ≡ openingBy (format .read (compound (now body)))) ⌝ }
-    ensures { λ r. ⌜ r ≡ judged refused (frontRules size (map nib (now (body .entry))) (format .read (compound (now (body .entry))))) (Done 0) ⌝ }
+    requires { ⌜ (8 ≤ length (now body)) × (opening ≡ openingBy (sentIn (compound (now body)))) ⌝ }
+    ensures { λ r. ⌜ r ≡ judged refused (frontRules size (map nib (now (body .entry))) (sentIn (compound (now (body .entry))))) (Done 0) ⌝ }
 {
     let good = sums::sound(&body[..8]);
     if good != 8 {
@@ -126,8 +126,8 @@ fn judge_front(size: usize, opening: Opening, body: &[u8]) -> Answer
 
 // 10 in any other byte, 11.
 fn judge_whole(head: usize, opening: Opening, body: &[u8]) -> Answer
-    requires { ⌜ opening ≡ openingBy (format .read (compound (now body))) ⌝ }
-    ensures { λ r. ⌜ r ≡ judged refused (wholeRules head (map nib (now (body .entry))) (format .read (compound (now (body .entry))))) (Done 0) ⌝ }
+    requires { ⌜ opening ≡ openingBy (sentIn (compound (now body))) ⌝ }
+    ensures { λ r. ⌜ r ≡ judged refused (wholeRules head (map nib (now (body .entry))) (sentIn (compound (now (body .entry))))) (Done 0) ⌝ }
 {
     let sum = sums::sum_of(head, body);
     if 255 < sum {

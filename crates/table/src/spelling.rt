@@ -6,7 +6,7 @@ ghost use lib.ListN.{set};
 ghost use lib.Seq.{sets};
 ghost use Rattle.fields.specs.Fields.{field, parts};
 ghost use Rattle.fields.specs.Compound.{compound};
-ghost use Rattle.forms.specs.Tables.{per, format};
+ghost use Rattle.forms.specs.Tables.{per, sentIn};
 ghost use Rattle.forms.specs.Form.{form, spelled, listed};
 ghost use Rattle.table.specs.Control.{tableOf, descriptorsOf};
 ghost use Rattle.table.specs.Internal.{openingBy};
@@ -19,7 +19,7 @@ use forms::WORD;
 // The form of the table that a block holds, which opens with these fields, to the front of `out`; what
 // lies past its end isn't written.
 pub(crate) fn write_form(opening: Opening, body: &[u8], out: &mut [u8])
-    requires { ⌜ opening ≡ openingBy (format .read (compound (now body))) ⌝ }
+    requires { ⌜ opening ≡ openingBy (sentIn (compound (now body))) ⌝ }
     ensures { λ _. ⌜ now (out .exit) ≡ sets (now (out .entry)) 0 (form (tableOf (compound (now (body .entry))))) ⌝ }
 {
     write_opening(opening, out);

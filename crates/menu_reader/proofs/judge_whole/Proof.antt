@@ -11,6 +11,8 @@ use Rattle.octet.specs.Decoding.{nib}
 use Rattle.sums.specs.Sums.{sound}
 use Rattle.parity.proofs.Letters.{odds-le}
 use Rattle.sums.proofs.Summing.{sound-le}
+use Rattle.menu_reader.specs.Reading.{codeOf}
+use Rattle.menu_reader.proofs.Walked.{opened}
 use Rattle.menu_reader.proofs.Judging.{whole-10, whole-23, whole-11, whole-done}
 use Rattle.menu_reader.proofs.judge_whole.Statement.{statement}
 use Rattle.menu_reader.proofs.judge_whole.Tie as tie
@@ -24,7 +26,7 @@ returns : tie.Need-returns
 returns c =
     let s : List ℕ = now (c .before .before .before .before .before .before .args .control) in
     rw (c .before .sound .ensures) at (c .refuse .ensures)
-    ∙ sym (whole-10 _ (map nib s) _ _ (λ (e : _). absurd (omega (arith, c .before .before .before .sum-of .ensures .0 (c .before .before .if1 .taken), e, length-map s nib))))
+    ∙ sym (whole-10 _ (map nib s) _ _ _ (λ (e : _). absurd (omega (arith, c .before .before .before .sum-of .ensures .0 (c .before .before .if1 .taken), e, length-map s nib))))
 
 add-refuse-3 : tie.Need-add-refuse-3
 add-refuse-3 c =
@@ -39,7 +41,7 @@ returns-2 c =
     let t : List ℕ = now (c .before .before .before .before .before .before .before .args .strings) in
     let place = ap₂ (λ (x y : ℕ). 4 + x + y) (sym (length-map s nib)) (c .before .before .odds .ensures) in
     c .refuse2 .ensures ∙ ap (refused 23) place
-    ∙ sym (whole-23 _ (map nib s) t _ sounds (λ (e : _). c .before .if2 .taken (c .before .before .odds .ensures ∙ e)))
+    ∙ sym (whole-23 _ (map nib s) t _ _ sounds (λ (e : _). c .before .if2 .taken (c .before .before .odds .ensures ∙ e)))
 
 returns-3 : tie.Need-returns-3
 returns-3 c =
@@ -47,8 +49,10 @@ returns-3 c =
     let w = c .before .before .before .before .before .before .sum-of .ensures .1 .0 (omega (arith, c .before .before .before .before .before .if1 .left)) in
     let sounds : sound (map nib s) ≡ length (map nib s) = w .0 ∙ sym (length-map s nib) in
     let odd = sym (c .before .before .before .before .odds .ensures) ∙ c .before .before .before .if2 .left in
+    let t : List ℕ = now (c .before .before .before .before .before .before .before .before .before .args .strings) in
+    let o = opened (map nib s) (map codeOf t) in
     c .refuse3 .ensures
-    ∙ sym (whole-11 _ (map nib s) _ _ sounds odd (λ (e : _). c .before .if3 .taken (c .before .before .field-of .ensures .0 ∙ e ∙ sym (w .1))))
+    ∙ sym (whole-11 _ (map nib s) _ _ _ sounds odd (λ (e : _). c .before .if3 .taken (c .before .before .field-of .ensures .0 ∙ sym (o .checksum-at) ∙ e ∙ sym (w .1))))
 
 returns-4 : tie.Need-returns-4
 returns-4 c =
@@ -56,7 +60,9 @@ returns-4 c =
     let w = c .before .before .before .before .before .sum-of .ensures .1 .0 (omega (arith, c .before .before .before .before .if1 .left)) in
     let sounds : sound (map nib s) ≡ length (map nib s) = w .0 ∙ sym (length-map s nib) in
     let odd = sym (c .before .before .before .odds .ensures) ∙ c .before .before .if2 .left in
-    sym (whole-done _ (map nib s) _ _ sounds odd (sym (c .before .field-of .ensures .0) ∙ c .if3 .left ∙ w .1))
+    let t : List ℕ = now (c .before .before .before .before .before .before .before .before .args .strings) in
+    let o = opened (map nib s) (map codeOf t) in
+    sym (whole-done _ (map nib s) _ _ _ sounds odd (o .checksum-at ∙ sym (c .before .field-of .ensures .0) ∙ c .if3 .left ∙ w .1))
 
 pub judge-whole-spec : {M : Type 1} → statement M
 judge-whole-spec =

@@ -7,7 +7,7 @@ use denote.Ref.{now}
 use Rattle.answer.proofs.Steps.{ends, goes-on}
 use Rattle.octet.specs.Decoding.{nib}
 use Rattle.fields.specs.Fields.{whole}
-use Rattle.forms.specs.Tables.{format}
+use Rattle.forms.specs.Tables.{sentIn}
 use Rattle.table.specs.Reading.{frontRules, wholeRules}
 use Rattle.table.specs.Lengths.{lengthRules}
 use Rattle.table.proofs.judge_body.Statement.{statement}
@@ -20,7 +20,7 @@ returns : tie.Need-returns
 returns c =
     let a = c .before .before .before .before .before .args in
     let ns = map nib (now (a .body)) in
-    let s = format .read (whole 4 ns) in
+    let s = sentIn (whole 4 ns) in
     let lengths = lengthRules (a .head / 32) s in
     ends (frontRules (a .head / 32) ns s) (wholeRules (a .head) ns s ++ lengths) 0 (c .before .before .before .judge-front .ensures) _ (c .before .why .given .1)
 
@@ -28,7 +28,7 @@ returns-2 : tie.Need-returns-2
 returns-2 c =
     let a = c .before .before .before .before .before .before .before .before .args in
     let ns = map nib (now (a .body)) in
-    let s = format .read (whole 4 ns) in
+    let s = sentIn (whole 4 ns) in
     let lengths = lengthRules (a .head / 32) s in
     let front = c .before .before .before .before .before .before .judge-front .ensures in
     ends (wholeRules (a .head) ns s) lengths 0 (c .before .before .before .judge-whole .ensures) _ (c .before .why2 .given .1)
@@ -38,7 +38,7 @@ returns-3 : tie.Need-returns-3
 returns-3 c =
     let a = c .before .before .before .before .before .before .before .before .args in
     let ns = map nib (now (a .body)) in
-    let s = format .read (whole 4 ns) in
+    let s = sentIn (whole 4 ns) in
     let lengths = lengthRules (a .head / 32) s in
     let front = c .before .before .before .before .before .before .judge-front .ensures in
     c .judge-lengths .ensures

@@ -8,7 +8,7 @@ use lib.ListN.{length, drop}
 use lib.Seq.{sets}
 use Rattle.octet.specs.Decoding.{nib}
 use Rattle.menu_forms.specs.Form.{highFirst}
-use Rattle.menu_reader.specs.Control.{bitsAt}
+use Rattle.menu_reader.specs.Internal.{bitsAt}
 use Rattle.menu_reader.proofs.Rows.{info-on, info-end}
 use Rattle.menu_reader.proofs.spelling.put_info.Statement.{statement}
 use Rattle.menu_reader.proofs.spelling.put_info.Tie as tie

@@ -51,7 +51,7 @@ loop-again c =
     )
 
 returns : tie.Need-returns Inv-loop μ-loop
-unfolding each width fitting sevens
+unfolding width fitting sevens
 returns c =
     let a = c .before .before .before .args in
     let l = c .before .loop in

@@ -56,7 +56,6 @@ loop-again c =
     )
 
 returns : tie.Need-returns Inv-loop μ-loop
-unfolding each
 returns c =
     let a = c .before .before .before .before .args in
     let l = c .before .loop in

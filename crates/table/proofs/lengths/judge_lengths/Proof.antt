@@ -6,7 +6,7 @@ use borrow.Author.Tests.{not-true, not-false}
 use denote.Ref.{now}
 use Rattle.answer.specs.declared.Answer.the-variants.{Done}
 use Rattle.fields.specs.Compound.{compound}
-use Rattle.forms.specs.Tables.{format}
+use Rattle.forms.specs.Tables.{sentIn}
 use Rattle.table.specs.Control.{tableOf}
 use Rattle.table.proofs.Fitting.{lengths-22, lengths-14, lengths-14′, lengths-done}
 use Rattle.table.proofs.Loops.{measured, form-need}
@@ -18,7 +18,7 @@ returns c =
     let a = c .before .before .before .before .before .args in
     let opens = c .before .before .before .before .before .pre in
     let k = sym (c .before .before .is-numbered .ensures) ∙ not-true _ (c .before .if1 .taken) in
-    c .refuse .ensures ∙ sym (lengths-22 _ (a .opening) (format .read (compound (now (a .body)))) opens _ k)
+    c .refuse .ensures ∙ sym (lengths-22 _ (a .opening) (sentIn (compound (now (a .body)))) opens _ k)
 
 returns-2 : tie.Need-returns-2
 returns-2 c =
@@ -28,7 +28,7 @@ returns-2 c =
     let n = compound (now (a .body)) in
     let k = sym (m .before .before .before .before .is-numbered .ensures) ∙ not-false _ (m .before .before .before .if1 .left) in
     let e = measured (a .opening) n _ opens (m .measure .ensures .0) in
-    c .refuse2 .ensures ∙ sym (lengths-14 _ (a .opening) (format .read n) opens _ k (rw e at (c .before .if2 .taken)))
+    c .refuse2 .ensures ∙ sym (lengths-14 _ (a .opening) (sentIn n) opens _ k (rw e at (c .before .if2 .taken)))
 
 returns-3 : tie.Need-returns-3
 returns-3 c =
@@ -39,7 +39,7 @@ returns-3 c =
     let k = sym (m .before .before .before .before .is-numbered .ensures) ∙ not-false _ (m .before .before .before .if1 .left) in
     let e = measured (a .opening) n _ opens (m .measure .ensures .0) in
     c .refuse3 .ensures
-    ∙ sym (lengths-14′ _ (a .opening) (format .read n) opens _ k (rw e at (c .before .before .if2 .left)) (rw e at (c .before .if3 .taken)))
+    ∙ sym (lengths-14′ _ (a .opening) (sentIn n) opens _ k (rw e at (c .before .before .if2 .left)) (rw e at (c .before .if3 .taken)))
 
 returns-4 : tie.Need-returns-4
 unfolding tableOf
@@ -51,7 +51,7 @@ returns-4 c =
     let k = sym (m .before .before .before .before .is-numbered .ensures) ∙ not-false _ (m .before .before .before .if1 .left) in
     let e = measured (a .opening) n _ opens (m .measure .ensures .0) in
     ap Done (form-need (a .opening) n _ opens e)
-    ∙ sym (lengths-done _ (a .opening) (format .read n) opens _ k (rw e at (c .before .if2 .left)) (rw e at (c .if3 .left)))
+    ∙ sym (lengths-done _ (a .opening) (sentIn n) opens _ k (rw e at (c .before .if2 .left)) (rw e at (c .if3 .left)))
 
 pub judge-lengths-spec : {M : Type 1} → statement M
 judge-lengths-spec =
