@@ -1,5 +1,4 @@
 -- Laws that several proofs cite, and what holds of every capture.
-pub mod Looking
 pub mod Fed
 pub mod Pulls
 pub mod Moving

@@ -8,8 +8,8 @@ use Rattle.captures.specs.declared.Stage.{Stage}
 use Rattle.captures.specs.declared.Stage.the-variants.{More}
 use Rattle.captures.specs.declared.Course.{Course}
 use Rattle.captures.specs.declared.Capture.{Capture}
-use Rattle.captures.specs.declared.sight.Sight.{Sight}
-use Rattle.captures.specs.Sights.{noSight}
+use Rattle.sight.specs.declared.Sight.{Sight}
+use Rattle.sight.specs.Sights.{noSight}
 
 -- nothing is read yet, and the reader is fresh (SCOPE 10.7, 27.2)
 abbrev pub started : Streams → Bool → Capture

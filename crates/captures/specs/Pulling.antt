@@ -16,7 +16,7 @@ use Rattle.captures.specs.declared.Capture.{Capture}
 use Rattle.captures.specs.declared.Came.{Came}
 use Rattle.captures.specs.declared.Came.the-variants.{Records, Ended, Unread, Stuck}
 use Rattle.captures.specs.declared.Turn.{Turn}
-use Rattle.captures.specs.Sights.{lookedSight, lookedAt, notedAt}
+use Rattle.sight.specs.Sights.{lookedSight, lookedAt, notedAt}
 use Rattle.captures.specs.Courses.{staged, seeing, holding}
 use Rattle.captures.specs.Feeding.{wholeEnd, fedTurn, fedRecords}
 use Rattle.captures.specs.Reading.{fitsIn}

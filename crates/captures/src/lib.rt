@@ -1,14 +1,12 @@
 // A capture, from a descriptor, a setting and a fresh reader to the records of the blocks that its packets finish (SCOPE 10.6, 10.7), of one
 // stream or of two (SCOPE 27.8): a setting that names one stream twice is of that stream alone. It is pulled: each call of `next` reads a piece or feeds packets of it, and says how many bytes of records that gave. The caller lends the
 // piece, the space for records and a list of pages, which are its own to look at between two calls, and hands the capture on from call to
-// call. The capture also counts (SCOPE 13.10) and looks what it may be (SCOPE 13.9).
+// call. Each piece is also looked at by `sight`: what is counted (SCOPE 13.10), and what the capture may be (SCOPE 13.9).
 //
 // What can't come, a reader that takes nothing, ends a capture as a failure: nothing goes on from it. That it can't come is `never-stuck`
 // (proofs/Moving).
 mod feeding;
-pub mod lack;
 pub mod reading;
-pub mod sight;
 pub mod spans;
 
 use packet::PACKET;
@@ -17,9 +15,8 @@ use reader::Reader;
 use reader::two::Readers;
 pub use reading::Got;
 pub use reading::fill;
-pub use sight::PAGES;
-pub use sight::Sight;
-pub use sight::pages;
+use sight::PAGES;
+use sight::Sight;
 pub use spans::Span;
 pub use spans::is_one;
 pub use spans::span_at;

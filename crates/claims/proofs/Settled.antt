@@ -73,8 +73,10 @@ use Rattle.told.proofs.names.plain.Reads as told·plain
 use Rattle.command_line.proofs.setting.Reads as command-line·setting
 use Rattle.command_line.proofs.byte.Reads as command-line·byte
 use Rattle.captures.proofs.start.Reads as captures·start
-use Rattle.captures.proofs.lack.is_lacking.Reads as captures·lack-is-lacking
-use Rattle.captures.proofs.sight.pages.Reads as captures·pages
+use Rattle.sight.proofs.lack.is_lacking.Reads as sight·lack-is-lacking
+use Rattle.sight.proofs.pages.Reads as sight·pages
+use Rattle.sight.proofs.none.Reads as sight·none
+use Rattle.sight.proofs.look.Reads as sight·look
 use Rattle.captures.proofs.spans.is_one.Reads as captures·is-one
 use Rattle.captures.proofs.spans.span_at.Reads as captures·span-at
 use Rattle.packet.proofs.address.Reads as packet·address
@@ -486,11 +488,19 @@ command-line·byte-settled κs a x y s t p q = same p q
 pub captures·start-settled : (κs : _) (a : _) (x y : _) (s t : _) → captures·start.Post κs a x s → captures·start.Post κs a y t → x ≡ y
 captures·start-settled κs a x y s t p q = same p q
 
-pub captures·pages-settled : (κs : _) (a : _) (x y : _) (s t : _) → captures·pages.Post κs a x s → captures·pages.Post κs a y t → x ≡ y
-captures·pages-settled κs a x y s t p q = same p q
+pub sight·pages-settled : (κs : _) (a : _) (x y : _) (s t : _) → sight·pages.Post κs a x s → sight·pages.Post κs a y t → x ≡ y
+sight·pages-settled κs a x y s t p q = same p q
 
-pub captures·lack-is-lacking-settled : (κs : _) (a : _) (x y : _) (s t : _) → captures·lack-is-lacking.Post κs a x s → captures·lack-is-lacking.Post κs a y t → x ≡ y
-captures·lack-is-lacking-settled κs a x y s t p q = same p q
+pub sight·none-settled : (κs : _) (a : _) (x y : _) (s t : _) → sight·none.Post κs a x s → sight·none.Post κs a y t → x ≡ y
+sight·none-settled κs a x y s t p q = same p q
+
+pub sight·look-settled :
+    (κs : _) (a : _) (x y : _) (s t : _) → sight·look.Post κs a x s → sight·look.Post κs a y t
+    → (x ≡ y) × (now (s .1 .1 .1 .0) ≡ now (t .1 .1 .1 .0)) × (now (s .1 .1 .1 .1 .1 .0) ≡ now (t .1 .1 .1 .1 .1 .0))
+sight·look-settled κs a x y s t p q = (same (p .0) (q .0), same (p .1 .0) (q .1 .0), same (p .1 .1) (q .1 .1))
+
+pub sight·lack-is-lacking-settled : (κs : _) (a : _) (x y : _) (s t : _) → sight·lack-is-lacking.Post κs a x s → sight·lack-is-lacking.Post κs a y t → x ≡ y
+sight·lack-is-lacking-settled κs a x y s t p q = same p q
 
 pub captures·is-one-settled : (κs : _) (a : _) (x y : _) (s t : _) → captures·is-one.Post κs a x s → captures·is-one.Post κs a y t → x ≡ y
 captures·is-one-settled κs a x y s t p q = same p q

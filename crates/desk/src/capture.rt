@@ -4,11 +4,11 @@ use crate::says;
 use answer::Answer;
 use captures::Came;
 use captures::Course;
-use captures::PAGES;
 use captures::PIECE;
 use captures::RECORDS;
 use frames::Read;
 use packet::two::Streams;
+use sight::PAGES;
 ghost use mathlib.Core.Path.{_≡_};
 ghost use Prim.Native.Nat.{_≤_};
 ghost use lib.ListN.{length};
@@ -36,7 +36,7 @@ struct Tally {
 pub fn list(fd: i32, name: &[u8], is_titled: bool, setting: Streams, is_verbose: bool) -> bool {
     let mut piece = [0u8; PIECE];
     let mut records = [0u8; RECORDS];
-    let mut pages = captures::pages(setting);
+    let mut pages = sight::pages(setting);
     let mut text = [0u8; TEXT];
     let mut form = [0u8; FORM];
     let mut capture = captures::start(setting, is_verbose);

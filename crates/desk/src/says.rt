@@ -1,6 +1,6 @@
 // What the desk writes: the lines around a list. The first write that standard output doesn't take is told, and the caller stops.
 use captures::Course;
-use captures::lack;
+use sight::lack;
 
 // The last line of a list (SCOPE 13.5).
 pub fn put_last(accepted: u64, refused: u64, short: u64) -> bool {

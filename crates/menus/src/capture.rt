@@ -106,7 +106,7 @@ fn gather(
 ) -> Kept {
     let mut piece = [0u8; PIECE];
     let mut records = [0u8; RECORDS];
-    let mut pages = captures::pages(asked.setting);
+    let mut pages = sight::pages(asked.setting);
     let mut form = [0u8; FORM];
     let mut numbers = [0u8; NUMBERS];
     let mut capture = captures::start(asked.setting, false);

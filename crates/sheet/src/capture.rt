@@ -8,11 +8,11 @@ use answer::Answer;
 use captures::Came;
 use captures::Capture;
 use captures::Course;
-use captures::PAGES;
 use captures::PIECE;
 use captures::RECORDS;
 use frames::Read;
 use packet::two::Streams;
+use sight::PAGES;
 ghost use Prim.Native.Nat.{_≤_};
 
 // More than the longest table form.
@@ -102,7 +102,7 @@ fn read(
 ) -> Work {
     let mut piece = [0u8; PIECE];
     let mut records = [0u8; RECORDS];
-    let mut pages = captures::pages(setting);
+    let mut pages = sight::pages(setting);
     let mut form = [0u8; FORM];
     let mut going = begin(setting, work);
     let mut turns = u64::MAX;

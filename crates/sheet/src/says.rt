@@ -4,11 +4,11 @@ use crate::help::PROGRAM;
 use crate::lines;
 use crate::work::Work;
 use captures::Course;
-use captures::PAGES;
-use captures::lack;
 use libc::STDOUT_FILENO;
 pub use sheet_file::says::fail;
 pub use sheet_file::says::tell;
+use sight::PAGES;
+use sight::lack;
 use told::say;
 use told::say_number;
 

@@ -1,8 +1,8 @@
--- `captures::sight::fit_from` meets its contract: case by case. Assumes nothing.
+-- `sight::fit_from` meets its contract: case by case. Assumes nothing.
 use borrow.Author.Needs.{needs}
 use borrow.Author.Tests.{lt-ltb, le-ltb}
-use Rattle.captures.proofs.sight.fit_from.Statement.{statement}
-use Rattle.captures.proofs.sight.fit_from.Tie as tie
+use Rattle.sight.proofs.fit_from.Statement.{statement}
+use Rattle.sight.proofs.fit_from.Tie as tie
 
 returns : tie.Need-returns
 returns c = rw (lt-ltb _ _ (c .if1 .taken))

@@ -1,6 +1,6 @@
--- `captures::lack::is_lacking` meets its contract, by its tests. Assumes nothing.
-use Rattle.captures.proofs.lack.is_lacking.Statement.{statement}
-use Rattle.captures.proofs.lack.is_lacking.Tie as tie
+-- `sight::lack::is_lacking` meets its contract, by its tests. Assumes nothing.
+use Rattle.sight.proofs.lack.is_lacking.Statement.{statement}
+use Rattle.sight.proofs.lack.is_lacking.Tie as tie
 
 returns : tie.Need-returns
 returns c = rw (c .if1 .taken)

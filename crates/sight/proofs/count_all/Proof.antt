@@ -1,4 +1,4 @@
--- `captures::sight::count_all` meets its contract: what is left, counted and noted from here, is the whole. Assumes nothing.
+-- `sight::count_all` meets its contract: what is left, counted and noted from here, is the whole. Assumes nothing.
 use borrow.Author.Needs.{needs}
 use mathlib.Core.Path.{_≡_, _∙_, refl, sym}
 use Prim.Native.Nat.{_+_, _-_, _/_, _≤_}
@@ -6,10 +6,10 @@ use native.Mathlib.Omega.{arith}
 use lib.ListN.{length, drop}
 use denote.Ref.{now}
 use Rattle.packet.specs.Packet.{packetLength}
-use Rattle.captures.specs.Sights.{countedAll, notedAll}
-use Rattle.captures.proofs.Looking.{count-on, note-on, count-out, note-out}
-use Rattle.captures.proofs.sight.count_all.Statement.{statement}
-use Rattle.captures.proofs.sight.count_all.Tie as tie
+use Rattle.sight.specs.Sights.{countedAll, notedAll}
+use Rattle.sight.proofs.Looking.{count-on, note-on, count-out, note-out}
+use Rattle.sight.proofs.count_all.Statement.{statement}
+use Rattle.sight.proofs.count_all.Tie as tie
 
 abbrev Inv-loop : tie.InvT-loop
 Inv-loop setting bytes pages₀ counts₀ at₀ pages counts at =

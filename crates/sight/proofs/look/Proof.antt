@@ -1,9 +1,9 @@
--- `captures::sight::look` meets its contract, by its test. Assumes nothing.
+-- `sight::look` meets its contract, by its test. Assumes nothing.
 use denote.Ref.{now}
-use Rattle.captures.proofs.Looking.{is-looked, not-looked}
+use Rattle.sight.proofs.Looking.{is-looked, not-looked}
 use borrow.Author.Needs.{needs}
-use Rattle.captures.proofs.sight.look.Statement.{statement}
-use Rattle.captures.proofs.sight.look.Tie as tie
+use Rattle.sight.proofs.look.Statement.{statement}
+use Rattle.sight.proofs.look.Tie as tie
 
 returns : tie.Need-returns
 returns c =

@@ -19,7 +19,7 @@ use Rattle.survey.specs.Either.{seeEither}
 use Rattle.survey.specs.Fitting.{firstIn}
 use Rattle.survey.specs.Pages.{noPage, codeOf, noted}
 use Rattle.told.specs.Fronts.{frontOf}
-use Rattle.captures.specs.declared.sight.Sight.{Sight}
+use Rattle.sight.specs.declared.Sight.{Sight}
 
 -- ---- to begin with
 

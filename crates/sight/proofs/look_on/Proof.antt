@@ -1,11 +1,11 @@
--- `captures::sight::look_on` meets its contract: a packet 0 of our page has come, or not. Assumes nothing.
+-- `sight::look_on` meets its contract: a packet 0 of our page has come, or not. Assumes nothing.
 use mathlib.Core.Path.{_∙_, ap}
 use denote.Ref.{now}
-use Rattle.captures.specs.Sights.{fitFrom}
-use Rattle.captures.proofs.Looking.{looked-came, looked-lacking, noted-front}
+use Rattle.sight.specs.Sights.{fitFrom}
+use Rattle.sight.proofs.Looking.{looked-came, looked-lacking, noted-front}
 use borrow.Author.Needs.{needs}
-use Rattle.captures.proofs.sight.look_on.Statement.{statement}
-use Rattle.captures.proofs.sight.look_on.Tie as tie
+use Rattle.sight.proofs.look_on.Statement.{statement}
+use Rattle.sight.proofs.look_on.Tie as tie
 
 returns : tie.Need-returns
 returns c =

@@ -16,8 +16,8 @@ use Rattle.survey.specs.Pages.{codeOf, noted}
 use Rattle.octet.specs.Turning.{turned}
 use Rattle.survey.specs.Fitting.{firstIn}
 use Rattle.told.specs.Fronts.{frontOf}
-use Rattle.captures.specs.declared.sight.Sight.{Sight}
-use Rattle.captures.specs.Sights.{seenFrom, countedAll, notedAll, fitFrom, isLooked, seenOn, leftOf, notedIn, lookedSight, lookedAt, notedAt}
+use Rattle.sight.specs.declared.Sight.{Sight}
+use Rattle.sight.specs.Sights.{seenFrom, countedAll, notedAll, fitFrom, isLooked, seenOn, leftOf, notedIn, lookedSight, lookedAt, notedAt}
 
 module _ (l : List ℕ) (at : ℕ) where
   one-fewer : at + 42 ≤ length l → (length l - at) / packetLength ≡ suc ((length l - (at + 42)) / packetLength)

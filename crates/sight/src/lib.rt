@@ -1,5 +1,7 @@
 // What is seen of a capture besides its tables: the counts that `-v` asks for (SCOPE 13.10), and, where no packet 0 of our page came,
 // what the capture may be (SCOPE 13.9). Once one has come, only `-v` looks on. To say it is the program's.
+pub mod lack;
+
 use packet::PACKET;
 use packet::Setting;
 use packet::two::Streams;
@@ -10,7 +12,7 @@ ghost use mathlib.Core.Path.{_≡_};
 ghost use Prim.Native.Nat.{_/_};
 ghost use lib.ListN.{length};
 ghost use Rattle.packet.specs.Packet.{packetLength};
-ghost use Rattle.captures.specs.Sights.{noSight, ownPage, startPages, seenFrom, countedAll, notedAll, fitFrom, isLooked, seenOn, leftOf, notedIn, lookedSight, lookedAt, notedAt};
+ghost use Rattle.sight.specs.Sights.{noSight, ownPage, startPages, seenFrom, countedAll, notedAll, fitFrom, isLooked, seenOn, leftOf, notedIn, lookedSight, lookedAt, notedAt};
 
 // Our own page in the first stream and in the second, and ten others that are told where neither came.
 pub const PAGES: usize = 12;
@@ -43,7 +45,7 @@ fn own(setting: Setting) -> u16
 }
 
 // Nothing is seen yet.
-pub(crate) fn none() -> Sight
+pub fn none() -> Sight
     ensures { λ r. ⌜ r ≡ noSight ⌝ }
 {
     Sight {
@@ -62,7 +64,7 @@ pub(crate) fn none() -> Sight
 }
 
 // Looks at one more piece of n bytes, which is turned where no packet 0 of our page has come.
-pub(crate) fn look(
+pub fn look(
     setting: Streams,
     verbose: bool,
     sight: Sight,

@@ -1,7 +1,7 @@
--- `captures::sight::pages` meets its contract: its own page in each stream stands in front. Assumes nothing.
+-- `sight::pages` meets its contract: its own page in each stream stands in front. Assumes nothing.
 use borrow.Author.Needs.{needs}
-use Rattle.captures.proofs.sight.pages.Statement.{statement}
-use Rattle.captures.proofs.sight.pages.Tie as tie
+use Rattle.sight.proofs.pages.Statement.{statement}
+use Rattle.sight.proofs.pages.Tie as tie
 
 returns : tie.Need-returns
 returns c =

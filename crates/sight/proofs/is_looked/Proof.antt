@@ -1,7 +1,7 @@
--- `captures::sight::is_looked` meets its contract, by its tests. Assumes nothing.
+-- `sight::is_looked` meets its contract, by its tests. Assumes nothing.
 use borrow.Author.Tests.{eq-eqb, ne-eqb}
-use Rattle.captures.proofs.sight.is_looked.Statement.{statement}
-use Rattle.captures.proofs.sight.is_looked.Tie as tie
+use Rattle.sight.proofs.is_looked.Statement.{statement}
+use Rattle.sight.proofs.is_looked.Tie as tie
 
 returns : tie.Need-returns
 returns c = rw (eq-eqb _ _ (c .if1 .taken))

@@ -4,7 +4,7 @@ use packet::PACKET;
 use packet::two::Streams;
 use survey::seen::NO_PAGE;
 ghost use mathlib.Core.Path.{_≡_};
-ghost use Rattle.captures.specs.Sights.{isLacking};
+ghost use Rattle.sight.specs.Sights.{isLacking};
 
 // Whether bytes came and no packet 0 of our page.
 pub fn is_lacking(sight: Sight) -> bool
@@ -22,7 +22,7 @@ pub fn say(setting: Streams, sight: Sight, pages: &[u16], is_short: bool) {
     told::say(b", page ");
     told::say_hex(setting.page as u64, 2);
     told::say_count(b", stream ", setting.first as u64);
-    if !crate::is_one(setting) {
+    if setting.first != setting.second {
         told::say_count(b" or ", setting.second as u64);
     }
     told::say(b" came");

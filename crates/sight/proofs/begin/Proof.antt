@@ -1,7 +1,7 @@
--- `captures::sight::begin` meets its contract: bytes came before, or not. Assumes nothing.
+-- `sight::begin` meets its contract: bytes came before, or not. Assumes nothing.
 use borrow.Author.Needs.{needs}
-use Rattle.captures.proofs.sight.begin.Statement.{statement}
-use Rattle.captures.proofs.sight.begin.Tie as tie
+use Rattle.sight.proofs.begin.Statement.{statement}
+use Rattle.sight.proofs.begin.Tie as tie
 
 returns : tie.Need-returns
 returns c = search needs

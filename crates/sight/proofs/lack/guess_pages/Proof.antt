@@ -1,9 +1,9 @@
--- `captures::lack::guess_pages` is safe and ends: it counts the places. Assumes nothing.
+-- `sight::lack::guess_pages` is safe and ends: it counts the places. Assumes nothing.
 use borrow.Author.Needs.{needs}
 use Prim.Native.Nat.{_-_}
 use lib.ListN.{length}
-use Rattle.captures.proofs.lack.guess_pages.Statement.{statement}
-use Rattle.captures.proofs.lack.guess_pages.Tie as tie
+use Rattle.sight.proofs.lack.guess_pages.Statement.{statement}
+use Rattle.sight.proofs.lack.guess_pages.Tie as tie
 
 abbrev Inv-loop : tie.InvT-loop
 Inv-loop pages i₀ i = Unit {0}
