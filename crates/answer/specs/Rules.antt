@@ -21,9 +21,9 @@ abbrev pub judged {ℓ} : {A : Type ℓ} → (ℕ → ℕ → A) → List Rule �
 judged refused [] a = a
 judged refused (r ∷ rs) a = pick (r .holds) (judged refused rs a) (refused (r .number) (r .offset))
 
--- the greatest number of the list (SCOPE 2.1)
+-- the greatest number of the list, of which 24 and 25 aren't given yet (SCOPE 2.1)
 abbrev pub lastNumber : ℕ
-lastNumber = 23
+lastNumber = 27
 
 -- a refusal's number is 1 to the last of the list; 0 stands for an acceptance (SCOPE 2.1)
 abbrev pub refusing : ℕ → Bool

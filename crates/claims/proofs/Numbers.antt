@@ -1,4 +1,4 @@
--- Each call's rules refuse with a number of SCOPE 2, 1 to 23, so that 0 is an acceptance: `accepted-exactly` and `accepted-writes` of room
+-- Each call's rules refuse with a number of SCOPE 2, 1 to 27, so that 0 is an acceptance: `accepted-exactly` and `accepted-writes` of room
 -- `answer` hold of each call. The reader's calls and the frame's answer by enums of their own, and owe the same. Assumes nothing.
 use mathlib.Core.Path.{_≡_, _∙_, refl, sym, ap, subst}
 use mathlib.Core.Bool.{Bool, true, false}
@@ -16,6 +16,7 @@ use Rattle.pes.specs.Reading.{places, unitsRules, readRules}
 use Rattle.pes_writer.specs.Records.{writeRules}
 use Rattle.writer.specs.Cutting.{cutRules}
 use Rattle.forms.specs.Writing.{formRules, writeRules as Form·writeRules}
+use Rattle.dvb_descriptor.specs.Calls.{writeRules as Descriptor·writeRules, readRules as Descriptor·readRules}
 use Rattle.state.specs.declared.Reader.{Reader}
 use Rattle.reader.specs.declared.Heard.{Heard}
 use Rattle.reader.specs.declared.many.HeardAll.{HeardAll}
@@ -65,6 +66,14 @@ writes-menu application f = refl
 pub reads-menu : (application : ℕ) (r : List ℕ) → allRefusing (Menu·readRules application r) ≡ true
 unfolding allRefusing frameRules Menu·frontRules Menu·wholeRules Menu·lengthRules
 reads-menu application r = refl
+
+pub writes-descriptor : (f : List ℕ) → allRefusing (Descriptor·writeRules f) ≡ true
+unfolding allRefusing formRules Descriptor·writeRules
+writes-descriptor f = refl
+
+pub reads-descriptor : (b : List ℕ) → allRefusing (Descriptor·readRules b) ≡ true
+unfolding allRefusing Descriptor·readRules
+reads-descriptor b = refl
 
 pub rewrites-sheet : (sheet : List ℕ) → allRefusing (rewriteRules sheet) ≡ true
 unfolding allRefusing rewriteRules
