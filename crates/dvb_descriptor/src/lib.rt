@@ -11,8 +11,8 @@ ghost use Rattle.forms.specs.Form.{form, wordsIn, tableIn};
 ghost use Rattle.forms.specs.Internal.{formMost};
 ghost use Rattle.forms.specs.Tables.{TI as Tables·TI};
 ghost use Rattle.dvb_descriptor.specs.Subtitles.{subtitleOf, paired, subtitlesOf};
-ghost use Rattle.dvb_descriptor.specs.Entries.{five, fives, subtitleIn, keptIn, countIn};
-ghost use Rattle.dvb_descriptor.specs.Calls.{writeRules, descriptorOf, readRules, readOf};
+ghost use Rattle.dvb_descriptor.specs.Entries.{subtitleType, five, fives, subtitleIn, keptIn, countIn};
+ghost use Rattle.dvb_descriptor.specs.Calls.{most, writeRules, descriptorOf, readRules, readOf};
 ghost use Rattle.dvb_descriptor.specs.Internal.{isOther};
 use answer::Answer;
 use forms::OPENING;
@@ -22,7 +22,7 @@ use forms::TI;
 pub const LONGEST: usize = 257;
 
 // EN 300 468: the tag of a teletext descriptor.
-const TAG: u8 = 0x56;
+const TAG: usize = 0x56;
 
 // EN 300 468: the type of a teletext subtitle page.
 const SUBTITLE: usize = 0x02;
@@ -51,7 +51,7 @@ pub fn write_descriptor(table: &[u8], out: &mut [u8]) -> Answer
             if out.len() < need {
                 return answer::refuse(1, 0);
             }
-            let head = [TAG, (5 * n) as u8];
+            let head = [TAG as u8, (5 * n) as u8];
             lent_bytes::copy(&head, 0, 2, out, 0);
             put_descriptors(table, out);
             Answer::Done(need)
@@ -127,7 +127,7 @@ fn count(table: &[u8]) -> usize
 // The entries of a form, behind tag and length.
 fn put_descriptors(table: &[u8], out: &mut [u8])
     requires { ⌜ getD (now table) 0 0 ≡ Tables·TI ⌝ }
-    ensures { λ _. ⌜ now (out .exit) ≡ sets (now (out .entry)) 2 (fives 2 (subtitlesOf (tableIn (now (table .entry))))) ⌝ }
+    ensures { λ _. ⌜ now (out .exit) ≡ sets (now (out .entry)) 2 (fives subtitleType (subtitlesOf (tableIn (now (table .entry))))) ⌝ }
 {
     let mut left = forms::byte_at(table, 5);
     let mut i = OPENING;
@@ -144,7 +144,7 @@ fn put_descriptors(table: &[u8], out: &mut [u8])
 // The entries of the k subtitles from a place of the form on.
 fn put_entries(table: &[u8], from: usize, k: usize, out: &mut [u8], to: usize)
     requires { ⌜ (from ≤ formMost) × (to ≤ formMost) × (k < 256) ⌝ }
-    ensures { λ _. ⌜ now (out .exit) ≡ sets (now (out .entry)) to (fives 2 (paired (wordsIn (2 * k) (drop from (now (table .entry)))))) ⌝ }
+    ensures { λ _. ⌜ now (out .exit) ≡ sets (now (out .entry)) to (fives subtitleType (paired (wordsIn (2 * k) (drop from (now (table .entry)))))) ⌝ }
 {
     let mut left = k;
     let mut i = from;
@@ -181,10 +181,10 @@ fn subtitle_of(language: usize, reference: usize) -> Subtitle
 fn judge_bytes(bytes: &[u8]) -> Answer
     ensures { λ r.
         ⌜ (r ≡ judged refused (readRules (now (bytes .entry))) (Done (countIn (now (bytes .entry)))))
-        × (countIn (now (bytes .entry)) ≤ 51) ⌝ }
+        × (countIn (now (bytes .entry)) ≤ most) ⌝ }
 {
     let long = forms::byte_at(bytes, 1);
-    if forms::byte_at(bytes, 0) != 0x56 {
+    if forms::byte_at(bytes, 0) != TAG {
         return answer::refuse(27, 0);
     }
     if long % 5 != 0 {
@@ -198,7 +198,7 @@ fn judge_bytes(bytes: &[u8]) -> Answer
 
 // How long what is handed out is: the walk that puts it, with no room.
 fn measure(bytes: &[u8], k: usize) -> usize
-    requires { ⌜ k ≤ 51 ⌝ }
+    requires { ⌜ k ≤ most ⌝ }
     ensures { λ r. ⌜ (r ≡ 2 + 5 * length (keptIn k (drop 2 (now (bytes .entry))))) × (r ≤ 2 + 5 * k) ⌝ }
 {
     let mut scrap = [0u8; 0];
@@ -207,7 +207,7 @@ fn measure(bytes: &[u8], k: usize) -> usize
 
 // Puts the subtitles among the k entries of a descriptor behind the two counts, as far as there is room, and answers how long all of it is.
 fn put_subtitles(bytes: &[u8], k: usize, out: &mut [u8]) -> usize
-    requires { ⌜ k ≤ 51 ⌝ }
+    requires { ⌜ k ≤ most ⌝ }
     ensures { λ r.
         ⌜ (r ≡ 2 + 5 * length (keptIn k (drop 2 (now (bytes .entry)))))
         × (now (out .exit) ≡ sets (now (out .entry)) 2 (fives 0 (keptIn k (drop 2 (now (bytes .entry)))))) ⌝ }

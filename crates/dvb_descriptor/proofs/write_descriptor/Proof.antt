@@ -49,8 +49,8 @@ returns c =
 mul-t9 : tie.Need-mul-t9
 mul-t9 c = omega (arith, passed (c .before .before) .2)
 
-cast-t11 : tie.Need-cast-t11
-cast-t11 c = omega (arith, passed (c .before .before) .2)
+cast-t12 : tie.Need-cast-t12
+cast-t12 c = omega (arith, passed (c .before .before) .2)
 
 put-descriptors-requires : tie.Need-put-descriptors-requires
 put-descriptors-requires c κs = passed (c .before .before .before .before .before .before .before .before) .1
@@ -87,8 +87,9 @@ write-descriptor-spec =
     add-need
     (λ c κs. search needs)
     returns
+    (λ c. search needs)
     mul-t9
-    cast-t11
+    cast-t12
     (λ c. search needs)
     (λ c κs. search needs)
     put-descriptors-requires
