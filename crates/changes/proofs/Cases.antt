@@ -24,7 +24,7 @@ line text = text ++ (10 ∷ [])
 
 abbrev entry : ℕ → ℕ → ℕ → ℕ → List Descriptor → Entry
 entry stamp kind network block ds =
-    record { stamp = stamp; table = record { kind = kind; copyright = 0; block = block; network = network; descriptors = ds } }
+    record { stamp = stamp; mended = 0; table = record { kind = kind; copyright = 0; block = block; network = network; descriptors = ds } }
 
 abbrev bare : ℕ → Descriptor
 bare n = record { id = n; words = [] }

@@ -21,6 +21,7 @@ use Rattle.day_sheet.proofs.Choosing.{written-sendable}
 use Rattle.changes.specs.Lines.{newName, kindWord, keyName, keyLine}
 use Rattle.changes.specs.Applying.{keyOfTable, newKind, newNetwork, newLine}
 use Rattle.changes.specs.Internal.{kindIn, frontOf, keyText}
+use Rattle.sheet_entry.specs.declared.Form.{Form}
 
 -- a key within its fields
 pub record Keyed (t : Table) : Type 0 where
@@ -28,12 +29,13 @@ pub record Keyed (t : Table) : Type 0 where
   pub network-fits : t .network ≤ 255
   pub block-fits : t .block ≤ 65535
 
-pub keyed : (e : Entry) → Fit e → Keyed (e .table)
-keyed e w =
-    let s = written-sendable e w in
-    let n = s .network-fits in
-    let b = s .block-fits in
-    record { kind-known = s .kind-known; network-fits = omega arith; block-fits = omega arith }
+module _ (form : Form) where
+  pub keyed : (e : Entry) → Fit form e → Keyed (e .table)
+  keyed e w =
+      let s = written-sendable form e w in
+      let n = s .network-fits in
+      let b = s .block-fits in
+      record { kind-known = s .kind-known; network-fits = omega arith; block-fits = omega arith }
 
 -- a known kind is one of the two
 pub by-kind : (P : ℕ → Type 0) (kind : ℕ) → known kind ≡ true → P TI → P LI → P kind
@@ -60,10 +62,11 @@ key-text name kind network block k h =
         let r : ((network * 2 + bit) * 65536 + block) % 65536 ≡ block = omega arith in
         rw (e, p, q, r, f)
 
-pub key-line : (name : List ℕ) (e : Entry) → Fit e → keyText name (keyOf e) ≡ keyLine name (e .table)
-unfolding keyOf keyLine
-key-line name e w =
-    let k = keyed e w in key-text name (e .table .kind) (e .table .network) (e .table .block) (k .kind-known) (k .block-fits)
+module _ (form : Form) where
+  pub key-line : (name : List ℕ) (e : Entry) → Fit form e → keyText name (keyOf e) ≡ keyLine name (e .table)
+  unfolding keyOf keyLine
+  key-line name e w =
+      let k = keyed form e w in key-text name (e .table .kind) (e .table .network) (e .table .block) (k .kind-known) (k .block-fits)
 
 -- ---- read back
 

@@ -19,7 +19,7 @@ use Rattle.text_lines.specs.Lines.{decimal, numberLine}
 use Rattle.text_lines.proofs.Printed.{then, put-none, put-as, Left, left-start, left-on, left-end}
 use Rattle.listing.specs.Lines.{kindLine, kindTI, kindLI, networkName, blockName}
 use Rattle.sheet_entry.specs.declared.Found.{Found}
-use Rattle.sheet_entry.specs.Entries.{Entry, spelledBy, stampName, headLines, tableLines, entryText}
+use Rattle.sheet_entry.specs.Entries.{Entry, mendedHead, spelledBy, stampName, headLines, tableLines, entryText}
 use Rattle.day_sheet.specs.declared.joining.Turn.{Turn}
 use Rattle.day_sheet.specs.Along.{Stands, inFirst, inSecond, inBoth, along}
 use Rattle.day_sheet.specs.Turns.{turnOf}
@@ -33,6 +33,7 @@ use Rattle.changes.specs.Calls.{compareText}
 use Rattle.changes.specs.Internal.{kindIn, frontOf, keyText, bothText, turnChange, placeMost}
 use Rattle.changes.proofs.Applied.{going, printed-on}
 use Rattle.changes.proofs.Keys.{key-line}
+use Rattle.sheet_entry.specs.declared.Form.{Form}
 
 -- ---- the line of a key
 
@@ -112,199 +113,202 @@ module _ (t : Turn) (a b : List ℕ) where
   unfolding turnChange
   turn-both h l = rw (h, l)
 
--- it is the change of what stands there
-turn-changes : {a b : List ℕ} {t : Turn} {s : Stands} → Front a b t s → turnChange t a b ≡ changeLines s
-unfolding turnChange bothText changeLines
-turn-changes (front-first x rest v e) = key-line goneName x v
-turn-changes (front-second y more w e) = rw (e, lines-found y more, key-line newName y w)
-turn-changes (front-both x y rest more v w k e d) = rw (e, d, lines-found x rest, lines-found y more, key-line changedName y w)
+module _ (form : Form) where
+  -- it is the change of what stands there
+  turn-changes : {a b : List ℕ} {t : Turn} {s : Stands} → Front form a b t s → turnChange t a b ≡ changeLines s
+  unfolding turnChange bothText changeLines
+  turn-changes (front-first x rest v e) = key-line form goneName x v
+  turn-changes (front-second y more w e) = rw (e, lines-found form y more, key-line form newName y w)
+  turn-changes (front-both x y rest more v w k e d) = rw (e, d, lines-found form x rest, lines-found form y more, key-line form changedName y w)
 
--- ---- how long it is
+  -- ---- how long it is
 
-word-length : (kind : ℕ) → length (kindWord kind) ≡ 3
-unfolding kindWord
-word-length kind = go (eqb kind TI)
-  where
-    go : (z : Bool) → length (pick z (codes "TI,") (codes "LI,")) ≡ 3
-    go true = refl
-    go false = refl
+  word-length : (kind : ℕ) → length (kindWord kind) ≡ 3
+  unfolding kindWord
+  word-length kind = go (eqb kind TI)
+    where
+      go : (z : Bool) → length (pick z (codes "TI,") (codes "LI,")) ≡ 3
+      go true = refl
+      go false = refl
 
-line-length : (kind : ℕ) → length (kindLine kind) ≡ 8
-unfolding kindLine
-line-length kind = go (eqb kind TI)
-  where
-    go : (z : Bool) → length (pick z kindTI kindLI) ≡ 8
-    go true = refl
-    go false = refl
+  line-length : (kind : ℕ) → length (kindLine kind) ≡ 8
+  unfolding kindLine
+  line-length kind = go (eqb kind TI)
+    where
+      go : (z : Bool) → length (pick z kindTI kindLI) ≡ 8
+      go true = refl
+      go false = refl
 
--- the line of a key is shorter than the head of its entry
-key-short : (name : List ℕ) (e : Entry) → length name ≤ 8 → length (keyLine name (e .table)) ≤ length (headLines e)
-unfolding keyLine keyName headLines spelledBy numberLine
-key-short name e h =
-    let t = e .table in
-    let n = decimal (t .network) in
-    let m = decimal (t .block) in
-    let a = length-append (name ++ (kindWord (t .kind) ++ (n ++ (44 ∷ []))) ++ m) (10 ∷ []) in
-    let b = length-append (name ++ (kindWord (t .kind) ++ (n ++ (44 ∷ [])))) m in
-    let c = length-append name (kindWord (t .kind) ++ (n ++ (44 ∷ []))) in
-    let d = length-append (kindWord (t .kind)) (n ++ (44 ∷ [])) in
-    let f = length-append n (44 ∷ []) in
-    let w = word-length (t .kind) in
-    let k = line-length (t .kind) in
-    let stamp = (stampName ++ decimal (e .stamp)) ++ (10 ∷ []) in
-    let network = (networkName ++ n) ++ (10 ∷ []) in
-    let block = (blockName ++ m) ++ (10 ∷ []) in
-    let o = length-append stamp (kindLine (t .kind) ++ (network ++ (block ++ []))) in
-    let p = length-append (kindLine (t .kind)) (network ++ (block ++ [])) in
-    let q = length-append network (block ++ []) in
-    let r = length-append block [] in
-    let s = length-append (networkName ++ n) (10 ∷ []) in
-    let u = length-append networkName n in
-    let x = length-append (blockName ++ m) (10 ∷ []) in
-    let y = length-append blockName m in
-    omega arith
+  -- the line of a key is shorter than the head of its entry
+  key-short : (name : List ℕ) (e : Entry) → length name ≤ 8 → length (keyLine name (e .table)) ≤ length (headLines form e)
+  unfolding keyLine keyName headLines spelledBy numberLine
+  key-short name e h =
+      let t = e .table in
+      let n = decimal (t .network) in
+      let m = decimal (t .block) in
+      let a = length-append (name ++ (kindWord (t .kind) ++ (n ++ (44 ∷ []))) ++ m) (10 ∷ []) in
+      let b = length-append (name ++ (kindWord (t .kind) ++ (n ++ (44 ∷ [])))) m in
+      let c = length-append name (kindWord (t .kind) ++ (n ++ (44 ∷ []))) in
+      let d = length-append (kindWord (t .kind)) (n ++ (44 ∷ [])) in
+      let f = length-append n (44 ∷ []) in
+      let w = word-length (t .kind) in
+      let k = line-length (t .kind) in
+      let stamp = (stampName ++ decimal (e .stamp)) ++ (10 ∷ []) in
+      let network = (networkName ++ n) ++ (10 ∷ []) in
+      let block = (blockName ++ m) ++ (10 ∷ []) in
+      let rest = kindLine (t .kind) ++ (network ++ (block ++ [])) in
+      let o = length-append stamp (mendedHead form .text (e .mended) ++ rest) in
+      let z = length-append (mendedHead form .text (e .mended)) rest in
+      let p = length-append (kindLine (t .kind)) (network ++ (block ++ [])) in
+      let q = length-append network (block ++ []) in
+      let r = length-append block [] in
+      let s = length-append (networkName ++ n) (10 ∷ []) in
+      let u = length-append networkName n in
+      let x = length-append (blockName ++ m) (10 ∷ []) in
+      let y = length-append blockName m in
+      omega arith
 
--- the entries that stand at a key
-abbrev standing : Stands → ℕ
-standing (inFirst x) = length (entryText x)
-standing (inSecond y) = length (entryText y)
-standing (inBoth x y) = length (entryText x) + length (entryText y)
+  -- the entries that stand at a key
+  abbrev standing : Stands → ℕ
+  standing (inFirst x) = length (entryText form x)
+  standing (inSecond y) = length (entryText form y)
+  standing (inBoth x y) = length (entryText form x) + length (entryText form y)
 
--- a change is no longer than they are
-change-fits : (s : Stands) → length (changeLines s) ≤ standing s
-unfolding changeLines
-change-fits (inFirst x) = let k = key-short goneName x (omega arith) in let s = spans x in omega arith
-change-fits (inSecond y) =
-    let k = key-short newName y (omega arith) in
-    let s = spans y in
-    let l = length-append (keyLine newName (y .table)) (tableLines y) in
-    omega arith
-change-fits (inBoth x y) = go (sameText (tableLines x) (tableLines y))
-  where
-    go :
-        (z : Bool)
-        → length (pick z [] (keyLine changedName (y .table) ++ (tableLines x ++ tableLines y))) ≤ length (entryText x) + length (entryText y)
-    go true = omega arith
-    go false =
-        let h = key-short changedName y (omega arith) in
-        let s = spans x in
-        let u = spans y in
-        let l = length-append (keyLine changedName (y .table)) (tableLines x ++ tableLines y) in
-        let m = length-append (tableLines x) (tableLines y) in
-        omega arith
+  -- a change is no longer than they are
+  change-fits : (s : Stands) → length (changeLines s) ≤ standing s
+  unfolding changeLines
+  change-fits (inFirst x) = let k = key-short goneName x (omega arith) in let s = spans form x in omega arith
+  change-fits (inSecond y) =
+      let k = key-short newName y (omega arith) in
+      let s = spans form y in
+      let l = length-append (keyLine newName (y .table)) (tableLines y) in
+      omega arith
+  change-fits (inBoth x y) = go (sameText (tableLines x) (tableLines y))
+    where
+      go :
+          (z : Bool)
+          → length (pick z [] (keyLine changedName (y .table) ++ (tableLines x ++ tableLines y))) ≤ length (entryText form x) + length (entryText form y)
+      go true = omega arith
+      go false =
+          let h = key-short changedName y (omega arith) in
+          let s = spans form x in
+          let u = spans form y in
+          let l = length-append (keyLine changedName (y .table)) (tableLines x ++ tableLines y) in
+          let m = length-append (tableLines x) (tableLines y) in
+          omega arith
 
--- nor than what was found
-change-short : {a b : List ℕ} {t : Turn} {s : Stands} → Front a b t s → length (changeLines s) ≤ t .first .long + t .second .long
-change-short (front-first x rest v e) = let h = change-fits (inFirst x) in omega arith
-change-short (front-second y more w e) = let h = change-fits (inSecond y) in omega arith
-change-short (front-both x y rest more v w k e d) = change-fits (inBoth x y)
+  -- nor than what was found
+  change-short : {a b : List ℕ} {t : Turn} {s : Stands} → Front form a b t s → length (changeLines s) ≤ t .first .long + t .second .long
+  change-short (front-first x rest v e) = let h = change-fits (inFirst x) in omega arith
+  change-short (front-second y more w e) = let h = change-fits (inSecond y) in omega arith
+  change-short (front-both x y rest more v w k e d) = change-fits (inBoth x y)
 
-sheet-long : (x : Entry) (xs : List Entry) → length (sheetText (x ∷ xs)) ≡ length (entryText x) + length (sheetText xs)
-unfolding sheetText
-sheet-long x xs = length-append (entryText x) (sheetText xs)
+  sheet-long : (x : Entry) (xs : List Entry) → length (sheetText form (x ∷ xs)) ≡ length (entryText form x) + length (sheetText form xs)
+  unfolding sheetText
+  sheet-long x xs = length-append (entryText form x) (sheetText form xs)
 
-abbrev Short : List Entry → List Entry → Type 0
-Short xs ys = length (printed xs ys) ≤ length (sheetText xs) + length (sheetText ys)
+  abbrev Short : List Entry → List Entry → Type 0
+  Short xs ys = length (printed xs ys) ≤ length (sheetText form xs) + length (sheetText form ys)
 
-short-on :
-    (xs ys xs′ ys′ : List Entry) {s : Stands} → along xs ys ≡ s ∷ along xs′ ys′ → Short xs′ ys′
-    → standing s + length (sheetText xs′) + length (sheetText ys′) ≤ length (sheetText xs) + length (sheetText ys) → Short xs ys
-short-on xs ys xs′ ys′ {s} e i m =
-    let h = change-fits s in
-    let p = ap length (printed-on xs ys xs′ ys′ e) ∙ length-append (changeLines s) (printed xs′ ys′) in
-    omega arith
+  short-on :
+      (xs ys xs′ ys′ : List Entry) {s : Stands} → along xs ys ≡ s ∷ along xs′ ys′ → Short xs′ ys′
+      → standing s + length (sheetText form xs′) + length (sheetText form ys′) ≤ length (sheetText form xs) + length (sheetText form ys) → Short xs ys
+  short-on xs ys xs′ ys′ {s} e i m =
+      let h = change-fits s in
+      let p = ap length (printed-on xs ys xs′ ys′ e) ∙ length-append (changeLines s) (printed xs′ ys′) in
+      omega arith
 
-short-none : Short [] []
-unfolding printed changesOf
-short-none = rw along-none (omega arith)
+  short-none : Short [] []
+  unfolding printed changesOf
+  short-none = rw along-none (omega arith)
 
--- the print is at most as long as the two sheets together
-pub print-short : (xs ys : List Entry) → length (printed xs ys) ≤ length (sheetText xs) + length (sheetText ys)
-print-short =
-    going Short short-none (λ x xs i. let l = sheet-long x xs in short-on (x ∷ xs) [] xs [] (along-first x xs) i (omega arith))
-    (λ y ys i. let l = sheet-long y ys in short-on [] (y ∷ ys) [] ys (along-second y ys) i (omega arith))
-    (λ x xs y ys k i. let l = sheet-long x xs in short-on (x ∷ xs) (y ∷ ys) xs (y ∷ ys) (along-less x xs y ys k) i (omega arith))
-    (λ x xs y ys k i. let l = sheet-long y ys in short-on (x ∷ xs) (y ∷ ys) (x ∷ xs) ys (along-more x xs y ys k) i (omega arith))
-    (λ x xs y ys k i.
-    let l = sheet-long x xs in
-    let m = sheet-long y ys in
-    short-on (x ∷ xs) (y ∷ ys) xs ys (along-same x xs y ys k) i (omega arith))
+  -- the print is at most as long as the two sheets together
+  pub print-short : (xs ys : List Entry) → length (printed xs ys) ≤ length (sheetText form xs) + length (sheetText form ys)
+  print-short =
+      going Short short-none (λ x xs i. let l = sheet-long x xs in short-on (x ∷ xs) [] xs [] (along-first x xs) i (omega arith))
+      (λ y ys i. let l = sheet-long y ys in short-on [] (y ∷ ys) [] ys (along-second y ys) i (omega arith))
+      (λ x xs y ys k i. let l = sheet-long x xs in short-on (x ∷ xs) (y ∷ ys) xs (y ∷ ys) (along-less x xs y ys k) i (omega arith))
+      (λ x xs y ys k i. let l = sheet-long y ys in short-on (x ∷ xs) (y ∷ ys) (x ∷ xs) ys (along-more x xs y ys k) i (omega arith))
+      (λ x xs y ys k i.
+      let l = sheet-long x xs in
+      let m = sheet-long y ys in
+      short-on (x ∷ xs) (y ∷ ys) xs ys (along-same x xs y ys k) i (omega arith))
 
--- ---- along both sheets
+  -- ---- along both sheets
 
--- what holds before each turn: what is left of both gives what is still to be put
-pub record Walk (first second out₀ out : List ℕ) (i j q : ℕ) : Type 0 where
-  pub in-first : Halfway first i
-  pub in-second : Halfway second j
-  pub to-put : Left out q (compareText (drop i first) (drop j second)) out₀ 0 (compareText first second)
-  pub small : q ≤ i + j
+  -- what holds before each turn: what is left of both gives what is still to be put
+  pub record Walk (first second out₀ out : List ℕ) (i j q : ℕ) : Type 0 where
+    pub in-first : Halfway form first i
+    pub in-second : Halfway form second j
+    pub to-put : Left out q (compareText form (drop i first) (drop j second)) out₀ 0 (compareText form first second)
+    pub small : q ≤ i + j
 
-pub walk-start : (first second out : List ℕ) → Halfway first 0 → Halfway second 0 → Walk first second out out 0 0 0
-walk-start first second out f g =
-    record { in-first = f; in-second = g; to-put = left-start out 0 (compareText first second); small = omega arith }
+  pub walk-start : (first second out : List ℕ) → Halfway form first 0 → Halfway form second 0 → Walk first second out out 0 0 0
+  walk-start first second out f g =
+      record { in-first = f; in-second = g; to-put = left-start out 0 (compareText form first second); small = omega arith }
 
-text-on :
-    {a b : List ℕ} {t : Turn} (u : Turned a b t)
-    → compareText a b ≡ turnChange t a b ++ compareText (drop (t .first .long) a) (drop (t .second .long) b)
-unfolding compareText printed changesOf
-text-on u = rw (u .on, turn-changes (u .front))
+  text-on :
+      {a b : List ℕ} {t : Turn} (u : Turned form a b t)
+      → compareText form a b ≡ turnChange t a b ++ compareText form (drop (t .first .long) a) (drop (t .second .long) b)
+  unfolding compareText printed changesOf
+  text-on u = rw (u .on, turn-changes (u .front))
 
-text-out : (a b : List ℕ) → length a + length b ≤ 0 → compareText a b ≡ []
-unfolding compareText printed changesOf
-text-out a b h = rw (along-out a b h)
+  text-out : (a b : List ℕ) → length a + length b ≤ 0 → compareText form a b ≡ []
+  unfolding compareText printed changesOf
+  text-out a b h = rw (along-out form a b h)
 
-module _ (first second out₀ out : List ℕ) (i j q : ℕ) (v : Walk first second out₀ out i j q) where
-  pub walk-turn :
-      i + j < length first + length second → {t : Turn} → t ≡ turnOf (drop i first) (drop j second)
-      → Turned (drop i first) (drop j second) t
-  walk-turn h e =
-      let f = v .in-first .within .inside in
-      let g = v .in-second .within .inside in
-      let k = length-drop i first in
-      let l = length-drop j second in
-      rw e (turned (drop i first) (drop j second) (v .in-first .fine) (v .in-second .fine) (omega arith))
+  module _ (first second out₀ out : List ℕ) (i j q : ℕ) (v : Walk first second out₀ out i j q) where
+    pub walk-turn :
+        i + j < length first + length second → {t : Turn} → t ≡ turnOf form (drop i first) (drop j second)
+        → Turned form (drop i first) (drop j second) t
+    walk-turn h e =
+        let f = v .in-first .within .inside in
+        let g = v .in-second .within .inside in
+        let k = length-drop i first in
+        let l = length-drop j second in
+        rw e (turned form (drop i first) (drop j second) (v .in-first .fine) (v .in-second .fine) (omega arith))
 
-  pub walk-on :
-      {t : Turn} {out′ : List ℕ} {q′ : ℕ} → Turned (drop i first) (drop j second) t
-      → Put out q (turnChange t (drop i first) (drop j second)) out′ q′
-      → Walk first second out₀ out′ (i + t .first .long) (j + t .second .long) q′
-  walk-on {t} {out′} {q′} u p =
-      let a = drop i first in
-      let b = drop j second in
-      let f = drop-drop (t .first .long) i first in
-      let g = drop-drop (t .second .long) j second in
-      let x = u .first-in in
-      let y = u .second-in in
-      let l = length-drop i first in
-      let m = length-drop j second in
-      let o = change-short (u .front) in
-      let w = ap length (turn-changes (u .front)) in
-      record {
-        in-first = record { within = record { inside = let h = v .in-first .within .inside in omega arith; short = v .in-first .within .short }; fine = rw (sym f) (u .first-fine) };
-        in-second = record { within = record { inside = let h = v .in-second .within .inside in omega arith; short = v .in-second .within .short }; fine = rw (sym g) (u .second-fine) };
-        to-put = rw (sym f, sym g) (left-on (text-on u) p (v .to-put));
-        small = let h = v .small in omega (arith, p .moved);
-      }
+    pub walk-on :
+        {t : Turn} {out′ : List ℕ} {q′ : ℕ} → Turned form (drop i first) (drop j second) t
+        → Put out q (turnChange t (drop i first) (drop j second)) out′ q′
+        → Walk first second out₀ out′ (i + t .first .long) (j + t .second .long) q′
+    walk-on {t} {out′} {q′} u p =
+        let a = drop i first in
+        let b = drop j second in
+        let f = drop-drop (t .first .long) i first in
+        let g = drop-drop (t .second .long) j second in
+        let x = u .first-in in
+        let y = u .second-in in
+        let l = length-drop i first in
+        let m = length-drop j second in
+        let o = change-short (u .front) in
+        let w = ap length (turn-changes (u .front)) in
+        record {
+          in-first = record { within = record { inside = let h = v .in-first .within .inside in omega arith; short = v .in-first .within .short }; fine = rw (sym f) (u .first-fine) };
+          in-second = record { within = record { inside = let h = v .in-second .within .inside in omega arith; short = v .in-second .within .short }; fine = rw (sym g) (u .second-fine) };
+          to-put = rw (sym f, sym g) (left-on (text-on u) p (v .to-put));
+          small = let h = v .small in omega (arith, p .moved);
+        }
 
-  pub walk-end : length first + length second ≤ i + j → Put out₀ 0 (compareText first second) out q
-  walk-end h =
-      let k = length-drop i first in
-      let l = length-drop j second in
-      let f = v .in-first .within .inside in
-      let g = v .in-second .within .inside in
-      left-end (text-out (drop i first) (drop j second) (omega arith)) (v .to-put)
+    pub walk-end : length first + length second ≤ i + j → Put out₀ 0 (compareText form first second) out q
+    walk-end h =
+        let k = length-drop i first in
+        let l = length-drop j second in
+        let f = v .in-first .within .inside in
+        let g = v .in-second .within .inside in
+        left-end (text-out (drop i first) (drop j second) (omega arith)) (v .to-put)
 
-  -- no place is far on, and what was met lies within the sheets
-  pub walk-fits : {t : Turn} → Turned (drop i first) (drop j second) t → Met first i (t .first) × Met second j (t .second) × (q ≤ placeMost)
-  walk-fits {t} u =
-      let x = u .first-in in
-      let y = u .second-in in
-      let l = length-drop i first in
-      let m = length-drop j second in
-      let f = v .in-first .within in
-      let g = v .in-second .within in
-      let s = v .small in (
-        record { span = u .first-span; inside = omega arith; small = f .short },
-        record { span = u .second-span; inside = omega arith; small = g .short },
-        omega arith,
-      )
+    -- no place is far on, and what was met lies within the sheets
+    pub walk-fits : {t : Turn} → Turned form (drop i first) (drop j second) t → Met first i (t .first) × Met second j (t .second) × (q ≤ placeMost)
+    walk-fits {t} u =
+        let x = u .first-in in
+        let y = u .second-in in
+        let l = length-drop i first in
+        let m = length-drop j second in
+        let f = v .in-first .within in
+        let g = v .in-second .within in
+        let s = v .small in (
+          record { span = u .first-span; inside = omega arith; small = f .short },
+          record { span = u .second-span; inside = omega arith; small = g .short },
+          omega arith,
+        )

@@ -39,7 +39,7 @@ keyLine name t = numberLine (keyName name (t .kind) (t .network)) (t .block)
 -- ---- the lines of a change
 
 -- of an entry that went its key; of one that came its key and its table's lines; of one in both sheets nothing where the table's lines are the
--- same, and otherwise its key, the first sheet's lines and then the second's. Stamps aren't looked at
+-- same, and otherwise its key, the first sheet's lines and then the second's. Stamps and what was mended aren't looked at
 unfoldable pub changeLines : Stands → List ℕ
 changeLines (inFirst x) = keyLine goneName (x .table)
 changeLines (inSecond y) = keyLine newName (y .table) ++ tableLines y

@@ -12,6 +12,7 @@ ghost use Rattle.changes.specs.Calls.{compareAnswer, compareLeft, compar
 ghost use Rattle.changes.specs.Internal.{turnChange, placeMost};
 use answer::Answer;
 use day_sheet::joining::Turn;
+use sheet_entry::Form;
 
 // The call's answer, and the number of the sheet at fault; 0 where neither is.
 pub struct Compared {
@@ -20,23 +21,23 @@ pub struct Compared {
 }
 
 // What changed from the first sheet to the second, to the front of `out`.
-pub fn compare(first: &[u8], second: &[u8], out: &mut [u8]) -> Compared
-    ensures answer { λ r. ⌜ r .answer ≡ compareAnswer (now (first .entry)) (now (second .entry)) (now (out .entry)) ⌝ }
-    ensures sheet { λ r. ⌜ r .sheet ≡ faultIn (now (first .entry)) (now (second .entry)) ⌝ }
-    ensures output { λ _. ⌜ now (out .exit) ≡ compareLeft (now (first .entry)) (now (second .entry)) (now (out .entry)) ⌝ }
+pub fn compare(form: Form, first: &[u8], second: &[u8], out: &mut [u8]) -> Compared
+    ensures answer { λ r. ⌜ r .answer ≡ compareAnswer form (now (first .entry)) (now (second .entry)) (now (out .entry)) ⌝ }
+    ensures sheet { λ r. ⌜ r .sheet ≡ faultIn form (now (first .entry)) (now (second .entry)) ⌝ }
+    ensures output { λ _. ⌜ now (out .exit) ≡ compareLeft form (now (first .entry)) (now (second .entry)) (now (out .entry)) ⌝ }
 {
-    match day_sheet::judge(first) {
+    match day_sheet::judge(form, first) {
         Answer::Refused(why) => Compared {
             answer: Answer::Refused(why),
             sheet: 1,
         },
-        Answer::Done(_) => match day_sheet::judge(second) {
+        Answer::Done(_) => match day_sheet::judge(form, second) {
             Answer::Refused(why) => Compared {
                 answer: Answer::Refused(why),
                 sheet: 2,
             },
             Answer::Done(_) => {
-                let answer = write(first, second, out);
+                let answer = write(form, first, second, out);
                 Compared { answer, sheet: 0 }
             }
         },
@@ -44,39 +45,39 @@ pub fn compare(first: &[u8], second: &[u8], out: &mut [u8]) -> Compared
 }
 
 // The same, of two sheets that were judged: only the room decides.
-fn write(first: &[u8], second: &[u8], out: &mut [u8]) -> Answer
-    requires { ⌜ Halfway (now first) 0 × Halfway (now second) 0 ⌝ }
-    ensures answer { λ r. ⌜ r ≡ answered [] (compareText (now (first .entry)) (now (second .entry))) (now (out .entry)) ⌝ }
-    ensures output { λ _. ⌜ now (out .exit) ≡ left [] (compareText (now (first .entry)) (now (second .entry))) (now (out .entry)) ⌝ }
+fn write(form: Form, first: &[u8], second: &[u8], out: &mut [u8]) -> Answer
+    requires { ⌜ Halfway form (now first) 0 × Halfway form (now second) 0 ⌝ }
+    ensures answer { λ r. ⌜ r ≡ answered [] (compareText form (now (first .entry)) (now (second .entry))) (now (out .entry)) ⌝ }
+    ensures output { λ _. ⌜ now (out .exit) ≡ left [] (compareText form (now (first .entry)) (now (second .entry))) (now (out .entry)) ⌝ }
 {
-    let n = measure(first, second);
+    let n = measure(form, first, second);
     if out.len() < n {
         return answer::refuse(1, 0);
     }
-    put_changes(first, second, out);
+    put_changes(form, first, second, out);
     Answer::Done(n)
 }
 
 // How long the print is: the walk that puts it, with next to no room.
-fn measure(first: &[u8], second: &[u8]) -> usize
-    requires { ⌜ Halfway (now first) 0 × Halfway (now second) 0 ⌝ }
-    ensures { λ r. ⌜ r ≡ length (compareText (now (first .entry)) (now (second .entry))) ⌝ }
+fn measure(form: Form, first: &[u8], second: &[u8]) -> usize
+    requires { ⌜ Halfway form (now first) 0 × Halfway form (now second) 0 ⌝ }
+    ensures { λ r. ⌜ r ≡ length (compareText form (now (first .entry)) (now (second .entry))) ⌝ }
 {
     let mut scrap = [0u8; 1];
-    put_changes(first, second, &mut scrap)
+    put_changes(form, first, second, &mut scrap)
 }
 
 // Puts the print to the front of `out`, as far as there is room, and answers how long it is.
-fn put_changes(first: &[u8], second: &[u8], out: &mut [u8]) -> usize
-    requires { ⌜ Halfway (now first) 0 × Halfway (now second) 0 ⌝ }
-    ensures { λ r. ⌜ Put (now (out .entry)) 0 (compareText (now (first .entry)) (now (second .entry))) (now (out .exit)) r ⌝ }
+fn put_changes(form: Form, first: &[u8], second: &[u8], out: &mut [u8]) -> usize
+    requires { ⌜ Halfway form (now first) 0 × Halfway form (now second) 0 ⌝ }
+    ensures { λ r. ⌜ Put (now (out .entry)) 0 (compareText form (now (first .entry)) (now (second .entry))) (now (out .exit)) r ⌝ }
 {
     let whole = first.len() + second.len();
     let mut i = 0;
     let mut j = 0;
     let mut q = 0;
     while i + j < whole {
-        let t = day_sheet::next_turn(first, i, second, j);
+        let t = day_sheet::next_turn(form, first, i, second, j);
         q = put_change(first, i, second, j, t, out, q);
         i += t.first.long;
         j += t.second.long;

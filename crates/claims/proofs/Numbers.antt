@@ -34,6 +34,7 @@ use Rattle.menu_reader.specs.Reading.{frontRules as Menu·frontRules, wholeRule
 use Rattle.menu_listing.specs.Listing.{listRules, levelsRules}
 use Rattle.menu_listing.specs.Kept.{keptRules}
 use Rattle.shelf.specs.Putting.{putRules}
+use Rattle.sheet_entry.specs.declared.Form.{Form}
 use Rattle.day_sheet.specs.Calls.{rewriteRules, joinRules, addRules, dropRules}
 use Rattle.changes.specs.Calls.{compareRules}
 use Rattle.claims.specs.Calls.{Feeds, feed, FeedsAll, feed-all}
@@ -75,25 +76,25 @@ pub reads-descriptor : (b : List ℕ) → allRefusing (Descriptor·readRules b) 
 unfolding allRefusing Descriptor·readRules
 reads-descriptor b = refl
 
-pub rewrites-sheet : (sheet : List ℕ) → allRefusing (rewriteRules sheet) ≡ true
+pub rewrites-sheet : (form : Form) (sheet : List ℕ) → allRefusing (rewriteRules form sheet) ≡ true
 unfolding allRefusing rewriteRules
-rewrites-sheet sheet = refl
+rewrites-sheet form sheet = refl
 
-pub joins-sheets : (first second : List ℕ) → allRefusing (joinRules first second) ≡ true
+pub joins-sheets : (form : Form) (first second : List ℕ) → allRefusing (joinRules form first second) ≡ true
 unfolding allRefusing joinRules
-joins-sheets first second = refl
+joins-sheets form first second = refl
 
-pub adds-table : (stamp : ℕ) (sheet form : List ℕ) → allRefusing (addRules stamp sheet form) ≡ true
+pub adds-table : (form : Form) (stamp mended : ℕ) (sheet table : List ℕ) → allRefusing (addRules form stamp mended sheet table) ≡ true
 unfolding allRefusing addRules formRules
-adds-table stamp sheet form = refl
+adds-table form stamp mended sheet table = refl
 
-pub drops-entry : (network kind block : ℕ) (sheet : List ℕ) → allRefusing (dropRules network kind block sheet) ≡ true
+pub drops-entry : (form : Form) (network kind block : ℕ) (sheet : List ℕ) → allRefusing (dropRules form network kind block sheet) ≡ true
 unfolding allRefusing dropRules
-drops-entry network kind block sheet = refl
+drops-entry form network kind block sheet = refl
 
-pub compares-sheets : (first second : List ℕ) → allRefusing (compareRules first second) ≡ true
+pub compares-sheets : (form : Form) (first second : List ℕ) → allRefusing (compareRules form first second) ≡ true
 unfolding allRefusing compareRules rewriteRules
-compares-sheets first second = refl
+compares-sheets form first second = refl
 
 module _ (pes : List ℕ) where
   unit : (at : ℕ) → allRefusing (rulesAt pes at) ≡ true

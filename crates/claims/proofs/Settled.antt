@@ -580,27 +580,27 @@ sheet-entry·entry-at-settled κs a x y s t p q = same p q
 
 pub sheet-entry·write-entry-settled :
     (κs : _) (a : _) (x y : _) (s t : _) → sheet-entry·write-entry.Post κs a x s → sheet-entry·write-entry.Post κs a y t
-    → (x ≡ y) × (now (s .1 .1 .0) ≡ now (t .1 .1 .0))
+    → (x ≡ y) × (now (s .1 .1 .1 .1 .0) ≡ now (t .1 .1 .1 .1 .0))
 sheet-entry·write-entry-settled κs a x y s t p q = (same (p .0) (q .0), same (p .1) (q .1))
 
 pub day-sheet·rewrite-settled :
     (κs : _) (a : _) (x y : _) (s t : _) → day-sheet·rewrite.Post κs a x s → day-sheet·rewrite.Post κs a y t
-    → (x ≡ y) × (now (s .1 .0) ≡ now (t .1 .0))
+    → (x ≡ y) × (now (s .1 .1 .0) ≡ now (t .1 .1 .0))
 day-sheet·rewrite-settled κs a x y s t p q = (same (p .0) (q .0), same (p .1) (q .1))
 
 pub day-sheet·join-settled :
     (κs : _) (a : _) (x y : _) (s t : _) → day-sheet·join.Post κs a x s → day-sheet·join.Post κs a y t
-    → (x ≡ y) × (now (s .1 .1 .0) ≡ now (t .1 .1 .0))
+    → (x ≡ y) × (now (s .1 .1 .1 .0) ≡ now (t .1 .1 .1 .0))
 day-sheet·join-settled κs a x y s t p q = (same (p .0) (q .0), same (p .1) (q .1))
 
 pub day-sheet·add-settled :
     (κs : _) (a : _) (x y : _) (s t : _) → day-sheet·add.Post κs a x s → day-sheet·add.Post κs a y t
-    → (x ≡ y) × (now (s .1 .1 .1 .0) ≡ now (t .1 .1 .1 .0))
+    → (x ≡ y) × (now (s .1 .1 .1 .1 .1 .0) ≡ now (t .1 .1 .1 .1 .1 .0))
 day-sheet·add-settled κs a x y s t p q = (same (p .0) (q .0), same (p .1) (q .1))
 
 pub day-sheet·drop-settled :
     (κs : _) (a : _) (x y : _) (s t : _) → day-sheet·drop.Post κs a x s → day-sheet·drop.Post κs a y t
-    → (x ≡ y) × (now (s .1 .1 .1 .1 .0) ≡ now (t .1 .1 .1 .1 .0))
+    → (x ≡ y) × (now (s .1 .1 .1 .1 .1 .0) ≡ now (t .1 .1 .1 .1 .1 .0))
 day-sheet·drop-settled κs a x y s t p q = (same (p .0) (q .0), same (p .1) (q .1))
 
 pub day-sheet·judge-settled : (κs : _) (a : _) (x y : _) (s t : _) → day-sheet·judge.Post κs a x s → day-sheet·judge.Post κs a y t → x ≡ y
@@ -612,7 +612,7 @@ day-sheet·next-turn-settled κs a x y s t p q = same p q
 
 pub changes·compare-settled :
     (κs : _) (a : _) (x y : Compared) (s t : _) → changes·compare.Post κs a x s → changes·compare.Post κs a y t
-    → (x .answer ≡ y .answer) × (x .sheet ≡ y .sheet) × (now (s .1 .1 .0) ≡ now (t .1 .1 .0))
+    → (x .answer ≡ y .answer) × (x .sheet ≡ y .sheet) × (now (s .1 .1 .1 .0) ≡ now (t .1 .1 .1 .0))
 changes·compare-settled κs a x y s t p q = (same (p .0) (q .0), same (p .1 .0) (q .1 .0), same (p .1 .1) (q .1 .1))
 
 pub parity·letter-settled : (κs : _) (a : _) (x y : _) (s t : _) → parity·letter.Post κs a x s → parity·letter.Post κs a y t → x ≡ y

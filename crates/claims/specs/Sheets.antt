@@ -6,6 +6,7 @@ use lib.ListN.{length}
 use denote.Ref.{now}
 use Rattle.answer.specs.declared.Answer.{Answer}
 use Rattle.answer.specs.declared.Answer.the-variants.{Done}
+use Rattle.sheet_entry.specs.declared.Form.{Form}
 use Rattle.sheet_entry.specs.Entries.{stampMost}
 use Rattle.day_sheet.specs.AnyOrder.{Captured}
 use Rattle.day_sheet.specs.Work.{Work, stands, join, add}
@@ -20,33 +21,35 @@ use Rattle.claims.specs.Calls.{reported}
 
 -- ---- each call
 
--- sheet and lent output; the answer, and the output afterwards
-pub data Rewrites : List ℕ → List ℕ → Answer → List ℕ → Type 0 where
-  rewrite-sheet : (κs : _) (a : _) (x : _) (t : _) → day-sheet·rewrite.Post κs a x t → Rewrites (now (a .0)) (now (a .1 .0)) x (now (t .1 .0))
+-- form, sheet and lent output; the answer, and the output afterwards
+pub data Rewrites : Form → List ℕ → List ℕ → Answer → List ℕ → Type 0 where
+  rewrite-sheet :
+      (κs : _) (a : _) (x : _) (t : _) → day-sheet·rewrite.Post κs a x t
+      → Rewrites (a .0) (now (a .1 .0)) (now (a .1 .1 .0)) x (now (t .1 .1 .0))
 
--- two sheets and lent output; the answer, and the output afterwards
-pub data JoinsSheets : List ℕ → List ℕ → List ℕ → Answer → List ℕ → Type 0 where
+-- form, two sheets and lent output; the answer, and the output afterwards
+pub data JoinsSheets : Form → List ℕ → List ℕ → List ℕ → Answer → List ℕ → Type 0 where
   join-sheets :
       (κs : _) (a : _) (x : _) (t : _) → day-sheet·join.Post κs a x t
-      → JoinsSheets (now (a .0)) (now (a .1 .0)) (now (a .1 .1 .0)) x (now (t .1 .1 .0))
+      → JoinsSheets (a .0) (now (a .1 .0)) (now (a .1 .1 .0)) (now (a .1 .1 .1 .0)) x (now (t .1 .1 .1 .0))
 
--- stamp, sheet, table form and lent output; the answer, and the output afterwards
-pub data AddsTable : ℕ → List ℕ → List ℕ → List ℕ → Answer → List ℕ → Type 0 where
+-- form, stamp, what was mended, sheet, table form and lent output; the answer, and the output afterwards
+pub data AddsTable : Form → ℕ → ℕ → List ℕ → List ℕ → List ℕ → Answer → List ℕ → Type 0 where
   add-table :
       (κs : _) (a : _) (x : _) (t : _) → day-sheet·add.Post κs a x t
-      → AddsTable (a .0) (now (a .1 .0)) (now (a .1 .1 .0)) (now (a .1 .1 .1 .0)) x (now (t .1 .1 .1 .0))
+      → AddsTable (a .0) (a .1 .0) (a .1 .1 .0) (now (a .1 .1 .1 .0)) (now (a .1 .1 .1 .1 .0)) (now (a .1 .1 .1 .1 .1 .0)) x (now (t .1 .1 .1 .1 .1 .0))
 
--- network, kind, block, sheet and lent output; the answer, and the output afterwards
-pub data DropsEntry : ℕ → ℕ → ℕ → List ℕ → List ℕ → Answer → List ℕ → Type 0 where
+-- form, network, kind, block, sheet and lent output; the answer, and the output afterwards
+pub data DropsEntry : Form → ℕ → ℕ → ℕ → List ℕ → List ℕ → Answer → List ℕ → Type 0 where
   drop-entry :
       (κs : _) (a : _) (x : _) (t : _) → day-sheet·drop.Post κs a x t
-      → DropsEntry (a .0) (a .1 .0) (a .1 .1 .0) (now (a .1 .1 .1 .0)) (now (a .1 .1 .1 .1 .0)) x (now (t .1 .1 .1 .1 .0))
+      → DropsEntry (a .0) (a .1 .0) (a .1 .1 .0) (a .1 .1 .1 .0) (now (a .1 .1 .1 .1 .0)) (now (a .1 .1 .1 .1 .1 .0)) x (now (t .1 .1 .1 .1 .1 .0))
 
--- two sheets and lent output; the answer with the number of the sheet at fault, and the output afterwards
-pub data ComparesSheets : List ℕ → List ℕ → List ℕ → Compared → List ℕ → Type 0 where
+-- form, two sheets and lent output; the answer with the number of the sheet at fault, and the output afterwards
+pub data ComparesSheets : Form → List ℕ → List ℕ → List ℕ → Compared → List ℕ → Type 0 where
   compare-sheets :
       (κs : _) (a : _) (x : _) (t : _) → changes·compare.Post κs a x t
-      → ComparesSheets (now (a .0)) (now (a .1 .0)) (now (a .1 .1 .0)) x (now (t .1 .1 .0))
+      → ComparesSheets (a .0) (now (a .1 .0)) (now (a .1 .1 .0)) (now (a .1 .1 .1 .0)) x (now (t .1 .1 .1 .0))
 
 -- a text, and the number that comes back
 pub data Counts : List ℕ → ℕ → Type 0 where
@@ -58,16 +61,16 @@ Accepted x = (n : ℕ) × (x ≡ Done n)
 
 -- ---- calls one on what others wrote
 
--- sheets joined and tables added, each call with a lent output of at least so many bytes, and what it reports as written handed on: the
+-- sheets of one form joined and tables added, each call with a lent output of at least so many bytes, and what it reports as written handed on: the
 -- answers in the order of the calls, and what the last one reports
-pub data Called (least : ℕ) : Work → List Answer → List ℕ → Type 0 where
-  none : (sheet : List ℕ) → Called least (stands sheet) [] sheet
+pub data Called (form : Form) (least : ℕ) : Work → List Answer → List ℕ → Type 0 where
+  none : (sheet : List ℕ) → Called form least (stands sheet) [] sheet
   joins :
       {v w : Work} {xs ys : List Answer} {a b old out : List ℕ} {x : Answer}
-      → Called least v xs a → Called least w ys b → least ≤ length old → JoinsSheets a b old x out
-      → Called least (join v w) (xs ++ (ys ++ (x ∷ []))) (reported x out)
+      → Called form least v xs a → Called form least w ys b → least ≤ length old → JoinsSheets form a b old x out
+      → Called form least (join v w) (xs ++ (ys ++ (x ∷ []))) (reported x out)
   -- a stamp has 32 bits
   adds :
       {w : Work} {c : Captured} {xs : List Answer} {a old out : List ℕ} {x : Answer}
-      → Called least w xs a → c .stamp ≤ stampMost → least ≤ length old → AddsTable (c .stamp) a (c .form) old x out
-      → Called least (add w c) (xs ++ (x ∷ [])) (reported x out)
+      → Called form least w xs a → c .stamp ≤ stampMost → least ≤ length old → AddsTable form (c .stamp) (c .mended) a (c .table) old x out
+      → Called form least (add w c) (xs ++ (x ∷ [])) (reported x out)

@@ -12,11 +12,12 @@ use Rattle.answer.specs.Rules.{Rule, Every}
 use Rattle.answer.specs.Writing.{answered, left}
 use Rattle.answer.proofs.Lent.{lent-accepted, lent-all, front-holds, back-holds}
 use Rattle.answer.proofs.Steps.{first-holds, others-hold}
-use Rattle.forms.specs.Writing.{formRules}
+use Rattle.sheet_entry.specs.Writing.{entryRules}
 use Rattle.sheet_entry.specs.Entries.{Entry}
 use Rattle.day_sheet.specs.Entries.{sheetText, entryLimit, byteLimit}
 use Rattle.day_sheet.specs.Calls.{short, formed, limited, addResult, addRules, joinRules, joinResult}
 use Rattle.day_sheet.specs.AnyOrder.{joinAnswer, joinLeft, InForm, Joins, Captured, Adds}
+use Rattle.sheet_entry.specs.declared.Form.{Form}
 
 -- ---- any call that writes bytes
 
@@ -40,74 +41,75 @@ module _ (rules : List Rule) (bytes : List ℕ) where
       let b = lent-accepted rules bytes old (w .0) (w .1) .1 in
       (w .0, same-front sheet bytes (drop (length sheet) old) (drop (length bytes) old) (sym l ∙ b) (w .2))
 
--- an output that is as long as the limit
-pub long-enough : List ℕ
-long-enough = replicate byteLimit 0
+module _ (form : Form) where
+  -- an output that is as long as the limit
+  pub long-enough : List ℕ
+  long-enough = replicate (byteLimit form) 0
 
-pub is-long : byteLimit ≤ length long-enough
-unfolding long-enough
-is-long = let l = length-replicate {A = ℕ} byteLimit 0 in omega arith
+  pub is-long : byteLimit form ≤ length long-enough
+  unfolding long-enough
+  is-long = let l = length-replicate {A = ℕ} (byteLimit form) 0 in omega arith
 
--- what is within the limits fits it
-pub within-limit : (es : List Entry) → Every (limited es) → (length es ≤ entryLimit) × (length (sheetText es) ≤ byteLimit)
-within-limit es e = (leb-true (length es) entryLimit (first-holds e), leb-true (length (sheetText es)) byteLimit (first-holds (others-hold e)))
+  -- what is within the limits fits it
+  pub within-limit : (es : List Entry) → Every (limited form es) → (length es ≤ entryLimit) × (length (sheetText form es) ≤ byteLimit form)
+  within-limit es e = (leb-true (length es) entryLimit (first-holds e), leb-true (length (sheetText form es)) (byteLimit form) (first-holds (others-hold e)))
 
--- ---- join
+  -- ---- join
 
-module _ (first second : List ℕ) where
-  pub join-holds :
-      Every (joinRules first second)
-      → InForm first × InForm second × Every (limited (joinResult first second))
-  unfolding joinRules
-  join-holds every =
-      let c = others-hold (others-hold every) in
-      (first-holds c, first-holds (others-hold c), others-hold (others-hold c))
+  module _ (first second : List ℕ) where
+    pub join-holds :
+        Every (joinRules form first second)
+        → InForm form first × InForm form second × Every (limited form (joinResult form first second))
+    unfolding joinRules
+    join-holds every =
+        let c = others-hold (others-hold every) in
+        (first-holds c, first-holds (others-hold c), others-hold (others-hold c))
 
-  -- both sheets are in form, and what is written are their entries, joined
-  pub joins-said : {sheet : List ℕ} → Joins first second sheet → InForm first × InForm second × (sheet ≡ sheetText (joinResult first second))
-  joins-said {sheet} j =
-      let w = wrote (joinRules first second) (sheetText (joinResult first second)) long-enough sheet (j .answers long-enough is-long) (j .writes long-enough is-long) in
-      let h = join-holds (w .0) in
-      (h .0, h .1, w .1)
+    -- both sheets are in form, and what is written are their entries, joined
+    pub joins-said : {sheet : List ℕ} → Joins form first second sheet → InForm form first × InForm form second × (sheet ≡ sheetText form (joinResult form first second))
+    joins-said {sheet} j =
+        let w = wrote (joinRules form first second) (sheetText form (joinResult form first second)) long-enough sheet (j .answers long-enough is-long) (j .writes long-enough is-long) in
+        let h = join-holds (w .0) in
+        (h .0, h .1, w .1)
 
-  -- a call that was accepted with some output writes that sheet into every output as long as the limit
-  pub accepted-joins : (out : List ℕ) (n : ℕ) → joinAnswer first second out ≡ Done n → Joins first second (take n (joinLeft first second out))
-  accepted-joins out n e =
-      let bytes = sheetText (joinResult first second) in
-      let w = lent-all (joinRules first second) bytes out n e in
-      let l = within-limit (joinResult first second) (join-holds (w .0) .2) .1 in
-      let done : (old : List ℕ) → byteLimit ≤ length old → _ =
-      λ old big. lent-accepted (joinRules first second) bytes old (w .0) (omega arith) in
-      rw (its-bytes (joinRules first second) bytes out n e)
-      (record { answers = λ old big. done old big .0; writes = λ old big. done old big .1 })
+    -- a call that was accepted with some output writes that sheet into every output as long as the limit
+    pub accepted-joins : (out : List ℕ) (n : ℕ) → joinAnswer form first second out ≡ Done n → Joins form first second (take n (joinLeft form first second out))
+    accepted-joins out n e =
+        let bytes = sheetText form (joinResult form first second) in
+        let w = lent-all (joinRules form first second) bytes out n e in
+        let l = within-limit (joinResult form first second) (join-holds (w .0) .2) .1 in
+        let done : (old : List ℕ) → byteLimit form ≤ length old → _ =
+        λ old big. lent-accepted (joinRules form first second) bytes old (w .0) (omega arith) in
+        rw (its-bytes (joinRules form first second) bytes out n e)
+        (record { answers = λ old big. done old big .0; writes = λ old big. done old big .1 })
 
--- ---- add
+  -- ---- add
 
-module _ (sheet : List ℕ) (c : Captured) where
-  abbrev rules : List Rule
-  rules = addRules (c .stamp) sheet (c .form)
+  module _ (sheet : List ℕ) (c : Captured) where
+    abbrev rules : List Rule
+    rules = addRules form (c .stamp) (c .mended) sheet (c .table)
 
-  abbrev bytes : List ℕ
-  bytes = sheetText (addResult (c .stamp) sheet (c .form))
+    abbrev bytes : List ℕ
+    bytes = sheetText form (addResult form (c .stamp) (c .mended) sheet (c .table))
 
-  abbrev rest : List Rule
-  rest = short sheet ∷ formed sheet ∷ limited (addResult (c .stamp) sheet (c .form))
+    abbrev rest : List Rule
+    rest = short form sheet ∷ formed form sheet ∷ limited form (addResult form (c .stamp) (c .mended) sheet (c .table))
 
-  pub add-holds : Every rules → Every (formRules (c .form)) × InForm sheet × Every (limited (addResult (c .stamp) sheet (c .form)))
-  unfolding addRules
-  add-holds every =
-      let b = others-hold (back-holds (formRules (c .form)) rest every) in
-      (front-holds (formRules (c .form)) rest every, first-holds b, others-hold b)
+    pub add-holds : Every rules → Every (entryRules form (c .mended) (c .table)) × InForm form sheet × Every (limited form (addResult form (c .stamp) (c .mended) sheet (c .table)))
+    unfolding addRules
+    add-holds every =
+        let b = others-hold (back-holds (entryRules form (c .mended) (c .table)) rest every) in
+        (front-holds (entryRules form (c .mended) (c .table)) rest every, first-holds b, others-hold b)
 
-  pub adds-said : {result : List ℕ} → Adds sheet c result → Every (formRules (c .form)) × InForm sheet × (result ≡ bytes)
-  adds-said {result} a =
-      let w = wrote rules bytes long-enough result (a .answers long-enough is-long) (a .writes long-enough is-long) in
-      let h = add-holds (w .0) in
-      (h .0, h .1, w .1)
+    pub adds-said : {result : List ℕ} → Adds form sheet c result → Every (entryRules form (c .mended) (c .table)) × InForm form sheet × (result ≡ bytes)
+    adds-said {result} a =
+        let w = wrote rules bytes long-enough result (a .answers long-enough is-long) (a .writes long-enough is-long) in
+        let h = add-holds (w .0) in
+        (h .0, h .1, w .1)
 
-  pub accepted-adds : (out : List ℕ) (n : ℕ) → answered rules bytes out ≡ Done n → Adds sheet c (take n (left rules bytes out))
-  accepted-adds out n e =
-      let w = lent-all rules bytes out n e in
-      let l = within-limit (addResult (c .stamp) sheet (c .form)) (add-holds (w .0) .2) .1 in
-      let done : (old : List ℕ) → byteLimit ≤ length old → _ = λ old big. lent-accepted rules bytes old (w .0) (omega arith) in
-      rw (its-bytes rules bytes out n e) (record { answers = λ old big. done old big .0; writes = λ old big. done old big .1 })
+    pub accepted-adds : (out : List ℕ) (n : ℕ) → answered rules bytes out ≡ Done n → Adds form sheet c (take n (left rules bytes out))
+    accepted-adds out n e =
+        let w = lent-all rules bytes out n e in
+        let l = within-limit (addResult form (c .stamp) (c .mended) sheet (c .table)) (add-holds (w .0) .2) .1 in
+        let done : (old : List ℕ) → byteLimit form ≤ length old → _ = λ old big. lent-accepted rules bytes old (w .0) (omega arith) in
+        rw (its-bytes rules bytes out n e) (record { answers = λ old big. done old big .0; writes = λ old big. done old big .1 })

@@ -11,7 +11,7 @@ use borrow.Author.Tests.{leb-true, le-leb}
 use Rattle.laws.specs.Pick.{pick}
 use Rattle.laws.specs.Each.{Each, nil, and}
 use Rattle.laws.specs.Keyed.{risingFrom, rising}
-use Rattle.laws.specs.Orders.{greater, Ordered, Decides}
+use Rattle.laws.specs.Orders.{inTurn, greater, Ordered, Decides}
 use Rattle.laws.specs.Together.{Reordered, none, keep, Tree, one, two, leaves, mergeTree, total, Within, Allowed}
 use Rattle.laws.proofs.Tests.{both-true, both-holds}
 use Rattle.laws.proofs.Eaches.{each-left, each-right, each-all, each-map}
@@ -27,248 +27,264 @@ use Rattle.answer.proofs.Lent.{lent-accepted}
 use Rattle.sheet_entry.specs.Entries.{Entry, keyOf, headLines, tableLines, entryText, written}
 use Rattle.day_sheet.specs.Entries.{sheetText, allWritten, entryLimit, byteLimit}
 use Rattle.day_sheet.specs.Reading.{sheetOf}
-use Rattle.day_sheet.specs.Joining.{byStamp, byLines, atMost, joined}
+use Rattle.day_sheet.specs.Joining.{byStamp, byLines, byMended, atMost, joined}
 use Rattle.day_sheet.specs.Calls.{entriesOf, limited, joinRules, joinResult}
 use Rattle.day_sheet.specs.AnyOrder.{joinAnswer, joinLeft, InForm, Joins, Run, lent, call, sizeOf, Room}
 use Rattle.day_sheet.proofs.Choosing.{key-only}
 use Rattle.day_sheet.proofs.Exact.{read-written, reads-exactly}
 use Rattle.day_sheet.proofs.Merged.{joined-merged}
+use Rattle.sheet_entry.specs.declared.Form.{Form}
 
--- an entry that can stand in a sheet
-abbrev pub Fit : Entry → Type 0
-Fit e = written e ≡ true
+-- ---- the order
 
-fit-all : (es : List Entry) → allWritten es ≡ true → Each Fit es
-unfolding allWritten
-fit-all [] w = nil
-fit-all (e ∷ es) w = let p = both-true (written e) (allWritten es) w in and (p .0) (fit-all es (p .1))
+pub by-stamp : Ordered byStamp
+by-stamp = ordered-on ordered-numbers (λ (e : Entry). e .stamp)
 
-all-fit : {es : List Entry} → Each Fit es → allWritten es ≡ true
-unfolding allWritten
-all-fit nil = refl
-all-fit (and {a = x} {l = xs} p e) = both-holds (written x) (allWritten xs) p (all-fit e)
+by-lines : Ordered byLines
+by-lines = ordered-on ordered-before tableLines
 
-pub text-length : (es : List Entry) → length (sheetText es) ≡ total sizeOf es
-unfolding sheetText total
-text-length [] = refl
-text-length (e ∷ es) = length-append (entryText e) (sheetText es) ∙ rw (text-length es)
+by-mended : Ordered byMended
+by-mended =
+    let o = ordered-numbers in
+    record { total = λ x y. o .total (y .mended) (x .mended); carries = λ x y z p q. o .carries (z .mended) (y .mended) (x .mended) q p }
 
-swap-tests : (s t : Bool) (a r : Answer) → pick s (pick t a r) r ≡ pick t (pick s a r) r
-swap-tests true true a r = refl
-swap-tests true false a r = refl
-swap-tests false true a r = refl
-swap-tests false false a r = refl
+pub by-rest : Ordered (inTurn byLines byMended)
+by-rest = ordered-turn by-lines by-mended
 
--- a tree of sheets as one of their entries
-unfoldable mapped : Tree (List ℕ) → Tree (List Entry)
-mapped (one sheet) = one (entriesOf sheet)
-mapped (two s t) = two (mapped s) (mapped t)
+module _ (form : Form) where
+  -- an entry that can stand in a sheet
+  abbrev pub Fit : Entry → Type 0
+  Fit e = written form e ≡ true
 
-first-two :
-    {a b c sheet : List ℕ} → Run (two (two (one a) (one b)) (one c)) sheet → (ab : List ℕ) × Joins a b ab × Joins ab c sheet
-first-two (call (call {c = ab} (lent a) (lent b) j) (lent c) k) = (ab, j, k)
+  fit-all : (es : List Entry) → allWritten form es ≡ true → Each Fit es
+  unfolding allWritten
+  fit-all [] w = nil
+  fit-all (e ∷ es) w = let p = both-true (written form e) (allWritten form es) w in and (p .0) (fit-all es (p .1))
 
-last-two :
-    {a b c sheet : List ℕ} → Run (two (one a) (two (one b) (one c))) sheet → (bc : List ℕ) × Joins b c bc × Joins a bc sheet
-last-two (call (lent a) (call {c = bc} (lent b) (lent c) j) k) = (bc, j, k)
+  all-fit : {es : List Entry} → Each Fit es → allWritten form es ≡ true
+  unfolding allWritten
+  all-fit nil = refl
+  all-fit (and {a = x} {l = xs} p e) = both-holds (written form x) (allWritten form xs) p (all-fit e)
 
-one-written : (e : Entry) → Fit e → sheetOf (sheetText (e ∷ [])) .items ≡ e ∷ []
-unfolding risingFrom allWritten
-one-written e w = reads-exactly (sheetText (e ∷ [])) (e ∷ []) .1 (refl, rw (le-leb 0 (keyOf e) (omega arith)), rw w) .1
+  pub text-length : (es : List Entry) → length (sheetText form es) ≡ total (sizeOf form) es
+  unfolding sheetText total
+  text-length [] = refl
+  text-length (e ∷ es) = length-append (entryText form e) (sheetText form es) ∙ rw (text-length es)
 
--- the text of one entry is a sheet in form, of that entry
-pub one-read : (e : Entry) → Fit e → InForm (entryText e) × (entriesOf (entryText e) ≡ e ∷ [])
-unfolding risingFrom allWritten sheetText
-one-read e w =
-    reads-exactly (entryText e) (e ∷ []) .1 (sym (append-nil (entryText e)), rw (le-leb 0 (keyOf e) (omega arith)), rw w)
+  swap-tests : (s t : Bool) (a r : Answer) → pick s (pick t a r) r ≡ pick t (pick s a r) r
+  swap-tests true true a r = refl
+  swap-tests true false a r = refl
+  swap-tests false true a r = refl
+  swap-tests false false a r = refl
 
--- entries of a key that stand above each other are equal
-tells-apart : (x y : Entry) → Fit x → Fit y → keyOf x ≡ keyOf y → atMost x y ≡ true → atMost y x ≡ true → x ≡ y
-unfolding headLines entryText sheetText
-tells-apart x y v w e p q =
-    let a = in-turn byStamp-ordered byLines-ordered x y p in
-    let b = in-turn byStamp-ordered byLines-ordered y x q in
-    let k = key-only x y v w e in
-    let s : x .stamp ≡ y .stamp = omega (arith, leb-true (x .stamp) (y .stamp) (a .0), leb-true (y .stamp) (x .stamp) (b .0)) in
-    let l : tableLines x ≡ tableLines y = before-only (tableLines x) (tableLines y) (a .1 (b .0)) (b .1 (a .0)) in
-    let t : sheetText (x ∷ []) ≡ sheetText (y ∷ []) = rw (l, s, k .0, k .1, k .2) in
-    let f : x ∷ [] ≡ y ∷ [] = sym (one-written x v) ∙ ap (λ (text : List ℕ). sheetOf text .items) t ∙ one-written y w in
-    cc
-  where
-    byStamp-ordered : Ordered byStamp
-    byStamp-ordered = ordered-on ordered-numbers (λ (e : Entry). e .stamp)
+  -- a tree of sheets as one of their entries
+  unfoldable mapped : Tree (List ℕ) → Tree (List Entry)
+  mapped (one sheet) = one (entriesOf form sheet)
+  mapped (two s t) = two (mapped s) (mapped t)
 
-    byLines-ordered : Ordered byLines
-    byLines-ordered = ordered-on ordered-before tableLines
+  first-two :
+      {a b c sheet : List ℕ} → Run form (two (two (one a) (one b)) (one c)) sheet → (ab : List ℕ) × Joins form a b ab × Joins form ab c sheet
+  first-two (call (call {c = ab} (lent a) (lent b) j) (lent c) k) = (ab, j, k)
 
-pub decides : Decides keyOf Fit atMost
-decides =
-    record {
-      ordered = ordered-turn (ordered-on ordered-numbers (λ (e : Entry). e .stamp)) (ordered-on ordered-before tableLines);
-      only = tells-apart;
-    }
+  last-two :
+      {a b c sheet : List ℕ} → Run form (two (one a) (two (one b) (one c))) sheet → (bc : List ℕ) × Joins form b c bc × Joins form a bc sheet
+  last-two (call (lent a) (call {c = bc} (lent b) (lent c) j) k) = (bc, j, k)
 
-abbrev Sheet : List Entry → Type 0
-Sheet = Good keyOf Fit atMost decides
+  one-written : (e : Entry) → Fit e → sheetOf form (sheetText form (e ∷ [])) .items ≡ e ∷ []
+  unfolding risingFrom allWritten
+  one-written e w = reads-exactly form (sheetText form (e ∷ [])) (e ∷ []) .1 (refl, rw (le-leb 0 (keyOf e) (omega arith)), rw w) .1
 
--- the entries of a sheet in form rise and can be written, and it is their text
-pub sheet-of : (sheet : List ℕ) → InForm sheet → Sheet (entriesOf sheet)
-sheet-of sheet f = let e = read-written sheet 0 f in record { rises = e .1; fit = fit-all (entriesOf sheet) (e .2) }
+  -- the text of one entry is a sheet in form, of that entry
+  pub one-read : (e : Entry) → Fit e → InForm form (entryText form e) × (entriesOf form (entryText form e) ≡ e ∷ [])
+  unfolding risingFrom allWritten sheetText
+  one-read e w =
+      reads-exactly form (entryText form e) (e ∷ []) .1 (sym (append-nil (entryText form e)), rw (le-leb 0 (keyOf e) (omega arith)), rw w)
 
-pub text-of : {es : List Entry} → Sheet es → InForm (sheetText es) × (entriesOf (sheetText es) ≡ es)
-text-of {es} g = reads-exactly (sheetText es) es .1 (refl, g .rises, all-fit (g .fit))
+  -- entries of a key that stand above each other are equal
+  tells-apart : (x y : Entry) → Fit x → Fit y → keyOf x ≡ keyOf y → atMost x y ≡ true → atMost y x ≡ true → x ≡ y
+  unfolding headLines entryText sheetText
+  tells-apart x y v w e p q =
+      let a = in-turn by-stamp by-rest x y p in
+      let b = in-turn by-stamp by-rest y x q in
+      let c = in-turn by-lines by-mended x y (a .1 (b .0)) in
+      let d = in-turn by-lines by-mended y x (b .1 (a .0)) in
+      let k = key-only form x y v w e in
+      let s : x .stamp ≡ y .stamp = omega (arith, leb-true (x .stamp) (y .stamp) (a .0), leb-true (y .stamp) (x .stamp) (b .0)) in
+      let l : tableLines x ≡ tableLines y = before-only (tableLines x) (tableLines y) (c .0) (d .0) in
+      let m : x .mended ≡ y .mended =
+      omega (arith, leb-true (y .mended) (x .mended) (c .1 (d .0)), leb-true (x .mended) (y .mended) (d .1 (c .0))) in
+      let t : sheetText form (x ∷ []) ≡ sheetText form (y ∷ []) = rw (l, s, m, k .0, k .1, k .2) in
+      let f : x ∷ [] ≡ y ∷ [] = sym (one-written x v) ∙ ap (λ (text : List ℕ). sheetOf form text .items) t ∙ one-written y w in
+      cc
 
-pub sheet-joined : {xs ys : List Entry} → Sheet xs → Sheet ys → Sheet (joined xs ys)
-sheet-joined {xs} {ys} g h = rw (joined-merged xs ys) (good-join keyOf Fit atMost decides g h)
+  pub decides : Decides keyOf Fit atMost
+  decides =
+      record {
+        ordered = ordered-turn by-stamp by-rest;
+        only = tells-apart;
+      }
 
--- ---- the calls
+  abbrev Sheet : List Entry → Type 0
+  Sheet = Good keyOf Fit atMost decides
 
--- what is within the limits is written
-pub joins :
-    {xs ys : List Entry} → Sheet xs → Sheet ys → total sizeOf xs ≤ byteLimit → total sizeOf ys ≤ byteLimit
-    → Allowed sizeOf entryLimit byteLimit (joined xs ys) → Joins (sheetText xs) (sheetText ys) (sheetText (joined xs ys))
-unfolding joinRules joinResult
-joins {xs} {ys} g h l m a =
-    let t = text-of g in
-    let u = text-of h in
-    let r : joinResult (sheetText xs) (sheetText ys) ≡ joined xs ys = rw (t .1, u .1) in
-    let n = text-length xs in
-    let o = text-length ys in
-    let p = text-length (joined xs ys) in
-    let f = a .entries in
-    let b = a .length-in-all in
-    let kept : Every (limited (joined xs ys)) =
-    more (le-leb (length (joined xs ys)) entryLimit f)
-    (more (le-leb (length (sheetText (joined xs ys))) byteLimit (omega arith)) all-hold) in
-    let every : Every (joinRules (sheetText xs) (sheetText ys)) =
-    more (le-leb (length (sheetText xs)) byteLimit (omega arith))
-    (more (le-leb (length (sheetText ys)) byteLimit (omega arith)) (more (t .0) (more (u .0) (subst (λ (es : List Entry). Every (limited es)) (sym r) kept)))) in
-    let done : (out : List ℕ) → byteLimit ≤ length out
-    → (joinAnswer (sheetText xs) (sheetText ys) out ≡ Done (length (sheetText (joinResult (sheetText xs) (sheetText ys)))))
-    × (joinLeft (sheetText xs) (sheetText ys) out
-    ≡ sheetText (joinResult (sheetText xs) (sheetText ys)) ++ drop (length (sheetText (joinResult (sheetText xs) (sheetText ys)))) out) =
-    λ out big.
-    lent-accepted (joinRules (sheetText xs) (sheetText ys)) (sheetText (joinResult (sheetText xs) (sheetText ys))) out every
-    (rw r (omega arith)) in
-    record {
-      answers = λ out big. done out big .0 ∙ ap (λ (es : List Entry). Done (length (sheetText es))) r;
-      writes = λ out big. done out big .1 ∙ ap (λ (es : List Entry). sheetText es ++ drop (length (sheetText es)) out) r;
-    }
+  -- the entries of a sheet in form rise and can be written, and it is their text
+  pub sheet-of : (sheet : List ℕ) → InForm form sheet → Sheet (entriesOf form sheet)
+  sheet-of sheet f = let e = read-written form sheet 0 f in record { rises = e .1; fit = fit-all (entriesOf form sheet) (e .2) }
 
--- ---- either order
+  pub text-of : {es : List Entry} → Sheet es → InForm form (sheetText form es) × (entriesOf form (sheetText form es) ≡ es)
+  text-of {es} g = reads-exactly form (sheetText form es) es .1 (refl, g .rises, all-fit (g .fit))
 
-result-either : (first second : List ℕ) → InForm first → InForm second → joinResult first second ≡ joinResult second first
-unfolding joinResult
-result-either first second f g =
-    joined-merged (entriesOf first) (entriesOf second)
-    ∙ either-order keyOf Fit atMost decides (sheet-of first f) (sheet-of second g)
-    ∙ sym (joined-merged (entriesOf second) (entriesOf first))
+  pub sheet-joined : {xs ys : List Entry} → Sheet xs → Sheet ys → Sheet (joined xs ys)
+  sheet-joined {xs} {ys} g h = rw (joined-merged xs ys) (good-join keyOf Fit atMost decides g h)
 
-answer-either :
-    (first second out : List ℕ) → InForm first → InForm second → joinAnswer first second out ≡ joinAnswer second first out
-unfolding joinRules
-answer-either first second out f g =
-    rw (f, g, result-either first second f g) (swap-tests (leb (length first) byteLimit) (leb (length second) byteLimit) _ _)
+  -- ---- the calls
 
--- either order: for any two sheets in form the two orders answer the same and leave the same
-pub join-either-order :
-    (first second out : List ℕ) → InForm first → InForm second
-    → (joinAnswer first second out ≡ joinAnswer second first out) × (joinLeft first second out ≡ joinLeft second first out)
-join-either-order first second out f g =
-    let a = answer-either first second out f g in
-    let r = result-either first second f g in (
-      a,
-      ap (λ (x : Answer). after x (sheetText (joinResult first second)) out) a
-          ∙ ap (λ (es : List Entry). after (joinAnswer second first out) (sheetText es) out) r,
-    )
+  -- what is within the limits is written
+  pub joins :
+      {xs ys : List Entry} → Sheet xs → Sheet ys → total (sizeOf form) xs ≤ byteLimit form → total (sizeOf form) ys ≤ byteLimit form
+      → Allowed (sizeOf form) entryLimit (byteLimit form) (joined xs ys) → Joins form (sheetText form xs) (sheetText form ys) (sheetText form (joined xs ys))
+  unfolding joinRules joinResult
+  joins {xs} {ys} g h l m a =
+      let t = text-of g in
+      let u = text-of h in
+      let r : joinResult form (sheetText form xs) (sheetText form ys) ≡ joined xs ys = rw (t .1, u .1) in
+      let n = text-length xs in
+      let o = text-length ys in
+      let p = text-length (joined xs ys) in
+      let f = a .entries in
+      let b = a .length-in-all in
+      let kept : Every (limited form (joined xs ys)) =
+      more (le-leb (length (joined xs ys)) entryLimit f)
+      (more (le-leb (length (sheetText form (joined xs ys))) (byteLimit form) (omega arith)) all-hold) in
+      let every : Every (joinRules form (sheetText form xs) (sheetText form ys)) =
+      more (le-leb (length (sheetText form xs)) (byteLimit form) (omega arith))
+      (more (le-leb (length (sheetText form ys)) (byteLimit form) (omega arith)) (more (t .0) (more (u .0) (subst (λ (es : List Entry). Every (limited form es)) (sym r) kept)))) in
+      let done : (out : List ℕ) → byteLimit form ≤ length out
+      → (joinAnswer form (sheetText form xs) (sheetText form ys) out ≡ Done (length (sheetText form (joinResult form (sheetText form xs) (sheetText form ys)))))
+      × (joinLeft form (sheetText form xs) (sheetText form ys) out
+      ≡ sheetText form (joinResult form (sheetText form xs) (sheetText form ys)) ++ drop (length (sheetText form (joinResult form (sheetText form xs) (sheetText form ys)))) out) =
+      λ out big.
+      lent-accepted (joinRules form (sheetText form xs) (sheetText form ys)) (sheetText form (joinResult form (sheetText form xs) (sheetText form ys))) out every
+      (rw r (omega arith)) in
+      record {
+        answers = λ out big. done out big .0 ∙ ap (λ (es : List Entry). Done (length (sheetText form es))) r;
+        writes = λ out big. done out big .1 ∙ ap (λ (es : List Entry). sheetText form es ++ drop (length (sheetText form es)) out) r;
+      }
 
--- ---- any number of sheets
+  -- ---- either order
 
-leaves-map : (t : Tree (List ℕ)) → leaves (mapped t) ≡ map entriesOf (leaves t)
-unfolding leaves mapped
-leaves-map (one sheet) = refl
-leaves-map (two s t) = rw (leaves-map s, leaves-map t) (sym (map-append entriesOf (leaves s) (leaves t)))
+  result-either : (first second : List ℕ) → InForm form first → InForm form second → joinResult form first second ≡ joinResult form second first
+  unfolding joinResult
+  result-either first second f g =
+      joined-merged (entriesOf form first) (entriesOf form second)
+      ∙ either-order keyOf Fit atMost decides (sheet-of first f) (sheet-of second g)
+      ∙ sym (joined-merged (entriesOf form second) (entriesOf form first))
 
-pub sheets-of : {sheets : List (List ℕ)} → Each InForm sheets → Each Sheet (map entriesOf sheets)
-sheets-of e = each-map entriesOf sheet-of e
+  answer-either :
+      (first second out : List ℕ) → InForm form first → InForm form second → joinAnswer form first second out ≡ joinAnswer form second first out
+  unfolding joinRules
+  answer-either first second out f g =
+      rw (f, g, result-either first second f g) (swap-tests (leb (length first) (byteLimit form)) (leb (length second) (byteLimit form)) _ _)
 
-good-leaves : (t : Tree (List ℕ)) → Each InForm (leaves t) → Each Sheet (leaves (mapped t))
-good-leaves t e = rw (leaves-map t) (sheets-of e)
+  -- either order: for any two sheets in form the two orders answer the same and leave the same
+  pub join-either-order :
+      (first second out : List ℕ) → InForm form first → InForm form second
+      → (joinAnswer form first second out ≡ joinAnswer form second first out) × (joinLeft form first second out ≡ joinLeft form second first out)
+  join-either-order first second out f g =
+      let a = answer-either first second out f g in
+      let r = result-either first second f g in (
+        a,
+        ap (λ (x : Answer). after x (sheetText form (joinResult form first second)) out) a
+            ∙ ap (λ (es : List Entry). after (joinAnswer form second first out) (sheetText form es) out) r,
+      )
 
--- the entries that the calls of a tree come to
-abbrev whole : Tree (List ℕ) → List Entry
-whole t = mergeTree keyOf (greater atMost) (mapped t)
+  -- ---- any number of sheets
 
-rising-leaves : {xss : List (List Entry)} → Each Sheet xss → Each (λ (es : List Entry). rising keyOf es ≡ true) xss
-rising-leaves e = each-all (λ es g. g .rises) e
+  leaves-map : (t : Tree (List ℕ)) → leaves (mapped t) ≡ map (entriesOf form) (leaves t)
+  unfolding leaves mapped
+  leaves-map (one sheet) = refl
+  leaves-map (two s t) = rw (leaves-map s, leaves-map t) (sym (map-append (entriesOf form) (leaves s) (leaves t)))
 
-room-at : (t : Tree (List ℕ)) → Room (leaves t) → Within keyOf sizeOf entryLimit byteLimit (leaves (mapped t))
-room-at t r = rw (leaves-map t) r
+  pub sheets-of : {sheets : List (List ℕ)} → Each (InForm form) sheets → Each Sheet (map (entriesOf form) sheets)
+  sheets-of e = each-map (entriesOf form) sheet-of e
 
-allowed-at : (t : Tree (List ℕ)) → Each InForm (leaves t) → Room (leaves t) → Allowed sizeOf entryLimit byteLimit (whole t)
-allowed-at t e r = within-allowed keyOf sizeOf Fit atMost decides (mapped t) (good-leaves t e) (room-at t r)
+  good-leaves : (t : Tree (List ℕ)) → Each (InForm form) (leaves t) → Each Sheet (leaves (mapped t))
+  good-leaves t e = rw (leaves-map t) (sheets-of e)
 
-sheet-at : (t : Tree (List ℕ)) → Each InForm (leaves t) → Sheet (whole t)
-unfolding leaves mapped mergeTree
-sheet-at (one sheet) (and f e) = sheet-of sheet f
-sheet-at (two s t) e =
-    good-join keyOf Fit atMost decides (sheet-at s (each-left (leaves s) (leaves t) e)) (sheet-at t (each-right (leaves s) (leaves t) e))
+  -- the entries that the calls of a tree come to
+  abbrev whole : Tree (List ℕ) → List Entry
+  whole t = mergeTree keyOf (greater atMost) (mapped t)
 
--- where the premise holds, every call of a tree is accepted, and the last one writes the sheet of its entries
-runs : (t : Tree (List ℕ)) → Each InForm (leaves t) → Room (leaves t) → Run t (sheetText (whole t))
-unfolding leaves mapped mergeTree
-runs (one sheet) (and f e) r = rw (sym (read-written sheet 0 f .0)) (lent sheet)
-runs (two s t) e r =
-    let a = each-left (leaves s) (leaves t) e in
-    let b = each-right (leaves s) (leaves t) e in
-    let w : Within keyOf sizeOf entryLimit byteLimit (map entriesOf (leaves s) ++ map entriesOf (leaves t)) =
-    rw (sym (map-append entriesOf (leaves s) (leaves t))) r in
-    let g : Each (λ (es : List Entry). rising keyOf es ≡ true) (map entriesOf (leaves s) ++ map entriesOf (leaves t)) =
-    rw (sym (map-append entriesOf (leaves s) (leaves t))) (rising-leaves (sheets-of e)) in
-    let p = within-left keyOf sizeOf (map entriesOf (leaves s)) (map entriesOf (leaves t)) g w in
-    let q = within-right keyOf sizeOf (map entriesOf (leaves s)) (map entriesOf (leaves t)) g w in
-    let m = joined-merged (whole s) (whole t) in
-    call (runs s a p) (runs t b q)
-    (subst (λ (es : List Entry). Joins (sheetText (whole s)) (sheetText (whole t)) (sheetText es)) m
-    (joins (sheet-at s a) (sheet-at t b) (allowed-at s a p .length-in-all) (allowed-at t b q .length-in-all)
-    (rw m (allowed-at (two s t) e r))))
+  rising-leaves : {xss : List (List Entry)} → Each Sheet xss → Each (λ (es : List Entry). rising keyOf es ≡ true) xss
+  rising-leaves e = each-all (λ es g. g .rises) e
 
--- every tree of calls over every order of the sheets gives the same sheet, and no call of it is refused
-pub any-order :
-    (s t : Tree (List ℕ)) → Each InForm (leaves s) → Reordered (leaves s) (leaves t) → Room (leaves s)
-    → (sheet : List ℕ) × Run s sheet × Run t sheet
-any-order s t e o r =
-    let f = each-reordered o e in
-    let m = reordered-map entriesOf o in
-    let q = within-reordered keyOf sizeOf (rising-leaves (sheets-of e)) m r in
-    let w : whole s ≡ whole t = any-tree keyOf Fit atMost decides (mapped s) (mapped t) (rw (leaves-map s, leaves-map t) m) (good-leaves s e) in
-    (sheetText (whole s), runs s e r, rw w (runs t f q))
+  room-at : (t : Tree (List ℕ)) → Room form (leaves t) → Within keyOf (sizeOf form) entryLimit (byteLimit form) (leaves (mapped t))
+  room-at t r = rw (leaves-map t) r
 
--- either grouping of three, with outputs as long as the limit
-pub join-either-grouping :
-    (a b c : List ℕ) → InForm a → InForm b → InForm c → Room (a ∷ b ∷ c ∷ [])
-    → (ab : List ℕ) × (bc : List ℕ) × (abc : List ℕ) × Joins a b ab × Joins ab c abc × Joins b c bc × Joins a bc abc
-unfolding leaves
-join-either-grouping a b c f g h r =
-    let s = two (two (one a) (one b)) (one c) in
-    let t = two (one a) (two (one b) (one c)) in
-    let x = any-order s t (and f (and g (and h nil))) (keep (keep (keep none))) r in
-    let p = first-two (x .1) in
-    let q = last-two (x .2) in
-    (p .0, q .0, x .0, p .1, p .2, q .1, q .2)
+  allowed-at : (t : Tree (List ℕ)) → Each (InForm form) (leaves t) → Room form (leaves t) → Allowed (sizeOf form) entryLimit (byteLimit form) (whole t)
+  allowed-at t e r = within-allowed keyOf (sizeOf form) Fit atMost decides (mapped t) (good-leaves t e) (room-at t r)
 
--- a sheet within the limits with itself
-pub join-itself :
-    (sheet : List ℕ) → InForm sheet → length (entriesOf sheet) ≤ entryLimit → length sheet ≤ byteLimit → Joins sheet sheet sheet
-join-itself sheet f n l =
-    let e = read-written sheet 0 f in
-    let g = sheet-of sheet f in
-    let k = text-length (entriesOf sheet) in
-    let i : joined (entriesOf sheet) (entriesOf sheet) ≡ entriesOf sheet =
-    joined-merged (entriesOf sheet) (entriesOf sheet) ∙ itself keyOf Fit atMost decides 0 (entriesOf sheet) (g .rises) in
-    let m : length (sheetText (entriesOf sheet)) ≤ byteLimit = rw (sym (e .0)) l in
-    let a : Allowed sizeOf entryLimit byteLimit (entriesOf sheet) = record { entries = n; length-in-all = omega arith } in
-    let j : Joins (sheetText (entriesOf sheet)) (sheetText (entriesOf sheet)) (sheetText (joined (entriesOf sheet) (entriesOf sheet))) =
-    joins g g (omega arith) (omega arith) (subst (Allowed sizeOf entryLimit byteLimit) (sym i) a) in
-    let t : Joins (sheetText (entriesOf sheet)) (sheetText (entriesOf sheet)) (sheetText (entriesOf sheet)) = rw i at j in
-    rw (sym (e .0)) at t
+  sheet-at : (t : Tree (List ℕ)) → Each (InForm form) (leaves t) → Sheet (whole t)
+  unfolding leaves mapped mergeTree
+  sheet-at (one sheet) (and f e) = sheet-of sheet f
+  sheet-at (two s t) e =
+      good-join keyOf Fit atMost decides (sheet-at s (each-left (leaves s) (leaves t) e)) (sheet-at t (each-right (leaves s) (leaves t) e))
+
+  -- where the premise holds, every call of a tree is accepted, and the last one writes the sheet of its entries
+  runs : (t : Tree (List ℕ)) → Each (InForm form) (leaves t) → Room form (leaves t) → Run form t (sheetText form (whole t))
+  unfolding leaves mapped mergeTree
+  runs (one sheet) (and f e) r = rw (sym (read-written form sheet 0 f .0)) (lent sheet)
+  runs (two s t) e r =
+      let a = each-left (leaves s) (leaves t) e in
+      let b = each-right (leaves s) (leaves t) e in
+      let w : Within keyOf (sizeOf form) entryLimit (byteLimit form) (map (entriesOf form) (leaves s) ++ map (entriesOf form) (leaves t)) =
+      rw (sym (map-append (entriesOf form) (leaves s) (leaves t))) r in
+      let g : Each (λ (es : List Entry). rising keyOf es ≡ true) (map (entriesOf form) (leaves s) ++ map (entriesOf form) (leaves t)) =
+      rw (sym (map-append (entriesOf form) (leaves s) (leaves t))) (rising-leaves (sheets-of e)) in
+      let p = within-left keyOf (sizeOf form) (map (entriesOf form) (leaves s)) (map (entriesOf form) (leaves t)) g w in
+      let q = within-right keyOf (sizeOf form) (map (entriesOf form) (leaves s)) (map (entriesOf form) (leaves t)) g w in
+      let m = joined-merged (whole s) (whole t) in
+      call (runs s a p) (runs t b q)
+      (subst (λ (es : List Entry). Joins form (sheetText form (whole s)) (sheetText form (whole t)) (sheetText form es)) m
+      (joins (sheet-at s a) (sheet-at t b) (allowed-at s a p .length-in-all) (allowed-at t b q .length-in-all)
+      (rw m (allowed-at (two s t) e r))))
+
+  -- every tree of calls over every order of the sheets gives the same sheet, and no call of it is refused
+  pub any-order :
+      (s t : Tree (List ℕ)) → Each (InForm form) (leaves s) → Reordered (leaves s) (leaves t) → Room form (leaves s)
+      → (sheet : List ℕ) × Run form s sheet × Run form t sheet
+  any-order s t e o r =
+      let f = each-reordered o e in
+      let m = reordered-map (entriesOf form) o in
+      let q = within-reordered keyOf (sizeOf form) (rising-leaves (sheets-of e)) m r in
+      let w : whole s ≡ whole t = any-tree keyOf Fit atMost decides (mapped s) (mapped t) (rw (leaves-map s, leaves-map t) m) (good-leaves s e) in
+      (sheetText form (whole s), runs s e r, rw w (runs t f q))
+
+  -- either grouping of three, with outputs as long as the limit
+  pub join-either-grouping :
+      (a b c : List ℕ) → InForm form a → InForm form b → InForm form c → Room form (a ∷ b ∷ c ∷ [])
+      → (ab : List ℕ) × (bc : List ℕ) × (abc : List ℕ) × Joins form a b ab × Joins form ab c abc × Joins form b c bc × Joins form a bc abc
+  unfolding leaves
+  join-either-grouping a b c f g h r =
+      let s = two (two (one a) (one b)) (one c) in
+      let t = two (one a) (two (one b) (one c)) in
+      let x = any-order s t (and f (and g (and h nil))) (keep (keep (keep none))) r in
+      let p = first-two (x .1) in
+      let q = last-two (x .2) in
+      (p .0, q .0, x .0, p .1, p .2, q .1, q .2)
+
+  -- a sheet within the limits with itself
+  pub join-itself :
+      (sheet : List ℕ) → InForm form sheet → length (entriesOf form sheet) ≤ entryLimit → length sheet ≤ byteLimit form → Joins form sheet sheet sheet
+  join-itself sheet f n l =
+      let e = read-written form sheet 0 f in
+      let g = sheet-of sheet f in
+      let k = text-length (entriesOf form sheet) in
+      let i : joined (entriesOf form sheet) (entriesOf form sheet) ≡ entriesOf form sheet =
+      joined-merged (entriesOf form sheet) (entriesOf form sheet) ∙ itself keyOf Fit atMost decides 0 (entriesOf form sheet) (g .rises) in
+      let m : length (sheetText form (entriesOf form sheet)) ≤ byteLimit form = rw (sym (e .0)) l in
+      let a : Allowed (sizeOf form) entryLimit (byteLimit form) (entriesOf form sheet) = record { entries = n; length-in-all = omega arith } in
+      let j : Joins form (sheetText form (entriesOf form sheet)) (sheetText form (entriesOf form sheet)) (sheetText form (joined (entriesOf form sheet) (entriesOf form sheet))) =
+      joins g g (omega arith) (omega arith) (subst (Allowed (sizeOf form) entryLimit (byteLimit form)) (sym i) a) in
+      let t : Joins form (sheetText form (entriesOf form sheet)) (sheetText form (entriesOf form sheet)) (sheetText form (entriesOf form sheet)) = rw i at j in
+      rw (sym (e .0)) at t

@@ -28,6 +28,7 @@ use Rattle.day_sheet.specs.Calls.{formed, limited, entriesOf, dropRules,
 use Rattle.day_sheet.specs.Internal.{asked, withoutKey}
 use Rattle.day_sheet.proofs.Choosing.{written-sendable, bit, bit-small, bits-only, kinds-only}
 use Rattle.day_sheet.proofs.Exact.{read-written}
+use Rattle.sheet_entry.specs.declared.Form.{Form}
 
 -- ---- the key
 
@@ -39,106 +40,107 @@ same-key n a m c s t h l e =
     let q = bit-small t in
     (omega arith, bits-only s t (omega arith), omega arith)
 
-pub named-known :
-    (network kind block : ℕ) → block ≤ 65535 → known kind ≡ true → (e : Entry) → written e ≡ true
-    → named network kind block e ≡ eqb (keyOf e) (keyIn network kind block)
-unfolding keyOf bit
-named-known network kind block small k e w = go (eqb (keyOf e) (keyIn network kind block)) refl
-  where
-    s : Sendable (e .table)
-    s = written-sendable e w
+module _ (form : Form) where
+  pub named-known :
+      (network kind block : ℕ) → block ≤ 65535 → known kind ≡ true → (e : Entry) → written form e ≡ true
+      → named network kind block e ≡ eqb (keyOf e) (keyIn network kind block)
+  unfolding keyOf bit
+  named-known network kind block small k e w = go (eqb (keyOf e) (keyIn network kind block)) refl
+    where
+      s : Sendable (e .table)
+      s = written-sendable form e w
 
-    go : (x : Bool) → eqb (keyOf e) (keyIn network kind block) ≡ x → named network kind block e ≡ x
-    go true f =
-        let b = s .block-fits in
-        let g =
-        same-key (e .table .network) (e .table .block) network block (eqb (e .table .kind) TI) (eqb kind TI) (omega arith) small
-        (eqb-true (keyOf e) (keyIn network kind block) f) in
-        rw (
-          eq-eqb (e .table .network) network (g .0),
-          eq-eqb (e .table .kind) kind (kinds-only (e .table .kind) kind (s .kind-known) k (g .1)),
-          eq-eqb (e .table .block) block (g .2),
-        )
-    go false f = one-differs (eqb (e .table .network) network) refl (eqb (e .table .kind) kind) refl (eqb (e .table .block) block) refl
-      where
-        one-differs :
-            (x : Bool) → eqb (e .table .network) network ≡ x → (y : Bool) → eqb (e .table .kind) kind ≡ y → (z : Bool)
-            → eqb (e .table .block) block ≡ z → both x (both y z) ≡ false
-        one-differs true p true q true r =
-            absurd
-            (eqb-false (keyOf e) (keyIn network kind block) f
-            (rw (eqb-true (e .table .network) network p, eqb-true (e .table .kind) kind q, eqb-true (e .table .block) block r)))
-        one-differs true p true q false r = refl
-        one-differs true p false q z r = refl
-        one-differs false p y q z r = refl
+      go : (x : Bool) → eqb (keyOf e) (keyIn network kind block) ≡ x → named network kind block e ≡ x
+      go true f =
+          let b = s .block-fits in
+          let g =
+          same-key (e .table .network) (e .table .block) network block (eqb (e .table .kind) TI) (eqb kind TI) (omega arith) small
+          (eqb-true (keyOf e) (keyIn network kind block) f) in
+          rw (
+            eq-eqb (e .table .network) network (g .0),
+            eq-eqb (e .table .kind) kind (kinds-only (e .table .kind) kind (s .kind-known) k (g .1)),
+            eq-eqb (e .table .block) block (g .2),
+          )
+      go false f = one-differs (eqb (e .table .network) network) refl (eqb (e .table .kind) kind) refl (eqb (e .table .block) block) refl
+        where
+          one-differs :
+              (x : Bool) → eqb (e .table .network) network ≡ x → (y : Bool) → eqb (e .table .kind) kind ≡ y → (z : Bool)
+              → eqb (e .table .block) block ≡ z → both x (both y z) ≡ false
+          one-differs true p true q true r =
+              absurd
+              (eqb-false (keyOf e) (keyIn network kind block) f
+              (rw (eqb-true (e .table .network) network p, eqb-true (e .table .kind) kind q, eqb-true (e .table .block) block r)))
+          one-differs true p true q false r = refl
+          one-differs true p false q z r = refl
+          one-differs false p y q z r = refl
 
-named-asked :
-    (network kind block : ℕ) → block ≤ 65535 → (e : Entry) → written e ≡ true
-    → named network kind block e ≡ eqb (keyOf e) (asked network kind block)
-named-asked network kind block small e w = go (eqb kind TI) refl (eqb kind LI) refl
-  where
-    clash : false ≡ true → ⊥
-    clash f = let z : _≡_ {A = ℕ} 0 1 = ap (λ (b : Bool). pick b 1 0) f in omega arith
+  named-asked :
+      (network kind block : ℕ) → block ≤ 65535 → (e : Entry) → written form e ≡ true
+      → named network kind block e ≡ eqb (keyOf e) (asked network kind block)
+  named-asked network kind block small e w = go (eqb kind TI) refl (eqb kind LI) refl
+    where
+      clash : false ≡ true → ⊥
+      clash f = let z : _≡_ {A = ℕ} 0 1 = ap (λ (b : Bool). pick b 1 0) f in omega arith
 
-    go :
-        (p : Bool) → eqb kind TI ≡ p → (q : Bool) → eqb kind LI ≡ q
-        → named network kind block e ≡ eqb (keyOf e) (pick p (keyIn network TI block) (pick q (keyIn network LI block) 33554432))
-    go true p q r = rw (eqb-true kind TI p) (named-known network TI block small refl e w)
-    go false p true r = rw (eqb-true kind LI r) (named-known network LI block small refl e w)
-    go false p false r =
-        let other : eqb (e .table .kind) kind ≡ false =
-        ne-eqb (e .table .kind) kind (λ z. let k = written-sendable e w .kind-known in clash (rw (z, p, r) at k)) in
-        let above = key-small e w in
-        rw (ne-eqb (keyOf e) 33554432 (λ z. omega arith), other) (both-false (eqb (e .table .network) network))
+      go :
+          (p : Bool) → eqb kind TI ≡ p → (q : Bool) → eqb kind LI ≡ q
+          → named network kind block e ≡ eqb (keyOf e) (pick p (keyIn network TI block) (pick q (keyIn network LI block) 33554432))
+      go true p q r = rw (eqb-true kind TI p) (named-known network TI block small refl e w)
+      go false p true r = rw (eqb-true kind LI r) (named-known network LI block small refl e w)
+      go false p false r =
+          let other : eqb (e .table .kind) kind ≡ false =
+          ne-eqb (e .table .kind) kind (λ z. let k = written-sendable form e w .kind-known in clash (rw (z, p, r) at k)) in
+          let above = key-small form e w in
+          rw (ne-eqb (keyOf e) 33554432 (λ z. omega arith), other) (both-false (eqb (e .table .network) network))
 
-pub without-key :
-    (network kind block : ℕ) → block ≤ 65535 → (es : List Entry) → allWritten es ≡ true
-    → without network kind block es ≡ withoutKey (asked network kind block) es
-unfolding without withoutKey allWritten
-without-key network kind block small [] w = refl
-without-key network kind block small (e ∷ es) w =
-    let p = both-true (written e) (allWritten es) w in
-    rw (named-asked network kind block small e (p .0), without-key network kind block small es (p .1))
+  pub without-key :
+      (network kind block : ℕ) → block ≤ 65535 → (es : List Entry) → allWritten form es ≡ true
+      → without network kind block es ≡ withoutKey (asked network kind block) es
+  unfolding without withoutKey allWritten
+  without-key network kind block small [] w = refl
+  without-key network kind block small (e ∷ es) w =
+      let p = both-true (written form e) (allWritten form es) w in
+      rw (named-asked network kind block small e (p .0), without-key network kind block small es (p .1))
 
--- ---- the rules
+  -- ---- the rules
 
-module _ (network kind block : ℕ) (small : block ≤ 65535) (sheet old : List ℕ) where
-  abbrev bytes : List ℕ
-  bytes = sheetText (dropResult network kind block sheet)
+  module _ (network kind block : ℕ) (small : block ≤ 65535) (sheet old : List ℕ) where
+    abbrev bytes : List ℕ
+    bytes = sheetText form (dropResult form network kind block sheet)
 
-  pub drop-long :
-      byteLimit < length sheet
-      → (refused 21 0 ≡ answered (dropRules network kind block sheet) bytes old) × (old ≡ left (dropRules network kind block sheet) bytes old)
-  drop-long h =
-      let e : refused 21 0 ≡ judged refused (dropRules network kind block sheet) (Done 0) = (unfold dropRules in rw (lt-leb (length sheet) byteLimit h)) in
-      lent-refused (dropRules network kind block sheet) bytes old 0 e refl
+    pub drop-long :
+        byteLimit form < length sheet
+        → (refused 21 0 ≡ answered (dropRules form network kind block sheet) bytes old) × (old ≡ left (dropRules form network kind block sheet) bytes old)
+    drop-long h =
+        let e : refused 21 0 ≡ judged refused (dropRules form network kind block sheet) (Done 0) = (unfold dropRules in rw (lt-leb (length sheet) (byteLimit form) h)) in
+        lent-refused (dropRules form network kind block sheet) bytes old 0 e refl
 
-  module _ (short : length sheet ≤ byteLimit) {r : Answer} (judges : r ≡ judged refused (formed sheet ∷ []) (Done (length (entriesOf sheet)))) where
-    pub drop-bad :
-        {w : Refusal} → r ≡ Refused w
-        → (Refused w ≡ answered (dropRules network kind block sheet) bytes old) × (old ≡ left (dropRules network kind block sheet) bytes old)
-    drop-bad {w} e =
-        let a : Refused w ≡ judged refused (dropRules network kind block sheet) (Done 0) =
-        (unfold dropRules in rw (le-leb (length sheet) byteLimit short) (ends (formed sheet ∷ []) (limited (dropResult network kind block sheet)) (length (entriesOf sheet)) judges (Done 0) e)) in
-        lent-refused (dropRules network kind block sheet) bytes old 0 a refl
+    module _ (short : length sheet ≤ byteLimit form) {r : Answer} (judges : r ≡ judged refused (formed form sheet ∷ []) (Done (length (entriesOf form sheet)))) where
+      pub drop-bad :
+          {w : Refusal} → r ≡ Refused w
+          → (Refused w ≡ answered (dropRules form network kind block sheet) bytes old) × (old ≡ left (dropRules form network kind block sheet) bytes old)
+      drop-bad {w} e =
+          let a : Refused w ≡ judged refused (dropRules form network kind block sheet) (Done 0) =
+          (unfold dropRules in rw (le-leb (length sheet) (byteLimit form) short) (ends (formed form sheet ∷ []) (limited form (dropResult form network kind block sheet)) (length (entriesOf form sheet)) judges (Done 0) e)) in
+          lent-refused (dropRules form network kind block sheet) bytes old 0 a refl
 
-    module _ {m : ℕ} (done : r ≡ Done m) where
-      pub drop-fine : sheetOf sheet .fine ≡ true
-      drop-fine = first-holds (done-every (formed sheet ∷ []) (length (entriesOf sheet)) m (sym judges ∙ done))
+      module _ {m : ℕ} (done : r ≡ Done m) where
+        pub drop-fine : sheetOf form sheet .fine ≡ true
+        drop-fine = first-holds (done-every (formed form sheet ∷ []) (length (entriesOf form sheet)) m (sym judges ∙ done))
 
-      pub drop-counted : m ≡ length (entriesOf sheet)
-      drop-counted = done-value (formed sheet ∷ []) (length (entriesOf sheet)) m (sym judges ∙ done)
+        pub drop-counted : m ≡ length (entriesOf form sheet)
+        drop-counted = done-value (formed form sheet ∷ []) (length (entriesOf form sheet)) m (sym judges ∙ done)
 
-      same-result : withoutKey (asked network kind block) (entriesOf sheet) ≡ dropResult network kind block sheet
-      unfolding dropResult
-      same-result = sym (without-key network kind block small (entriesOf sheet) (read-written sheet 0 drop-fine .2))
+        same-result : withoutKey (asked network kind block) (entriesOf form sheet) ≡ dropResult form network kind block sheet
+        unfolding dropResult
+        same-result = sym (without-key network kind block small (entriesOf form sheet) (read-written form sheet 0 drop-fine .2))
 
-      pub drop-goes-on :
-          (answered (limited (withoutKey (asked network kind block) (entriesOf sheet))) (sheetText (withoutKey (asked network kind block) (entriesOf sheet))) old
-          ≡ answered (dropRules network kind block sheet) bytes old)
-          × (left (limited (withoutKey (asked network kind block) (entriesOf sheet))) (sheetText (withoutKey (asked network kind block) (entriesOf sheet))) old
-          ≡ left (dropRules network kind block sheet) bytes old)
-      drop-goes-on =
-          let e : answered (limited (dropResult network kind block sheet)) bytes old ≡ answered (dropRules network kind block sheet) bytes old =
-          (unfold dropRules in rw (le-leb (length sheet) byteLimit short, drop-fine) refl) in
-          (rw same-result e, rw same-result (ap (λ (x : Answer). after x bytes old) e))
+        pub drop-goes-on :
+            (answered (limited form (withoutKey (asked network kind block) (entriesOf form sheet))) (sheetText form (withoutKey (asked network kind block) (entriesOf form sheet))) old
+            ≡ answered (dropRules form network kind block sheet) bytes old)
+            × (left (limited form (withoutKey (asked network kind block) (entriesOf form sheet))) (sheetText form (withoutKey (asked network kind block) (entriesOf form sheet))) old
+            ≡ left (dropRules form network kind block sheet) bytes old)
+        drop-goes-on =
+            let e : answered (limited form (dropResult form network kind block sheet)) bytes old ≡ answered (dropRules form network kind block sheet) bytes old =
+            (unfold dropRules in rw (le-leb (length sheet) (byteLimit form) short, drop-fine) refl) in
+            (rw same-result e, rw same-result (ap (λ (x : Answer). after x bytes old) e))

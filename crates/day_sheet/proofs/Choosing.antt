@@ -4,21 +4,20 @@ use mathlib.Core.Path.{_≡_, _∙_, refl, sym, ap}
 use mathlib.Core.Bool.{Bool, true, false}
 use Prim.Native.Nat.{ℕ, _≤_}
 use native.Mathlib.Omega.{arith}
-use lib.Dec.{leb, eqb}
+use lib.Dec.{eqb}
 use borrow.Author.Tests.{eqb-true}
 use Rattle.laws.specs.Pick.{pick, either}
-use Rattle.laws.proofs.Tests.{both-true}
 use Rattle.forms.specs.Tables.{TI, LI, known}
 use Rattle.forms.proofs.Sendable.{Sendable, sendable}
-use Rattle.sheet_entry.specs.Entries.{Entry, keyOf, stampMost, written}
+use Rattle.sheet_entry.specs.Entries.{Entry, keyOf, written}
+use Rattle.sheet_entry.proofs.Entered.{written-parts}
+use Rattle.sheet_entry.specs.declared.Form.{Form}
 
 -- ---- an entry that can be written
 
-pub written-sendable : (e : Entry) → written e ≡ true → Sendable (e .table)
-unfolding written
-written-sendable e w =
-    let p = both-true (leb (e .stamp) stampMost) _ w in
-    sendable (e .table) (both-true (eqb (e .table .copyright) 0) _ (p .1) .1)
+module _ (form : Form) where
+  pub written-sendable : (e : Entry) → written form e ≡ true → Sendable (e .table)
+  written-sendable e w = sendable (e .table) (written-parts form e w .fit)
 
 -- ---- the key
 
@@ -54,20 +53,21 @@ kinds-only k m p q e = go (eqb k TI) refl (eqb m TI) refl p q e
         clash f = let z : _≡_ {A = ℕ} 0 1 = ap (λ (b : Bool). pick b 1 0) f in omega arith
     go false s false t p q e = eqb-true k LI p ∙ sym (eqb-true m LI q)
 
--- the key gives network, kind and block
-pub key-only :
-    (x y : Entry) → written x ≡ true → written y ≡ true → keyOf x ≡ keyOf y
-    → (x .table .network ≡ y .table .network) × (x .table .kind ≡ y .table .kind) × (x .table .block ≡ y .table .block)
-unfolding keyOf bit
-key-only x y v w e =
-    let s = written-sendable x v in
-    let t = written-sendable y w in
-    let b = s .block-fits in
-    let c = t .block-fits in
-    let f = bit-small (eqb (x .table .kind) TI) in
-    let g = bit-small (eqb (y .table .kind) TI) in
-    let k : bit (eqb (x .table .kind) TI) ≡ bit (eqb (y .table .kind) TI) = omega arith in (
-      omega arith,
-      kinds-only (x .table .kind) (y .table .kind) (s .kind-known) (t .kind-known) (bits-only (eqb (x .table .kind) TI) (eqb (y .table .kind) TI) k),
-      omega arith,
-    )
+module _ (form : Form) where
+  -- the key gives network, kind and block
+  pub key-only :
+      (x y : Entry) → written form x ≡ true → written form y ≡ true → keyOf x ≡ keyOf y
+      → (x .table .network ≡ y .table .network) × (x .table .kind ≡ y .table .kind) × (x .table .block ≡ y .table .block)
+  unfolding keyOf bit
+  key-only x y v w e =
+      let s = written-sendable form x v in
+      let t = written-sendable form y w in
+      let b = s .block-fits in
+      let c = t .block-fits in
+      let f = bit-small (eqb (x .table .kind) TI) in
+      let g = bit-small (eqb (y .table .kind) TI) in
+      let k : bit (eqb (x .table .kind) TI) ≡ bit (eqb (y .table .kind) TI) = omega arith in (
+        omega arith,
+        kinds-only (x .table .kind) (y .table .kind) (s .kind-known) (t .kind-known) (bits-only (eqb (x .table .kind) TI) (eqb (y .table .kind) TI) k),
+        omega arith,
+      )

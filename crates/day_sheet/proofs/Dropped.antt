@@ -5,10 +5,10 @@ use mathlib.Core.Option.{Option, none, some}
 use mathlib.Core.List.{List, [], _∷_, append-nil}
 use Prim.Native.Nat.{ℕ, suc, _≤_}
 use native.Mathlib.Omega.{arith}
-use lib.Dec.{eqb, leb}
+use lib.Dec.{eqb}
 use lib.ListN.{length, length-append}
 use borrow.Author.Tests.{eqb-true, le-leb, leb-true}
-use Rattle.laws.specs.Pick.{pick, both}
+use Rattle.laws.specs.Pick.{pick}
 use Rattle.laws.specs.Each.{Each, nil, and}
 use Rattle.laws.specs.Keyed.{risingFrom, lookup, chosen}
 use Rattle.laws.specs.Orders.{greater}
@@ -20,12 +20,13 @@ use Rattle.laws.proofs.Joined.{join-rises, join-lookup}
 use Rattle.answer.specs.Rules.{Every, none as all-hold, more}
 use Rattle.answer.proofs.Lent.{lent-accepted}
 use Rattle.forms.specs.Tables.{Table, known}
-use Rattle.forms.specs.Form.{form}
+use Rattle.forms.specs.Form.{form as tableForm}
 use Rattle.forms.proofs.Forms.{form-in}
-use Rattle.sheet_entry.specs.Entries.{Entry, keyIn, keyOf, entryText, stampMost, written}
+use Rattle.sheet_entry.specs.Entries.{Entry, keyIn, keyOf, entryText, stampMost, mendedMost, written}
 use Rattle.sheet_entry.specs.Writing.{stamped}
 use Rattle.sheet_entry.specs.Internal.{Judged}
-use Rattle.sheet_entry.proofs.Spelling.{judged-every, entry-most}
+use Rattle.sheet_entry.proofs.Spelling.{entry-every, entry-most}
+use Rattle.sheet_entry.proofs.Entered.{written-parts}
 use Rattle.day_sheet.specs.Entries.{sheetText, allWritten, entryLimit, byteLimit}
 use Rattle.day_sheet.specs.Joining.{atMost, joined}
 use Rattle.day_sheet.specs.Dropping.{named, without}
@@ -39,218 +40,220 @@ use Rattle.day_sheet.proofs.Exact.{read-written}
 use Rattle.day_sheet.proofs.Asked.{named-known}
 use Rattle.day_sheet.proofs.OneByOne.{joins-adds}
 use Rattle.day_sheet.proofs.Merged.{joined-merged}
+use Rattle.day_sheet.proofs.Limits.{entry-within}
+use Rattle.sheet_entry.specs.declared.Form.{Form}
 
-module _ (network kind block : ℕ) where
-  -- an entry that is named has that key
-  named-key : (e : Entry) → named network kind block e ≡ true → keyOf e ≡ keyIn network kind block
-  unfolding keyOf
-  named-key e n =
-      let a = both-true (eqb (e .table .network) network) _ n in
-      let b = both-true (eqb (e .table .kind) kind) _ (a .1) in
-      rw (eqb-true (e .table .network) network (a .0), eqb-true (e .table .kind) kind (b .0), eqb-true (e .table .block) block (b .1))
+module _ (form : Form) where
+  module _ (network kind block : ℕ) where
+    -- an entry that is named has that key
+    named-key : (e : Entry) → named network kind block e ≡ true → keyOf e ≡ keyIn network kind block
+    unfolding keyOf
+    named-key e n =
+        let a = both-true (eqb (e .table .network) network) _ n in
+        let b = both-true (eqb (e .table .kind) kind) _ (a .1) in
+        rw (eqb-true (e .table .network) network (a .0), eqb-true (e .table .kind) kind (b .0), eqb-true (e .table .block) block (b .1))
 
-  -- every other entry stays as it is
-  pub others-stay : (k : ℕ) → (k ≡ keyIn network kind block → ⊥) → (es : List Entry) → lookup keyOf k (without network kind block es) ≡ lookup keyOf k es
-  unfolding without
-  others-stay k n [] = refl
-  others-stay k n (e ∷ es) = go (named network kind block e) refl (others-stay k n es)
-    where
-      go :
-          (z : Bool) → named network kind block e ≡ z → lookup keyOf k (without network kind block es) ≡ lookup keyOf k es
-          → lookup keyOf k (pick z (without network kind block es) (e ∷ without network kind block es)) ≡ lookup keyOf k (e ∷ es)
-      go true z ih = ih ∙ sym (lookup-past keyOf k e es (λ f. n (sym f ∙ named-key e z)))
-      go false z ih = at-key keyOf e k (λ f. lookup-here keyOf k e _ f ∙ sym (lookup-here keyOf k e es f)) (λ f. lookup-past keyOf k e _ f ∙ ih ∙ sym (lookup-past keyOf k e es f))
+    -- every other entry stays as it is
+    pub others-stay : (k : ℕ) → (k ≡ keyIn network kind block → ⊥) → (es : List Entry) → lookup keyOf k (without network kind block es) ≡ lookup keyOf k es
+    unfolding without
+    others-stay k n [] = refl
+    others-stay k n (e ∷ es) = go (named network kind block e) refl (others-stay k n es)
+      where
+        go :
+            (z : Bool) → named network kind block e ≡ z → lookup keyOf k (without network kind block es) ≡ lookup keyOf k es
+            → lookup keyOf k (pick z (without network kind block es) (e ∷ without network kind block es)) ≡ lookup keyOf k (e ∷ es)
+        go true z ih = ih ∙ sym (lookup-past keyOf k e es (λ f. n (sym f ∙ named-key e z)))
+        go false z ih = at-key keyOf e k (λ f. lookup-here keyOf k e _ f ∙ sym (lookup-here keyOf k e es f)) (λ f. lookup-past keyOf k e _ f ∙ ih ∙ sym (lookup-past keyOf k e es f))
 
-  -- and none is left of that key
-  pub none-left :
-      block ≤ 65535 → known kind ≡ true → (es : List Entry) → allWritten es ≡ true
-      → lookup keyOf (keyIn network kind block) (without network kind block es) ≡ none
-  unfolding without allWritten lookup
-  none-left small k [] w = refl
-  none-left small k (e ∷ es) w =
-      let p = both-true (written e) (allWritten es) w in
-      let n = named-known network kind block small k e (p .0) in
-      rw n (go (eqb (keyOf e) (keyIn network kind block)) refl (none-left small k es (p .1)))
-    where
-      go :
-          (z : Bool) → eqb (keyOf e) (keyIn network kind block) ≡ z → lookup keyOf (keyIn network kind block) (without network kind block es) ≡ none
-          → lookup keyOf (keyIn network kind block) (pick z (without network kind block es) (e ∷ without network kind block es)) ≡ none
-      go true z ih = ih
-      go false z ih = rw z ih
+    -- and none is left of that key
+    pub none-left :
+        block ≤ 65535 → known kind ≡ true → (es : List Entry) → allWritten form es ≡ true
+        → lookup keyOf (keyIn network kind block) (without network kind block es) ≡ none
+    unfolding without allWritten lookup
+    none-left small k [] w = refl
+    none-left small k (e ∷ es) w =
+        let p = both-true (written form e) (allWritten form es) w in
+        let n = named-known form network kind block small k e (p .0) in
+        rw n (go (eqb (keyOf e) (keyIn network kind block)) refl (none-left small k es (p .1)))
+      where
+        go :
+            (z : Bool) → eqb (keyOf e) (keyIn network kind block) ≡ z → lookup keyOf (keyIn network kind block) (without network kind block es) ≡ none
+            → lookup keyOf (keyIn network kind block) (pick z (without network kind block es) (e ∷ without network kind block es)) ≡ none
+        go true z ih = ih
+        go false z ih = rw z ih
 
-  -- no more entries, and no longer a text
-  fewer :
-      (es : List Entry)
-      → (length (without network kind block es) ≤ length es) × (length (sheetText (without network kind block es)) ≤ length (sheetText es))
-  unfolding without sheetText
-  fewer [] = (omega arith, omega arith)
-  fewer (e ∷ es) = go (named network kind block e) (fewer es)
-    where
-      go :
-          (z : Bool)
-          → (length (without network kind block es) ≤ length es) × (length (sheetText (without network kind block es)) ≤ length (sheetText es))
-          → (length (pick z (without network kind block es) (e ∷ without network kind block es)) ≤ length (e ∷ es))
-          × (length (sheetText (pick z (without network kind block es) (e ∷ without network kind block es))) ≤ length (sheetText (e ∷ es)))
-      go true ih = let l = length-append (entryText e) (sheetText es) in (omega arith, omega arith)
-      go false ih =
-          let l = length-append (entryText e) (sheetText es) in
-          let m = length-append (entryText e) (sheetText (without network kind block es)) in
-          (omega arith, omega arith)
+    -- no more entries, and no longer a text
+    fewer :
+        (es : List Entry)
+        → (length (without network kind block es) ≤ length es) × (length (sheetText form (without network kind block es)) ≤ length (sheetText form es))
+    unfolding without sheetText
+    fewer [] = (omega arith, omega arith)
+    fewer (e ∷ es) = go (named network kind block e) (fewer es)
+      where
+        go :
+            (z : Bool)
+            → (length (without network kind block es) ≤ length es) × (length (sheetText form (without network kind block es)) ≤ length (sheetText form es))
+            → (length (pick z (without network kind block es) (e ∷ without network kind block es)) ≤ length (e ∷ es))
+            × (length (sheetText form (pick z (without network kind block es) (e ∷ without network kind block es))) ≤ length (sheetText form (e ∷ es)))
+        go true ih = let l = length-append (entryText form e) (sheetText form es) in (omega arith, omega arith)
+        go false ih =
+            let l = length-append (entryText form e) (sheetText form es) in
+            let m = length-append (entryText form e) (sheetText form (without network kind block es)) in
+            (omega arith, omega arith)
 
-  -- they still rise, and can be written
-  still :
-      (l : ℕ) (es : List Entry) → risingFrom keyOf l es ≡ true → Each Fit es
-      → (risingFrom keyOf l (without network kind block es) ≡ true) × Each Fit (without network kind block es)
-  unfolding without
-  still l [] r f = (r, f)
-  still l (e ∷ es) r f =
-      go (named network kind block e) (still (suc (keyOf e)) es (rising-rest keyOf l e es r) (each-rest f))
-    where
-      go :
-          (z : Bool) → (risingFrom keyOf (suc (keyOf e)) (without network kind block es) ≡ true) × Each Fit (without network kind block es)
-          → (risingFrom keyOf l (pick z (without network kind block es) (e ∷ without network kind block es)) ≡ true)
-          × Each Fit (pick z (without network kind block es) (e ∷ without network kind block es))
-      go true ih =
-          let a = rising-first keyOf l e es r in
-          (rising-lower keyOf (suc (keyOf e)) l (without network kind block es) (omega arith) (ih .0), ih .1)
-      go false ih = (rising-cons keyOf l e (without network kind block es) (rising-first keyOf l e es r) (ih .0), and (each-first f) (ih .1))
+    -- they still rise, and can be written
+    still :
+        (l : ℕ) (es : List Entry) → risingFrom keyOf l es ≡ true → Each (Fit form) es
+        → (risingFrom keyOf l (without network kind block es) ≡ true) × Each (Fit form) (without network kind block es)
+    unfolding without
+    still l [] r f = (r, f)
+    still l (e ∷ es) r f =
+        go (named network kind block e) (still (suc (keyOf e)) es (rising-rest keyOf l e es r) (each-rest f))
+      where
+        go :
+            (z : Bool) → (risingFrom keyOf (suc (keyOf e)) (without network kind block es) ≡ true) × Each (Fit form) (without network kind block es)
+            → (risingFrom keyOf l (pick z (without network kind block es) (e ∷ without network kind block es)) ≡ true)
+            × Each (Fit form) (pick z (without network kind block es) (e ∷ without network kind block es))
+        go true ih =
+            let a = rising-first keyOf l e es r in
+            (rising-lower keyOf (suc (keyOf e)) l (without network kind block es) (omega arith) (ih .0), ih .1)
+        go false ih = (rising-cons keyOf l e (without network kind block es) (rising-first keyOf l e es r) (ih .0), and (each-first f) (ih .1))
 
-  pub sheet-without : {es : List Entry} → Sheet es → Sheet (without network kind block es)
-  sheet-without {es} g = let s = still 0 es (g .rises) (g .fit) in record { rises = s .0; fit = s .1 }
+    pub sheet-without : {es : List Entry} → Sheet form es → Sheet form (without network kind block es)
+    sheet-without {es} g = let s = still 0 es (g .rises) (g .fit) in record { rises = s .0; fit = s .1 }
 
-  -- of a sheet within the limits the call writes what is left
-  pub drops :
-      (sheet : List ℕ) → InForm sheet → length sheet ≤ byteLimit → length (entriesOf sheet) ≤ entryLimit
-      → Drops network kind block sheet (sheetText (without network kind block (entriesOf sheet)))
-  unfolding dropRules dropResult
-  drops sheet f b n =
-      let s = fewer (entriesOf sheet) in
-      let t = ap length (read-written sheet 0 f .0) in
-      let ws = without network kind block (entriesOf sheet) in
-      let every : Every (dropRules network kind block sheet) =
-      more (le-leb (length sheet) byteLimit b)
-      (more f (more (le-leb (length ws) entryLimit (omega arith)) (more (le-leb (length (sheetText ws)) byteLimit (omega arith)) all-hold))) in
-      record {
-        answers = λ out big. lent-accepted (dropRules network kind block sheet) (sheetText ws) out every (omega arith) .0;
-        writes = λ out big. lent-accepted (dropRules network kind block sheet) (sheetText ws) out every (omega arith) .1;
-      }
+    -- of a sheet within the limits the call writes what is left
+    pub drops :
+        (sheet : List ℕ) → InForm form sheet → length sheet ≤ byteLimit form → length (entriesOf form sheet) ≤ entryLimit
+        → Drops form network kind block sheet (sheetText form (without network kind block (entriesOf form sheet)))
+    unfolding dropRules dropResult
+    drops sheet f b n =
+        let s = fewer (entriesOf form sheet) in
+        let t = ap length (read-written form sheet 0 f .0) in
+        let ws = without network kind block (entriesOf form sheet) in
+        let every : Every (dropRules form network kind block sheet) =
+        more (le-leb (length sheet) (byteLimit form) b)
+        (more f (more (le-leb (length ws) entryLimit (omega arith)) (more (le-leb (length (sheetText form ws)) (byteLimit form) (omega arith)) all-hold))) in
+        record {
+          answers = λ out big. lent-accepted (dropRules form network kind block sheet) (sheetText form ws) out every (omega arith) .0;
+          writes = λ out big. lent-accepted (dropRules form network kind block sheet) (sheetText form ws) out every (omega arith) .1;
+        }
 
 -- ---- added again
 
--- an entry's stamp and its table's form
+-- an entry's stamp, what was mended of it, and its table's form
 abbrev pub captured : Entry → Captured
-captured e = record { stamp = e .stamp; form = form (e .table) }
+captured e = record { stamp = e .stamp; mended = e .mended; table = tableForm (e .table) }
 
-stamped-again : (e : Entry) → Fit e → stamped (e .stamp) (form (e .table)) ≡ e
-unfolding stamped written
-stamped-again e w =
-    let t = e .table in
-    let a = both-true (leb (e .stamp) stampMost) _ w in
-    let b = both-true (eqb (t .copyright) 0) _ (a .1) in
-    rw (form-in t (written-sendable e w))
-    (ap
-    (λ (c : ℕ). record {
-      stamp = e .stamp;
-      table = record { kind = t .kind; copyright = c; block = t .block; network = t .network; descriptors = t .descriptors };
-    })
-    (sym (eqb-true (t .copyright) 0 (b .0))))
+module _ (form : Form) where
+  stamped-again : (e : Entry) → Fit form e → stamped (e .stamp) (e .mended) (tableForm (e .table)) ≡ e
+  unfolding stamped
+  stamped-again e w =
+      let t = e .table in
+      rw (form-in t (written-sendable form e w))
+      (ap
+      (λ (c : ℕ). record {
+        stamp = e .stamp;
+        mended = e .mended;
+        table = record { kind = t .kind; copyright = c; block = t .block; network = t .network; descriptors = t .descriptors };
+      })
+      (sym (written-parts form e w .uncopied)))
 
-module _ (sheet : List ℕ) (e : Entry) (f : InForm sheet) (there : lookup keyOf (keyOf e) (entriesOf sheet) ≡ some e) where
-  abbrev rest : List Entry
-  rest = without (e .table .network) (e .table .kind) (e .table .block) (entriesOf sheet)
+  module _ (sheet : List ℕ) (e : Entry) (f : InForm form sheet) (there : lookup keyOf (keyOf e) (entriesOf form sheet) ≡ some e) where
+    abbrev rest : List Entry
+    rest = without (e .table .network) (e .table .kind) (e .table .block) (entriesOf form sheet)
 
-  -- what is looked up is an entry of the list
-  looked : (es : List Entry) → Each Fit es → lookup keyOf (keyOf e) es ≡ some e → Fit e
-  unfolding lookup
-  looked [] g h = let z : _≡_ {A = ℕ} 0 1 = cc in absurd (omega arith)
-  looked (x ∷ es) g h = go (eqb (keyOf x) (keyOf e)) h (looked es (each-rest g))
-    where
-      go : (z : Bool) → pick z (some x) (lookup keyOf (keyOf e) es) ≡ some e → (lookup keyOf (keyOf e) es ≡ some e → Fit e) → Fit e
-      go true h ih = let q : x ≡ e = cc in subst Fit q (each-first g)
-      go false h ih = ih h
+    -- what is looked up is an entry of the list
+    looked : (es : List Entry) → Each (Fit form) es → lookup keyOf (keyOf e) es ≡ some e → Fit form e
+    unfolding lookup
+    looked [] g h = let z : _≡_ {A = ℕ} 0 1 = cc in absurd (omega arith)
+    looked (x ∷ es) g h = go (eqb (keyOf x) (keyOf e)) h (looked es (each-rest g))
+      where
+        go : (z : Bool) → pick z (some x) (lookup keyOf (keyOf e) es) ≡ some e → (lookup keyOf (keyOf e) es ≡ some e → Fit form e) → Fit form e
+        go true h ih = let q : x ≡ e = cc in subst (Fit form) q (each-first g)
+        go false h ih = ih h
 
-  can : Fit e
-  can = looked (entriesOf sheet) (sheet-of sheet f .fit) there
+    can : Fit form e
+    can = looked (entriesOf form sheet) (sheet-of form sheet f .fit) there
 
-  one : Sheet (e ∷ [])
-  unfolding risingFrom
-  one = record { rises = rw (le-leb 0 (keyOf e) (omega arith)); fit = and can nil }
+    one : Sheet form (e ∷ [])
+    unfolding risingFrom
+    one = record { rises = rw (le-leb 0 (keyOf e) (omega arith)); fit = and can nil }
 
-  only-first : (o : Option Entry) → chosen (greater atMost) o none ≡ o
-  unfolding chosen
-  only-first none = refl
-  only-first (some x) = refl
+    only-first : (o : Option Entry) → chosen (greater atMost) o none ≡ o
+    unfolding chosen
+    only-first none = refl
+    only-first (some x) = refl
 
-  one-text : sheetText (e ∷ []) ≡ entryText e
-  unfolding sheetText
-  one-text = append-nil (entryText e)
+    one-text : sheetText form (e ∷ []) ≡ entryText form e
+    unfolding sheetText
+    one-text = append-nil (entryText form e)
 
-  nothing : (k : ℕ) → lookup keyOf k [] ≡ none
-  unfolding lookup
-  nothing k = refl
+    nothing : (k : ℕ) → lookup keyOf k [] ≡ none
+    unfolding lookup
+    nothing k = refl
 
-  joined-again : joined rest (e ∷ []) ≡ entriesOf sheet
-  unfolding chosen
-  joined-again =
-      let g = sheet-of sheet f in
-      let s = sheet-without (e .table .network) (e .table .kind) (e .table .block) g in
-      joined-merged rest (e ∷ [])
-      ∙ rising-only keyOf 0 _ (entriesOf sheet) (join-rises keyOf Fit atMost decides 0 rest (e ∷ []) (s .rises) (one .rises)) (g .rises)
-      (λ k. join-lookup keyOf Fit atMost decides 0 k rest (e ∷ []) (s .rises) (one .rises) ∙ at-key keyOf e k (here k) (other k))
-    where
-      here : (k : ℕ) → keyOf e ≡ k → chosen (greater atMost) (lookup keyOf k rest) (lookup keyOf k (e ∷ [])) ≡ lookup keyOf k (entriesOf sheet)
-      here k h =
-          let s = written-sendable e can in
-          let b = s .block-fits in
-          let gone : lookup keyOf k rest ≡ none =
-          subst (λ (x : ℕ). lookup keyOf x rest ≡ none) h
-          (unfold keyOf in none-left (e .table .network) (e .table .kind) (e .table .block) (omega arith) (s .kind-known) (entriesOf sheet) (read-written sheet 0 f .2)) in
-          rw (gone, lookup-here keyOf k e [] h) (sym (subst (λ (x : ℕ). lookup keyOf x (entriesOf sheet) ≡ some e) h there))
+    joined-again : joined rest (e ∷ []) ≡ entriesOf form sheet
+    unfolding chosen
+    joined-again =
+        let g = sheet-of form sheet f in
+        let s = sheet-without form (e .table .network) (e .table .kind) (e .table .block) g in
+        joined-merged rest (e ∷ [])
+        ∙ rising-only keyOf 0 _ (entriesOf form sheet) (join-rises keyOf (Fit form) atMost (decides form) 0 rest (e ∷ []) (s .rises) (one .rises)) (g .rises)
+        (λ k. join-lookup keyOf (Fit form) atMost (decides form) 0 k rest (e ∷ []) (s .rises) (one .rises) ∙ at-key keyOf e k (here k) (other k))
+      where
+        here : (k : ℕ) → keyOf e ≡ k → chosen (greater atMost) (lookup keyOf k rest) (lookup keyOf k (e ∷ [])) ≡ lookup keyOf k (entriesOf form sheet)
+        here k h =
+            let s = written-sendable form e can in
+            let b = s .block-fits in
+            let gone : lookup keyOf k rest ≡ none =
+            subst (λ (x : ℕ). lookup keyOf x rest ≡ none) h
+            (unfold keyOf in none-left form (e .table .network) (e .table .kind) (e .table .block) (omega arith) (s .kind-known) (entriesOf form sheet) (read-written form sheet 0 f .2)) in
+            rw (gone, lookup-here keyOf k e [] h) (sym (subst (λ (x : ℕ). lookup keyOf x (entriesOf form sheet) ≡ some e) h there))
 
-      other : (k : ℕ) → (keyOf e ≡ k → ⊥) → chosen (greater atMost) (lookup keyOf k rest) (lookup keyOf k (e ∷ [])) ≡ lookup keyOf k (entriesOf sheet)
-      other k n =
-          rw (lookup-past keyOf k e [] n ∙ nothing k)
-          (only-first (lookup keyOf k rest)
-          ∙ others-stay (e .table .network) (e .table .kind) (e .table .block) k (λ z. n (unfold keyOf in sym z)) (entriesOf sheet))
+        other : (k : ℕ) → (keyOf e ≡ k → ⊥) → chosen (greater atMost) (lookup keyOf k rest) (lookup keyOf k (e ∷ [])) ≡ lookup keyOf k (entriesOf form sheet)
+        other k n =
+            rw (lookup-past keyOf k e [] n ∙ nothing k)
+            (only-first (lookup keyOf k rest)
+            ∙ others-stay form (e .table .network) (e .table .kind) (e .table .block) k (λ z. n (unfold keyOf in sym z)) (entriesOf form sheet))
 
-  judged : Judged (form (e .table))
-  unfolding written
-  judged =
-      let a = both-true (leb (e .stamp) stampMost) _ can in
-      let b = both-true (eqb (e .table .copyright) 0) _ (a .1) in
-      let i = form-in (e .table) (written-sendable e can) in
-      record { whole = ap (λ (t : Table). length (form t)) (sym i); fit = rw i (b .1) }
+    judged : Judged (tableForm (e .table))
+    judged =
+        let i = form-in (e .table) (written-sendable form e can) in
+        record { whole = ap (λ (t : Table). length (tableForm t)) (sym i); fit = rw i (written-parts form e can .fit) }
 
-  stamp-in : e .stamp ≤ stampMost
-  unfolding written
-  stamp-in = leb-true (e .stamp) stampMost (both-true (leb (e .stamp) stampMost) _ can .0)
+    stamp-in : e .stamp ≤ stampMost
+    stamp-in = leb-true (e .stamp) stampMost (written-parts form e can .stamp-fits)
 
-  one-fits : total sizeOf (e ∷ []) ≤ byteLimit
-  unfolding total
-  one-fits =
-      let m = entry-most (e .stamp) (form (e .table)) stamp-in judged in
-      let n = ap (λ (x : Entry). length (entryText x)) (stamped-again e can) in
-      omega arith
+    mended-in : e .mended ≤ mendedMost form
+    mended-in = leb-true (e .mended) (mendedMost form) (written-parts form e can .mended-fits)
 
-  takes : Takes (captured e)
-  takes = record { form-holds = judged-every (form (e .table)) judged; stamp-fits = stamp-in }
+    one-fits : total (sizeOf form) (e ∷ []) ≤ byteLimit form
+    unfolding total
+    one-fits =
+        let m = entry-most form (e .stamp) (e .mended) (tableForm (e .table)) stamp-in mended-in judged in
+        let n = ap (λ (x : Entry). length (entryText form x)) (stamped-again e can) in
+        omega (arith, entry-within form)
 
-  -- dropped, and then added with its stamp and its table: the same sheet, with room in both calls
-  pub drop-and-add :
-      length sheet ≤ byteLimit → length (entriesOf sheet) ≤ entryLimit
-      → Drops (e .table .network) (e .table .kind) (e .table .block) sheet (sheetText rest) × Adds (sheetText rest) (captured e) sheet
-  drop-and-add b n =
-      let g = sheet-of sheet f in
-      let same = read-written sheet 0 f .0 in
-      let t = ap length same in
-      let s = sheet-without (e .table .network) (e .table .kind) (e .table .block) g in
-      let w = fewer (e .table .network) (e .table .kind) (e .table .block) (entriesOf sheet) in
-      let u = text-length rest in
-      let v = text-length (entriesOf sheet) in
-      let j : Joins (sheetText rest) (sheetText (e ∷ [])) (sheetText (joined rest (e ∷ []))) =
-      joins s one (omega arith) one-fits (rw joined-again (record { entries = n; length-in-all = omega arith })) in
-      let c : sheetText (e ∷ []) ≡ sheetOfOne (captured e) = one-text ∙ ap entryText (sym (stamped-again e can)) in
-      let k : Joins (sheetText rest) (sheetOfOne (captured e)) sheet =
-      subst (λ (x : List ℕ). Joins (sheetText rest) (sheetOfOne (captured e)) x) (ap sheetText joined-again ∙ sym same)
-      (subst (λ (x : List ℕ). Joins (sheetText rest) x (sheetText (joined rest (e ∷ [])))) c j) in
-      (drops (e .table .network) (e .table .kind) (e .table .block) sheet f b n, joins-adds (sheetText rest) (captured e) sheet takes k)
+    takes : Takes form (captured e)
+    takes = record { form-holds = entry-every form (e .mended) (tableForm (e .table)) judged mended-in; stamp-fits = stamp-in }
+
+    -- dropped, and then added with its stamp and its table: the same sheet, with room in both calls
+    pub drop-and-add :
+        length sheet ≤ byteLimit form → length (entriesOf form sheet) ≤ entryLimit
+        → Drops form (e .table .network) (e .table .kind) (e .table .block) sheet (sheetText form rest) × Adds form (sheetText form rest) (captured e) sheet
+    drop-and-add b n =
+        let g = sheet-of form sheet f in
+        let same = read-written form sheet 0 f .0 in
+        let t = ap length same in
+        let s = sheet-without form (e .table .network) (e .table .kind) (e .table .block) g in
+        let w = fewer form (e .table .network) (e .table .kind) (e .table .block) (entriesOf form sheet) in
+        let u = text-length form rest in
+        let v = text-length form (entriesOf form sheet) in
+        let j : Joins form (sheetText form rest) (sheetText form (e ∷ [])) (sheetText form (joined rest (e ∷ []))) =
+        joins form s one (omega arith) one-fits (rw joined-again (record { entries = n; length-in-all = omega arith })) in
+        let c : sheetText form (e ∷ []) ≡ sheetOfOne form (captured e) = one-text ∙ ap (entryText form) (sym (stamped-again e can)) in
+        let k : Joins form (sheetText form rest) (sheetOfOne form (captured e)) sheet =
+        subst (λ (x : List ℕ). Joins form (sheetText form rest) (sheetOfOne form (captured e)) x) (ap (sheetText form) joined-again ∙ sym same)
+        (subst (λ (x : List ℕ). Joins form (sheetText form rest) x (sheetText form (joined rest (e ∷ [])))) c j) in
+        (drops form (e .table .network) (e .table .kind) (e .table .block) sheet f b n, joins-adds form (sheetText form rest) (captured e) sheet takes k)

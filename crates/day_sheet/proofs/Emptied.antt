@@ -18,12 +18,14 @@ use Rattle.forms.specs.Form.{spelled}
 use Rattle.text_lines.specs.Codes.{codes}
 use Rattle.text_lines.specs.Lines.{digitsIn, decimal, digit, hexed, letter, letters, numberLine, languageOf, languageLine, pageLine}
 use Rattle.listing.specs.Lines.{kindLine, kindTI, kindLI, languageLines, subtitleLines, entryLines, descriptorLine, descriptorLines, descriptorLinesOf}
-use Rattle.sheet_entry.specs.Entries.{Entry, HeadLine, stampName, headValues, spelledBy, headLines, tableLines, emptyLine, entryText}
+use Rattle.sheet_entry.specs.Entries.{Entry, HeadLine, stampName, headValues, spelledBy, headLines, tableLines, emptyLine, entryText, mendedHead}
 use Rattle.day_sheet.specs.Entries.{sheetText}
 use Rattle.day_sheet.specs.Calls.{entriesOf}
 use Rattle.day_sheet.specs.AnyOrder.{InForm}
 use Rattle.listing_reader.proofs.Rowed.{number-some}
 use Rattle.day_sheet.proofs.Exact.{read-written}
+use Rattle.sheet_entry.specs.declared.Form.{Form}
+use Rattle.sheet_entry.specs.declared.Form.the-variants.{Old, New}
 
 -- ---- bytes that end no line
 
@@ -188,39 +190,46 @@ spelled-full nil vs = none
 spelled-full (and f e) [] = none
 spelled-full (and f e) (v ∷ vs) = full-then (f v) (spelled-full e vs)
 
-head-full : (e : Entry) → Full (headLines e)
-unfolding headLines plain
-head-full e =
-    spelled-full
-    (and (λ v. number-full 115 (codes "tamp=") v refl)
-    (and kind-full (and (λ v. number-full 110 (codes "etwork=") v refl) (and (λ v. number-full 98 (codes "lock=") v refl) nil))))
-    (headValues e)
+mended-full : (form : Form) → FullLine (mendedHead form)
+unfolding plain
+mended-full Old v = none
+mended-full New v = number-full 109 (codes "ended=") v refl
 
-head-some : (e : Entry) → 1 ≤ length (headLines e)
-unfolding headLines spelledBy
-head-some e = rw length-append (omega (arith, number-some stampName (e .stamp)))
+module _ (form : Form) where
+  head-full : (e : Entry) → Full (headLines form e)
+  unfolding headLines plain
+  head-full e =
+      spelled-full
+      (and (λ v. number-full 115 (codes "tamp=") v refl)
+      (and (mended-full form)
+      (and kind-full (and (λ v. number-full 110 (codes "etwork=") v refl) (and (λ v. number-full 98 (codes "lock=") v refl) nil)))))
+      (headValues e)
 
-table-full : (e : Entry) → Full (tableLines e)
-unfolding descriptorLinesOf
-table-full e = descriptors-full (e .table .kind) (e .table .descriptors)
+  head-some : (e : Entry) → 1 ≤ length (headLines form e)
+  unfolding headLines spelledBy
+  head-some e = rw length-append (omega (arith, number-some stampName (e .stamp)))
 
--- one for each entry, at its end
-entry-passed : (e : Entry) (tail : List ℕ) (ended : Bool) → emptyFrom (entryText e ++ tail) ended ≡ 1 + emptyFrom tail true
-unfolding entryText
-entry-passed e tail ended =
-    let split : (headLines e ++ (tableLines e ++ emptyLine)) ++ tail ≡ (headLines e ++ tableLines e) ++ (10 ∷ tail) =
-    append-assoc (headLines e) (tableLines e ++ emptyLine) tail
-    ∙ ap (λ (x : List ℕ). headLines e ++ x) (append-assoc (tableLines e) emptyLine tail)
-    ∙ sym (append-assoc (headLines e) (tableLines e) (10 ∷ tail)) in
-    ap (λ (x : List ℕ). emptyFrom x ended) split
-    ∙ full-first (10 ∷ tail) ended (full-then (head-full e) (table-full e)) (rw length-append (omega (arith, head-some e)))
-    ∙ (unfold emptyFrom in refl)
+  table-full : (e : Entry) → Full (tableLines e)
+  unfolding descriptorLinesOf
+  table-full e = descriptors-full (e .table .kind) (e .table .descriptors)
 
-text-passed : (es : List Entry) (ended : Bool) → emptyFrom (sheetText es) ended ≡ length es
-unfolding sheetText emptyFrom
-text-passed [] ended = refl
-text-passed (e ∷ es) ended = entry-passed e (sheetText es) ended ∙ (let q = text-passed es true in omega arith)
+  -- one for each entry, at its end
+  entry-passed : (e : Entry) (tail : List ℕ) (ended : Bool) → emptyFrom (entryText form e ++ tail) ended ≡ 1 + emptyFrom tail true
+  unfolding entryText
+  entry-passed e tail ended =
+      let split : (headLines form e ++ (tableLines e ++ emptyLine)) ++ tail ≡ (headLines form e ++ tableLines e) ++ (10 ∷ tail) =
+      append-assoc (headLines form e) (tableLines e ++ emptyLine) tail
+      ∙ ap (λ (x : List ℕ). headLines form e ++ x) (append-assoc (tableLines e) emptyLine tail)
+      ∙ sym (append-assoc (headLines form e) (tableLines e) (10 ∷ tail)) in
+      ap (λ (x : List ℕ). emptyFrom x ended) split
+      ∙ full-first (10 ∷ tail) ended (full-then (head-full e) (table-full e)) (rw length-append (omega (arith, head-some e)))
+      ∙ (unfold emptyFrom in refl)
 
--- the empty lines of a sheet in form are as many as its entries
-pub counts-entries : (sheet : List ℕ) → InForm sheet → emptyLines sheet ≡ length (entriesOf sheet)
-counts-entries sheet f = ap emptyLines (read-written sheet 0 f .0) ∙ text-passed (entriesOf sheet) false
+  text-passed : (es : List Entry) (ended : Bool) → emptyFrom (sheetText form es) ended ≡ length es
+  unfolding sheetText emptyFrom
+  text-passed [] ended = refl
+  text-passed (e ∷ es) ended = entry-passed e (sheetText form es) ended ∙ (let q = text-passed es true in omega arith)
+
+  -- the empty lines of a sheet in form are as many as its entries
+  pub counts-entries : (sheet : List ℕ) → InForm form sheet → emptyLines sheet ≡ length (entriesOf form sheet)
+  counts-entries sheet f = ap emptyLines (read-written form sheet 0 f .0) ∙ text-passed (entriesOf form sheet) false

@@ -6,8 +6,8 @@ use mathlib.Core.Logic.{_⊎_, inl, inr}
 use mathlib.Core.List.{List, [], _∷_, _++_, append-nil, append-assoc}
 use Prim.Native.Nat.{ℕ, zero, suc, _+_, _^_, _≤_, _<_}
 use native.Mathlib.Omega.{arith}
-use borrow.Author.Tests.{eqb-true, eqb-false}
-use lib.Dec.{eqb}
+use borrow.Author.Tests.{eqb-true, eqb-false, ltb-true, ltb-false}
+use lib.Dec.{eqb, ltb}
 use lib.ListN.{length, take, drop, length-append, length-drop, length-take, take-append-drop}
 use lib.Seq.{drop-drop, drop-append-seam, take-append-seam}
 use Rattle.laws.specs.Pick.{pick, both}
@@ -31,11 +31,12 @@ use Rattle.listing_reader.proofs.Rowed.{number-some, language-some, page-some, 
 use Rattle.sheet_entry.proofs.Heading.{Faithful, Faithfuls, no-lines, and-line as Heading·and-line, Fit, no-values, and-value, no-more}
 use Rattle.sheet_entry.proofs.Entered.{head-faithful, Headed, headed, Standing, textOf, entry-seen, entry-stepping, entry-back}
 use Rattle.day_sheet.proofs.Exact.{sheet-texts, stand, stood, read-written}
+use Rattle.sheet_entry.specs.declared.Form.{Form}
 
 -- ---- a line that isn't there
 
-module _ (reader : List ℕ → Line) (line : List ℕ) (v : ℕ) (back : (tail : List ℕ) → reader (line ++ tail) ≡ lineOf true v line) (some : 1 ≤ length line) where
-  absent : (rest : List ℕ) → reader rest .long ≡ 0 → beginsWith line rest ≡ false
+module _ (reader : List ℕ → Line) (line : List ℕ) (v : ℕ) (back : (tail : List ℕ) → reader (line ++ tail) ≡ lineOf true v line) where
+  absent : (rest : List ℕ) → reader rest .long < length line → beginsWith line rest ≡ false
   absent rest z = go (beginsWith line rest) refl
     where
       go : (t : Bool) → beginsWith line rest ≡ t → t ≡ false
@@ -45,15 +46,18 @@ module _ (reader : List ℕ → Line) (line : List ℕ) (v : ℕ) (back : (tail 
           let l : reader rest .long ≡ length line = ap (λ (x : Line). x .long) r in
           absurd (omega arith)
 
+fewer : {n m : ℕ} → 1 ≤ m → n ≡ 0 → n < m
+fewer h z = omega arith
+
 no-number : (name : List ℕ) (most n : ℕ) (rest : List ℕ) → n ≤ most → most < 10 ^ 10 → numberAt name most rest .long ≡ 0 → beginsWith (numberLine name n) rest ≡ false
-no-number name most n rest h m =
-    absent (numberAt name most) (numberLine name n) n (λ tail. number-back name most n tail h m) (number-some name n) rest
+no-number name most n rest h m z =
+    absent (numberAt name most) (numberLine name n) n (λ tail. number-back name most n tail h m) rest (fewer (number-some name n) z)
 
 no-language : (w : ℕ) (rest : List ℕ) → w < 2 ^ 24 → languageAt rest .long ≡ 0 → beginsWith (languageLine w) rest ≡ false
-no-language w rest h = absent languageAt (languageLine w) w (λ tail. language-back w tail h) (language-some w) rest
+no-language w rest h z = absent languageAt (languageLine w) w (λ tail. language-back w tail h) rest (fewer (language-some w) z)
 
 no-page : (w : ℕ) (rest : List ℕ) → w < 2 ^ 24 → pageAt rest .long ≡ 0 → beginsWith (pageLine w) rest ≡ false
-no-page w rest h = absent pageAt (pageLine w) w (λ tail. page-back w tail h) (page-some w) rest
+no-page w rest h z = absent pageAt (pageLine w) w (λ tail. page-back w tail h) rest (fewer (page-some w) z)
 
 -- no line that may stand next stands there
 abbrev Stuck : Next → List ℕ → Type 0
@@ -62,7 +66,7 @@ Stuck next rest = (line : List ℕ) (b : Next) → Follows next line b → begin
 -- what each reader found
 data Missed : Next → List ℕ → Type 0 where
   no-head :
-      {l : HeadLine} {ls : List HeadLine} {values rest : List ℕ} {f : ℕ → Bool} → Faithful l f → l .reads rest .long ≡ 0
+      {l : HeadLine} {ls : List HeadLine} {values rest : List ℕ} {f : ℕ → Bool} → Faithful l f → l .reads rest .long < l .least
       → Missed (head l ls values) rest
   no-descriptor : {k : ℕ} {rest : List ℕ} → numberAt descriptorName 63 rest .long ≡ 0 → Missed (table k) rest
   no-words : {k : ℕ} {rest : List ℕ} → numberAt descriptorName 63 rest .long ≡ 0 → languageAt rest .long ≡ 0 → Missed (words k) rest
@@ -73,7 +77,7 @@ reads-back : {l : HeadLine} {f : ℕ → Bool} (v : ℕ) → Faithful l f → l 
 reads-back {l} {f} v k e =
     let s = k .some v in
     let n : l .reads (l .text v) .long ≡ length (l .text v) = ap (λ (x : Line). x .long) e in
-    sym (ap (λ (x : Line). f (x .value)) e) ∙ k .sound (l .text v) (λ z. omega arith) .0
+    sym (ap (λ (x : Line). f (x .value)) e) ∙ k .sound (l .text v) (omega arith) .0
 
 -- and what fits reads back
 fits-back : {l : HeadLine} {f : ℕ → Bool} (v : ℕ) → Faithful l f → f v ≡ true → l .reads (l .text v) ≡ lineOf true v (l .text v)
@@ -81,7 +85,7 @@ fits-back {l} v k e = ap (l .reads) (sym (append-nil (l .text v))) ∙ k .back v
 
 stuck : {next : Next} {rest : List ℕ} → Missed next rest → Stuck next rest
 stuck {rest = rest} (no-head {l} k z) line b (head-line {v = v} e) =
-    absent (l .reads) (l .text v) v (λ tail. k .back v tail (reads-back v k e)) (k .some v) rest z
+    absent (l .reads) (l .text v) v (λ tail. k .back v tail (reads-back v k e)) rest (let s = k .some v in omega arith)
 stuck {rest = rest} (no-descriptor z) line b (first-descriptor {n = n} h) = no-number descriptorName 63 n rest h (omega arith) z
 stuck {rest = rest} (no-words z y) line b (next-descriptor {n = n} h) = no-number descriptorName 63 n rest h (omega arith) z
 stuck {rest = rest} (no-words z y) line b (language-line {w = w} e h) = no-language w rest h y
@@ -136,21 +140,21 @@ part-size {a} {bytes} e p = subst (Part a bytes) e p
 -- ---- the head
 
 line-part :
-    {a : Next} (r : HeadLine) (rs : List HeadLine) (bytes : List ℕ) → (r .reads bytes .long ≡ 0 → Missed a bytes)
-    → ((r .reads bytes .long ≡ 0 → ⊥) → linesAt rs (drop (r .reads bytes .long) bytes) .fine ≡ false
+    {a : Next} (r : HeadLine) (rs : List HeadLine) (bytes : List ℕ) → (r .reads bytes .long < r .least → Missed a bytes)
+    → (r .least ≤ r .reads bytes .long → linesAt rs (drop (r .reads bytes .long) bytes) .fine ≡ false
     → Part a bytes (r .reads bytes .long + linesAt rs (drop (r .reads bytes .long) bytes) .long))
     → linesAt (r ∷ rs) bytes .fine ≡ false → Part a bytes (linesAt (r ∷ rs) bytes .long)
 unfolding linesAt
-line-part {a} r rs bytes miss on f = go (eqb (r .reads bytes .long) 0) refl f
+line-part {a} r rs bytes miss on f = go (ltb (r .reads bytes .long) (r .least)) refl f
   where
     m : Many ℕ
     m = behind (r .reads bytes .value) (r .reads bytes .long) (linesAt rs (drop (r .reads bytes .long) bytes))
 
     go :
-        (z : Bool) → eqb (r .reads bytes .long) 0 ≡ z → pick z (row-none false 0) m .fine ≡ false
+        (z : Bool) → ltb (r .reads bytes .long) (r .least) ≡ z → pick z (row-none false 0) m .fine ≡ false
         → Part a bytes (pick z (row-none false 0) m .long)
-    go true e g = part-here a bytes (miss (eqb-true (r .reads bytes .long) 0 e))
-    go false e g = on (eqb-false (r .reads bytes .long) 0 e) g
+    go true e g = part-here a bytes (miss (ltb-true (r .reads bytes .long) (r .least) e))
+    go false e g = on (ltb-false (r .reads bytes .long) (r .least) e) g
 
 ends-fine : {P : Type 0} (bytes : List ℕ) → linesAt [] bytes .fine ≡ false → P
 ends-fine bytes f =
@@ -421,125 +425,126 @@ table-part k bytes =
 
 -- ---- an entry, and the sheet
 
-head-table : (bytes : List ℕ) (h : Many ℕ) → Headed bytes h → Part begin bytes (h .long + descriptorsOf (kindIn (h .items)) (drop (h .long) bytes) .long)
-head-table bytes h r =
-    let k = kindIn (h .items) in
-    let p = part-behind (head-lines head-faithful (r .fit) []) (r .there) (table-part k (drop (h .long) bytes)) in
-    subst (λ (n : ℕ). Part begin bytes (n + descriptorsOf k (drop (h .long) bytes) .long)) (sym (r .size)) p
+module _ (form : Form) where
+  head-table : (bytes : List ℕ) (h : Many ℕ) → Headed form bytes h → Part (begin form) bytes (h .long + descriptorsOf (kindIn (h .items)) (drop (h .long) bytes) .long)
+  head-table bytes h r =
+      let k = kindIn (h .items) in
+      let p = part-behind (head-lines (head-faithful form) (r .fit) []) (r .there) (table-part k (drop (h .long) bytes)) in
+      subst (λ (n : ℕ). Part (begin form) bytes (n + descriptorsOf k (drop (h .long) bytes) .long)) (sym (r .size)) p
 
-data AtEntry (bytes : List ℕ) : Step Entry → Type 0 where
-  took : {e : Entry} {n : ℕ} → AtEntry bytes (item e n)
-  over : AtEntry bytes (stop true 0)
-  cut : {n : ℕ} → Part begin bytes n → AtEntry bytes (stop false n)
+  data AtEntry (bytes : List ℕ) : Step Entry → Type 0 where
+    took : {e : Entry} {n : ℕ} → AtEntry bytes (item e n)
+    over : AtEntry bytes (stop true 0)
+    cut : {n : ℕ} → Part (begin form) bytes n → AtEntry bytes (stop false n)
 
-at-entry : (least : ℕ) (bytes : List ℕ) → AtEntry bytes (entryAt least bytes)
-unfolding entryAt withHead withTable ended
-at-entry least [] = over
-at-entry least (b ∷ bs) = go (h .fine) refl
-  where
-    bytes : List ℕ
-    bytes = b ∷ bs
-
-    h : Many ℕ
-    h = linesAt heading (b ∷ bs)
-
-    ds : Many Descriptor
-    ds = descriptorsOf (kindIn (h .items)) (drop (h .long) bytes)
-
-    tested : (z : Bool) (e : Entry) (m : ℕ) {n : ℕ} → Part begin bytes n → AtEntry bytes (pick z (item e m) (stop false n))
-    tested true e m p = took
-    tested false e m p = cut p
-
-    tabled : (z : Bool) {s : Step Entry} {n : ℕ} → AtEntry bytes s → Part begin bytes n → AtEntry bytes (pick z s (stop false n))
-    tabled true a p = a
-    tabled false a p = cut p
-
-    go : (z : Bool) → h .fine ≡ z → AtEntry bytes (pick z (withTable least bytes h ds) (stop false (h .long)))
-    go true e =
-        let p = head-table bytes h (headed bytes e) in
-        let x = entryFrom (h .items) (ds .items) in
-        let at = h .long + ds .long in
-        tabled (ds .fine) (tested (both (beginsWith emptyLine (drop at bytes)) (both (fits (x .table)) (rises least x))) x (at + 1) p) p
-    go false e = cut (head-part head-faithful [] bytes e)
-
-entry-part : (least n : ℕ) (bytes : List ℕ) → entryAt least bytes ≡ stop false n → Part begin bytes n
-entry-part least n bytes e = go (rw e at (at-entry least bytes))
-  where
-    go : AtEntry bytes (stop false n) → Part begin bytes n
-    go (cut p) = p
-
--- entries that stand at the front are read
-entries-read :
-    (k least : ℕ) (es : List Entry) (tail : List ℕ) → Each above entryAt Standing least es → length (sheetText es ++ tail) ≤ k
-    → length (sheetText es) ≤ many above entryAt k least (sheetText es ++ tail) .long
-unfolding sheetText many further
-entries-read k least [] tail none h = omega arith
-entries-read zero least (e ∷ es) tail (more p ps) h = omega (arith, length-append (sheetText (e ∷ es)) tail)
-entries-read (suc k) least (e ∷ es) tail (more p ps) h =
-    let rest = sheetText es ++ tail in
-    let b = entry-back least e rest p in
-    let m = entry-stepping .moves-on least (entryText e ++ rest) e (length (entryText e)) b in
-    let l : length rest ≤ k = simp length-append (omega (arith, simp length-append at h)) in
-    let r = entries-read k (above least e) es tail ps l in
-    rw (append-assoc (entryText e) (sheetText es) tail, b, drop-append-seam (entryText e) rest, length-append (entryText e) (sheetText es)) (omega arith)
-
-module _ (bytes : List ℕ) where
-  -- an empty line that ends a sheet in form is read
-  end-read : (at : ℕ) → at ≤ length bytes → InForm (take at bytes ++ emptyLine) → beginsWith emptyLine (drop at bytes) ≡ true → suc at ≤ sheetOf bytes .long
-  unfolding sheetFrom
-  end-read at h f e =
-      let text = take at bytes ++ emptyLine in
-      let r = read-written text 0 f in
-      let es = sheetOf text .items in
-      let tail = drop 1 (drop at bytes) in
-      let whole : bytes ≡ sheetText es ++ tail =
-      sym (take-append-drop at bytes)
-      ∙ ap (λ (x : List ℕ). take at bytes ++ x) (begins-with emptyLine (drop at bytes) e)
-      ∙ sym (append-assoc (take at bytes) emptyLine tail)
-      ∙ ap (λ (x : List ℕ). x ++ tail) (r .0) in
-      let l = ap length (r .0) in
-      let t = length-take at bytes in
-      let p = entries-read (length bytes) 0 es tail (stand 0 es (r .1) (r .2)) (rw (sym whole) (omega arith)) in
-      let q : length (sheetText es) ≤ many above entryAt (length bytes) 0 bytes .long = rw (sym whole) at p in
-      omega (arith, length-append (take at bytes) emptyLine)
-
-  -- the offset of a 20
-  pub first-fault : sheetOf bytes .fine ≡ false → FirstFault bytes (sheetOf bytes .long)
-  unfolding sheetFrom
-  first-fault f =
-      let m = sheetOf bytes in
-      let u =
-      until above entryAt entry-stepping Standing textOf Any (λ s. Unit {0}) (λ s e r. tt)
-      (λ s b e n h. (seen-item above entryAt Standing textOf entry-seen s b e n h, tt)) (length bytes) 0 bytes (omega arith) tt in
-      let p = entry-part (u .state) (u .at) (u .rest) (u .stopped ∙ ap (λ (b : Bool). stop b (u .at)) f) in
-      let s = stood 0 (m .items) (u .each) in
-      let text = sheetText (m .items) in
-      let there : bytes ≡ (text ++ p .lines) ++ p .rest =
-      u .there
-      ∙ ap (λ (x : List ℕ). x ++ u .rest) (sheet-texts 0 (m .items))
-      ∙ ap (λ (x : List ℕ). text ++ x) (p .there)
-      ∙ sym (append-assoc text (p .lines) (p .rest)) in
-      let size : m .long ≡ length (text ++ p .lines) =
-      rw (length-append, ← sheet-texts 0 (m .items)) (let a = u .size in let b = p .size in omega arith) in
-      let d : drop (m .long) bytes ≡ p .rest = drop-lines (text ++ p .lines) (p .rest) bytes (m .long) there size in
-      let t : take (m .long) bytes ≡ text ++ p .lines =
-      ap (take (m .long)) there ∙ ap (λ (i : ℕ). take i ((text ++ p .lines) ++ p .rest)) size ∙ take-append-seam (text ++ p .lines) (p .rest) in
-      record {
-        not-in-form = λ g. let e : true ≡ false = sym g ∙ f in let z : _≡_ {A = ℕ} 0 1 = cc in omega arith;
-        entries = m .items;
-        rise = s .0;
-        can = s .1;
-        lines = p .lines;
-        next = p .next;
-        in-form = p .in-form;
-        before = t;
-        no-line = rw d (stuck (p .missed));
-        no-end = λ g. no-end g (beginsWith emptyLine (drop (m .long) bytes)) refl;
-      }
+  at-entry : (least : ℕ) (bytes : List ℕ) → AtEntry bytes (entryAt form least bytes)
+  unfolding entryAt withHead withTable ended
+  at-entry least [] = over
+  at-entry least (b ∷ bs) = go (h .fine) refl
     where
-      no-end : InForm (take (sheetOf bytes .long) bytes ++ emptyLine) → (b : Bool) → beginsWith emptyLine (drop (sheetOf bytes .long) bytes) ≡ b → b ≡ false
-      no-end g false e = refl
-      no-end g true e =
-          let w = row-within above entryAt entry-stepping (length bytes) 0 bytes in
-          let q = end-read (sheetOf bytes .long) w g e in
-          absurd (omega arith)
+      bytes : List ℕ
+      bytes = b ∷ bs
+
+      h : Many ℕ
+      h = linesAt (heading form) (b ∷ bs)
+
+      ds : Many Descriptor
+      ds = descriptorsOf (kindIn (h .items)) (drop (h .long) bytes)
+
+      tested : (z : Bool) (e : Entry) (m : ℕ) {n : ℕ} → Part (begin form) bytes n → AtEntry bytes (pick z (item e m) (stop false n))
+      tested true e m p = took
+      tested false e m p = cut p
+
+      tabled : (z : Bool) {s : Step Entry} {n : ℕ} → AtEntry bytes s → Part (begin form) bytes n → AtEntry bytes (pick z s (stop false n))
+      tabled true a p = a
+      tabled false a p = cut p
+
+      go : (z : Bool) → h .fine ≡ z → AtEntry bytes (pick z (withTable least bytes h ds) (stop false (h .long)))
+      go true e =
+          let p = head-table bytes h (headed form bytes e) in
+          let x = entryFrom (h .items) (ds .items) in
+          let at = h .long + ds .long in
+          tabled (ds .fine) (tested (both (beginsWith emptyLine (drop at bytes)) (both (fits (x .table)) (rises least x))) x (at + 1) p) p
+      go false e = cut (head-part (head-faithful form) [] bytes e)
+
+  entry-part : (least n : ℕ) (bytes : List ℕ) → entryAt form least bytes ≡ stop false n → Part (begin form) bytes n
+  entry-part least n bytes e = go (rw e at (at-entry least bytes))
+    where
+      go : AtEntry bytes (stop false n) → Part (begin form) bytes n
+      go (cut p) = p
+
+  -- entries that stand at the front are read
+  entries-read :
+      (k least : ℕ) (es : List Entry) (tail : List ℕ) → Each above (entryAt form) (Standing form) least es → length (sheetText form es ++ tail) ≤ k
+      → length (sheetText form es) ≤ many above (entryAt form) k least (sheetText form es ++ tail) .long
+  unfolding sheetText many further
+  entries-read k least [] tail none h = omega arith
+  entries-read zero least (e ∷ es) tail (more p ps) h = omega (arith, length-append (sheetText form (e ∷ es)) tail)
+  entries-read (suc k) least (e ∷ es) tail (more p ps) h =
+      let rest = sheetText form es ++ tail in
+      let b = entry-back form least e rest p in
+      let m = entry-stepping form .moves-on least (entryText form e ++ rest) e (length (entryText form e)) b in
+      let l : length rest ≤ k = simp length-append (omega (arith, simp length-append at h)) in
+      let r = entries-read k (above least e) es tail ps l in
+      rw (append-assoc (entryText form e) (sheetText form es) tail, b, drop-append-seam (entryText form e) rest, length-append (entryText form e) (sheetText form es)) (omega arith)
+
+  module _ (bytes : List ℕ) where
+    -- an empty line that ends a sheet in form is read
+    end-read : (at : ℕ) → at ≤ length bytes → InForm form (take at bytes ++ emptyLine) → beginsWith emptyLine (drop at bytes) ≡ true → suc at ≤ sheetOf form bytes .long
+    unfolding sheetFrom
+    end-read at h f e =
+        let text = take at bytes ++ emptyLine in
+        let r = read-written form text 0 f in
+        let es = sheetOf form text .items in
+        let tail = drop 1 (drop at bytes) in
+        let whole : bytes ≡ sheetText form es ++ tail =
+        sym (take-append-drop at bytes)
+        ∙ ap (λ (x : List ℕ). take at bytes ++ x) (begins-with emptyLine (drop at bytes) e)
+        ∙ sym (append-assoc (take at bytes) emptyLine tail)
+        ∙ ap (λ (x : List ℕ). x ++ tail) (r .0) in
+        let l = ap length (r .0) in
+        let t = length-take at bytes in
+        let p = entries-read (length bytes) 0 es tail (stand form 0 es (r .1) (r .2)) (rw (sym whole) (omega arith)) in
+        let q : length (sheetText form es) ≤ many above (entryAt form) (length bytes) 0 bytes .long = rw (sym whole) at p in
+        omega (arith, length-append (take at bytes) emptyLine)
+
+    -- the offset of a 20
+    pub first-fault : sheetOf form bytes .fine ≡ false → FirstFault form bytes (sheetOf form bytes .long)
+    unfolding sheetFrom
+    first-fault f =
+        let m = sheetOf form bytes in
+        let u =
+        until above (entryAt form) (entry-stepping form) (Standing form) (textOf form) Any (λ s. Unit {0}) (λ s e r. tt)
+        (λ s b e n h. (seen-item above (entryAt form) (Standing form) (textOf form) (entry-seen form) s b e n h, tt)) (length bytes) 0 bytes (omega arith) tt in
+        let p = entry-part (u .state) (u .at) (u .rest) (u .stopped ∙ ap (λ (b : Bool). stop b (u .at)) f) in
+        let s = stood form 0 (m .items) (u .each) in
+        let text = sheetText form (m .items) in
+        let there : bytes ≡ (text ++ p .lines) ++ p .rest =
+        u .there
+        ∙ ap (λ (x : List ℕ). x ++ u .rest) (sheet-texts form 0 (m .items))
+        ∙ ap (λ (x : List ℕ). text ++ x) (p .there)
+        ∙ sym (append-assoc text (p .lines) (p .rest)) in
+        let size : m .long ≡ length (text ++ p .lines) =
+        rw (length-append, ← sheet-texts form 0 (m .items)) (let a = u .size in let b = p .size in omega arith) in
+        let d : drop (m .long) bytes ≡ p .rest = drop-lines (text ++ p .lines) (p .rest) bytes (m .long) there size in
+        let t : take (m .long) bytes ≡ text ++ p .lines =
+        ap (take (m .long)) there ∙ ap (λ (i : ℕ). take i ((text ++ p .lines) ++ p .rest)) size ∙ take-append-seam (text ++ p .lines) (p .rest) in
+        record {
+          not-in-form = λ g. let e : true ≡ false = sym g ∙ f in let z : _≡_ {A = ℕ} 0 1 = cc in omega arith;
+          entries = m .items;
+          rise = s .0;
+          can = s .1;
+          lines = p .lines;
+          next = p .next;
+          in-form = p .in-form;
+          before = t;
+          no-line = rw d (stuck (p .missed));
+          no-end = λ g. no-end g (beginsWith emptyLine (drop (m .long) bytes)) refl;
+        }
+      where
+        no-end : InForm form (take (sheetOf form bytes .long) bytes ++ emptyLine) → (b : Bool) → beginsWith emptyLine (drop (sheetOf form bytes .long) bytes) ≡ b → b ≡ false
+        no-end g false e = refl
+        no-end g true e =
+            let w = row-within above (entryAt form) (entry-stepping form) (length bytes) 0 bytes in
+            let q = end-read (sheetOf form bytes .long) w g e in
+            absurd (omega arith)

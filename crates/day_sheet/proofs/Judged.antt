@@ -16,67 +16,70 @@ use Rattle.day_sheet.specs.Entries.{sheetText, entryLimit, byteLimit}
 use Rattle.day_sheet.specs.Reading.{sheetOf}
 use Rattle.day_sheet.specs.Calls.{joinRules, joinResult}
 use Rattle.day_sheet.specs.Internal.{Halfway}
+use Rattle.day_sheet.proofs.Limits.{limit-small}
+use Rattle.sheet_entry.specs.declared.Form.{Form}
 
 -- ---- the size of what is joined
 
-module _ (n l : ℕ) where
-  abbrev sized : List Rule
-  sized = rule (leb n entryLimit) 21 0 ∷ rule (leb l byteLimit) 21 0 ∷ []
+module _ (form : Form) where
+  module _ (n l : ℕ) where
+    abbrev sized : List Rule
+    sized = rule (leb n entryLimit) 21 0 ∷ rule (leb l (byteLimit form)) 21 0 ∷ []
 
-  pub sized-many : entryLimit < n → refused 21 0 ≡ judged refused sized (Done l)
-  sized-many h = rw (lt-leb n entryLimit h)
+    pub sized-many : entryLimit < n → refused 21 0 ≡ judged refused sized (Done l)
+    sized-many h = rw (lt-leb n entryLimit h)
 
-  pub sized-long : n ≤ entryLimit → byteLimit < l → refused 21 0 ≡ judged refused sized (Done l)
-  sized-long h k = rw (le-leb n entryLimit h, lt-leb l byteLimit k)
+    pub sized-long : n ≤ entryLimit → byteLimit form < l → refused 21 0 ≡ judged refused sized (Done l)
+    sized-long h k = rw (le-leb n entryLimit h, lt-leb l (byteLimit form) k)
 
-  pub sized-done : n ≤ entryLimit → l ≤ byteLimit → Done l ≡ judged refused sized (Done l)
-  sized-done h k = rw (le-leb n entryLimit h, le-leb l byteLimit k)
+    pub sized-done : n ≤ entryLimit → l ≤ byteLimit form → Done l ≡ judged refused sized (Done l)
+    sized-done h k = rw (le-leb n entryLimit h, le-leb l (byteLimit form) k)
 
--- ---- the rules before it
+  -- ---- the rules before it
 
-module _ (first second : List ℕ) (a : Answer) where
-  abbrev all : Answer
-  all = judged refused (joinRules first second) a
+  module _ (first second : List ℕ) (a : Answer) where
+    abbrev all : Answer
+    all = judged refused (joinRules form first second) a
 
-  pub first-long : byteLimit < length first → refused 21 0 ≡ all
-  unfolding joinRules
-  first-long h = rw (lt-leb (length first) byteLimit h)
-
-  module _ (h : length first ≤ byteLimit) where
-    pub second-long : byteLimit < length second → refused 21 0 ≡ all
+    pub first-long : byteLimit form < length first → refused 21 0 ≡ all
     unfolding joinRules
-    second-long k = rw (le-leb (length first) byteLimit h, lt-leb (length second) byteLimit k)
+    first-long h = rw (lt-leb (length first) (byteLimit form) h)
 
-    module _ (k : length second ≤ byteLimit) where
-      pub first-bad : sheetOf first .fine ≡ false → refused 20 (sheetOf first .long) ≡ all
+    module _ (h : length first ≤ byteLimit form) where
+      pub second-long : byteLimit form < length second → refused 21 0 ≡ all
       unfolding joinRules
-      first-bad f = rw (le-leb (length first) byteLimit h, le-leb (length second) byteLimit k, f)
+      second-long k = rw (le-leb (length first) (byteLimit form) h, lt-leb (length second) (byteLimit form) k)
 
-      pub second-bad : sheetOf first .fine ≡ true → sheetOf second .fine ≡ false → refused 20 (sheetOf second .long) ≡ all
-      unfolding joinRules
-      second-bad f g = rw (le-leb (length first) byteLimit h, le-leb (length second) byteLimit k, f, g)
+      module _ (k : length second ≤ byteLimit form) where
+        pub first-bad : sheetOf form first .fine ≡ false → refused 20 (sheetOf form first .long) ≡ all
+        unfolding joinRules
+        first-bad f = rw (le-leb (length first) (byteLimit form) h, le-leb (length second) (byteLimit form) k, f)
 
--- each of them in form and not too long: then the size of what they give decides
-pub size-decides :
-    (first second : List ℕ) {n l : ℕ} → length first ≤ byteLimit → length second ≤ byteLimit → sheetOf first .fine ≡ true
-    → sheetOf second .fine ≡ true → n ≡ length (joinResult first second) → l ≡ length (sheetText (joinResult first second))
-    → judged refused (sized n l) (Done l) ≡ judged refused (joinRules first second) (Done (length (sheetText (joinResult first second))))
-unfolding joinRules
-size-decides first second h k f g en el = rw (en, el, le-leb (length first) byteLimit h, le-leb (length second) byteLimit k, f, g)
+        pub second-bad : sheetOf form first .fine ≡ true → sheetOf form second .fine ≡ false → refused 20 (sheetOf form second .long) ≡ all
+        unfolding joinRules
+        second-bad f g = rw (le-leb (length first) (byteLimit form) h, le-leb (length second) (byteLimit form) k, f, g)
 
--- ---- what was judged can be walked
+  -- each of them in form and not too long: then the size of what they give decides
+  pub size-decides :
+      (first second : List ℕ) {n l : ℕ} → length first ≤ byteLimit form → length second ≤ byteLimit form → sheetOf form first .fine ≡ true
+      → sheetOf form second .fine ≡ true → n ≡ length (joinResult form first second) → l ≡ length (sheetText form (joinResult form first second))
+      → judged refused (sized n l) (Done l) ≡ judged refused (joinRules form first second) (Done (length (sheetText form (joinResult form first second))))
+  unfolding joinRules
+  size-decides first second h k f g en el = rw (en, el, le-leb (length first) (byteLimit form) h, le-leb (length second) (byteLimit form) k, f, g)
 
-pub halfway : (sheet : List ℕ) → length sheet ≤ byteLimit → sheetOf sheet .fine ≡ true → Halfway sheet 0
-halfway sheet h f = record { within = record { inside = omega arith; short = omega arith }; fine = f }
+  -- ---- what was judged can be walked
 
-pub judged-halves :
-    (first second : List ℕ) (n m : ℕ) → judged refused (joinRules first second) (Done n) ≡ Done m → Halfway first 0 × Halfway second 0
-unfolding joinRules
-judged-halves first second n m e =
-    let a = done-every (joinRules first second) n m e in
-    let b = others-hold a in
-    let c = others-hold b in
-    let d = others-hold c in (
-      halfway first (leb-true (length first) byteLimit (first-holds a)) (first-holds c),
-      halfway second (leb-true (length second) byteLimit (first-holds b)) (first-holds d),
-    )
+  pub halfway : (sheet : List ℕ) → length sheet ≤ byteLimit form → sheetOf form sheet .fine ≡ true → Halfway form sheet 0
+  halfway sheet h f = record { within = record { inside = omega arith; short = omega (arith, limit-small form) }; fine = f }
+
+  pub judged-halves :
+      (first second : List ℕ) (n m : ℕ) → judged refused (joinRules form first second) (Done n) ≡ Done m → Halfway form first 0 × Halfway form second 0
+  unfolding joinRules
+  judged-halves first second n m e =
+      let a = done-every (joinRules form first second) n m e in
+      let b = others-hold a in
+      let c = others-hold b in
+      let d = others-hold c in (
+        halfway first (leb-true (length first) (byteLimit form) (first-holds a)) (first-holds c),
+        halfway second (leb-true (length second) (byteLimit form) (first-holds b)) (first-holds d),
+      )

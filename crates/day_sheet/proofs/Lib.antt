@@ -12,6 +12,7 @@ pub mod Exact
 pub mod Faulting
 pub mod Judged
 pub mod Late
+pub mod Limits
 pub mod Meeting
 pub mod Members
 pub mod Merged

@@ -20,117 +20,120 @@ use Rattle.day_sheet.specs.AnyOrder.{InForm, Run, lent, call, Captured, 
 use Rattle.day_sheet.specs.Work.{Work, stands, join, add, sheetsOf, Wrote, stood, joined as Work·joined, added, Same}
 use Rattle.day_sheet.proofs.Exact.{read-written}
 use Rattle.day_sheet.proofs.AnyOrder.{Fit, decides, sheet-of, text-of, sheet-joined, sheets-of, one-read}
-use Rattle.sheet_entry.proofs.Spelling.{stamped-written, judged-by}
+use Rattle.sheet_entry.proofs.Spelling.{stamped-written, entry-judged}
 use Rattle.day_sheet.proofs.Accepting.{joins-said, adds-said}
 use Rattle.day_sheet.proofs.Members.{each-in, in-one, same-map, same-behind, same-all}
 use Rattle.day_sheet.proofs.Merged.{joined-merged}
+use Rattle.sheet_entry.specs.declared.Form.{Form}
 
 abbrev row : List (List Entry) → List Entry
 row = mergeAll keyOf (greater atMost)
 
--- a sheet in form that has the entries of these sheets, joined in a row
-record Made (sheets : List (List ℕ)) (sheet : List ℕ) : Type 0 where
-  sound : InForm sheet
-  of : Each InForm sheets
-  holds : entriesOf sheet ≡ row (map entriesOf sheets)
+module _ (form : Form) where
+  -- a sheet in form that has the entries of these sheets, joined in a row
+  record Made (sheets : List (List ℕ)) (sheet : List ℕ) : Type 0 where
+    sound : InForm form sheet
+    of : Each (InForm form) sheets
+    holds : entriesOf form sheet ≡ row (map (entriesOf form) sheets)
 
-made-one : (sheet : List ℕ) → InForm sheet → Made (sheet ∷ []) sheet
-unfolding mergeAll
-made-one sheet f = record { sound = f; of = and f nil; holds = sym (merge-right keyOf (greater atMost) (entriesOf sheet)) }
+  made-one : (sheet : List ℕ) → InForm form sheet → Made (sheet ∷ []) sheet
+  unfolding mergeAll
+  made-one sheet f = record { sound = f; of = and f nil; holds = sym (merge-right keyOf (greater atMost) (entriesOf form sheet)) }
 
-made-two :
-    {xs ys : List (List ℕ)} {a b sheet : List ℕ} → Made xs a → Made ys b → sheet ≡ sheetText (joined (entriesOf a) (entriesOf b))
-    → Made (xs ++ ys) sheet
-made-two {xs} {ys} {a} {b} m n e =
-    let t = text-of (sheet-joined (sheet-of a (m .sound)) (sheet-of b (n .sound))) in
-    let h : entriesOf (sheetText (joined (entriesOf a) (entriesOf b))) ≡ row (map entriesOf (xs ++ ys)) =
-    t .1
-    ∙ joined-merged (entriesOf a) (entriesOf b)
-    ∙ rw (m .holds, n .holds)
-    (sym (all-append keyOf Fit atMost decides (map entriesOf xs) (map entriesOf ys) (sheets-of (m .of)) (sheets-of (n .of))))
-    ∙ ap row (sym (map-append entriesOf xs ys)) in
-    record { sound = rw e (t .0); of = each-append (m .of) (n .of); holds = rw e h }
+  made-two :
+      {xs ys : List (List ℕ)} {a b sheet : List ℕ} → Made xs a → Made ys b → sheet ≡ sheetText form (joined (entriesOf form a) (entriesOf form b))
+      → Made (xs ++ ys) sheet
+  made-two {xs} {ys} {a} {b} m n e =
+      let t = text-of form (sheet-joined form (sheet-of form a (m .sound)) (sheet-of form b (n .sound))) in
+      let h : entriesOf form (sheetText form (joined (entriesOf form a) (entriesOf form b))) ≡ row (map (entriesOf form) (xs ++ ys)) =
+      t .1
+      ∙ joined-merged (entriesOf form a) (entriesOf form b)
+      ∙ rw (m .holds, n .holds)
+      (sym (all-append keyOf (Fit form) atMost (decides form) (map (entriesOf form) xs) (map (entriesOf form) ys) (sheets-of form (m .of)) (sheets-of form (n .of))))
+      ∙ ap row (sym (map-append (entriesOf form) xs ys)) in
+      record { sound = rw e (t .0); of = each-append (m .of) (n .of); holds = rw e h }
 
--- the sheet of a table's one entry
-pub one-table : (c : Captured) → Takes c → InForm (sheetOfOne c) × (entriesOf (sheetOfOne c) ≡ stamped (c .stamp) (c .form) ∷ [])
-one-table c t =
-    one-read (stamped (c .stamp) (c .form)) (stamped-written (c .stamp) (c .form) (t .stamp-fits) (judged-by (c .form) (t .form-holds)))
+  -- the sheet of a table's one entry
+  pub one-table : (c : Captured) → Takes form c → InForm form (sheetOfOne form c) × (entriesOf form (sheetOfOne form c) ≡ stamped (c .stamp) (c .mended) (c .table) ∷ [])
+  one-table c t =
+      let j = entry-judged form (c .mended) (c .table) (t .form-holds) in
+      one-read form (stamped (c .stamp) (c .mended) (c .table)) (stamped-written form (c .stamp) (c .mended) (c .table) (t .stamp-fits) (j .1) (j .0))
 
--- a sheet that is in form was made of its sheets, and one that just stands there is alone
-settled : {xs : List (List ℕ)} {sheet : List ℕ} → Made xs sheet ⊎ (xs ≡ sheet ∷ []) → InForm sheet → Made xs sheet
-settled (inl m) f = m
-settled {sheet = sheet} (inr e) f = rw e (made-one sheet f)
+  -- a sheet that is in form was made of its sheets, and one that just stands there is alone
+  settled : {xs : List (List ℕ)} {sheet : List ℕ} → Made xs sheet ⊎ (xs ≡ sheet ∷ []) → InForm form sheet → Made xs sheet
+  settled (inl m) f = m
+  settled {sheet = sheet} (inr e) f = rw e (made-one sheet f)
 
-made-or-alone : {w : Work} {sheet : List ℕ} → Wrote w sheet → Made (sheetsOf w) sheet ⊎ (sheetsOf w ≡ sheet ∷ [])
-unfolding sheetsOf joinResult addResult
-made-or-alone (stood sheet) = inr refl
-made-or-alone (Work·joined {a = a} {b = b} v w j) =
-    let s = joins-said a b j in inl (made-two (settled (made-or-alone v) (s .0)) (settled (made-or-alone w) (s .1)) (s .2))
-made-or-alone (added {c = c} {a = a} w h d) =
-    let s = adds-said a c d in
-    let t = one-table c (record { form-holds = s .0; stamp-fits = h }) in
-    inl
-    (made-two (settled (made-or-alone w) (s .1)) (made-one (sheetOfOne c) (t .0))
-    (s .2 ∙ ap (λ (es : List Entry). sheetText (joined (entriesOf a) es)) (sym (t .1))))
+  made-or-alone : {w : Work} {sheet : List ℕ} → Wrote form w sheet → Made (sheetsOf form w) sheet ⊎ (sheetsOf form w ≡ sheet ∷ [])
+  unfolding sheetsOf joinResult addResult
+  made-or-alone (stood sheet) = inr refl
+  made-or-alone (Work·joined {a = a} {b = b} v w j) =
+      let s = joins-said form a b j in inl (made-two (settled (made-or-alone v) (s .0)) (settled (made-or-alone w) (s .1)) (s .2))
+  made-or-alone (added {c = c} {a = a} w h d) =
+      let s = adds-said form a c d in
+      let t = one-table c (record { form-holds = s .0; stamp-fits = h }) in
+      inl
+      (made-two (settled (made-or-alone w) (s .1)) (made-one (sheetOfOne form c) (t .0))
+      (s .2 ∙ ap (λ (es : List Entry). sheetText form (joined (entriesOf form a) es)) (sym (t .1))))
 
-made-same : {xs ys : List (List ℕ)} {a b : List ℕ} → Same xs ys → Made xs a → Made ys b → a ≡ b
-made-same {a = a} {b = b} s m n =
-    read-written a 0 (m .sound) .0
-    ∙ ap sheetText (m .holds ∙ same-all keyOf Fit atMost decides (sheets-of (m .of)) (sheets-of (n .of)) (same-map entriesOf s) ∙ sym (n .holds))
-    ∙ sym (read-written b 0 (n .sound) .0)
+  made-same : {xs ys : List (List ℕ)} {a b : List ℕ} → Same xs ys → Made xs a → Made ys b → a ≡ b
+  made-same {a = a} {b = b} s m n =
+      read-written form a 0 (m .sound) .0
+      ∙ ap (sheetText form) (m .holds ∙ same-all keyOf (Fit form) atMost (decides form) (sheets-of form (m .of)) (sheets-of form (n .of)) (same-map (entriesOf form) s) ∙ sym (n .holds))
+      ∙ sym (read-written form b 0 (n .sound) .0)
 
--- order and grouping never decide what is written: wherever all calls are accepted, the same sheets and tables give the same bytes
-pub same-sheet : {v w : Work} {a b : List ℕ} → Wrote v a → Wrote w b → Same (sheetsOf v) (sheetsOf w) → a ≡ b
-same-sheet {v} {w} {a} {b} p q s = go (made-or-alone p) (made-or-alone q)
-  where
-    go : Made (sheetsOf v) a ⊎ (sheetsOf v ≡ a ∷ []) → Made (sheetsOf w) b ⊎ (sheetsOf w ≡ b ∷ []) → a ≡ b
-    go (inl m) (inl n) = made-same s m n
-    go (inl m) (inr g) = made-same s m (settled (inr g) (each-in (m .of) (each-first (rw g at (s .second)))))
-    go (inr f) (inl n) = made-same s (settled (inr f) (each-in (n .of) (each-first (rw f at (s .first))))) n
-    go (inr f) (inr g) = in-one (rw g at (each-first (rw f at (s .first))))
+  -- order and grouping never decide what is written: wherever all calls are accepted, the same sheets and tables give the same bytes
+  pub same-sheet : {v w : Work} {a b : List ℕ} → Wrote form v a → Wrote form w b → Same (sheetsOf form v) (sheetsOf form w) → a ≡ b
+  same-sheet {v} {w} {a} {b} p q s = go (made-or-alone p) (made-or-alone q)
+    where
+      go : Made (sheetsOf form v) a ⊎ (sheetsOf form v ≡ a ∷ []) → Made (sheetsOf form w) b ⊎ (sheetsOf form w ≡ b ∷ []) → a ≡ b
+      go (inl m) (inl n) = made-same s m n
+      go (inl m) (inr g) = made-same s m (settled (inr g) (each-in (m .of) (each-first (rw g at (s .second)))))
+      go (inr f) (inl n) = made-same s (settled (inr f) (each-in (n .of) (each-first (rw f at (s .first))))) n
+      go (inr f) (inr g) = in-one (rw g at (each-first (rw f at (s .first))))
 
--- ---- trees of joins, and tables added one by one
+  -- ---- trees of joins, and tables added one by one
 
-asWork : Tree (List ℕ) → Work
-asWork (one sheet) = stands sheet
-asWork (two s t) = join (asWork s) (asWork t)
+  asWork : Tree (List ℕ) → Work
+  asWork (one sheet) = stands sheet
+  asWork (two s t) = join (asWork s) (asWork t)
 
-as-sheets : (t : Tree (List ℕ)) → sheetsOf (asWork t) ≡ leaves t
-unfolding asWork sheetsOf leaves
-as-sheets (one sheet) = refl
-as-sheets (two s t) = rw (as-sheets s, as-sheets t)
+  as-sheets : (t : Tree (List ℕ)) → sheetsOf form (asWork t) ≡ leaves t
+  unfolding asWork sheetsOf leaves
+  as-sheets (one sheet) = refl
+  as-sheets (two s t) = rw (as-sheets s, as-sheets t)
 
-run-wrote : {t : Tree (List ℕ)} {sheet : List ℕ} → Run t sheet → Wrote (asWork t) sheet
-unfolding asWork
-run-wrote (lent sheet) = stood sheet
-run-wrote (call r q j) = Work·joined (run-wrote r) (run-wrote q) j
+  run-wrote : {t : Tree (List ℕ)} {sheet : List ℕ} → Run form t sheet → Wrote form (asWork t) sheet
+  unfolding asWork
+  run-wrote (lent sheet) = stood sheet
+  run-wrote (call r q j) = Work·joined (run-wrote r) (run-wrote q) j
 
--- of trees of joins
-pub same-tree : {s t : Tree (List ℕ)} {a b : List ℕ} → Run s a → Run t b → Same (leaves s) (leaves t) → a ≡ b
-same-tree {s} {t} r q m = same-sheet (run-wrote r) (run-wrote q) (rw (as-sheets s, as-sheets t) m)
+  -- of trees of joins
+  pub same-tree : {s t : Tree (List ℕ)} {a b : List ℕ} → Run form s a → Run form t b → Same (leaves s) (leaves t) → a ≡ b
+  same-tree {s} {t} r q m = same-sheet (run-wrote r) (run-wrote q) (rw (as-sheets s, as-sheets t) m)
 
-chain : Work → List Captured → Work
-chain w [] = w
-chain w (c ∷ cs) = chain (add w c) cs
+  chain : Work → List Captured → Work
+  chain w [] = w
+  chain w (c ∷ cs) = chain (add w c) cs
 
-chain-sheets : (w : Work) (cs : List Captured) → sheetsOf (chain w cs) ≡ sheetsOf w ++ map sheetOfOne cs
-unfolding chain sheetsOf
-chain-sheets w [] = sym (append-nil (sheetsOf w))
-chain-sheets w (c ∷ cs) = chain-sheets (add w c) cs ∙ append-assoc (sheetsOf w) (sheetOfOne c ∷ []) (map sheetOfOne cs)
+  chain-sheets : (w : Work) (cs : List Captured) → sheetsOf form (chain w cs) ≡ sheetsOf form w ++ map (sheetOfOne form) cs
+  unfolding chain sheetsOf
+  chain-sheets w [] = sym (append-nil (sheetsOf form w))
+  chain-sheets w (c ∷ cs) = chain-sheets (add w c) cs ∙ append-assoc (sheetsOf form w) (sheetOfOne form c ∷ []) (map (sheetOfOne form) cs)
 
-added-wrote :
-    {w : Work} {sheet result : List ℕ} {cs : List Captured} → Wrote w sheet → Each (λ (c : Captured). c .stamp ≤ stampMost) cs
-    → Added sheet cs result → Wrote (chain w cs) result
-unfolding chain
-added-wrote p nil (no-more sheet) = p
-added-wrote p (and h e) (next a d) = added-wrote (added p h a) e d
+  added-wrote :
+      {w : Work} {sheet result : List ℕ} {cs : List Captured} → Wrote form w sheet → Each (λ (c : Captured). c .stamp ≤ stampMost) cs
+      → Added form sheet cs result → Wrote form (chain w cs) result
+  unfolding chain
+  added-wrote p nil (no-more sheet) = p
+  added-wrote p (and h e) (next a d) = added-wrote (added p h a) e d
 
--- of tables added to one sheet, one after the other
-pub same-added :
-    {sheet a b : List ℕ} {cs ds : List Captured} → Each (λ (c : Captured). c .stamp ≤ stampMost) cs
-    → Each (λ (c : Captured). c .stamp ≤ stampMost) ds → Added sheet cs a → Added sheet ds b → Same cs ds → a ≡ b
-unfolding sheetsOf
-same-added {sheet} {cs = cs} {ds = ds} e f p q s =
-    let m = same-map sheetOfOne s in
-    same-sheet (added-wrote (stood sheet) e p) (added-wrote (stood sheet) f q)
-    (rw (chain-sheets (stands sheet) cs, chain-sheets (stands sheet) ds) (same-behind sheet m))
+  -- of tables added to one sheet, one after the other
+  pub same-added :
+      {sheet a b : List ℕ} {cs ds : List Captured} → Each (λ (c : Captured). c .stamp ≤ stampMost) cs
+      → Each (λ (c : Captured). c .stamp ≤ stampMost) ds → Added form sheet cs a → Added form sheet ds b → Same cs ds → a ≡ b
+  unfolding sheetsOf
+  same-added {sheet} {cs = cs} {ds = ds} e f p q s =
+      let m = same-map (sheetOfOne form) s in
+      same-sheet (added-wrote (stood sheet) e p) (added-wrote (stood sheet) f q)
+      (rw (chain-sheets (stands sheet) cs, chain-sheets (stands sheet) ds) (same-behind sheet m))

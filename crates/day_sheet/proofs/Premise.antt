@@ -28,6 +28,7 @@ use Rattle.day_sheet.proofs.OneByOne.{joins-adds}
 use Rattle.day_sheet.proofs.Members.{reordered-same}
 use Rattle.day_sheet.proofs.Mixed.{one-table, same-sheet}
 use Rattle.day_sheet.proofs.Merged.{joined-merged}
+use Rattle.sheet_entry.specs.declared.Form.{Form}
 
 -- ---- as many as there are keys
 
@@ -99,75 +100,76 @@ bytes-reordered (then r s) = bytes-reordered r ∙ bytes-reordered s
 
 -- ---- every call is accepted
 
-module _ (ks : List ℕ) (few : length ks ≤ entryLimit) where
-  abbrev Keyed : List Entry → Type 0
-  Keyed es = Each (λ (e : Entry). In (keyOf e) ks) es
+module _ (form : Form) where
+  module _ (ks : List ℕ) (few : length ks ≤ entryLimit) where
+    abbrev Keyed : List Entry → Type 0
+    Keyed es = Each (λ (e : Entry). In (keyOf e) ks) es
 
-  -- entries that can stand in a sheet, of these keys, with no more bytes than the sheets
-  record Small (sheets : List (List ℕ)) (es : List Entry) : Type 0 where
-    good : Good keyOf Fit atMost decides es
-    keyed : Keyed es
-    long : total sizeOf es ≤ bytesOf sheets
+    -- entries that can stand in a sheet, of these keys, with no more bytes than the sheets
+    record Small (sheets : List (List ℕ)) (es : List Entry) : Type 0 where
+      good : Good keyOf (Fit form) atMost (decides form) es
+      keyed : Keyed es
+      long : total (sizeOf form) es ≤ bytesOf sheets
 
-  small-one : (sheet : List ℕ) → InForm sheet → Keyed (entriesOf sheet) → Small (sheet ∷ []) (entriesOf sheet)
-  unfolding bytesOf
-  small-one sheet f k =
-      let l = ap length (read-written sheet 0 f .0) in
-      let t = text-length (entriesOf sheet) in
-      record { good = sheet-of sheet f; keyed = k; long = omega arith }
+    small-one : (sheet : List ℕ) → InForm form sheet → Keyed (entriesOf form sheet) → Small (sheet ∷ []) (entriesOf form sheet)
+    unfolding bytesOf
+    small-one sheet f k =
+        let l = ap length (read-written form sheet 0 f .0) in
+        let t = text-length form (entriesOf form sheet) in
+        record { good = sheet-of form sheet f; keyed = k; long = omega arith }
 
-  small-two : {xs ys : List (List ℕ)} {es fs : List Entry} → Small xs es → Small ys fs → Small (xs ++ ys) (joined es fs)
-  unfolding NoMore
-  small-two {xs} {ys} {es} {fs} s t =
-      let b = bytes-append xs ys in
-      let n = no-more keyOf sizeOf (decides .ordered) es fs in
-      record {
-        good = sheet-joined (s .good) (t .good);
-        keyed = rw (joined-merged es fs) (join-each keyOf Fit atMost decides (λ (e : Entry). In (keyOf e) ks) es fs (s .keyed) (t .keyed));
-        long = let p = s .long in let q = t .long in rw (joined-merged es fs) (omega arith);
-      }
+    small-two : {xs ys : List (List ℕ)} {es fs : List Entry} → Small xs es → Small ys fs → Small (xs ++ ys) (joined es fs)
+    unfolding NoMore
+    small-two {xs} {ys} {es} {fs} s t =
+        let b = bytes-append xs ys in
+        let n = no-more keyOf (sizeOf form) (decides form .ordered) es fs in
+        record {
+          good = sheet-joined form (s .good) (t .good);
+          keyed = rw (joined-merged es fs) (join-each keyOf (Fit form) atMost (decides form) (λ (e : Entry). In (keyOf e) ks) es fs (s .keyed) (t .keyed));
+          long = let p = s .long in let q = t .long in rw (joined-merged es fs) (omega arith);
+        }
 
-  small-joins :
-      {xs ys : List (List ℕ)} {es fs : List Entry} → Small xs es → Small ys fs → bytesOf (xs ++ ys) ≤ byteLimit
-      → Joins (sheetText es) (sheetText fs) (sheetText (joined es fs))
-  small-joins {xs} {ys} s t h =
-      let b = bytes-append xs ys in
-      let p = s .long in
-      let q = t .long in
-      let u = small-two s t in
-      let r = u .long in
-      let n = as-many keyOf 0 ks _ (u .good .rises) (u .keyed) in
-      joins (s .good) (t .good) (omega arith) (omega arith) (record { entries = omega arith; length-in-all = omega arith })
+    small-joins :
+        {xs ys : List (List ℕ)} {es fs : List Entry} → Small xs es → Small ys fs → bytesOf (xs ++ ys) ≤ byteLimit form
+        → Joins form (sheetText form es) (sheetText form fs) (sheetText form (joined es fs))
+    small-joins {xs} {ys} s t h =
+        let b = bytes-append xs ys in
+        let p = s .long in
+        let q = t .long in
+        let u = small-two s t in
+        let r = u .long in
+        let n = as-many keyOf 0 ks _ (u .good .rises) (u .keyed) in
+        joins form (s .good) (t .good) (omega arith) (omega arith) (record { entries = omega arith; length-in-all = omega arith })
 
-  accept :
-      {w : Work} → Ready w → Each (λ (sheet : List ℕ). Keyed (entriesOf sheet)) (sheetsOf w) → bytesOf (sheetsOf w) ≤ byteLimit
-      → (es : List Entry) × Wrote w (sheetText es) × Small (sheetsOf w) es
-  unfolding sheetsOf
-  accept (in-form {sheet} f) k h =
-      (entriesOf sheet, rw (sym (read-written sheet 0 f .0)) (stood sheet), small-one sheet f (each-first k))
-  accept (each {v} {w} r q) k h =
-      let b = bytes-append (sheetsOf v) (sheetsOf w) in
-      let x = accept r (each-left (sheetsOf v) (sheetsOf w) k) (omega arith) in
-      let y = accept q (each-right (sheetsOf v) (sheetsOf w) k) (omega arith) in
-      (joined (x .0) (y .0), Work·joined (x .1) (y .1) (small-joins (x .2) (y .2) h), small-two (x .2) (y .2))
-  accept (takes {w} {c} r t) k h =
-      let o = one-table c t in
-      let b = bytes-append (sheetsOf w) (sheetOfOne c ∷ []) in
-      let x = accept r (each-left (sheetsOf w) (sheetOfOne c ∷ []) k) (omega arith) in
-      let y = small-one (sheetOfOne c) (o .0) (each-first (each-right (sheetsOf w) (sheetOfOne c ∷ []) k)) in
-      let es = joined (x .0) (entriesOf (sheetOfOne c)) in
-      let j : Joins (sheetText (x .0)) (sheetOfOne c) (sheetText es) = rw (sym (read-written (sheetOfOne c) 0 (o .0) .0)) at (small-joins (x .2) y h) in
-      (es, added (x .1) (t .stamp-fits) (joins-adds (sheetText (x .0)) c (sheetText es) t j), small-two (x .2) y)
+    accept :
+        {w : Work} → Ready form w → Each (λ (sheet : List ℕ). Keyed (entriesOf form sheet)) (sheetsOf form w) → bytesOf (sheetsOf form w) ≤ byteLimit form
+        → (es : List Entry) × Wrote form w (sheetText form es) × Small (sheetsOf form w) es
+    unfolding sheetsOf
+    accept (in-form {sheet} f) k h =
+        (entriesOf form sheet, rw (sym (read-written form sheet 0 f .0)) (stood sheet), small-one sheet f (each-first k))
+    accept (each {v} {w} r q) k h =
+        let b = bytes-append (sheetsOf form v) (sheetsOf form w) in
+        let x = accept r (each-left (sheetsOf form v) (sheetsOf form w) k) (omega arith) in
+        let y = accept q (each-right (sheetsOf form v) (sheetsOf form w) k) (omega arith) in
+        (joined (x .0) (y .0), Work·joined (x .1) (y .1) (small-joins (x .2) (y .2) h), small-two (x .2) (y .2))
+    accept (takes {w} {c} r t) k h =
+        let o = one-table form c t in
+        let b = bytes-append (sheetsOf form w) (sheetOfOne form c ∷ []) in
+        let x = accept r (each-left (sheetsOf form w) (sheetOfOne form c ∷ []) k) (omega arith) in
+        let y = small-one (sheetOfOne form c) (o .0) (each-first (each-right (sheetsOf form w) (sheetOfOne form c ∷ []) k)) in
+        let es = joined (x .0) (entriesOf form (sheetOfOne form c)) in
+        let j : Joins form (sheetText form (x .0)) (sheetOfOne form c) (sheetText form es) = rw (sym (read-written form (sheetOfOne form c) 0 (o .0) .0)) at (small-joins (x .2) y h) in
+        (es, added (x .1) (t .stamp-fits) (joins-adds form (sheetText form (x .0)) c (sheetText form es) t j), small-two (x .2) y)
 
--- in the customer's words: sheets in form and tables that block writing takes, which together have at most 64 keys and 16,384 bytes, are joined
--- and added in any two orders and groupings: every call is accepted, and the same sheet is written
-pub late-files :
-    (v w : Work) → Ready v → Ready w → Reordered (sheetsOf v) (sheetsOf w) → AllTogether (sheetsOf v)
-    → (sheet : List ℕ) × Wrote v sheet × Wrote w sheet
-late-files v w r q o t =
-    let b = bytes-reordered o in
-    let s = t .short in
-    let x = accept (t .keys) (t .few) r (t .have) s in
-    let y = accept (t .keys) (t .few) q (each-reordered o (t .have)) (omega arith) in
-    let e : sheetText (x .0) ≡ sheetText (y .0) = same-sheet (x .1) (y .1) (reordered-same o) in
-    (sheetText (x .0), x .1, rw e (y .1))
+  -- in the customer's words: sheets in form and tables that block writing takes, which together have at most 64 keys and 16,384 bytes, are joined
+  -- and added in any two orders and groupings: every call is accepted, and the same sheet is written
+  pub late-files :
+      (v w : Work) → Ready form v → Ready form w → Reordered (sheetsOf form v) (sheetsOf form w) → AllTogether form (sheetsOf form v)
+      → (sheet : List ℕ) × Wrote form v sheet × Wrote form w sheet
+  late-files v w r q o t =
+      let b = bytes-reordered o in
+      let s = t .short in
+      let x = accept (t .keys) (t .few) r (t .have) s in
+      let y = accept (t .keys) (t .few) q (each-reordered o (t .have)) (omega arith) in
+      let e : sheetText form (x .0) ≡ sheetText form (y .0) = same-sheet form (x .1) (y .1) (reordered-same o) in
+      (sheetText form (x .0), x .1, rw e (y .1))

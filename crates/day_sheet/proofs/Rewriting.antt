@@ -21,82 +21,84 @@ use Rattle.day_sheet.specs.Reading.{sheetOf}
 use Rattle.day_sheet.specs.Calls.{formed, limited, entriesOf, rewriteRules, rewritten}
 use Rattle.day_sheet.specs.Internal.{sheetRead}
 use Rattle.day_sheet.proofs.Exact.{read-written}
+use Rattle.sheet_entry.specs.declared.Form.{Form}
 
 -- ---- the lines of a sheet
 
-module _ (sheet : List ℕ) (s : Sheet) (reads : s ≡ sheetRead (sheetOf sheet)) (a : Answer) where
-  pub lines-bad : s .fine ≡ false → refused 20 (s .long) ≡ judged refused (formed sheet ∷ []) a
-  lines-bad e =
-      let f : sheetOf sheet .fine ≡ false = sym (ap (λ (x : Sheet). x .fine) reads) ∙ e in
-      let l : s .long ≡ sheetOf sheet .long = ap (λ (x : Sheet). x .long) reads in
-      rw (f, l)
+module _ (form : Form) where
+  module _ (sheet : List ℕ) (s : Sheet) (reads : s ≡ sheetRead (sheetOf form sheet)) (a : Answer) where
+    pub lines-bad : s .fine ≡ false → refused 20 (s .long) ≡ judged refused (formed form sheet ∷ []) a
+    lines-bad e =
+        let f : sheetOf form sheet .fine ≡ false = sym (ap (λ (x : Sheet). x .fine) reads) ∙ e in
+        let l : s .long ≡ sheetOf form sheet .long = ap (λ (x : Sheet). x .long) reads in
+        rw (f, l)
 
-  pub lines-good : s .fine ≡ true → Done (s .count) ≡ judged refused (formed sheet ∷ []) (Done (length (entriesOf sheet)))
-  lines-good e =
-      let f : sheetOf sheet .fine ≡ true = sym (ap (λ (x : Sheet). x .fine) reads) ∙ e in
-      let n : s .count ≡ length (entriesOf sheet) = ap (λ (x : Sheet). x .count) reads in
-      rw (f, n)
+    pub lines-good : s .fine ≡ true → Done (s .count) ≡ judged refused (formed form sheet ∷ []) (Done (length (entriesOf form sheet)))
+    lines-good e =
+        let f : sheetOf form sheet .fine ≡ true = sym (ap (λ (x : Sheet). x .fine) reads) ∙ e in
+        let n : s .count ≡ length (entriesOf form sheet) = ap (λ (x : Sheet). x .count) reads in
+        rw (f, n)
 
--- ---- the rules
+  -- ---- the rules
 
-module _ (sheet : List ℕ) (a : Answer) where
-  pub judge-long : byteLimit < length sheet → refused 21 0 ≡ judged refused (rewriteRules sheet) a
-  unfolding rewriteRules
-  judge-long h = rw (lt-leb (length sheet) byteLimit h)
-
-  module _ (fits : length sheet ≤ byteLimit) {r : Answer} (judges : r ≡ judged refused (formed sheet ∷ []) (Done (length (entriesOf sheet)))) where
-    pub judge-bad : {w : Refusal} → r ≡ Refused w → Refused w ≡ judged refused (rewriteRules sheet) a
+  module _ (sheet : List ℕ) (a : Answer) where
+    pub judge-long : byteLimit form < length sheet → refused 21 0 ≡ judged refused (rewriteRules form sheet) a
     unfolding rewriteRules
-    judge-bad e =
-        rw (le-leb (length sheet) byteLimit fits) (ends (formed sheet ∷ []) (limited (entriesOf sheet)) (length (entriesOf sheet)) judges a e)
+    judge-long h = rw (lt-leb (length sheet) (byteLimit form) h)
+
+    module _ (fits : length sheet ≤ byteLimit form) {r : Answer} (judges : r ≡ judged refused (formed form sheet ∷ []) (Done (length (entriesOf form sheet)))) where
+      pub judge-bad : {w : Refusal} → r ≡ Refused w → Refused w ≡ judged refused (rewriteRules form sheet) a
+      unfolding rewriteRules
+      judge-bad e =
+          rw (le-leb (length sheet) (byteLimit form) fits) (ends (formed form sheet ∷ []) (limited form (entriesOf form sheet)) (length (entriesOf form sheet)) judges a e)
+
+      module _ {m : ℕ} (done : r ≡ Done m) where
+        counted : m ≡ length (entriesOf form sheet)
+        counted = done-value (formed form sheet ∷ []) (length (entriesOf form sheet)) m (sym judges ∙ done)
+
+        in-form : sheetOf form sheet .fine ≡ true
+        in-form = first-holds (done-every (formed form sheet ∷ []) (length (entriesOf form sheet)) m (sym judges ∙ done))
+
+        pub judge-many : entryLimit < m → refused 21 0 ≡ judged refused (rewriteRules form sheet) a
+        unfolding rewriteRules
+        judge-many h =
+            rw (le-leb (length sheet) (byteLimit form) fits, in-form, lt-leb (length (entriesOf form sheet)) entryLimit (omega (arith, counted)))
+
+        pub judge-good : m ≤ entryLimit → a ≡ judged refused (rewriteRules form sheet) a
+        unfolding rewriteRules
+        judge-good h =
+            let l : length (sheetText form (entriesOf form sheet)) ≡ length sheet = sym (ap length (read-written form sheet 0 in-form .0)) in
+            rw (
+              le-leb (length sheet) (byteLimit form) fits,
+              in-form,
+              le-leb (length (entriesOf form sheet)) entryLimit (omega (arith, counted)),
+              le-leb (length (sheetText form (entriesOf form sheet))) (byteLimit form) (omega (arith, l)),
+            )
+
+  -- ---- written again
+
+  module _ (sheet old : List ℕ) {r : Answer} (judges : r ≡ judged refused (rewriteRules form sheet) (Done (length sheet))) where
+    pub rewrite-refused :
+        {w : Refusal} → r ≡ Refused w
+        → (Refused w ≡ answered (rewriteRules form sheet) (rewritten form sheet) old) × (old ≡ left (rewriteRules form sheet) (rewritten form sheet) old)
+    rewrite-refused e = lent-refused (rewriteRules form sheet) (rewritten form sheet) old (length sheet) judges e
 
     module _ {m : ℕ} (done : r ≡ Done m) where
-      counted : m ≡ length (entriesOf sheet)
-      counted = done-value (formed sheet ∷ []) (length (entriesOf sheet)) m (sym judges ∙ done)
+      same-bytes : sheet ≡ rewritten form sheet
+      unfolding rewritten rewriteRules
+      same-bytes =
+          let every = done-every (rewriteRules form sheet) (length sheet) m (sym judges ∙ done) in
+          read-written form sheet 0 (first-holds (others-hold every)) .0
 
-      in-form : sheetOf sheet .fine ≡ true
-      in-form = first-holds (done-every (formed sheet ∷ []) (length (entriesOf sheet)) m (sym judges ∙ done))
+      pub rewrite-short :
+          length old < length sheet
+          → (refused 1 0 ≡ answered (rewriteRules form sheet) (rewritten form sheet) old) × (old ≡ left (rewriteRules form sheet) (rewritten form sheet) old)
+      rewrite-short h =
+          lent-short (rewriteRules form sheet) (rewritten form sheet) old (length sheet) judges done (omega (arith, ap length same-bytes))
 
-      pub judge-many : entryLimit < m → refused 21 0 ≡ judged refused (rewriteRules sheet) a
-      unfolding rewriteRules
-      judge-many h =
-          rw (le-leb (length sheet) byteLimit fits, in-form, lt-leb (length (entriesOf sheet)) entryLimit (omega (arith, counted)))
-
-      pub judge-good : m ≤ entryLimit → a ≡ judged refused (rewriteRules sheet) a
-      unfolding rewriteRules
-      judge-good h =
-          let l : length (sheetText (entriesOf sheet)) ≡ length sheet = sym (ap length (read-written sheet 0 in-form .0)) in
-          rw (
-            le-leb (length sheet) byteLimit fits,
-            in-form,
-            le-leb (length (entriesOf sheet)) entryLimit (omega (arith, counted)),
-            le-leb (length (sheetText (entriesOf sheet))) byteLimit (omega (arith, l)),
-          )
-
--- ---- written again
-
-module _ (sheet old : List ℕ) {r : Answer} (judges : r ≡ judged refused (rewriteRules sheet) (Done (length sheet))) where
-  pub rewrite-refused :
-      {w : Refusal} → r ≡ Refused w
-      → (Refused w ≡ answered (rewriteRules sheet) (rewritten sheet) old) × (old ≡ left (rewriteRules sheet) (rewritten sheet) old)
-  rewrite-refused e = lent-refused (rewriteRules sheet) (rewritten sheet) old (length sheet) judges e
-
-  module _ {m : ℕ} (done : r ≡ Done m) where
-    same-bytes : sheet ≡ rewritten sheet
-    unfolding rewritten rewriteRules
-    same-bytes =
-        let every = done-every (rewriteRules sheet) (length sheet) m (sym judges ∙ done) in
-        read-written sheet 0 (first-holds (others-hold every)) .0
-
-    pub rewrite-short :
-        length old < length sheet
-        → (refused 1 0 ≡ answered (rewriteRules sheet) (rewritten sheet) old) × (old ≡ left (rewriteRules sheet) (rewritten sheet) old)
-    rewrite-short h =
-        lent-short (rewriteRules sheet) (rewritten sheet) old (length sheet) judges done (omega (arith, ap length same-bytes))
-
-    pub rewrite-done :
-        {out : List ℕ} → length sheet ≤ length old → out ≡ sets old 0 (take (length sheet) (drop 0 sheet))
-        → (Done (length sheet) ≡ answered (rewriteRules sheet) (rewritten sheet) old) × (out ≡ left (rewriteRules sheet) (rewritten sheet) old)
-    rewrite-done h e =
-        let d = lent-done (rewriteRules sheet) (rewritten sheet) old (length sheet) judges done (omega (arith, ap length same-bytes)) in
-        (ap (λ (x : List ℕ). Done (length x)) same-bytes ∙ d .0, e ∙ ap (sets old 0) (take-length sheet ∙ same-bytes) ∙ d .1)
+      pub rewrite-done :
+          {out : List ℕ} → length sheet ≤ length old → out ≡ sets old 0 (take (length sheet) (drop 0 sheet))
+          → (Done (length sheet) ≡ answered (rewriteRules form sheet) (rewritten form sheet) old) × (out ≡ left (rewriteRules form sheet) (rewritten form sheet) old)
+      rewrite-done h e =
+          let d = lent-done (rewriteRules form sheet) (rewritten form sheet) old (length sheet) judges done (omega (arith, ap length same-bytes)) in
+          (ap (λ (x : List ℕ). Done (length x)) same-bytes ∙ d .0, e ∙ ap (sets old 0) (take-length sheet ∙ same-bytes) ∙ d .1)

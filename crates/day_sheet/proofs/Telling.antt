@@ -17,6 +17,7 @@ use Rattle.day_sheet.specs.AnyOrder.{joinAnswer, InForm}
 use Rattle.day_sheet.specs.Saying.{rewriteAnswer}
 use Rattle.day_sheet.specs.Faults.{FirstFault}
 use Rattle.day_sheet.proofs.Faulting.{first-fault}
+use Rattle.sheet_entry.specs.declared.Form.{Form}
 
 -- the rule that answers 20 at this offset, among these and behind those that are judged before
 record At (n : ℕ) (rs : List Rule) : Type 0 where
@@ -42,67 +43,69 @@ passed {n} {r} {rs} other a = go (a .first) (a .number-is) (a .offset-is)
 nowhere : {P : Type 0} {n : ℕ} → At n [] → P
 nowhere a = absurd (every-first none (a .first))
 
--- the result's size and the room
-sized : {P : Type 0} {n : ℕ} (es : List Entry) (bytes old : List ℕ) → At n (limited es ++ room bytes old ∷ []) → P
-sized es bytes old a = nowhere (passed (λ e. omega arith) (passed (λ e. omega arith) (passed (λ e. omega arith) a)))
+module _ (form : Form) where
+  -- the result's size and the room
+  sized : {P : Type 0} {n : ℕ} (es : List Entry) (bytes old : List ℕ) → At n (limited form es ++ room bytes old ∷ []) → P
+  sized es bytes old a = nowhere (passed (λ e. omega arith) (passed (λ e. omega arith) (passed (λ e. omega arith) a)))
 
--- the sheet's own rule
-judged-form : {n : ℕ} (sheet : List ℕ) {rs : List Rule} → At n (formed sheet ∷ rs) → FirstFault sheet n ⊎ (InForm sheet × At n rs)
-judged-form {n} sheet {rs} a = go (a .first) (a .number-is) (a .offset-is)
-  where
-    go : {q : Rule} → First q (formed sheet ∷ rs) → q .number ≡ 20 → q .offset ≡ n → FirstFault sheet n ⊎ (InForm sheet × At n rs)
-    go (here h) e o = inl (subst (FirstFault sheet) o (first-fault sheet h))
-    go {q} (later h f) e o = inr (h, record { by = q; first = f; number-is = e; offset-is = o })
+  -- the sheet's own rule
+  judged-form : {n : ℕ} (sheet : List ℕ) {rs : List Rule} → At n (formed form sheet ∷ rs) → FirstFault form sheet n ⊎ (InForm form sheet × At n rs)
+  judged-form {n} sheet {rs} a = go (a .first) (a .number-is) (a .offset-is)
+    where
+      go : {q : Rule} → First q (formed form sheet ∷ rs) → q .number ≡ 20 → q .offset ≡ n → FirstFault form sheet n ⊎ (InForm form sheet × At n rs)
+      go (here h) e o = inl (subst (FirstFault form sheet) o (first-fault form sheet h))
+      go {q} (later h f) e o = inr (h, record { by = q; first = f; number-is = e; offset-is = o })
 
--- ---- the calls
+  -- ---- the calls
 
--- where the form decides, and then only sizes and the room
-last-form :
-    {n : ℕ} (sheet : List ℕ) (es : List Entry) (bytes old : List ℕ) → At n (formed sheet ∷ (limited es ++ room bytes old ∷ [])) → FirstFault sheet n
-last-form {n} sheet es bytes old a = go (judged-form sheet a)
-  where
-    go : FirstFault sheet n ⊎ (InForm sheet × At n (limited es ++ room bytes old ∷ [])) → FirstFault sheet n
-    go (inl f) = f
-    go (inr r) = sized es bytes old (r .1)
+  -- where the form decides, and then only sizes and the room
+  last-form :
+      {n : ℕ} (sheet : List ℕ) (es : List Entry) (bytes old : List ℕ) → At n (formed form sheet ∷ (limited form es ++ room bytes old ∷ [])) → FirstFault form sheet n
+  last-form {n} sheet es bytes old a = go (judged-form sheet a)
+    where
+      go : FirstFault form sheet n ⊎ (InForm form sheet × At n (limited form es ++ room bytes old ∷ [])) → FirstFault form sheet n
+      go (inl f) = f
+      go (inr r) = sized es bytes old (r .1)
 
-pub rewrite-told : (sheet old : List ℕ) (n : ℕ) → rewriteAnswer sheet old ≡ refused 20 n → FirstFault sheet n
-unfolding rewriteRules
-rewrite-told sheet old n e =
-    last-form sheet (entriesOf sheet) (rewritten sheet) old (passed (λ e. omega arith) (at-first (rewriteRules sheet) (rewritten sheet) old n e))
+  pub rewrite-told : (sheet old : List ℕ) (n : ℕ) → rewriteAnswer form sheet old ≡ refused 20 n → FirstFault form sheet n
+  unfolding rewriteRules
+  rewrite-told sheet old n e =
+      last-form sheet (entriesOf form sheet) (rewritten form sheet) old (passed (λ e. omega arith) (at-first (rewriteRules form sheet) (rewritten form sheet) old n e))
 
--- of the first sheet, or of the second where the first is in form
-pub join-told :
-    (first second old : List ℕ) (n : ℕ) → joinAnswer first second old ≡ refused 20 n → FirstFault first n ⊎ (InForm first × FirstFault second n)
-unfolding joinRules
-join-told first second old n e =
-    go
-    (judged-form first
-    (passed (λ e. omega arith) (passed (λ e. omega arith) (at-first (joinRules first second) (sheetText (joinResult first second)) old n e))))
-  where
-    go :
-        FirstFault first n
-        ⊎ (InForm first × At n (formed second ∷ (limited (joinResult first second) ++ room (sheetText (joinResult first second)) old ∷ [])))
-        → FirstFault first n ⊎ (InForm first × FirstFault second n)
-    go (inl f) = inl f
-    go (inr r) = inr (r .0, last-form second (joinResult first second) (sheetText (joinResult first second)) old (r .1))
+  -- of the first sheet, or of the second where the first is in form
+  pub join-told :
+      (first second old : List ℕ) (n : ℕ) → joinAnswer form first second old ≡ refused 20 n → FirstFault form first n ⊎ (InForm form first × FirstFault form second n)
+  unfolding joinRules
+  join-told first second old n e =
+      go
+      (judged-form first
+      (passed (λ e. omega arith) (passed (λ e. omega arith) (at-first (joinRules form first second) (sheetText form (joinResult form first second)) old n e))))
+    where
+      go :
+          FirstFault form first n
+          ⊎ (InForm form first × At n (formed form second ∷ (limited form (joinResult form first second) ++ room (sheetText form (joinResult form first second)) old ∷ [])))
+          → FirstFault form first n ⊎ (InForm form first × FirstFault form second n)
+      go (inl f) = inl f
+      go (inr r) = inr (r .0, last-form second (joinResult form first second) (sheetText form (joinResult form first second)) old (r .1))
 
-pub add-told :
-    (stamp : ℕ) (sheet form old : List ℕ) (n : ℕ)
-    → answered (addRules stamp sheet form) (sheetText (addResult stamp sheet form)) old ≡ refused 20 n → FirstFault sheet n
-unfolding addRules formRules
-add-told stamp sheet form old n e =
-    last-form sheet (addResult stamp sheet form) (sheetText (addResult stamp sheet form)) old
-    (passed (λ e. omega arith)
-    (passed (λ e. omega arith)
-    (passed (λ e. omega arith)
-    (passed (λ e. omega arith)
-    (passed (λ e. omega arith)
-    (passed (λ e. omega arith) (at-first (addRules stamp sheet form) (sheetText (addResult stamp sheet form)) old n e)))))))
+  pub add-told :
+      (stamp mended : ℕ) (sheet table old : List ℕ) (n : ℕ)
+      → answered (addRules form stamp mended sheet table) (sheetText form (addResult form stamp mended sheet table)) old ≡ refused 20 n → FirstFault form sheet n
+  unfolding addRules formRules
+  add-told stamp mended sheet table old n e =
+      last-form sheet (addResult form stamp mended sheet table) (sheetText form (addResult form stamp mended sheet table)) old
+      (passed (λ e. omega arith)
+      (passed (λ e. omega arith)
+      (passed (λ e. omega arith)
+      (passed (λ e. omega arith)
+      (passed (λ e. omega arith)
+      (passed (λ e. omega arith)
+      (passed (λ e. omega arith) (at-first (addRules form stamp mended sheet table) (sheetText form (addResult form stamp mended sheet table)) old n e))))))))
 
-pub drop-told :
-    (network kind block : ℕ) (sheet old : List ℕ) (n : ℕ)
-    → answered (dropRules network kind block sheet) (sheetText (dropResult network kind block sheet)) old ≡ refused 20 n → FirstFault sheet n
-unfolding dropRules
-drop-told network kind block sheet old n e =
-    let es = dropResult network kind block sheet in
-    last-form sheet es (sheetText es) old (passed (λ e. omega arith) (at-first (dropRules network kind block sheet) (sheetText es) old n e))
+  pub drop-told :
+      (network kind block : ℕ) (sheet old : List ℕ) (n : ℕ)
+      → answered (dropRules form network kind block sheet) (sheetText form (dropResult form network kind block sheet)) old ≡ refused 20 n → FirstFault form sheet n
+  unfolding dropRules
+  drop-told network kind block sheet old n e =
+      let es = dropResult form network kind block sheet in
+      last-form sheet es (sheetText form es) old (passed (λ e. omega arith) (at-first (dropRules form network kind block sheet) (sheetText form es) old n e))

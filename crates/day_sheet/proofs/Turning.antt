@@ -10,19 +10,19 @@ use lib.ListN.{length, take, drop, length-append, length-drop, length-take}
 use lib.Seq.{sets, take-append-seam, drop-drop, length-take-le}
 use borrow.Author.Tests.{lt-ltb, le-ltb, le-leb, lt-leb, ltb-true, ltb-false}
 use Rattle.laws.specs.Pick.{pick}
-use Rattle.laws.specs.Orders.{before}
 use Rattle.laws.proofs.Lists.{sets-append}
 use Rattle.sheet_entry.specs.declared.Found.{Found}
 use Rattle.day_sheet.specs.declared.joining.Turn.{Turn}
-use Rattle.sheet_entry.specs.Entries.{Entry, tableLines, entryText}
+use Rattle.sheet_entry.specs.Entries.{Entry, entryText}
 use Rattle.day_sheet.specs.Entries.{sheetText}
 use Rattle.sheet_entry.specs.Reading.{entryAt, foundOf}
 use Rattle.day_sheet.specs.Along.{Stands}
 use Rattle.day_sheet.specs.Turns.{absent, turn, turnBy, turnOf}
 use Rattle.day_sheet.specs.Joining.{atMost, staying, joined}
 use Rattle.day_sheet.specs.Calls.{joinResult}
-use Rattle.day_sheet.specs.Internal.{Halfway, Lies, Met, foundLines, secondStays, secondPut, turnText}
+use Rattle.day_sheet.specs.Internal.{Halfway, Lies, Met, foundLines, linesStay, secondStays, secondPut, turnText}
 use Rattle.day_sheet.proofs.Meeting.{found, lines-found, Front, front-first, front-second, front-both, Turned, turned, along-out}
+use Rattle.sheet_entry.specs.declared.Form.{Form}
 
 -- the second's entry stays exactly where the first's is at most it
 stays-is : (s t : ℕ) (b : Bool) → pick (ltb s t) true (pick (ltb t s) false b) ≡ pick (leb s t) (pick (leb t s) b true) false
@@ -36,41 +36,42 @@ stays-is s t b = go (ltb s t) refl (ltb t s) refl
     go false p false q =
         rw (le-leb s t (omega (arith, ltb-false t s q)), le-leb t s (omega (arith, ltb-false s t p)))
 
-stays-text :
-    (x y : Entry) (rest more : List ℕ) → secondStays (entryText x ++ rest) (found x) (entryText y ++ more) (found y) ≡ atMost x y
-unfolding secondStays
-stays-text x y rest more =
-    rw (lines-found x rest, lines-found y more) (stays-is (x .stamp) (y .stamp) (before (tableLines x) (tableLines y)))
+module _ (form : Form) where
+  stays-text :
+      (x y : Entry) (rest more : List ℕ) → secondStays (entryText form x ++ rest) (found form x) (entryText form y ++ more) (found form y) ≡ atMost x y
+  unfolding secondStays linesStay
+  stays-text x y rest more =
+      rw (lines-found form x rest, lines-found form y more) (stays-is (x .stamp) (y .stamp) _)
 
--- ---- what is put
+  -- ---- what is put
 
--- what a turn puts is the entry that stays
-turn-stays : {a b : List ℕ} {t : Turn} {s : Stands} → Front a b t s → turnText t a b ≡ entryText (staying s)
-unfolding turnText secondPut
-turn-stays (front-first x rest v e) = rw e (take-append-seam (entryText x) rest)
-turn-stays (front-second y more w e) = rw e (take-append-seam (entryText y) more)
-turn-stays (front-both x y rest more v w k e d) = rw (e, d, stays-text x y rest more) (chosen (atMost x y))
-  where
-    chosen :
-        (t : Bool)
-        → pick t (take (length (entryText y)) (entryText y ++ more)) (take (length (entryText x)) (entryText x ++ rest))
-        ≡ entryText (pick t y x)
-    chosen true = take-append-seam (entryText y) more
-    chosen false = take-append-seam (entryText x) rest
+  -- what a turn puts is the entry that stays
+  turn-stays : {a b : List ℕ} {t : Turn} {s : Stands} → Front form a b t s → turnText t a b ≡ entryText form (staying s)
+  unfolding turnText secondPut
+  turn-stays (front-first x rest v e) = rw e (take-append-seam (entryText form x) rest)
+  turn-stays (front-second y more w e) = rw e (take-append-seam (entryText form y) more)
+  turn-stays (front-both x y rest more v w k e d) = rw (e, d, stays-text x y rest more) (chosen (atMost x y))
+    where
+      chosen :
+          (t : Bool)
+          → pick t (take (length (entryText form y)) (entryText form y ++ more)) (take (length (entryText form x)) (entryText form x ++ rest))
+          ≡ entryText form (pick t y x)
+      chosen true = take-append-seam (entryText form y) more
+      chosen false = take-append-seam (entryText form x) rest
 
-module _ {a b : List ℕ} {t : Turn} (u : Turned a b t) where
-  text-on : sheetText (joinResult a b) ≡ turnText t a b ++ sheetText (joinResult (drop (t .first .long) a) (drop (t .second .long) b))
-  unfolding joinResult joined sheetText
-  text-on = rw (u .on, turn-stays (u .front))
+  module _ {a b : List ℕ} {t : Turn} (u : Turned form a b t) where
+    text-on : sheetText form (joinResult form a b) ≡ turnText t a b ++ sheetText form (joinResult form (drop (t .first .long) a) (drop (t .second .long) b))
+    unfolding joinResult joined sheetText
+    text-on = rw (u .on, turn-stays (u .front))
 
-  count-on : length (joinResult a b) ≡ suc (length (joinResult (drop (t .first .long) a) (drop (t .second .long) b)))
+    count-on : length (joinResult form a b) ≡ suc (length (joinResult form (drop (t .first .long) a) (drop (t .second .long) b)))
+    unfolding joinResult joined
+    count-on = rw (u .on)
+
+  -- where both are at their end nothing is left
+  turned-out : (a b : List ℕ) → length a + length b ≤ 0 → joinResult form a b ≡ []
   unfolding joinResult joined
-  count-on = rw (u .on)
-
--- where both are at their end nothing is left
-turned-out : (a b : List ℕ) → length a + length b ≤ 0 → joinResult a b ≡ []
-unfolding joinResult joined
-turned-out a b h = rw (along-out a b h)
+  turned-out a b h = rw (along-out form a b h)
 
 -- ---- as the code goes
 
@@ -95,9 +96,10 @@ module _ (f g : Found) where
   unfolding turnBy
   by-same h l k = rw (h, l, le-ltb (f .key) (g .key) (omega arith), le-ltb (g .key) (f .key) (omega arith))
 
-pub turn-found : (a b : List ℕ) {f g : Found} → f ≡ foundOf (entryAt 0 a) → g ≡ foundOf (entryAt 0 b) → turnBy f g ≡ turnOf a b
-unfolding turnOf
-turn-found a b p q = rw (p, q)
+module _ (form : Form) where
+  pub turn-found : (a b : List ℕ) {f g : Found} → f ≡ foundOf form (entryAt form 0 a) → g ≡ foundOf form (entryAt form 0 b) → turnBy f g ≡ turnOf form a b
+  unfolding turnOf
+  turn-found a b p q = rw (p, q)
 
 module _ (t : Turn) (a b : List ℕ) where
   pub put-first : t .second .more ≡ false → false ≡ secondPut t a b
@@ -121,7 +123,7 @@ module _ (a : List ℕ) (f : Found) (b : List ℕ) (g : Found) where
   unfolding secondStays
   stays-more h = rw (le-ltb (f .stamp) (g .stamp) (omega arith), lt-ltb (g .stamp) (f .stamp) h)
 
-  pub stays-same : f .stamp ≡ g .stamp → before (foundLines a f) (foundLines b g) ≡ secondStays a f b g
+  pub stays-same : f .stamp ≡ g .stamp → linesStay (foundLines a f) (f .mended) (foundLines b g) (g .mended) ≡ secondStays a f b g
   unfolding secondStays
   stays-same h = rw (le-ltb (f .stamp) (g .stamp) (omega arith), le-ltb (g .stamp) (f .stamp) (omega arith))
 
@@ -160,102 +162,103 @@ turn-length t a b = go (secondPut t a b)
 
 -- ---- along both sheets
 
--- what holds before each turn: what is left of both gives what is still to be put
-pub record Along (first second out₀ out : List ℕ) (i j n q : ℕ) : Type 0 where
-  pub in-first : Halfway first i
-  pub in-second : Halfway second j
-  pub to-put :
-      sets out q (sheetText (joinResult (drop i first) (drop j second))) ≡ sets out₀ 0 (sheetText (joinResult first second))
-  pub to-go : q + length (sheetText (joinResult (drop i first) (drop j second))) ≡ length (sheetText (joinResult first second))
-  pub to-count : n + length (joinResult (drop i first) (drop j second)) ≡ length (joinResult first second)
-  pub place-small : q ≤ i + j
-  pub count-small : n ≤ i + j
+module _ (form : Form) where
+  -- what holds before each turn: what is left of both gives what is still to be put
+  pub record Along (first second out₀ out : List ℕ) (i j n q : ℕ) : Type 0 where
+    pub in-first : Halfway form first i
+    pub in-second : Halfway form second j
+    pub to-put :
+        sets out q (sheetText form (joinResult form (drop i first) (drop j second))) ≡ sets out₀ 0 (sheetText form (joinResult form first second))
+    pub to-go : q + length (sheetText form (joinResult form (drop i first) (drop j second))) ≡ length (sheetText form (joinResult form first second))
+    pub to-count : n + length (joinResult form (drop i first) (drop j second)) ≡ length (joinResult form first second)
+    pub place-small : q ≤ i + j
+    pub count-small : n ≤ i + j
 
-pub along-start : (first second out : List ℕ) → Halfway first 0 → Halfway second 0 → Along first second out out 0 0 0 0
-along-start first second out f g =
-    record {
-      in-first = f;
-      in-second = g;
-      to-put = refl;
-      to-go = zero-add (length (sheetText (joinResult first second)));
-      to-count = zero-add (length (joinResult first second));
-      place-small = omega arith;
-      count-small = omega arith;
-    }
-
-module _ (first second out₀ out : List ℕ) (i j n q : ℕ) (v : Along first second out₀ out i j n q) where
-  pub along-turn :
-      i + j < length first + length second → {t : Turn} → t ≡ turnOf (drop i first) (drop j second)
-      → Turned (drop i first) (drop j second) t
-  along-turn h e =
-      let f = v .in-first .within .inside in
-      let g = v .in-second .within .inside in
-      let k = length-drop i first in
-      let l = length-drop j second in
-      rw e (turned (drop i first) (drop j second) (v .in-first .fine) (v .in-second .fine) (omega arith))
-
-  pub along-on :
-      {t : Turn} {out′ : List ℕ} {q′ : ℕ} → Turned (drop i first) (drop j second) t
-      → out′ ≡ sets out q (turnText t (drop i first) (drop j second)) → q′ ≡ q + length (turnText t (drop i first) (drop j second))
-      → Along first second out₀ out′ (i + t .first .long) (j + t .second .long) (n + 1) q′
-  along-on {t} {out′} {q′} u e k =
-      let a = drop i first in
-      let b = drop j second in
-      let f = drop-drop (t .first .long) i first in
-      let g = drop-drop (t .second .long) j second in
-      let r : joinResult (drop (i + t .first .long) first) (drop (j + t .second .long) second) ≡ joinResult (drop (t .first .long) a) (drop (t .second .long) b) = rw (f, g) in
-      let x = u .first-in in
-      let y = u .second-in in
-      let z = u .goes-on in
-      let c = count-on u in
-      let l = length-drop i first in
-      let m = length-drop j second in
-      let o = turn-length t a b in
-      let w = length-append (turnText t a b) (sheetText (joinResult (drop (t .first .long) a) (drop (t .second .long) b))) in
-      let d : length (sheetText (joinResult a b)) ≡ length (turnText t a b) + length (sheetText (joinResult (drop (t .first .long) a) (drop (t .second .long) b))) = ap length (text-on u) ∙ w in
+  pub along-start : (first second out : List ℕ) → Halfway form first 0 → Halfway form second 0 → Along first second out out 0 0 0 0
+  along-start first second out f g =
       record {
-        in-first = record { within = record { inside = let h = v .in-first .within .inside in omega arith; short = v .in-first .within .short }; fine = rw (sym f) (u .first-fine) };
-        in-second = record { within = record { inside = let h = v .in-second .within .inside in omega arith; short = v .in-second .within .short }; fine = rw (sym g) (u .second-fine) };
-        to-put =
-            rw (r, e, k)
-            (sym (sets-append out q (turnText t a b) (sheetText (joinResult (drop (t .first .long) a) (drop (t .second .long) b))))
-            ∙ ap (sets out q) (sym (text-on u))
-            ∙ v .to-put);
-        to-go = rw r (let h = v .to-go in omega arith);
-        to-count = rw r (let h = v .to-count in omega arith);
-        place-small = let h = v .place-small in omega arith;
-        count-small = let h = v .count-small in omega arith;
+        in-first = f;
+        in-second = g;
+        to-put = refl;
+        to-go = zero-add (length (sheetText form (joinResult form first second)));
+        to-count = zero-add (length (joinResult form first second));
+        place-small = omega arith;
+        count-small = omega arith;
       }
 
-  pub along-end :
-      length first + length second ≤ i + j
-      → (out ≡ sets out₀ 0 (sheetText (joinResult first second))) × (n ≡ length (joinResult first second))
-      × (q ≡ length (sheetText (joinResult first second)))
-  unfolding sheetText
-  along-end h =
-      let k = length-drop i first in
-      let l = length-drop j second in
-      let f = v .in-first .within .inside in
-      let g = v .in-second .within .inside in
-      let r = turned-out (drop i first) (drop j second) (omega arith) in
-      let a : sets out q (sheetText []) ≡ sets out₀ 0 (sheetText (joinResult first second)) = rw r at (v .to-put) in
-      let b : n + 0 ≡ length (joinResult first second) = rw r at (v .to-count) in
-      let c : q + 0 ≡ length (sheetText (joinResult first second)) = rw r at (v .to-go) in
-      (a, omega arith, omega arith)
+  module _ (first second out₀ out : List ℕ) (i j n q : ℕ) (v : Along first second out₀ out i j n q) where
+    pub along-turn :
+        i + j < length first + length second → {t : Turn} → t ≡ turnOf form (drop i first) (drop j second)
+        → Turned form (drop i first) (drop j second) t
+    along-turn h e =
+        let f = v .in-first .within .inside in
+        let g = v .in-second .within .inside in
+        let k = length-drop i first in
+        let l = length-drop j second in
+        rw e (turned form (drop i first) (drop j second) (v .in-first .fine) (v .in-second .fine) (omega arith))
 
-  -- no place is far on, and what was met lies within the sheets
-  pub along-fits :
-      {t : Turn} → Turned (drop i first) (drop j second) t
-      → Met first i (t .first) × Met second j (t .second) × (q + t .first .long + t .second .long ≤ 200000)
-  along-fits {t} u =
-      let x = u .first-in in
-      let y = u .second-in in
-      let l = length-drop i first in
-      let m = length-drop j second in
-      let f = v .in-first .within in
-      let g = v .in-second .within in
-      let s = v .place-small in (
-        record { span = u .first-span; inside = omega arith; small = f .short },
-        record { span = u .second-span; inside = omega arith; small = g .short },
-        omega arith,
-      )
+    pub along-on :
+        {t : Turn} {out′ : List ℕ} {q′ : ℕ} → Turned form (drop i first) (drop j second) t
+        → out′ ≡ sets out q (turnText t (drop i first) (drop j second)) → q′ ≡ q + length (turnText t (drop i first) (drop j second))
+        → Along first second out₀ out′ (i + t .first .long) (j + t .second .long) (n + 1) q′
+    along-on {t} {out′} {q′} u e k =
+        let a = drop i first in
+        let b = drop j second in
+        let f = drop-drop (t .first .long) i first in
+        let g = drop-drop (t .second .long) j second in
+        let r : joinResult form (drop (i + t .first .long) first) (drop (j + t .second .long) second) ≡ joinResult form (drop (t .first .long) a) (drop (t .second .long) b) = rw (f, g) in
+        let x = u .first-in in
+        let y = u .second-in in
+        let z = u .goes-on in
+        let c = count-on form u in
+        let l = length-drop i first in
+        let m = length-drop j second in
+        let o = turn-length t a b in
+        let w = length-append (turnText t a b) (sheetText form (joinResult form (drop (t .first .long) a) (drop (t .second .long) b))) in
+        let d : length (sheetText form (joinResult form a b)) ≡ length (turnText t a b) + length (sheetText form (joinResult form (drop (t .first .long) a) (drop (t .second .long) b))) = ap length (text-on form u) ∙ w in
+        record {
+          in-first = record { within = record { inside = let h = v .in-first .within .inside in omega arith; short = v .in-first .within .short }; fine = rw (sym f) (u .first-fine) };
+          in-second = record { within = record { inside = let h = v .in-second .within .inside in omega arith; short = v .in-second .within .short }; fine = rw (sym g) (u .second-fine) };
+          to-put =
+              rw (r, e, k)
+              (sym (sets-append out q (turnText t a b) (sheetText form (joinResult form (drop (t .first .long) a) (drop (t .second .long) b))))
+              ∙ ap (sets out q) (sym (text-on form u))
+              ∙ v .to-put);
+          to-go = rw r (let h = v .to-go in omega arith);
+          to-count = rw r (let h = v .to-count in omega arith);
+          place-small = let h = v .place-small in omega arith;
+          count-small = let h = v .count-small in omega arith;
+        }
+
+    pub along-end :
+        length first + length second ≤ i + j
+        → (out ≡ sets out₀ 0 (sheetText form (joinResult form first second))) × (n ≡ length (joinResult form first second))
+        × (q ≡ length (sheetText form (joinResult form first second)))
+    unfolding sheetText
+    along-end h =
+        let k = length-drop i first in
+        let l = length-drop j second in
+        let f = v .in-first .within .inside in
+        let g = v .in-second .within .inside in
+        let r = turned-out form (drop i first) (drop j second) (omega arith) in
+        let a : sets out q (sheetText form []) ≡ sets out₀ 0 (sheetText form (joinResult form first second)) = rw r at (v .to-put) in
+        let b : n + 0 ≡ length (joinResult form first second) = rw r at (v .to-count) in
+        let c : q + 0 ≡ length (sheetText form (joinResult form first second)) = rw r at (v .to-go) in
+        (a, omega arith, omega arith)
+
+    -- no place is far on, and what was met lies within the sheets
+    pub along-fits :
+        {t : Turn} → Turned form (drop i first) (drop j second) t
+        → Met first i (t .first) × Met second j (t .second) × (q + t .first .long + t .second .long ≤ 200000)
+    along-fits {t} u =
+        let x = u .first-in in
+        let y = u .second-in in
+        let l = length-drop i first in
+        let m = length-drop j second in
+        let f = v .in-first .within in
+        let g = v .in-second .within in
+        let s = v .place-small in (
+          record { span = u .first-span; inside = omega arith; small = f .short },
+          record { span = u .second-span; inside = omega arith; small = g .short },
+          omega arith,
+        )

@@ -1,62 +1,64 @@
--- What the calls judge, in their order (SCOPE 20.9), and what they write.
+-- What the calls judge, in their order (SCOPE 20.9, 30.3), and what they write, in a form.
 use mathlib.Core.List.{List, [], _∷_, _++_}
 use Prim.Native.Nat.{ℕ}
 use lib.Dec.{leb}
 use lib.ListN.{length}
 use Rattle.answer.specs.Rules.{Rule, rule}
-use Rattle.forms.specs.Writing.{formRules}
 use Rattle.sheet_entry.specs.Entries.{Entry}
-use Rattle.sheet_entry.specs.Writing.{stamped}
+use Rattle.sheet_entry.specs.Writing.{stamped, entryRules}
 use Rattle.day_sheet.specs.Entries.{sheetText, entryLimit, byteLimit}
 use Rattle.day_sheet.specs.Reading.{sheetOf}
 use Rattle.day_sheet.specs.Joining.{joined}
 use Rattle.day_sheet.specs.Dropping.{without}
+use Rattle.sheet_entry.specs.declared.Form.{Form}
 
--- 21: a lent sheet that is too long to be one
-abbrev pub short : List ℕ → Rule
-short sheet = rule (leb (length sheet) byteLimit) 21 0
+module _ (form : Form) where
+  -- 21: a lent sheet that is too long to be one
+  abbrev pub short : List ℕ → Rule
+  short sheet = rule (leb (length sheet) (byteLimit form)) 21 0
 
--- 20: a line out of form or order, at its first byte
-abbrev pub formed : List ℕ → Rule
-formed sheet = rule (sheetOf sheet .fine) 20 (sheetOf sheet .long)
+  -- 20: a line out of form or order, at its first byte
+  abbrev pub formed : List ℕ → Rule
+  formed sheet = rule (sheetOf form sheet .fine) 20 (sheetOf form sheet .long)
 
--- 21: a result of too many entries or bytes
-abbrev pub limited : List Entry → List Rule
-limited es = rule (leb (length es) entryLimit) 21 0 ∷ rule (leb (length (sheetText es)) byteLimit) 21 0 ∷ []
+  -- 21: a result of too many entries or bytes
+  abbrev pub limited : List Entry → List Rule
+  limited es = rule (leb (length es) entryLimit) 21 0 ∷ rule (leb (length (sheetText form es)) (byteLimit form)) 21 0 ∷ []
 
--- the entries of a sheet in form
-abbrev pub entriesOf : List ℕ → List Entry
-entriesOf sheet = sheetOf sheet .items
+  -- the entries of a sheet in form
+  abbrev pub entriesOf : List ℕ → List Entry
+  entriesOf sheet = sheetOf form sheet .items
 
--- ---- rewrite
+  -- ---- rewrite
 
-unfoldable pub rewriteRules : List ℕ → List Rule
-rewriteRules sheet = short sheet ∷ formed sheet ∷ limited (entriesOf sheet)
+  unfoldable pub rewriteRules : List ℕ → List Rule
+  rewriteRules sheet = short sheet ∷ formed sheet ∷ limited (entriesOf sheet)
 
-unfoldable pub rewritten : List ℕ → List ℕ
-rewritten sheet = sheetText (entriesOf sheet)
+  unfoldable pub rewritten : List ℕ → List ℕ
+  rewritten sheet = sheetText form (entriesOf sheet)
 
--- ---- add
+  -- ---- add
 
-unfoldable pub addResult : ℕ → List ℕ → List ℕ → List Entry
-addResult at sheet form = joined (entriesOf sheet) (stamped at form ∷ [])
+  unfoldable pub addResult : ℕ → ℕ → List ℕ → List ℕ → List Entry
+  addResult at mended sheet table = joined (entriesOf sheet) (stamped at mended table ∷ [])
 
-unfoldable pub addRules : ℕ → List ℕ → List ℕ → List Rule
-addRules at sheet form = formRules form ++ short sheet ∷ formed sheet ∷ limited (addResult at sheet form)
+  unfoldable pub addRules : ℕ → ℕ → List ℕ → List ℕ → List Rule
+  addRules at mended sheet table =
+      entryRules form mended table ++ short sheet ∷ formed sheet ∷ limited (addResult at mended sheet table)
 
--- ---- join
+  -- ---- join
 
-unfoldable pub joinResult : List ℕ → List ℕ → List Entry
-joinResult first second = joined (entriesOf first) (entriesOf second)
+  unfoldable pub joinResult : List ℕ → List ℕ → List Entry
+  joinResult first second = joined (entriesOf first) (entriesOf second)
 
-unfoldable pub joinRules : List ℕ → List ℕ → List Rule
-joinRules first second =
-    short first ∷ short second ∷ formed first ∷ formed second ∷ limited (joinResult first second)
+  unfoldable pub joinRules : List ℕ → List ℕ → List Rule
+  joinRules first second =
+      short first ∷ short second ∷ formed first ∷ formed second ∷ limited (joinResult first second)
 
--- ---- drop
+  -- ---- drop
 
-unfoldable pub dropResult : ℕ → ℕ → ℕ → List ℕ → List Entry
-dropResult network kind block sheet = without network kind block (entriesOf sheet)
+  unfoldable pub dropResult : ℕ → ℕ → ℕ → List ℕ → List Entry
+  dropResult network kind block sheet = without network kind block (entriesOf sheet)
 
-unfoldable pub dropRules : ℕ → ℕ → ℕ → List ℕ → List Rule
-dropRules network kind block sheet = short sheet ∷ formed sheet ∷ limited (dropResult network kind block sheet)
+  unfoldable pub dropRules : ℕ → ℕ → ℕ → List ℕ → List Rule
+  dropRules network kind block sheet = short sheet ∷ formed sheet ∷ limited (dropResult network kind block sheet)

@@ -10,6 +10,7 @@ use Rattle.texts.specs.Texts.{beginsWith}
 use Rattle.forms.specs.Tables.{TI}
 use Rattle.text_lines.specs.Lines.{numberLine, languageLine, pageLine}
 use Rattle.listing.specs.Lines.{descriptorName}
+use Rattle.sheet_entry.specs.declared.Form.{Form}
 use Rattle.sheet_entry.specs.Entries.{Entry, keyOf, HeadLine, heading, emptyLine}
 use Rattle.sheet_entry.specs.Reading.{kindIn}
 use Rattle.listing_reader.specs.Lines.{lineOf}
@@ -30,8 +31,8 @@ rest [] values = table (kindIn values)
 rest (l ∷ ls) values = head l ls values
 
 -- an entry begins
-abbrev pub begin : Next
-begin = rest heading []
+abbrev pub begin : Form → Next
+begin form = rest (heading form) []
 
 -- a line that stands there and is in form, and what stands next. A line of the head is the text of a value that reads back from it
 pub data Follows : Next → List ℕ → Next → Type 0 where
@@ -50,17 +51,17 @@ pub data Lines : Next → List ℕ → Next → Type 0 where
   and-line : {a b c : Next} {line rest : List ℕ} → Follows a line b → Lines b rest c → Lines a (line ++ rest) c
 
 -- of bytes that aren't a sheet in form a place is the first line at fault
-pub record FirstFault (bytes : List ℕ) (at : ℕ) : Type 0 where
-  pub not-in-form : InForm bytes → ⊥
+pub record FirstFault (form : Form) (bytes : List ℕ) (at : ℕ) : Type 0 where
+  pub not-in-form : InForm form bytes → ⊥
   -- before it stand entries that rise and can be written, and the first lines of one more, each in form and where it may stand
   pub entries : List Entry
   pub rise : rising keyOf entries ≡ true
-  pub can : allWritten entries ≡ true
+  pub can : allWritten form entries ≡ true
   pub lines : List ℕ
   pub next : Next
-  pub in-form : Lines begin lines next
-  pub before : take at bytes ≡ sheetText entries ++ lines
+  pub in-form : Lines (begin form) lines next
+  pub before : take at bytes ≡ sheetText form entries ++ lines
   -- no line that may stand next stands there
   pub no-line : (line : List ℕ) (b : Next) → Follows next line b → beginsWith line (drop at bytes) ≡ false
   -- nor an empty line, where one would end a sheet in form
-  pub no-end : InForm (take at bytes ++ emptyLine) → beginsWith emptyLine (drop at bytes) ≡ false
+  pub no-end : InForm form (take at bytes ++ emptyLine) → beginsWith emptyLine (drop at bytes) ≡ false

@@ -3,11 +3,12 @@ use mathlib.Core.Bool.{Bool, true, false}
 use mathlib.Core.List.{List, [], _∷_}
 use mathlib.Core.Path.{_≡_}
 use Prim.Native.Nat.{ℕ, _+_, _≤_, _-_}
-use lib.Dec.{eqb, ltb}
+use lib.Dec.{eqb, ltb, leb}
 use lib.ListN.{length, take, drop}
 use Rattle.laws.specs.Pick.{pick}
 use Rattle.laws.specs.Orders.{before}
 use Rattle.listing_reader.specs.Many.{Many}
+use Rattle.sheet_entry.specs.declared.Form.{Form}
 use Rattle.sheet_entry.specs.declared.Found.{Found}
 use Rattle.forms.specs.Tables.{TI, LI}
 use Rattle.sheet_entry.specs.Entries.{Entry, keyIn, keyOf, entryText}
@@ -31,11 +32,16 @@ sheetRead m = record { count = length (m .items); fine = m .fine; long = m .long
 unfoldable pub foundLines : List ℕ → Found → List ℕ
 foundLines bytes f = take (f .long - 1 - f .head) (drop (f .head) bytes)
 
+-- of two tables' lines, each with what was mended, whether it is the second's that stay
+unfoldable pub linesStay : List ℕ → ℕ → List ℕ → ℕ → Bool
+linesStay a m b n = pick (before a b) (pick (before b a) (leb n m) true) false
+
 -- of two entries of one key, whether it is the second's that stays
 unfoldable pub secondStays : List ℕ → Found → List ℕ → Found → Bool
 secondStays a f b g =
     pick (ltb (f .stamp) (g .stamp)) true
-    (pick (ltb (g .stamp) (f .stamp)) false (before (foundLines a f) (foundLines b g)))
+    (pick (ltb (g .stamp) (f .stamp)) false
+    (linesStay (foundLines a f) (f .mended) (foundLines b g) (g .mended)))
 
 -- whether it is the second's entry that stays
 unfoldable pub secondPut : Turn → List ℕ → List ℕ → Bool
@@ -46,9 +52,9 @@ unfoldable pub turnText : Turn → List ℕ → List ℕ → List ℕ
 turnText t a b = pick (secondPut t a b) (take (t .second .long) b) (take (t .first .long) a)
 
 -- a place in a sheet from which on it is in form
-pub record Halfway (sheet : List ℕ) (at : ℕ) : Type 0 where
+pub record Halfway (form : Form) (sheet : List ℕ) (at : ℕ) : Type 0 where
   pub within : Inside sheet at
-  pub fine : sheetOf (drop at sheet) .fine ≡ true
+  pub fine : sheetOf form (drop at sheet) .fine ≡ true
 
 -- an entry that was found there lies within the sheet, with its head before its empty line
 pub record Lies (sheet : List ℕ) (at : ℕ) (f : Found) : Type 0 where
@@ -74,15 +80,15 @@ withoutKey key [] = []
 withoutKey key (e ∷ es) = pick (eqb (keyOf e) key) (withoutKey key es) (e ∷ withoutKey key es)
 
 -- where the entry of a key stands in the text, and how long it is; where there is none, the end, and 0
-unfoldable pub spotOf : ℕ → List Entry → Spot
-spotOf key [] = record { from = 0; long = 0 }
-spotOf key (e ∷ es) =
-    pick (eqb (keyOf e) key) (record { from = 0; long = length (entryText e) })
-    (record { from = length (entryText e) + spotOf key es .from; long = spotOf key es .long })
+unfoldable pub spotOf : Form → ℕ → List Entry → Spot
+spotOf form key [] = record { from = 0; long = 0 }
+spotOf form key (e ∷ es) =
+    pick (eqb (keyOf e) key) (record { from = 0; long = length (entryText form e) })
+    (record { from = length (entryText form e) + spotOf form key es .from; long = spotOf form key es .long })
 
 -- the same, behind so many bytes
-abbrev pub spotFrom : ℕ → ℕ → List Entry → Spot
-spotFrom key at es = record { from = at + spotOf key es .from; long = spotOf key es .long }
+abbrev pub spotFrom : Form → ℕ → ℕ → List Entry → Spot
+spotFrom form key at es = record { from = at + spotOf form key es .from; long = spotOf form key es .long }
 
 -- so many entries may there be, of which one goes where it is long
 abbrev pub mostWith : ℕ → ℕ

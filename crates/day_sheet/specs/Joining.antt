@@ -1,4 +1,4 @@
--- Two sheets joined (SCOPE 20.8).
+-- Two sheets joined (SCOPE 20.8, 30.2).
 use mathlib.Core.Bool.{Bool}
 use mathlib.Core.List.{List, map}
 use lib.Dec.{leb}
@@ -14,9 +14,13 @@ byStamp a b = leb (a .stamp) (b .stamp)
 abbrev pub byLines : Entry → Entry → Bool
 byLines a b = before (tableLines a) (tableLines b)
 
--- the order on the entries of a key: the stamp, then the lines
+-- by what was mended: the smaller number stands above
+abbrev pub byMended : Entry → Entry → Bool
+byMended a b = leb (b .mended) (a .mended)
+
+-- the order on the entries of a key: the stamp, then the lines, then what was mended, which never decides in the old form
 abbrev pub atMost : Entry → Entry → Bool
-atMost = inTurn byStamp byLines
+atMost = inTurn byStamp (inTurn byLines byMended)
 
 -- what stays at a key: of two entries the greater
 abbrev pub staying : Stands → Entry

@@ -4,13 +4,14 @@ use mathlib.Core.List.{List}
 use Prim.Native.Nat.{ℕ}
 use lib.Dec.{ltb}
 use Rattle.laws.specs.Pick.{pick}
+use Rattle.sheet_entry.specs.declared.Form.{Form}
 use Rattle.sheet_entry.specs.declared.Found.{Found}
 use Rattle.sheet_entry.specs.Reading.{entryAt, foundOf}
 use Rattle.day_sheet.specs.declared.joining.Turn.{Turn}
 
 -- no entry, as at the end of a sheet
 abbrev pub absent : Found
-absent = record { more = false; fine = true; long = 0; key = 0; stamp = 0; head = 0 }
+absent = record { more = false; fine = true; long = 0; key = 0; stamp = 0; mended = 0; head = 0 }
 
 abbrev pub turn : Found → Found → Turn
 turn f g = record { first = f; second = g }
@@ -25,5 +26,5 @@ turnBy f g =
     (turn f g)
 
 -- at the front of two texts
-unfoldable pub turnOf : List ℕ → List ℕ → Turn
-turnOf a b = turnBy (foundOf (entryAt 0 a)) (foundOf (entryAt 0 b))
+unfoldable pub turnOf : Form → List ℕ → List ℕ → Turn
+turnOf form a b = turnBy (foundOf form (entryAt form 0 a)) (foundOf form (entryAt form 0 b))

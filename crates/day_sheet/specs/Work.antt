@@ -7,6 +7,7 @@ use Rattle.sheet_entry.specs.Entries.{Entry, keyOf, stampMost}
 use Rattle.day_sheet.specs.Entries.{entryLimit, byteLimit}
 use Rattle.day_sheet.specs.Calls.{entriesOf}
 use Rattle.day_sheet.specs.AnyOrder.{InForm, Joins, Captured, sheetOfOne, Adds, Takes}
+use Rattle.sheet_entry.specs.declared.Form.{Form}
 
 -- ---- how they come together
 
@@ -17,22 +18,22 @@ pub data Work : Type 0 where
   add : Work → Captured → Work
 
 -- its sheets, from left to right, a table as the sheet of its one entry
-unfoldable pub sheetsOf : Work → List (List ℕ)
-sheetsOf (stands sheet) = sheet ∷ []
-sheetsOf (join v w) = sheetsOf v ++ sheetsOf w
-sheetsOf (add w c) = sheetsOf w ++ (sheetOfOne c ∷ [])
+unfoldable pub sheetsOf : Form → Work → List (List ℕ)
+sheetsOf form (stands sheet) = sheet ∷ []
+sheetsOf form (join v w) = sheetsOf form v ++ sheetsOf form w
+sheetsOf form (add w c) = sheetsOf form w ++ (sheetOfOne form c ∷ [])
 
 -- every call of it is accepted, and this is the sheet that the last one writes
-pub data Wrote : Work → List ℕ → Type 0 where
-  stood : (sheet : List ℕ) → Wrote (stands sheet) sheet
-  joined : {v w : Work} {a b sheet : List ℕ} → Wrote v a → Wrote w b → Joins a b sheet → Wrote (join v w) sheet
-  added : {w : Work} {c : Captured} {a sheet : List ℕ} → Wrote w a → c .stamp ≤ stampMost → Adds a c sheet → Wrote (add w c) sheet
+pub data Wrote (form : Form) : Work → List ℕ → Type 0 where
+  stood : (sheet : List ℕ) → Wrote form (stands sheet) sheet
+  joined : {v w : Work} {a b sheet : List ℕ} → Wrote form v a → Wrote form w b → Joins form a b sheet → Wrote form (join v w) sheet
+  added : {w : Work} {c : Captured} {a sheet : List ℕ} → Wrote form w a → c .stamp ≤ stampMost → Adds form a c sheet → Wrote form (add w c) sheet
 
 -- what is there before the calls: sheets in form, tables that block writing takes, stamps within their range
-pub data Ready : Work → Type 0 where
-  in-form : {sheet : List ℕ} → InForm sheet → Ready (stands sheet)
-  each : {v w : Work} → Ready v → Ready w → Ready (join v w)
-  takes : {w : Work} {c : Captured} → Ready w → Takes c → Ready (add w c)
+pub data Ready (form : Form) : Work → Type 0 where
+  in-form : {sheet : List ℕ} → InForm form sheet → Ready form (stands sheet)
+  each : {v w : Work} → Ready form v → Ready form w → Ready form (join v w)
+  takes : {w : Work} {c : Captured} → Ready form w → Takes form c → Ready form (add w c)
 
 -- ---- the same sheets
 
@@ -53,9 +54,9 @@ unfoldable pub bytesOf : List (List ℕ) → ℕ
 bytesOf [] = 0
 bytesOf (sheet ∷ sheets) = length sheet + bytesOf sheets
 
--- the sheets together have at most 64 keys and 16,384 bytes
-pub record AllTogether (sheets : List (List ℕ)) : Type 0 where
+-- the sheets together have at most 64 keys and as many bytes as the form's limit
+pub record AllTogether (form : Form) (sheets : List (List ℕ)) : Type 0 where
   pub keys : List ℕ
-  pub have : Each (λ (sheet : List ℕ). Each (λ (e : Entry). In (keyOf e) keys) (entriesOf sheet)) sheets
+  pub have : Each (λ (sheet : List ℕ). Each (λ (e : Entry). In (keyOf e) keys) (entriesOf form sheet)) sheets
   pub few : length keys ≤ entryLimit
-  pub short : bytesOf sheets ≤ byteLimit
+  pub short : bytesOf sheets ≤ byteLimit form

@@ -6,9 +6,9 @@ ghost use Rattle.answer.specs.Writing.{answered, left};
 ghost use Rattle.day_sheet.specs.Entries.{sheetText, byteLimit};
 ghost use Rattle.day_sheet.specs.Calls.{limited, entriesOf, dropRules, dropResult};
 ghost use Rattle.day_sheet.specs.Internal.{Halfway, asked, withoutKey, spotOf, mostWith};
-use crate::BYTES;
 use crate::ENTRIES;
 use answer::Answer;
+use sheet_entry::Form;
 
 // 11.12.3: the datatype_id of a Language table.
 const LI: usize = 7;
@@ -23,24 +23,24 @@ pub struct Spot {
 }
 
 // The sheet without the entry of a network, kind and block, to the front of `out`; as it was, where it has none.
-pub fn drop(network: u8, kind: u8, block: u16, sheet: &[u8], out: &mut [u8]) -> Answer
+pub fn drop(form: Form, network: u8, kind: u8, block: u16, sheet: &[u8], out: &mut [u8]) -> Answer
     ensures answer { λ r.
         ⌜ r
-        ≡ answered (dropRules network kind block (now (sheet .entry))) (sheetText (dropResult network kind block (now (sheet .entry))))
+        ≡ answered (dropRules form network kind block (now (sheet .entry))) (sheetText form (dropResult form network kind block (now (sheet .entry))))
         (now (out .entry)) ⌝ }
     ensures output { λ _.
         ⌜ now (out .exit)
-        ≡ left (dropRules network kind block (now (sheet .entry))) (sheetText (dropResult network kind block (now (sheet .entry))))
+        ≡ left (dropRules form network kind block (now (sheet .entry))) (sheetText form (dropResult form network kind block (now (sheet .entry))))
         (now (out .entry)) ⌝ }
 {
-    if BYTES < sheet.len() {
+    if crate::limit(form) < sheet.len() {
         return answer::refuse(21, 0);
     }
-    match crate::judge_lines(sheet) {
+    match crate::judge_lines(form, sheet) {
         Answer::Refused(why) => Answer::Refused(why),
         Answer::Done(count) => {
             let key = key_asked(network as usize, kind as usize, block as usize);
-            drop_key(key, count, sheet, out)
+            drop_key(form, key, count, sheet, out)
         }
     }
 }
@@ -60,18 +60,18 @@ fn key_asked(network: usize, kind: usize, block: usize) -> usize
 }
 
 // The same, of a sheet in form with so many entries.
-fn drop_key(key: usize, count: usize, sheet: &[u8], out: &mut [u8]) -> Answer
-    requires { ⌜ Halfway (now sheet) 0 × (length (now sheet) ≤ byteLimit) × (count ≡ length (entriesOf (now sheet))) ⌝ }
+fn drop_key(form: Form, key: usize, count: usize, sheet: &[u8], out: &mut [u8]) -> Answer
+    requires { ⌜ Halfway form (now sheet) 0 × (length (now sheet) ≤ byteLimit form) × (count ≡ length (entriesOf form (now sheet))) ⌝ }
     ensures answer { λ r.
         ⌜ r
-        ≡ answered (limited (withoutKey key (entriesOf (now (sheet .entry))))) (sheetText (withoutKey key (entriesOf (now (sheet .entry)))))
+        ≡ answered (limited form (withoutKey key (entriesOf form (now (sheet .entry))))) (sheetText form (withoutKey key (entriesOf form (now (sheet .entry)))))
         (now (out .entry)) ⌝ }
     ensures output { λ _.
         ⌜ now (out .exit)
-        ≡ left (limited (withoutKey key (entriesOf (now (sheet .entry))))) (sheetText (withoutKey key (entriesOf (now (sheet .entry)))))
+        ≡ left (limited form (withoutKey key (entriesOf form (now (sheet .entry))))) (sheetText form (withoutKey key (entriesOf form (now (sheet .entry)))))
         (now (out .entry)) ⌝ }
 {
-    let spot = find(sheet, key);
+    let spot = find(form, sheet, key);
     let from = spot.from;
     let long = spot.long;
     if most_with(long) < count {
@@ -97,13 +97,13 @@ fn most_with(long: usize) -> usize
 }
 
 // Where the entry of a key stands.
-fn find(sheet: &[u8], key: usize) -> Spot
-    requires { ⌜ Halfway (now sheet) 0 ⌝ }
-    ensures { λ r. ⌜ r ≡ spotOf key (entriesOf (now (sheet .entry))) ⌝ }
+fn find(form: Form, sheet: &[u8], key: usize) -> Spot
+    requires { ⌜ Halfway form (now sheet) 0 ⌝ }
+    ensures { λ r. ⌜ r ≡ spotOf form key (entriesOf form (now (sheet .entry))) ⌝ }
 {
     let mut at = 0;
     loop {
-        let e = sheet_entry::entry_at(sheet, at, 0);
+        let e = sheet_entry::entry_at(form, sheet, at, 0);
         let more = e.more;
         if !more {
             return Spot { from: at, long: 0 };

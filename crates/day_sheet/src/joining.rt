@@ -1,4 +1,4 @@
-// Two sheets in form, merged along their texts: whole entries are passed and copied by their places (SCOPE 20.8).
+// Two sheets in form, merged along their texts: whole entries are passed and copied by their places (SCOPE 20.8, 30.2).
 ghost use mathlib.Core.Path.{_≡_};
 ghost use mathlib.Core.List.{_∷_, []};
 ghost use Prim.Native.Nat.{_+_, _≤_};
@@ -11,12 +11,12 @@ ghost use Rattle.answer.specs.Values.{refused};
 ghost use Rattle.answer.specs.Writing.{answered, left};
 ghost use Rattle.day_sheet.specs.Entries.{sheetText, entryLimit, byteLimit};
 ghost use Rattle.day_sheet.specs.Calls.{joinRules, joinResult};
-ghost use Rattle.day_sheet.specs.Internal.{Halfway, Lies, Met, secondStays, secondPut, turnText};
+ghost use Rattle.day_sheet.specs.Internal.{Halfway, Lies, Met, linesStay, secondStays, secondPut, turnText};
 ghost use Rattle.day_sheet.specs.Turns.{absent, turnOf};
-use crate::BYTES;
 use crate::ENTRIES;
 use crate::entries;
 use answer::Answer;
+use sheet_entry::Form;
 use sheet_entry::Found;
 
 // How many entries, and how long they are in all.
@@ -32,87 +32,87 @@ pub struct Turn {
 }
 
 // The two sheets joined, to the front of `out`: for each key the greater entry (SCOPE 20.8).
-pub fn join(first: &[u8], second: &[u8], out: &mut [u8]) -> Answer
+pub fn join(form: Form, first: &[u8], second: &[u8], out: &mut [u8]) -> Answer
     ensures answer { λ r.
         ⌜ r
-        ≡ answered (joinRules (now (first .entry)) (now (second .entry)))
-        (sheetText (joinResult (now (first .entry)) (now (second .entry)))) (now (out .entry)) ⌝ }
+        ≡ answered (joinRules form (now (first .entry)) (now (second .entry)))
+        (sheetText form (joinResult form (now (first .entry)) (now (second .entry)))) (now (out .entry)) ⌝ }
     ensures output { λ _.
         ⌜ now (out .exit)
-        ≡ left (joinRules (now (first .entry)) (now (second .entry)))
-        (sheetText (joinResult (now (first .entry)) (now (second .entry)))) (now (out .entry)) ⌝ }
+        ≡ left (joinRules form (now (first .entry)) (now (second .entry)))
+        (sheetText form (joinResult form (now (first .entry)) (now (second .entry)))) (now (out .entry)) ⌝ }
 {
-    match judge_join(first, second) {
+    match judge_join(form, first, second) {
         Answer::Refused(why) => Answer::Refused(why),
         Answer::Done(n) => {
             if out.len() < n {
                 return answer::refuse(1, 0);
             }
-            put_joined(first, second, out);
+            put_joined(form, first, second, out);
             Answer::Done(n)
         }
     }
 }
 
 // Which of the rules refuses, but for the room; otherwise how long the joined sheet is.
-fn judge_join(first: &[u8], second: &[u8]) -> Answer
+fn judge_join(form: Form, first: &[u8], second: &[u8]) -> Answer
     ensures { λ r.
         ⌜ r
-        ≡ judged refused (joinRules (now (first .entry)) (now (second .entry)))
-        (Answer.Done (length (sheetText (joinResult (now (first .entry)) (now (second .entry)))))) ⌝ }
+        ≡ judged refused (joinRules form (now (first .entry)) (now (second .entry)))
+        (Answer.Done (length (sheetText form (joinResult form (now (first .entry)) (now (second .entry)))))) ⌝ }
 {
-    if BYTES < first.len() {
+    if crate::limit(form) < first.len() {
         return answer::refuse(21, 0);
     }
-    if BYTES < second.len() {
+    if crate::limit(form) < second.len() {
         return answer::refuse(21, 0);
     }
-    let a = entries::read(first);
+    let a = entries::read(form, first);
     let sound = a.fine;
     if !sound {
         return answer::refuse(20, a.long);
     }
-    let b = entries::read(second);
+    let b = entries::read(form, second);
     let fine = b.fine;
     if !fine {
         return answer::refuse(20, b.long);
     }
-    let size = measure(first, second);
-    judge_size(size.entries, size.long)
+    let size = measure(form, first, second);
+    judge_size(form, size.entries, size.long)
 }
 
 // How large the joined sheet is: the walk that puts it, with next to no room.
-fn measure(first: &[u8], second: &[u8]) -> Size
-    requires { ⌜ Halfway (now first) 0 × Halfway (now second) 0 ⌝ }
+fn measure(form: Form, first: &[u8], second: &[u8]) -> Size
+    requires { ⌜ Halfway form (now first) 0 × Halfway form (now second) 0 ⌝ }
     ensures { λ r.
-        ⌜ (r .entries ≡ length (joinResult (now (first .entry)) (now (second .entry))))
-        × (r .long ≡ length (sheetText (joinResult (now (first .entry)) (now (second .entry))))) ⌝ }
+        ⌜ (r .entries ≡ length (joinResult form (now (first .entry)) (now (second .entry))))
+        × (r .long ≡ length (sheetText form (joinResult form (now (first .entry)) (now (second .entry))))) ⌝ }
 {
     let mut scrap = [0u8; 1];
-    put_joined(first, second, &mut scrap)
+    put_joined(form, first, second, &mut scrap)
 }
 
 // Whether a sheet may be so large.
-fn judge_size(entries: usize, long: usize) -> Answer
+fn judge_size(form: Form, entries: usize, long: usize) -> Answer
     ensures { λ r.
-        ⌜ r ≡ judged refused (rule (leb entries entryLimit) 21 0 ∷ rule (leb long byteLimit) 21 0 ∷ []) (Answer.Done long) ⌝ }
+        ⌜ r ≡ judged refused (rule (leb entries entryLimit) 21 0 ∷ rule (leb long (byteLimit form)) 21 0 ∷ []) (Answer.Done long) ⌝ }
 {
     if ENTRIES < entries {
         return answer::refuse(21, 0);
     }
-    if BYTES < long {
+    if crate::limit(form) < long {
         return answer::refuse(21, 0);
     }
     Answer::Done(long)
 }
 
 // Puts the joined sheet to the front of `out`, as far as there is room, and answers its size.
-pub(crate) fn put_joined(first: &[u8], second: &[u8], out: &mut [u8]) -> Size
-    requires { ⌜ Halfway (now first) 0 × Halfway (now second) 0 ⌝ }
+pub(crate) fn put_joined(form: Form, first: &[u8], second: &[u8], out: &mut [u8]) -> Size
+    requires { ⌜ Halfway form (now first) 0 × Halfway form (now second) 0 ⌝ }
     ensures { λ r.
-        ⌜ (now (out .exit) ≡ sets (now (out .entry)) 0 (sheetText (joinResult (now (first .entry)) (now (second .entry)))))
-        × (r .entries ≡ length (joinResult (now (first .entry)) (now (second .entry))))
-        × (r .long ≡ length (sheetText (joinResult (now (first .entry)) (now (second .entry))))) ⌝ }
+        ⌜ (now (out .exit) ≡ sets (now (out .entry)) 0 (sheetText form (joinResult form (now (first .entry)) (now (second .entry)))))
+        × (r .entries ≡ length (joinResult form (now (first .entry)) (now (second .entry))))
+        × (r .long ≡ length (sheetText form (joinResult form (now (first .entry)) (now (second .entry))))) ⌝ }
 {
     let whole = first.len() + second.len();
     let mut i = 0;
@@ -120,7 +120,7 @@ pub(crate) fn put_joined(first: &[u8], second: &[u8], out: &mut [u8]) -> Size
     let mut n = 0;
     let mut q = 0;
     while i + j < whole {
-        let t = next_turn(first, i, second, j);
+        let t = next_turn(form, first, i, second, j);
         q = put_turn(first, i, second, j, t, out, q);
         i += t.first.long;
         j += t.second.long;
@@ -174,11 +174,11 @@ fn second_put(first: &[u8], i: usize, second: &[u8], j: usize, t: Turn) -> bool
 }
 
 // Which of the two sheets, or both, has the next key from these places on, and the entry of it.
-pub fn next_turn(first: &[u8], i: usize, second: &[u8], j: usize) -> Turn
-    ensures { λ r. ⌜ r ≡ turnOf (drop i (now (first .entry))) (drop j (now (second .entry))) ⌝ }
+pub fn next_turn(form: Form, first: &[u8], i: usize, second: &[u8], j: usize) -> Turn
+    ensures { λ r. ⌜ r ≡ turnOf form (drop i (now (first .entry))) (drop j (now (second .entry))) ⌝ }
 {
-    let a = sheet_entry::entry_at(first, i, 0);
-    let b = sheet_entry::entry_at(second, j, 0);
+    let a = sheet_entry::entry_at(form, first, i, 0);
+    let b = sheet_entry::entry_at(form, second, j, 0);
     if !a.more {
         return Turn {
             first: a,
@@ -219,11 +219,13 @@ fn nothing() -> Found
         long: 0,
         key: 0,
         stamp: 0,
+        mended: 0,
         head: 0,
     }
 }
 
-// Of two entries of one key, whether it is the second's that stays: by the stamps, then by the table's lines.
+// Of two entries of one key, whether it is the second's that stays: by the stamps, then by the table's lines and what was
+// mended.
 fn second_stays(first: &[u8], i: usize, a: Found, second: &[u8], j: usize, b: Found) -> bool
     requires { ⌜ Lies (now first) i a × Lies (now second) j b ⌝ }
     ensures { λ r. ⌜ r ≡ secondStays (drop i (now (first .entry))) a (drop j (now (second .entry))) b ⌝ }
@@ -238,7 +240,20 @@ fn second_stays(first: &[u8], i: usize, a: Found, second: &[u8], j: usize, b: Fo
     let to = i + (a.long - 1);
     let begin = j + b.head;
     let end = j + (b.long - 1);
-    is_before(&first[from..to], &second[begin..end])
+    lines_stay(&first[from..to], a.mended, &second[begin..end], b.mended)
+}
+
+// Of two tables' lines, each with what was mended, whether it is the second's that stay: the later lines, then the smaller number.
+fn lines_stay(a: &[u8], mended: usize, b: &[u8], other: usize) -> bool
+    ensures { λ r. ⌜ r ≡ linesStay (now (a .entry)) mended (now (b .entry)) other ⌝ }
+{
+    if !is_before(a, b) {
+        return false;
+    }
+    if !is_before(b, a) {
+        return true;
+    }
+    other <= mended
 }
 
 // Whether the first of two texts comes before the second, byte by byte, a prefix first, or is the same.

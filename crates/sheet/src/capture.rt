@@ -498,7 +498,14 @@ fn add_other(
     kept: &mut [u8],
 ) -> Added {
     let stamp = source.stamp;
-    let answer = day_sheet::add(stamp, told::front(sheet, work.length), form, spare);
+    let answer = day_sheet::add(
+        sheet_entry::Form::Old,
+        stamp,
+        0,
+        told::front(sheet, work.length),
+        form,
+        spare,
+    );
     match answer {
         Answer::Done(n) => done(settle(work, at, stamp, form, n, sheet, spare, kept)),
         Answer::Refused(r) => Added {
@@ -534,7 +541,14 @@ fn settle(
 
 // Whether the table's entry stands in the sheet: its text is that of a sheet with no other.
 fn is_there(stamp: u32, form: &[u8], sheet: &[u8], spare: &mut [u8]) -> bool {
-    let answer = day_sheet::add(stamp, told::front(sheet, 0), form, spare);
+    let answer = day_sheet::add(
+        sheet_entry::Form::Old,
+        stamp,
+        0,
+        told::front(sheet, 0),
+        form,
+        spare,
+    );
     match answer {
         Answer::Done(n) => texts::holds(sheet, told::front(spare, n)),
         Answer::Refused(_) => false,

@@ -81,7 +81,7 @@ fn print(
     let mut out = [0u8; PRINT];
     let first = told::front(first, a);
     let second = told::front(second, b);
-    let found = changes::compare(first, second, &mut out);
+    let found = changes::compare(sheet_entry::Form::Old, first, second, &mut out);
     let sheet = found.sheet;
     let answer = found.answer;
     match answer {

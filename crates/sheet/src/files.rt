@@ -12,7 +12,7 @@ pub const SHEET: usize = 16385;
 
 // Whether the sheet is in form, in order and within its limits; what it isn't is told.
 pub fn is_judged(name: &[u8], sheet: &[u8], spare: &mut [u8]) -> bool {
-    let answer = day_sheet::rewrite(sheet, spare);
+    let answer = day_sheet::rewrite(sheet_entry::Form::Old, sheet, spare);
     match answer {
         Answer::Done(_) => true,
         Answer::Refused(r) => {
@@ -88,7 +88,12 @@ fn fill_sheet(fd: i32, sheet: &mut [u8; SHEET]) -> Got {
 }
 
 fn join(name: &[u8], other: &[u8], work: Work, sheet: &mut [u8], spare: &mut [u8]) -> Work {
-    let answer = day_sheet::join(told::front(sheet, work.length), other, spare);
+    let answer = day_sheet::join(
+        sheet_entry::Form::Old,
+        told::front(sheet, work.length),
+        other,
+        spare,
+    );
     match answer {
         Answer::Done(n) => {
             lent_bytes::copy(spare, 0, n, sheet, 0);
@@ -111,7 +116,14 @@ pub fn drop(
     sheet: &mut [u8],
     spare: &mut [u8],
 ) -> Work {
-    let answer = day_sheet::drop(network, kind, block, told::front(sheet, work.length), spare);
+    let answer = day_sheet::drop(
+        sheet_entry::Form::Old,
+        network,
+        kind,
+        block,
+        told::front(sheet, work.length),
+        spare,
+    );
     match answer {
         Answer::Done(n) => dropped(shown, network, kind, block, n, work, sheet, spare),
         Answer::Refused(r) => {

@@ -10,13 +10,14 @@ use lib.ListN.{length, getD, drop, length-drop, drop-of-length-le}
 use lib.Seq.{drop-drop, getD-drop}
 use native.Mathlib.Nat.{add-zero}
 use Rattle.laws.specs.Pick.{pick, both}
-use Rattle.laws.proofs.Tests.{both-true, both-right}
+use Rattle.laws.proofs.Tests.{both-right}
 use Rattle.forms.specs.Tables.{Descriptor, TI, known, fits}
 use Rattle.forms.proofs.Sendable.{Sendable, sendable}
+use Rattle.sheet_entry.specs.declared.Form.{Form}
 use Rattle.sheet_entry.specs.declared.Head.{Head}
 use Rattle.listing_reader.specs.declared.Summary.{Summary}
 use Rattle.sheet_entry.specs.declared.Found.{Found}
-use Rattle.sheet_entry.specs.Entries.{Entry, keyIn, keyOf, heading, headLines, emptyLine, stampMost, written}
+use Rattle.sheet_entry.specs.Entries.{Entry, keyIn, keyOf, heading, headLines, emptyLine, written}
 use Rattle.texts.specs.Texts.{beginsWith}
 use Rattle.listing_reader.specs.Many.{Step, item, stop, Many, behind}
 use Rattle.listing_reader.specs.Reading.{same, descriptorAt, descriptorsOf}
@@ -26,15 +27,23 @@ use Rattle.sheet_entry.specs.Internal.{countsFit, headOf}
 use Rattle.sheet_entry.specs.Reading.{foundOf}
 use Rattle.listing_reader.proofs.Rows.{Each}
 use Rattle.listing_reader.proofs.Rowed.{Described, table-row, table-within}
-use Rattle.sheet_entry.proofs.Entered.{Headed, headed, values-of, head-lines, head-within, entry-begins}
+use Rattle.sheet_entry.proofs.Entered.{Headed, headed, values-of, head-lines, head-within, entry-begins, written-parts}
 use Rattle.sheet_entry.proofs.Counting.{fits-counts}
 
 abbrev pub nowhere : Bool → ℕ → Found
-nowhere b n = record { more = false; fine = b; long = n; key = 0; stamp = 0; head = 0 }
+nowhere b n = record { more = false; fine = b; long = n; key = 0; stamp = 0; mended = 0; head = 0 }
 
 abbrev pub somewhere : Head → ℕ → Found
 somewhere h end =
-    record { more = true; fine = true; long = end + 1; key = keyIn (h .network) (h .kind) (h .block); stamp = h .stamp; head = h .long }
+    record {
+      more = true;
+      fine = true;
+      long = end + 1;
+      key = keyIn (h .network) (h .kind) (h .block);
+      stamp = h .stamp;
+      mended = h .mended;
+      head = h .long;
+    }
 
 -- what stands behind a head, by the tests on the counts
 abbrev pub byTests : ℕ → List ℕ → Head → Summary → Found
@@ -54,56 +63,57 @@ empty-line sheet at = go (drop at sheet) ∙ ap (λ (b : ℕ). eqb b 10) (getD-d
     go [] = refl
     go (b ∷ l) = both-right (eqb b 10)
 
-module _ (least : ℕ) (bytes : List ℕ) (h : Many ℕ) (ds : Many Descriptor) where
-  table-broken : ds .fine ≡ false → nowhere false (h .long + ds .long) ≡ foundOf (withTable least bytes h ds)
+module _ (form : Form) (least : ℕ) (bytes : List ℕ) (h : Many ℕ) (ds : Many Descriptor) where
+  table-broken : ds .fine ≡ false → nowhere false (h .long + ds .long) ≡ foundOf form (withTable least bytes h ds)
   unfolding withTable foundOf
   table-broken e = rw e
 
   table-found :
-      Headed bytes h → ds .fine ≡ true → Each same descriptorAt Described (kindIn (h .items)) (ds .items)
-      → byTests least bytes (headOf h) (summaryOf (headOf h .kind) ds) ≡ foundOf (withTable least bytes h ds)
+      Headed form bytes h → ds .fine ≡ true → Each same descriptorAt Described (kindIn (h .items)) (ds .items)
+      → byTests least bytes (headOf h) (summaryOf (headOf h .kind) ds) ≡ foundOf form (withTable least bytes h ds)
   unfolding withTable ended foundOf keyOf
   table-found r e each =
-      let known-kind : known (kindIn (h .items)) ≡ true = values-of (r .fit) .kind-known in
-      let small-network : networkIn (h .items) ≤ 255 = values-of (r .fit) .network-fits in
-      let small-block : blockIn (h .items) ≤ 65535 = values-of (r .fit) .block-fits in
+      let known-kind : known (kindIn (h .items)) ≡ true = values-of form (r .fit) .kind-known in
+      let small-network : networkIn (h .items) ≤ 255 = values-of form (r .fit) .network-fits in
+      let small-block : blockIn (h .items) ≤ 65535 = values-of form (r .fit) .block-fits in
       let f = fits-counts (kindIn (h .items)) (blockIn (h .items)) (networkIn (h .items)) (ds .items) known-kind small-network small-block each in
-      let l : length (headLines (entryFrom (h .items) (ds .items))) ≡ h .long = ap length (head-lines h (ds .items) r) ∙ sym (r .size) in
+      let l : length (headLines form (entryFrom (h .items) (ds .items))) ≡ h .long = ap length (head-lines form h (ds .items) r) ∙ sym (r .size) in
       let t = both (beginsWith emptyLine (drop (h .long + ds .long) bytes)) (both (fits (entryFrom (h .items) (ds .items) .table)) (leb least (keyOf (entryFrom (h .items) (ds .items))))) in
       rw (e, f) (go t l)
     where
       go :
-          (t : Bool) → length (headLines (entryFrom (h .items) (ds .items))) ≡ h .long
+          (t : Bool) → length (headLines form (entryFrom (h .items) (ds .items))) ≡ h .long
           → pick t (somewhere (headOf h) (h .long + ds .long)) (nowhere false (h .long + ds .long))
-          ≡ foundOf (pick t (item (entryFrom (h .items) (ds .items)) (h .long + ds .long + 1)) (stop false (h .long + ds .long)))
+          ≡ foundOf form (pick t (item (entryFrom (h .items) (ds .items)) (h .long + ds .long + 1)) (stop false (h .long + ds .long)))
       go true l = rw l
       go false l = refl
 
 module _
+    (form : Form)
     (sheet : List ℕ)
     (at least : ℕ)
     (head : Head)
-    (reads-h : head ≡ headOf (linesAt heading (drop at sheet)))
+    (reads-h : head ≡ headOf (linesAt (heading form) (drop at sheet)))
     (whole-h : head .fine ≡ true)
   where
     h : Many ℕ
-    h = linesAt heading (drop at sheet)
+    h = linesAt (heading form) (drop at sheet)
 
-    long-h : head .long ≡ linesAt heading (drop at sheet) .long
+    long-h : head .long ≡ linesAt (heading form) (drop at sheet) .long
     long-h = ap (λ (x : Head). x .long) reads-h
 
     pub head-room : head .long ≤ length (drop at sheet)
-    head-room = rw long-h (head-within (drop at sheet))
+    head-room = rw long-h (head-within form (drop at sheet))
 
-    head-is : Headed (drop at sheet) (linesAt heading (drop at sheet))
-    head-is = headed (drop at sheet) (sym (ap (λ (x : Head). x .fine) reads-h) ∙ whole-h)
+    head-is : Headed form (drop at sheet) (linesAt (heading form) (drop at sheet))
+    head-is = headed form (drop at sheet) (sym (ap (λ (x : Head). x .fine) reads-h) ∙ whole-h)
 
     -- the fields that make the key
     pub head-fits : (head .network ≤ 255) × (head .block ≤ 65535)
     head-fits =
-        let v = values-of (head-is .fit) in
-        let a : head .network ≡ networkIn (linesAt heading (drop at sheet) .items) = ap (λ (x : Head). x .network) reads-h in
-        let b : head .block ≡ blockIn (linesAt heading (drop at sheet) .items) = ap (λ (x : Head). x .block) reads-h in
+        let v = values-of form (head-is .fit) in
+        let a : head .network ≡ networkIn (linesAt (heading form) (drop at sheet) .items) = ap (λ (x : Head). x .network) reads-h in
+        let b : head .block ≡ blockIn (linesAt (heading form) (drop at sheet) .items) = ap (λ (x : Head). x .block) reads-h in
         (rw a (v .network-fits), rw b (v .block-fits))
 
     module _ (t : Summary) (reads-t : t ≡ summaryOf (head .kind) (descriptorsOf (head .kind) (drop (at + head .long) sheet))) where
@@ -118,7 +128,7 @@ module _
           omega (arith, simp length-drop at a, simp length-drop at b, length-drop at sheet)
 
       abbrev pub foundHere : Found
-      foundHere = foundOf (withTable least (drop at sheet) (linesAt heading (drop at sheet)) (descriptorsOf (head .kind) (drop (head .long) (drop at sheet))))
+      foundHere = foundOf form (withTable least (drop at sheet) (linesAt (heading form) (drop at sheet)) (descriptorsOf (head .kind) (drop (head .long) (drop at sheet))))
 
       same-ds : descriptorsOf (head .kind) (drop (at + head .long) sheet) ≡ descriptorsOf (head .kind) (drop (head .long) (drop at sheet))
       same-ds = ap (descriptorsOf (head .kind)) (sym (drop-drop (head .long) at sheet))
@@ -130,7 +140,7 @@ module _
           let f : d .fine ≡ false = sym (ap (λ (x : Summary). x .fine) r) ∙ e in
           let l : t .long ≡ d .long = ap (λ (x : Summary). x .long) r in
           ap (nowhere false) (rw (l, long-h))
-          ∙ table-broken least (drop at sheet) (linesAt heading (drop at sheet)) d f
+          ∙ table-broken form least (drop at sheet) (linesAt (heading form) (drop at sheet)) d f
 
       pub found-is : t .fine ≡ true → byTests least (drop at sheet) head t ≡ foundHere
       found-is e =
@@ -141,19 +151,19 @@ module _
           ap (byTests least bytes head) r ∙ go head reads-h f
         where
           go :
-              (x : Head) → x ≡ headOf (linesAt heading (drop at sheet)) → descriptorsOf (x .kind) (drop (x .long) (drop at sheet)) .fine ≡ true
+              (x : Head) → x ≡ headOf (linesAt (heading form) (drop at sheet)) → descriptorsOf (x .kind) (drop (x .long) (drop at sheet)) .fine ≡ true
               → byTests least (drop at sheet) x (summaryOf (x .kind) (descriptorsOf (x .kind) (drop (x .long) (drop at sheet))))
-              ≡ foundOf (withTable least (drop at sheet) (linesAt heading (drop at sheet)) (descriptorsOf (x .kind) (drop (x .long) (drop at sheet))))
+              ≡ foundOf form (withTable least (drop at sheet) (linesAt (heading form) (drop at sheet)) (descriptorsOf (x .kind) (drop (x .long) (drop at sheet))))
           go x q f =
-              let y = headOf (linesAt heading (drop at sheet)) in
+              let y = headOf (linesAt (heading form) (drop at sheet)) in
               let g : descriptorsOf (y .kind) (drop (y .long) (drop at sheet)) .fine ≡ true =
               subst (λ (z : Head). descriptorsOf (z .kind) (drop (z .long) (drop at sheet)) .fine ≡ true) q f in
               subst
               (λ (z : Head).
               byTests least (drop at sheet) z (summaryOf (z .kind) (descriptorsOf (z .kind) (drop (z .long) (drop at sheet))))
-              ≡ foundOf (withTable least (drop at sheet) (linesAt heading (drop at sheet)) (descriptorsOf (z .kind) (drop (z .long) (drop at sheet)))))
+              ≡ foundOf form (withTable least (drop at sheet) (linesAt (heading form) (drop at sheet)) (descriptorsOf (z .kind) (drop (z .long) (drop at sheet)))))
               (sym q)
-              (table-found least (drop at sheet) (linesAt heading (drop at sheet)) (descriptorsOf (y .kind) (drop (y .long) (drop at sheet))) head-is g
+              (table-found form least (drop at sheet) (linesAt (heading form) (drop at sheet)) (descriptorsOf (y .kind) (drop (y .long) (drop at sheet))) head-is g
               (table-row (y .kind) (drop (y .long) (drop at sheet)) g .each))
 
       -- each test that fails, and all that hold
@@ -181,59 +191,56 @@ module _
 
             pub found-all :
                 least ≤ key
-                → record { more = true; fine = true; long = head .long + t .long + 1; key = key; stamp = head .stamp; head = head .long } ≡ foundHere
+                → record { more = true; fine = true; long = head .long + t .long + 1; key = key; stamp = head .stamp; mended = head .mended; head = head .long } ≡ foundHere
             found-all l =
                 rw is (found-by true true true ends fit (le-leb least (keyIn (head .network) (head .kind) (head .block)) (omega (arith, is))))
 
 -- ---- an entry at a place
 
-module _ (sheet : List ℕ) (at least : ℕ) where
-  pub entry-end : length sheet ≤ at → nowhere true 0 ≡ foundOf (entryAt least (drop at sheet))
+module _ (form : Form) (sheet : List ℕ) (at least : ℕ) where
+  pub entry-end : length sheet ≤ at → nowhere true 0 ≡ foundOf form (entryAt form least (drop at sheet))
   unfolding entryAt foundOf
   entry-end h = rw (drop-of-length-le sheet h)
 
-  module _ (there : at < length sheet) (head : Head) (reads : head ≡ headOf (linesAt heading (drop at sheet))) where
-    begins : entryAt least (drop at sheet) ≡ withHead least (drop at sheet) (linesAt heading (drop at sheet))
-    begins = entry-begins least (drop at sheet) (rw length-drop (omega arith))
+  module _ (there : at < length sheet) (head : Head) (reads : head ≡ headOf (linesAt (heading form) (drop at sheet))) where
+    begins : entryAt form least (drop at sheet) ≡ withHead least (drop at sheet) (linesAt (heading form) (drop at sheet))
+    begins = entry-begins form least (drop at sheet) (rw length-drop (omega arith))
 
-    pub entry-headless : head .fine ≡ false → nowhere false (head .long) ≡ foundOf (entryAt least (drop at sheet))
+    pub entry-headless : head .fine ≡ false → nowhere false (head .long) ≡ foundOf form (entryAt form least (drop at sheet))
     unfolding withHead foundOf
     entry-headless e =
-        let f : linesAt heading (drop at sheet) .fine ≡ false = sym (ap (λ (x : Head). x .fine) reads) ∙ e in
-        let l : head .long ≡ linesAt heading (drop at sheet) .long = ap (λ (x : Head). x .long) reads in
+        let f : linesAt (heading form) (drop at sheet) .fine ≡ false = sym (ap (λ (x : Head). x .fine) reads) ∙ e in
+        let l : head .long ≡ linesAt (heading form) (drop at sheet) .long = ap (λ (x : Head). x .long) reads in
         rw (begins, f, l)
 
     pub entry-headed :
         head .fine ≡ true
-        → foundOf (withTable least (drop at sheet) (linesAt heading (drop at sheet)) (descriptorsOf (head .kind) (drop (head .long) (drop at sheet))))
-        ≡ foundOf (entryAt least (drop at sheet))
+        → foundOf form (withTable least (drop at sheet) (linesAt (heading form) (drop at sheet)) (descriptorsOf (head .kind) (drop (head .long) (drop at sheet))))
+        ≡ foundOf form (entryAt form least (drop at sheet))
     unfolding withHead
     entry-headed e =
-        let f : linesAt heading (drop at sheet) .fine ≡ true = sym (ap (λ (x : Head). x .fine) reads) ∙ e in
-        let l : head .long ≡ linesAt heading (drop at sheet) .long = ap (λ (x : Head). x .long) reads in
-        let k : head .kind ≡ kindIn (linesAt heading (drop at sheet) .items) = ap (λ (x : Head). x .kind) reads in
+        let f : linesAt (heading form) (drop at sheet) .fine ≡ true = sym (ap (λ (x : Head). x .fine) reads) ∙ e in
+        let l : head .long ≡ linesAt (heading form) (drop at sheet) .long = ap (λ (x : Head). x .long) reads in
+        let k : head .kind ≡ kindIn (linesAt (heading form) (drop at sheet) .items) = ap (λ (x : Head). x .kind) reads in
         rw (begins, f, l, k)
 
 -- ---- what was found
 
 pub found-item :
-    (t : Step Entry) → foundOf t .more ≡ true → (e : Entry) × (t ≡ item e (foundOf t .long)) × (foundOf t .key ≡ keyOf e)
+    (form : Form) (t : Step Entry) → foundOf form t .more ≡ true → (e : Entry) × (t ≡ item e (foundOf form t .long)) × (foundOf form t .key ≡ keyOf e)
 unfolding foundOf
-found-item (item e n) h = (e, refl, refl)
-found-item (stop b n) h = let z : _≡_ {A = ℕ} 0 1 = cc in absurd (omega arith)
+found-item form (item e n) h = (e, refl, refl)
+found-item form (stop b n) h = let z : _≡_ {A = ℕ} 0 1 = cc in absurd (omega arith)
 
-pub found-stop : (t : Step Entry) → foundOf t .more ≡ false → t ≡ stop (foundOf t .fine) (foundOf t .long)
+pub found-stop : (form : Form) (t : Step Entry) → foundOf form t .more ≡ false → t ≡ stop (foundOf form t .fine) (foundOf form t .long)
 unfolding foundOf
-found-stop (item e n) h = let z : _≡_ {A = ℕ} 0 1 = cc in absurd (omega arith)
-found-stop (stop b n) h = refl
+found-stop form (item e n) h = let z : _≡_ {A = ℕ} 0 1 = cc in absurd (omega arith)
+found-stop form (stop b n) h = refl
 
 -- keys are below 2 to the 25th
-pub key-small : (e : Entry) → written e ≡ true → keyOf e ≤ 33554431
-unfolding written keyOf
-key-small e w =
-    let a = both-true (leb (e .stamp) stampMost) _ w in
-    let b = both-true (eqb (e .table .copyright) 0) _ (a .1) in
-    go (eqb (e .table .kind) TI) (sendable (e .table) (b .1))
+pub key-small : (form : Form) (e : Entry) → written form e ≡ true → keyOf e ≤ 33554431
+unfolding keyOf
+key-small form e w = go (eqb (e .table .kind) TI) (sendable (e .table) (written-parts form e w .fit))
   where
     go : (z : Bool) → Sendable (e .table) → (e .table .network * 2 + pick z 1 0) * 65536 + e .table .block ≤ 33554431
     go true s = omega (arith, s .network-fits, s .block-fits)

@@ -4,8 +4,8 @@ use mathlib.Core.Bool.{Bool, true, false}
 use mathlib.Core.List.{List, [], _∷_, _++_, append-assoc}
 use Prim.Native.Nat.{ℕ, _+_, _≤_}
 use native.Mathlib.Omega.{arith}
-use borrow.Author.Tests.{ne-eqb, eqb-true, eqb-false}
-use lib.Dec.{eqb}
+use borrow.Author.Tests.{le-ltb, ltb-true, ltb-false}
+use lib.Dec.{ltb}
 use lib.ListN.{length, drop, length-append, length-drop}
 use lib.Seq.{drop-append-seam}
 use Rattle.laws.specs.Pick.{pick}
@@ -19,10 +19,12 @@ use Rattle.sheet_entry.specs.Reading.{linesAt}
 -- what a line owes of the values that fit it: what is read is spelled there, and what is spelled reads back
 pub record Faithful (l : HeadLine) (fit : ℕ → Bool) : Type 0 where
   pub sound :
-      (bytes : List ℕ) → (l .reads bytes .long ≡ 0 → ⊥)
+      (bytes : List ℕ) → l .least ≤ l .reads bytes .long
       → (fit (l .reads bytes .value) ≡ true) × Spelled (l .text (l .reads bytes .value)) (l .reads bytes) bytes
   pub back : (v : ℕ) (rest : List ℕ) → fit v ≡ true → l .reads (l .text v ++ rest) ≡ lineOf true v (l .text v)
-  pub some : (v : ℕ) → 1 ≤ length (l .text v)
+  pub some : (v : ℕ) → l .least ≤ length (l .text v)
+  -- a line at fault takes no bytes
+  pub nothing : l .least ≤ 1
 
 pub data Faithfuls : List HeadLine → List (ℕ → Bool) → Type 0 where
   no-lines : Faithfuls [] []
@@ -39,44 +41,44 @@ pub data Fit : List (ℕ → Bool) → List ℕ → Type 0 where
 -- the first of them is in form, and the others follow it
 lines-on :
     (r : HeadLine) (rs : List HeadLine) (bytes : List ℕ) → linesAt (r ∷ rs) bytes .fine ≡ true
-    → (r .reads bytes .long ≡ 0 → ⊥)
+    → (r .least ≤ r .reads bytes .long)
     × (linesAt (r ∷ rs) bytes ≡ behind (r .reads bytes .value) (r .reads bytes .long) (linesAt rs (drop (r .reads bytes .long) bytes)))
     × (linesAt rs (drop (r .reads bytes .long) bytes) .fine ≡ true)
 unfolding linesAt
-lines-on r rs bytes h = go (eqb (r .reads bytes .long) 0) refl h
+lines-on r rs bytes h = go (ltb (r .reads bytes .long) (r .least)) refl h
   where
     m : Many ℕ
     m = behind (r .reads bytes .value) (r .reads bytes .long) (linesAt rs (drop (r .reads bytes .long) bytes))
 
     go :
-        (z : Bool) → eqb (r .reads bytes .long) 0 ≡ z → pick z (row-none false 0) m .fine ≡ true
-        → (r .reads bytes .long ≡ 0 → ⊥) × (pick z (row-none false 0) m ≡ m) × (linesAt rs (drop (r .reads bytes .long) bytes) .fine ≡ true)
+        (z : Bool) → ltb (r .reads bytes .long) (r .least) ≡ z → pick z (row-none false 0) m .fine ≡ true
+        → (r .least ≤ r .reads bytes .long) × (pick z (row-none false 0) m ≡ m) × (linesAt rs (drop (r .reads bytes .long) bytes) .fine ≡ true)
     go true e f = let z : _≡_ {A = ℕ} 0 1 = cc in absurd (omega arith)
-    go false e f = (eqb-false (r .reads bytes .long) 0 e, refl, f)
+    go false e f = (ltb-false (r .reads bytes .long) (r .least) e, refl, f)
 
 lines-back :
-    (r : HeadLine) (rs : List HeadLine) (v : ℕ) (text rest : List ℕ) → r .reads (text ++ rest) ≡ lineOf true v text → 1 ≤ length text
+    (r : HeadLine) (rs : List HeadLine) (v : ℕ) (text rest : List ℕ) → r .reads (text ++ rest) ≡ lineOf true v text → r .least ≤ length text
     → linesAt (r ∷ rs) (text ++ rest) ≡ behind v (length text) (linesAt rs rest)
 unfolding linesAt
-lines-back r rs v text rest e h = rw (e, ne-eqb (length text) 0 (λ z. omega arith), drop-append-seam text rest)
+lines-back r rs v text rest e h = rw (e, le-ltb (length text) (r .least) h, drop-append-seam text rest)
 
 pub no-more : (bytes : List ℕ) → linesAt [] bytes ≡ row-none true 0
 unfolding linesAt
 no-more bytes = refl
 
 -- no line goes over the end of the bytes
-line-within : {l : HeadLine} {f : ℕ → Bool} → Faithful l f → (bytes : List ℕ) → l .reads bytes .long ≤ length bytes
-line-within {l} k bytes = go (eqb (l .reads bytes .long) 0) refl
+pub line-within : {l : HeadLine} {f : ℕ → Bool} → Faithful l f → (bytes : List ℕ) → l .reads bytes .long ≤ length bytes
+line-within {l} k bytes = go (ltb (l .reads bytes .long) (l .least)) refl
   where
-    go : (z : Bool) → eqb (l .reads bytes .long) 0 ≡ z → l .reads bytes .long ≤ length bytes
-    go true e = omega (arith, eqb-true (l .reads bytes .long) 0 e)
-    go false e = spelled-within (k .sound bytes (eqb-false (l .reads bytes .long) 0 e) .1)
+    go : (z : Bool) → ltb (l .reads bytes .long) (l .least) ≡ z → l .reads bytes .long ≤ length bytes
+    go true e = omega (arith, ltb-true (l .reads bytes .long) (l .least) e, k .nothing)
+    go false e = spelled-within (k .sound bytes (ltb-false (l .reads bytes .long) (l .least) e) .1)
 
 pub lines-within : {ls : List HeadLine} {fs : List (ℕ → Bool)} → Faithfuls ls fs → (bytes : List ℕ) → linesAt ls bytes .long ≤ length bytes
 unfolding linesAt
 lines-within no-lines bytes = omega arith
 lines-within (and-line {l} {ls} k ks) bytes =
-    go (eqb (l .reads bytes .long) 0) (line-within k bytes) (lines-within ks (drop (l .reads bytes .long) bytes))
+    go (ltb (l .reads bytes .long) (l .least)) (line-within k bytes) (lines-within ks (drop (l .reads bytes .long) bytes))
   where
     go :
         (z : Bool) → l .reads bytes .long ≤ length bytes
@@ -100,7 +102,7 @@ none-told bytes = record { fit = no-values; there = refl; size = refl }
 
 more-told :
     {l : HeadLine} {ls : List HeadLine} {f : ℕ → Bool} {fs : List (ℕ → Bool)} (bytes : List ℕ) (m : Many ℕ) → Faithful l f
-    → (l .reads bytes .long ≡ 0 → ⊥) → Told ls fs (drop (l .reads bytes .long) bytes) m
+    → l .least ≤ l .reads bytes .long → Told ls fs (drop (l .reads bytes .long) bytes) m
     → Told (l ∷ ls) (f ∷ fs) bytes (behind (l .reads bytes .value) (l .reads bytes .long) m)
 unfolding spelledBy
 more-told {l} {ls} bytes m k n r =

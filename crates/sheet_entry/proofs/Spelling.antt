@@ -9,14 +9,14 @@ use lib.Dec.{leb}
 use lib.ListN.{length, getD, take, drop, replicate, length-append, length-drop, length-take, drop-of-length-le}
 use lib.Seq.{sets, sets-eq, take-all, drop-drop}
 use borrow.Rule.Slice.PartMut.{midOf, putMid}
-use borrow.Author.Tests.{le-leb, eq-eqb, eqb-true}
+use borrow.Author.Tests.{le-leb, lt-leb, leb-true, eq-eqb, eqb-true}
 use Rattle.laws.proofs.Tests.{both-holds}
 use Rattle.answer.specs.declared.Answer.{Answer}
 use Rattle.answer.specs.declared.Answer.the-variants.{Done, Refused}
 use Rattle.answer.specs.declared.Refusal.{Refusal}
-use Rattle.answer.proofs.Steps.{goes-on, done-value, first-holds, others-hold}
-use Rattle.answer.proofs.Lent.{lent-accepted, lent-refused, lent-short, lent-done}
-use Rattle.answer.specs.Rules.{judged, Every, none, more}
+use Rattle.answer.proofs.Steps.{goes-on, done-value, done-every, first-holds, others-hold}
+use Rattle.answer.proofs.Lent.{front-holds, back-holds, lent-accepted, lent-refused, lent-short, lent-done}
+use Rattle.answer.specs.Rules.{Rule, rule, judged, Every, none, more}
 use Rattle.answer.specs.Values.{refused}
 use Rattle.answer.specs.Writing.{room, answered, after, left}
 use Rattle.forms.specs.Tables.{Table, bits, fields, fits}
@@ -28,13 +28,15 @@ use Rattle.forms.proofs.Forms.{two-bytes}
 use Rattle.forms.proofs.Judging.{form-said}
 use Rattle.forms.proofs.Sendable.{Sendable, sendable, sends}
 use Rattle.text_lines.specs.Putting.{Put}
-use Rattle.listing.specs.Lines.{networkName, blockName, descriptorLinesOf}
-use Rattle.listing.proofs.Room.{number-room, kind-room, wordsOf, descriptors-room, listed-words, judged-form}
+use Rattle.listing.specs.Lines.{mendedName, networkName, blockName, descriptorLinesOf}
+use Rattle.listing.proofs.Room.{number-room, kind-room, wordsOf, descriptors-room, listed-words}
 use Rattle.text_lines.proofs.Printed.{put-within}
 use Rattle.listing_reader.proofs.Matching.{spelled-in}
-use Rattle.sheet_entry.specs.Entries.{stampName, stampMost, heading, spelledBy, headLines, entryText, written}
-use Rattle.sheet_entry.specs.Writing.{stamped}
-use Rattle.sheet_entry.specs.Internal.{Judged, entryMost, headMost}
+use Rattle.sheet_entry.specs.declared.Form.{Form}
+use Rattle.sheet_entry.specs.declared.Form.the-variants.{Old, New}
+use Rattle.sheet_entry.specs.Entries.{stampName, stampMost, mendedMost, mendedHead, heading, spelledBy, headLines, entryText, written}
+use Rattle.sheet_entry.specs.Writing.{stamped, entryRules}
+use Rattle.sheet_entry.specs.Internal.{Judged, mendedRoom, entryMost, headMost, headRoom, entryRoom}
 
 -- ---- the form
 
@@ -54,11 +56,11 @@ judged-every f j =
     (more (s .kind-known) (more (eq-eqb (length f) (length (form (tableIn f))) (j .whole)) (more (j .fit) none))))
 
 -- so many descriptors and words as 8,184 bits hold: 63 descriptors leave room for 312 words, and more words cost more than they give
-text-most : (d w : ℕ) → d ≤ 63 → 58 + 10 * d + 24 * w ≤ 8184 → 14 * d + 16 * w + 1 + headMost ≤ entryMost
+text-most : (d w : ℕ) → d ≤ 63 → 58 + 10 * d + 24 * w ≤ 8184 → 14 * d + 16 * w + 1 ≤ 5875
 text-most d w h b = elim (decLt w 313) [ yes g ↦ omega arith | no g ↦ omega arith ]
 
 -- a table's lines are short enough for the room that is held
-pub lines-most : (f : List ℕ) → Judged f → length (descriptorLinesOf (tableIn f)) + 1 + headMost ≤ entryMost
+pub lines-most : (f : List ℕ) → Judged f → length (descriptorLinesOf (tableIn f)) + 1 ≤ 5875
 unfolding descriptorLinesOf
 lines-most f j =
     let t = tableIn f in
@@ -71,14 +73,23 @@ lines-most f j =
     omega (arith, text-most (length (t .descriptors)) (wordsOf (t .descriptors)) (omega (arith, s .count-fits)) (omega arith))
 
 -- and so are those of its head
+mended-most : (form : Form) (mended : ℕ) → mended ≤ mendedMost form → length (mendedHead form .text mended) ≤ mendedRoom form
+mended-most Old mended h = omega arith
+mended-most New mended h = number-room mendedName 3 mended (omega arith)
+
 pub head-most :
-    (stamp k n m : ℕ) → stamp ≤ stampMost → n ≤ 255 → m ≤ 65535 → length (spelledBy heading (stamp ∷ k ∷ n ∷ m ∷ [])) ≤ headMost
+    (form : Form) (stamp mended k n m : ℕ) → stamp ≤ stampMost → mended ≤ mendedMost form → n ≤ 255 → m ≤ 65535
+    → length (spelledBy (heading form) (stamp ∷ mended ∷ k ∷ n ∷ m ∷ [])) ≤ headMost form
 unfolding spelledBy
-head-most stamp k n m h hn hm =
+head-most form stamp mended k n m h hd hn hm =
     let w = number-room stampName 9 stamp (omega arith) in
     let y = number-room networkName 2 n (omega arith) in
     let z = number-room blockName 4 m (omega arith) in
-    simp length-append (omega (arith, kind-room k, w, y, z))
+    simp length-append (omega (arith, kind-room k, w, y, z, mended-most form mended hd))
+
+pub head-short : (form : Form) → headMost form ≤ headRoom
+head-short Old = omega arith
+head-short New = omega arith
 
 -- ---- the entry
 
@@ -102,17 +113,19 @@ uncopied t s =
       loops-fit = s .loops-fit;
     })
 
-pub stamped-written : (stamp : ℕ) (f : List ℕ) → stamp ≤ stampMost → Judged f → written (stamped stamp f) ≡ true
+pub stamped-written :
+    (form : Form) (stamp mended : ℕ) (f : List ℕ) → stamp ≤ stampMost → mended ≤ mendedMost form → Judged f → written form (stamped stamp mended f) ≡ true
 unfolding written stamped
-stamped-written stamp f h j =
+stamped-written form stamp mended f h d j =
     let s = sendable (tableIn f) (j .fit) in
-    both-holds (leb stamp stampMost) _ (le-leb stamp stampMost h) (uncopied (tableIn f) s)
+    both-holds (leb stamp stampMost) _ (le-leb stamp stampMost h)
+    (both-holds (leb mended (mendedMost form)) _ (le-leb mended (mendedMost form) d) (uncopied (tableIn f) s))
 
 pub head-of :
-    (stamp : ℕ) (f : List ℕ) (k a b n : ℕ) → k ≡ getD f 0 0 → a ≡ getD f 2 0 → b ≡ getD f 3 0 → n ≡ getD f 4 0 → a < 256 → b < 256
-    → spelledBy heading (stamp ∷ k ∷ n ∷ (a + 256 * b) ∷ []) ≡ headLines (stamped stamp f)
+    (form : Form) (stamp mended : ℕ) (f : List ℕ) (k a b n : ℕ) → k ≡ getD f 0 0 → a ≡ getD f 2 0 → b ≡ getD f 3 0 → n ≡ getD f 4 0 → a < 256 → b < 256
+    → spelledBy (heading form) (stamp ∷ mended ∷ k ∷ n ∷ (a + 256 * b) ∷ []) ≡ headLines form (stamped stamp mended f)
 unfolding headLines stamped tableIn
-head-of stamp f k a b n ek ea eb en ha hb = rw (two-bytes a b ha hb, ek, ea, eb, en)
+head-of form stamp mended f k a b n ek ea eb en ha hb = rw (two-bytes a b ha hb, ek, ea, eb, en)
 
 -- ---- the room that is held
 
@@ -133,7 +146,7 @@ put-part out lines at h =
     (sym (append-assoc (take at out) lines (drop (at + length lines) out)))
 
 -- the table's lines are listed into such a part
-module _ (f out : List ℕ) (at : ℕ) (j : Judged f) (o : length out ≡ entryMost) (a : at ≤ headMost) where
+module _ (f out : List ℕ) (at : ℕ) (j : Judged f) (o : length out ≡ entryRoom) (a : at ≤ headRoom) where
   abbrev lines : List ℕ
   lines = descriptorLinesOf (tableIn f)
 
@@ -154,7 +167,7 @@ module _ (f out : List ℕ) (at : ℕ) (j : Judged f) (o : length out ≡ entryM
 
   pub table-put :
       {r : Answer} {n : ℕ} {exit : List ℕ} → r ≡ answered (formRules f) lines part → r ≡ Done n → exit ≡ left (formRules f) lines part
-      → Put out at lines (putMid at (length out - at) out exit) (at + n) × (at + n + 1 ≤ entryMost)
+      → Put out at lines (putMid at (length out - at) out exit) (at + n) × (at + n + 1 ≤ entryRoom)
   table-put {r} {n} {exit} e g x =
       let l = table-long e g in
       let m = lines-most f j in (
@@ -170,18 +183,20 @@ module _ (f out : List ℕ) (at : ℕ) (j : Judged f) (o : length out ≡ entryM
 
 -- ---- the whole entry
 
-pub entry-most : (stamp : ℕ) (f : List ℕ) → stamp ≤ stampMost → Judged f → length (entryText (stamped stamp f)) ≤ entryMost
+pub entry-most :
+    (form : Form) (stamp mended : ℕ) (f : List ℕ) → stamp ≤ stampMost → mended ≤ mendedMost form → Judged f
+    → length (entryText form (stamped stamp mended f)) ≤ entryMost form
 unfolding entryText headLines stamped descriptorLinesOf
-entry-most stamp f h j =
+entry-most form stamp mended f h d j =
     let t = tableIn f in
     let s = sendable t (j .fit) in
-    let m = head-most stamp (t .kind) (t .network) (t .block) h (omega (arith, s .network-fits)) (omega (arith, s .block-fits)) in
+    let m = head-most form stamp mended (t .kind) (t .network) (t .block) h d (omega (arith, s .network-fits)) (omega (arith, s .block-fits)) in
     simp length-append (omega (arith, m, lines-most f j))
 
 -- held in an array, and then handed out
-module _ (xs old : List ℕ) {text : List ℕ} {n : ℕ} (put : Put (replicate entryMost 0) 0 xs text n) (few : n ≤ entryMost) where
+module _ (xs old : List ℕ) {text : List ℕ} {n : ℕ} (put : Put (replicate entryRoom 0) 0 xs text n) (few : n ≤ entryRoom) where
   held : (take n text ≡ xs) × (n ≡ length xs)
-  held = let s = spelled-in entryMost (put-within (omega arith) put) few in (s .0, s .1 ∙ ap length (s .0))
+  held = let s = spelled-in entryRoom (put-within (omega arith) put) few in (s .0, s .1 ∙ ap length (s .0))
 
   pub held-short : length old < n → (refused 1 0 ≡ answered [] xs old) × (old ≡ left [] xs old)
   held-short h = lent-short [] xs old 0 refl refl (omega (arith, held .1))
@@ -191,27 +206,55 @@ module _ (xs old : List ℕ) {text : List ℕ} {n : ℕ} (put : Put (replicate e
       let d = lent-done [] xs old 0 refl refl (omega (arith, held .1)) in
       (ap Done (held .1) ∙ d .0, e ∙ ap (sets old 0) (held .0) ∙ d .1)
 
--- the rules of the form first
-module _ (f xs old : List ℕ) (n : ℕ) {first : Answer} (judges : first ≡ judged refused (formRules f) (Done n)) where
-  pub form-goes-on :
-      {m : ℕ} → first ≡ Done m → (answered [] xs old ≡ answered (formRules f) xs old) × (left [] xs old ≡ left (formRules f) xs old)
-  form-goes-on e =
-      let a = goes-on (formRules f) (room xs old ∷ []) n judges (Done (length xs)) e in
-      (a, ap (λ (x : Answer). after x xs old) a)
+-- ---- the rules
 
--- where there is room for the longest entry, the rules of the form decide
+-- those of the table form, then that of the number
+pub entry-judged : (form : Form) (mended : ℕ) (f : List ℕ) → Every (entryRules form mended f) → Judged f × (mended ≤ mendedMost form)
+entry-judged form mended f e = (
+  judged-by f (front-holds (formRules f) (rule (leb mended (mendedMost form)) 15 0 ∷ []) e),
+  leb-true mended (mendedMost form) (first-holds (back-holds (formRules f) (rule (leb mended (mendedMost form)) 15 0 ∷ []) e)),
+)
+
+pub entry-every : (form : Form) (mended : ℕ) (f : List ℕ) → Judged f → mended ≤ mendedMost form → Every (entryRules form mended f)
+entry-every form mended f j h = go (formRules f) (judged-every f j)
+  where
+    go : (rs : List Rule) → Every rs → Every (rs ++ (rule (leb mended (mendedMost form)) 15 0 ∷ []))
+    go [] none = more (le-leb mended (mendedMost form) h) none
+    go (r ∷ rs) (more p ps) = more p (go rs ps)
+
+-- the form holds, and the number is judged
+module _ (form : Form) (mended : ℕ) (f : List ℕ) (n : ℕ) {first : Answer} (judges : first ≡ judged refused (formRules f) (Done n)) where
+  pub number-over : {m : ℕ} → first ≡ Done m → mendedMost form < mended → refused 15 0 ≡ judged refused (entryRules form mended f) (Done 0)
+  number-over e h =
+      (rw (lt-leb mended (mendedMost form) h) refl) ∙ goes-on (formRules f) (rule (leb mended (mendedMost form)) 15 0 ∷ []) n judges (Done 0) e
+
+  pub number-fits : {m : ℕ} → first ≡ Done m → mended ≤ mendedMost form → Done 0 ≡ judged refused (entryRules form mended f) (Done 0)
+  number-fits e h =
+      (rw (le-leb mended (mendedMost form) h) refl) ∙ goes-on (formRules f) (rule (leb mended (mendedMost form)) 15 0 ∷ []) n judges (Done 0) e
+
+-- the rules first, then the room
+pub rules-go-on :
+    (rules : List Rule) (xs old : List ℕ) (n : ℕ) {first : Answer} {m : ℕ} → first ≡ judged refused rules (Done n) → first ≡ Done m
+    → (answered [] xs old ≡ answered rules xs old) × (left [] xs old ≡ left rules xs old)
+rules-go-on rules xs old n judges e =
+    let a = goes-on rules (room xs old ∷ []) n judges (Done (length xs)) e in
+    (a, ap (λ (x : Answer). after x xs old) a)
+
+-- where there is room for the longest entry, the rules decide
 pub entry-answers :
-    (stamp : ℕ) (f old : List ℕ) → stamp ≤ stampMost → entryMost ≤ length old
-    → answered (formRules f) (entryText (stamped stamp f)) old ≡ judged refused (formRules f) (Done (length (entryText (stamped stamp f))))
-entry-answers stamp f old h o = go (judged refused (formRules f) (Done (length (entryText (stamped stamp f))))) refl
+    (form : Form) (stamp mended : ℕ) (f old : List ℕ) → stamp ≤ stampMost → entryMost form ≤ length old
+    → answered (entryRules form mended f) (entryText form (stamped stamp mended f)) old
+    ≡ judged refused (entryRules form mended f) (Done (length (entryText form (stamped stamp mended f))))
+entry-answers form stamp mended f old h o = go (judged refused (entryRules form mended f) (Done (length xs))) refl
   where
     xs : List ℕ
-    xs = entryText (stamped stamp f)
+    xs = entryText form (stamped stamp mended f)
 
-    go : (a : Answer) → judged refused (formRules f) (Done (length (entryText (stamped stamp f)))) ≡ a → answered (formRules f) (entryText (stamped stamp f)) old ≡ a
-    go (Refused w) e = sym (lent-refused (formRules f) xs old (length xs) (sym e) refl .0)
+    go : (a : Answer) → judged refused (entryRules form mended f) (Done (length xs)) ≡ a → answered (entryRules form mended f) xs old ≡ a
+    go (Refused w) e = sym (lent-refused (entryRules form mended f) xs old (length xs) (sym e) refl .0)
     go (Done m) e =
-        let j = judged-form f (length xs) m e in
-        let r : Judged f = record { whole = j .0; fit = j .1 } in
-        let l = entry-most stamp f h r in
-        lent-accepted (formRules f) xs old (judged-every f r) (omega arith) .0 ∙ ap Done (sym (done-value (formRules f) (length xs) m e))
+        let every = done-every (entryRules form mended f) (length xs) m e in
+        let j = entry-judged form mended f every in
+        let l = entry-most form stamp mended f h (j .1) (j .0) in
+        lent-accepted (entryRules form mended f) xs old every (omega arith) .0
+        ∙ ap Done (sym (done-value (entryRules form mended f) (length xs) m e))

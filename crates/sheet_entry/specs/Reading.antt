@@ -2,38 +2,40 @@
 use mathlib.Core.Bool.{Bool, true, false}
 use mathlib.Core.List.{List, [], _∷_}
 use Prim.Native.Nat.{ℕ, suc, _+_}
-use lib.Dec.{eqb, leb}
+use lib.Dec.{ltb, leb}
 use lib.ListN.{length, getD, drop}
 use Rattle.laws.specs.Pick.{pick, both}
 use Rattle.texts.specs.Texts.{beginsWith}
 use Rattle.forms.specs.Tables.{Descriptor, fits}
 use Rattle.listing_reader.specs.Many.{Step, item, stop, Many, none, behind}
 use Rattle.listing_reader.specs.Reading.{descriptorsOf}
+use Rattle.sheet_entry.specs.declared.Form.{Form}
 use Rattle.sheet_entry.specs.declared.Found.{Found}
-use Rattle.sheet_entry.specs.Entries.{Entry, keyOf, HeadLine, opening, heading, headLines, emptyLine}
+use Rattle.sheet_entry.specs.Entries.{Entry, keyOf, HeadLine, heading, headLines, emptyLine}
 
--- lines that must all stand there, one after the other: their values, or where the one stands that isn't in form
+-- lines that must all be there, one after the other: their values, or where the one stands that isn't in form
 unfoldable pub linesAt : List HeadLine → List ℕ → Many ℕ
 linesAt [] bytes = none true 0
 linesAt (line ∷ lines) bytes =
     let l = line .reads bytes in
-    pick (eqb (l .long) 0) (none false 0) (behind (l .value) (l .long) (linesAt lines (drop (l .long) bytes)))
+    pick (ltb (l .long) (line .least)) (none false 0) (behind (l .value) (l .long) (linesAt lines (drop (l .long) bytes)))
 
--- of a head's values those of the key
+-- of a head's values those of the key, which stand in the same places in both forms
 abbrev pub kindIn : List ℕ → ℕ
-kindIn values = getD (drop (length opening) values) 0 0
+kindIn values = getD (drop 2 values) 0 0
 
 abbrev pub networkIn : List ℕ → ℕ
-networkIn values = getD (drop (length opening) values) 1 0
+networkIn values = getD (drop 2 values) 1 0
 
 abbrev pub blockIn : List ℕ → ℕ
-blockIn values = getD (drop (length opening) values) 2 0
+blockIn values = getD (drop 2 values) 2 0
 
 -- the entry of a head's values and of its descriptors
 abbrev pub entryFrom : List ℕ → List Descriptor → Entry
 entryFrom values ds =
     record {
       stamp = getD values 0 0;
+      mended = getD values 1 0;
       table =
           record { kind = kindIn values; copyright = 0; block = blockIn values; network = networkIn values; descriptors = ds };
     }
@@ -58,15 +60,16 @@ withHead least bytes head =
     (stop false (head .long))
 
 -- no entry begins where the sheet ends
-unfoldable pub entryAt : ℕ → List ℕ → Step Entry
-entryAt least [] = stop true 0
-entryAt least (b ∷ bytes) = withHead least (b ∷ bytes) (linesAt heading (b ∷ bytes))
+unfoldable pub entryAt : Form → ℕ → List ℕ → Step Entry
+entryAt form least [] = stop true 0
+entryAt form least (b ∷ bytes) = withHead least (b ∷ bytes) (linesAt (heading form) (b ∷ bytes))
 
 -- the least key that may follow an entry
 abbrev pub above : ℕ → Entry → ℕ
 above least e = suc (keyOf e)
 
--- what is told of it: how long it is, its key, its stamp, and how long its head is
-unfoldable pub foundOf : Step Entry → Found
-foundOf (item e n) = record { more = true; fine = true; long = n; key = keyOf e; stamp = e .stamp; head = length (headLines e) }
-foundOf (stop b n) = record { more = false; fine = b; long = n; key = 0; stamp = 0; head = 0 }
+-- what is told of it: how long it is, its key, its stamp, what was mended, and how long its head is
+unfoldable pub foundOf : Form → Step Entry → Found
+foundOf form (item e n) =
+    record { more = true; fine = true; long = n; key = keyOf e; stamp = e .stamp; mended = e .mended; head = length (headLines form e) }
+foundOf form (stop b n) = record { more = false; fine = b; long = n; key = 0; stamp = 0; mended = 0; head = 0 }

@@ -1,6 +1,7 @@
 // Runs cases of day sheets: op 50 writes one again, op 51 adds a table to one, op 52 joins two, op 53 compares two, op 56 drops an
-// entry.
+// entry, each of the old form; ops 60 to 63 and 66 do the same in the new one.
 ghost use Prim.Native.Nat.{_≤_, _<_};
+use sheet_entry::Form;
 use vectors::Case;
 use vectors::Line;
 use vectors::MOST;
@@ -39,15 +40,24 @@ fn run(case: Case, space: &[u8; SPACE], out: &mut [u8], text: &mut [u8; SPACE]) 
 // The call that op names, and what is told of it.
 fn call(op: u8, payload: &[u8], out: &mut [u8]) -> Line {
     match op {
-        50 => Line::Answered {
-            op: op,
-            answer: day_sheet::rewrite(payload, out),
-        },
+        50 => rewrite(op, Form::Old, payload, out),
         51 => add(op, payload, out),
-        52 => join(op, payload, out),
-        53 => compare(op, payload, out),
-        56 => drop(op, payload, out),
+        52 => join(op, Form::Old, payload, out),
+        53 => compare(op, Form::Old, payload, out),
+        56 => drop(op, Form::Old, payload, out),
+        60 => rewrite(op, Form::New, payload, out),
+        61 => add_counted(op, payload, out),
+        62 => join(op, Form::New, payload, out),
+        63 => compare(op, Form::New, payload, out),
+        66 => drop(op, Form::New, payload, out),
         _ => Line::Unknown(op),
+    }
+}
+
+fn rewrite(op: u8, form: Form, payload: &[u8], out: &mut [u8]) -> Line {
+    Line::Answered {
+        op: op,
+        answer: day_sheet::rewrite(form, payload, out),
     }
 }
 
@@ -64,12 +74,38 @@ fn add(op: u8, payload: &[u8], out: &mut [u8]) -> Line {
     let stamp = number_at(payload, 0) as u32;
     Line::Answered {
         op: op,
-        answer: day_sheet::add(stamp, &payload[8..end], &payload[end..], out),
+        answer: day_sheet::add(Form::Old, stamp, 0, &payload[8..end], &payload[end..], out),
+    }
+}
+
+// The same, with the table's count before its form.
+fn add_counted(op: u8, payload: &[u8], out: &mut [u8]) -> Line {
+    if payload.len() < 10 {
+        return Line::Unknown(op);
+    }
+    let long = number_at(payload, 4);
+    if payload.len() - 10 < long {
+        return Line::Unknown(op);
+    }
+    let end = 8 + long;
+    let table = end + 2;
+    let stamp = number_at(payload, 0) as u32;
+    let count = (forms::byte_at(payload, end) + 256 * forms::byte_at(payload, end + 1)) as u16;
+    Line::Answered {
+        op: op,
+        answer: day_sheet::add(
+            Form::New,
+            stamp,
+            count,
+            &payload[8..end],
+            &payload[table..],
+            out,
+        ),
     }
 }
 
 // The length of the first sheet, it, and the second.
-fn join(op: u8, payload: &[u8], out: &mut [u8]) -> Line {
+fn join(op: u8, form: Form, payload: &[u8], out: &mut [u8]) -> Line {
     if payload.len() < 4 {
         return Line::Unknown(op);
     }
@@ -80,12 +116,12 @@ fn join(op: u8, payload: &[u8], out: &mut [u8]) -> Line {
     let end = 4 + long;
     Line::Answered {
         op: op,
-        answer: day_sheet::join(&payload[4..end], &payload[end..], out),
+        answer: day_sheet::join(form, &payload[4..end], &payload[end..], out),
     }
 }
 
 // The same; the sheet at fault is told, too.
-fn compare(op: u8, payload: &[u8], out: &mut [u8]) -> Line {
+fn compare(op: u8, form: Form, payload: &[u8], out: &mut [u8]) -> Line {
     if payload.len() < 4 {
         return Line::Unknown(op);
     }
@@ -94,7 +130,7 @@ fn compare(op: u8, payload: &[u8], out: &mut [u8]) -> Line {
         return Line::Unknown(op);
     }
     let end = 4 + long;
-    let found = changes::compare(&payload[4..end], &payload[end..], out);
+    let found = changes::compare(form, &payload[4..end], &payload[end..], out);
     let answer = found.answer;
     Line::Compared {
         op: op,
@@ -104,7 +140,7 @@ fn compare(op: u8, payload: &[u8], out: &mut [u8]) -> Line {
 }
 
 // A network, a kind, the number of a block, and a sheet.
-fn drop(op: u8, payload: &[u8], out: &mut [u8]) -> Line {
+fn drop(op: u8, form: Form, payload: &[u8], out: &mut [u8]) -> Line {
     if payload.len() < 4 {
         return Line::Unknown(op);
     }
@@ -113,7 +149,7 @@ fn drop(op: u8, payload: &[u8], out: &mut [u8]) -> Line {
     let block = (forms::byte_at(payload, 2) + 256 * forms::byte_at(payload, 3)) as u16;
     Line::Answered {
         op: op,
-        answer: day_sheet::drop(network, kind, block, &payload[4..], out),
+        answer: day_sheet::drop(form, network, kind, block, &payload[4..], out),
     }
 }
 

@@ -19,14 +19,14 @@ write-requires c κs =
     let s = c .before .before .before .before .before .before .before .before .before .before in
     let f : List ℕ = now (s .args .first) in
     let g : List ℕ = now (s .args .second) in (
-      sheet-halfway f (sound f (c .before .before .before .before .before .before .judge .ensures) (c .before .before .before .before .enum-told .given .1)),
-      sheet-halfway g (sound g (c .before .before .before .judge2 .ensures) (c .before .enum-told2 .given .1)),
+      sheet-halfway (s .args .form) f (sound (s .args .form) f (c .before .before .before .before .before .before .judge .ensures) (c .before .before .before .before .enum-told .given .1)),
+      sheet-halfway (s .args .form) g (sound (s .args .form) g (c .before .before .before .judge2 .ensures) (c .before .enum-told2 .given .1)),
     )
 
 returns : tie.Need-returns
 returns c =
     let a = c .before .before .before .before .before .before .before .args in
-    let p = first-fault (now (a .first)) (now (a .second)) (now (a .out)) (sym (c .before .before .before .judge .ensures) ∙ c .before .why .given .1) in
+    let p = first-fault (c .before .before .before .before .before .before .before .args .form) (now (a .first)) (now (a .second)) (now (a .out)) (sym (c .before .before .before .judge .ensures) ∙ c .before .why .given .1) in
     (p .0, (p .1, p .2))
 
 returns-2 : tie.Need-returns-2
@@ -34,7 +34,7 @@ returns-2 c =
     let a = c .before .before .before .before .before .before .before .before .before .before .args in
     let f : List ℕ = now (a .first) in
     let p =
-    second-fault f (now (a .second)) (now (a .out)) (sound f (c .before .before .before .before .before .before .judge .ensures) (c .before .before .before .before .enum-told .given .1))
+    second-fault (c .before .before .before .before .before .before .before .before .before .before .args .form) f (now (a .second)) (now (a .out)) (sound (c .before .before .before .before .before .before .before .before .before .before .args .form) f (c .before .before .before .before .before .before .judge .ensures) (c .before .before .before .before .enum-told .given .1))
     (sym (c .before .before .before .judge2 .ensures) ∙ c .before .why2 .given .1) in
     (p .0, (p .1, p .2))
 
@@ -45,8 +45,8 @@ returns-3 c =
     let g : List ℕ = now (a .second) in
     let w = c .before .before .write .ensures in
     let p =
-    neither f g (now (a .out)) (sound f (c .before .before .before .before .before .before .before .before .before .judge .ensures) (c .before .before .before .before .before .before .before .enum-told .given .1))
-    (sound g (c .before .before .before .before .before .before .judge2 .ensures) (c .before .before .before .before .enum-told2 .given .1)) (w .0) (w .1) in
+    neither (c .before .before .before .before .before .before .before .before .before .before .before .before .before .args .form) f g (now (a .out)) (sound (c .before .before .before .before .before .before .before .before .before .before .before .before .before .args .form) f (c .before .before .before .before .before .before .before .before .before .judge .ensures) (c .before .before .before .before .before .before .before .enum-told .given .1))
+    (sound (c .before .before .before .before .before .before .before .before .before .before .before .before .before .args .form) g (c .before .before .before .before .before .before .judge2 .ensures) (c .before .before .before .before .enum-told2 .given .1)) (w .0) (w .1) in
     (p .0, (p .1, p .2))
 
 pub compare-spec : {M : Type 1} → statement M

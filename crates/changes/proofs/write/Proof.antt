@@ -14,7 +14,7 @@ use Rattle.changes.proofs.write.Tie as tie
 returns : tie.Need-returns
 returns c =
     let s = c .before .before .before .before .before .before in
-    let text : List ℕ = compareText (now (s .args .first)) (now (s .args .second)) in
+    let text : List ℕ = compareText (s .args .form) (now (s .args .first)) (now (s .args .second)) in
     let m = c .before .before .measure .ensures in
     let p = lent-short [] text (now (s .args .out)) 0 refl refl (omega (arith, m, c .before .if1 .taken)) in
     (c .refuse .ensures ∙ p .0, p .1)
@@ -22,7 +22,7 @@ returns c =
 returns-2 : tie.Need-returns-2
 returns-2 c =
     let s = c .before .before .before .before .before .before .before .before .before in
-    let text : List ℕ = compareText (now (s .args .first)) (now (s .args .second)) in
+    let text : List ℕ = compareText (s .args .form) (now (s .args .first)) (now (s .args .second)) in
     let m = c .before .before .before .before .before .measure .ensures in
     let p = lent-done [] text (now (s .args .out)) 0 refl refl (omega (arith, m, c .before .before .before .before .if1 .left)) in
     (ap Done m ∙ p .0, c .before .before .put-changes .ensures .stored ∙ p .1)

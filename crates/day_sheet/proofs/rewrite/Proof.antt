@@ -12,19 +12,19 @@ enum-told c = search needs
 returns : tie.Need-returns
 returns c =
     let s = c .before .before .before .before .before .before .before in
-    let p = rewrite-short (now (s .args .sheet)) (now (s .args .out)) (c .before .before .before .before .judge .ensures) (c .before .before .enum-told .given .1) (c .before .if1 .taken) in
+    let p = rewrite-short (s .args .form) (now (s .args .sheet)) (now (s .args .out)) (c .before .before .before .before .judge .ensures) (c .before .before .enum-told .given .1) (c .before .if1 .taken) in
     (c .refuse .ensures ∙ p .0, p .1)
 
 returns-2 : tie.Need-returns-2
 returns-2 c =
     let s = c .before .before .before .before .before .before in
-    rewrite-refused (now (s .args .sheet)) (now (s .args .out)) (c .before .before .before .judge .ensures) (c .before .why .given .1)
+    rewrite-refused (s .args .form) (now (s .args .sheet)) (now (s .args .out)) (c .before .before .before .judge .ensures) (c .before .why .given .1)
 
 returns-3 : tie.Need-returns-3
 returns-3 c =
     let s = c .before .before .before .before .before .before .before .before .before .before in
     let e = c .before .before .before .before in
-    rewrite-done (now (s .args .sheet)) (now (s .args .out)) (e .before .before .before .judge .ensures) (e .before .enum-told .given .1) (search needs) (c .before .before .copy .ensures)
+    rewrite-done (s .args .form) (now (s .args .sheet)) (now (s .args .out)) (e .before .before .before .judge .ensures) (e .before .enum-told .given .1) (search needs) (c .before .before .copy .ensures)
 
 pub rewrite-spec : {M : Type 1} → statement M
 rewrite-spec =

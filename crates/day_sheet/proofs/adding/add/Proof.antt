@@ -9,10 +9,11 @@ use denote.Ref.{now}
 use Rattle.answer.specs.Writing.{answered, left}
 use Rattle.sheet_entry.specs.Entries.{stampMost, entryText}
 use Rattle.sheet_entry.specs.Writing.{stamped}
-use Rattle.sheet_entry.specs.Internal.{entryMost}
+use Rattle.sheet_entry.specs.Internal.{entryMost, entryRoom}
 use Rattle.sheet_entry.proofs.Spelling.{entry-most, entry-answers}
 use Rattle.day_sheet.specs.Entries.{sheetText, byteLimit}
 use Rattle.day_sheet.specs.Calls.{joinRules, joinResult}
+use Rattle.day_sheet.proofs.Limits.{entry-within, entry-held}
 use Rattle.day_sheet.proofs.Added.{all-held, add-answers, add-leaves, add-refused, add-goes-on}
 use Rattle.day_sheet.proofs.adding.add.Statement.{statement}
 use Rattle.day_sheet.proofs.adding.add.Tie as tie
@@ -21,22 +22,24 @@ array-share-prefix-text : tie.Need-array-share-prefix-text
 array-share-prefix-text c =
     let s = c .before .before .before .before .before .before .before .before .before in
     let w = c .before .before .before .before .write-entry in
-    all-held (now (s .args .table)) (entryText (stamped (s .args .stamp) (now (s .args .table)))) (replicate entryMost 0) (w .ensures .0) (c .before .n .given .1) (w .ensures .1) .3
+    all-held (s .args .form) (s .args .mended) (now (s .args .table)) (entryText (s .args .form) (stamped (s .args .stamp) (s .args .mended) (now (s .args .table)))) (replicate entryRoom 0) (w .ensures .0) (c .before .n .given .1) (w .ensures .1) .3
 
 slice-aggregate-join : tie.Need-slice-aggregate-join
 slice-aggregate-join c =
     let s = c .before .before .before .before .before .before .before .before .before .before in
     let w = c .before .before .before .before .before .write-entry in
-    all-held (now (s .args .table)) (entryText (stamped (s .args .stamp) (now (s .args .table)))) (replicate entryMost 0) (w .ensures .0) (c .before .before .n .given .1) (w .ensures .1) .2
+    all-held (s .args .form) (s .args .mended) (now (s .args .table)) (entryText (s .args .form) (stamped (s .args .stamp) (s .args .mended) (now (s .args .table)))) (replicate entryRoom 0) (w .ensures .0) (c .before .before .n .given .1) (w .ensures .1) .2
 
 returns : tie.Need-returns
 returns c =
     let s = c .before .before .before .before .before .before .before .before .before in
-    let h : s .args .stamp ≤ stampMost = search needs in
-    let l = length-replicate {A = ℕ} entryMost 0 in
+    let a = s .args in
+    let h : a .stamp ≤ stampMost = search needs in
+    let l = length-replicate {A = ℕ} entryRoom 0 in
     let w = c .before .before .before .before .write-entry in
-    add-refused (s .args .stamp) (now (s .args .sheet)) (now (s .args .table)) (now (s .args .out)) _
-    (w .ensures .0 ∙ entry-answers (s .args .stamp) (now (s .args .table)) (replicate entryMost 0) h (omega arith)) (c .before .why .given .1)
+    let room : entryMost (a .form) ≤ length {A = ℕ} (replicate entryRoom 0) = omega (arith, entry-held (a .form)) in
+    add-refused (a .form) (a .stamp) (a .mended) (now (a .sheet)) (now (a .table)) (now (a .out)) _
+    (w .ensures .0 ∙ entry-answers (a .form) (a .stamp) (a .mended) (now (a .table)) (replicate entryRoom 0) h room) (c .before .why .given .1)
 
 returns-2 : tie.Need-returns-2
 returns-2 c =
@@ -47,18 +50,20 @@ returns-2 c =
     let h : s .args .stamp ≤ stampMost = search needs in
     let w = c .before .before .before .before .before .before .before .before .before .write-entry in
     let n = c .before .before .before .before .before .before .n in
-    let k = all-held (now (s .args .table)) (entryText (stamped (s .args .stamp) (now (s .args .table)))) (replicate entryMost 0) (w .ensures .0) (n .given .1) (w .ensures .1) in
-    let l = length-replicate {A = ℕ} entryMost 0 in
-    let long : length (entryText (stamped (s .args .stamp) f)) ≤ byteLimit = omega (arith, entry-most (s .args .stamp) f h (k .0)) in
+    let k = all-held (s .args .form) (s .args .mended) (now (s .args .table)) (entryText (s .args .form) (stamped (s .args .stamp) (s .args .mended) (now (s .args .table)))) (replicate entryRoom 0) (w .ensures .0) (n .given .1) (w .ensures .1) in
+    let l = length-replicate {A = ℕ} entryRoom 0 in
+    let room : entryMost (s .args .form) ≤ length {A = ℕ} (replicate entryRoom 0) = omega (arith, entry-held (s .args .form)) in
+    let long : length (entryText (s .args .form) (stamped (s .args .stamp) (s .args .mended) f)) ≤ byteLimit (s .args .form) =
+    omega (arith, entry-most (s .args .form) (s .args .stamp) (s .args .mended) f h (k .0 .1) (k .0 .0), entry-within (s .args .form)) in
     let p =
-    add-goes-on (s .args .stamp) sheet f old _ (w .ensures .0 ∙ entry-answers (s .args .stamp) f (replicate entryMost 0) h (omega arith)) (n .given .1) in
+    add-goes-on (s .args .form) (s .args .stamp) (s .args .mended) sheet f old _ (w .ensures .0 ∙ entry-answers (s .args .form) (s .args .stamp) (s .args .mended) f (replicate entryRoom 0) h room) (n .given .1) in
     let e = c .before .before .join .ensures in (
       e .0
-          ∙ ap (λ (x : List ℕ). answered (joinRules sheet x) (sheetText (joinResult sheet x)) old) (k .1)
-          ∙ add-answers (s .args .stamp) sheet f h (k .0) long old ∙ p .0,
+          ∙ ap (λ (x : List ℕ). answered (joinRules (s .args .form) sheet x) (sheetText (s .args .form) (joinResult (s .args .form) sheet x)) old) (k .1)
+          ∙ add-answers (s .args .form) (s .args .stamp) (s .args .mended) sheet f h (k .0) long old ∙ p .0,
       e .1
-          ∙ ap (λ (x : List ℕ). left (joinRules sheet x) (sheetText (joinResult sheet x)) old) (k .1)
-          ∙ add-leaves (s .args .stamp) sheet f h (k .0) long old ∙ p .1,
+          ∙ ap (λ (x : List ℕ). left (joinRules (s .args .form) sheet x) (sheetText (s .args .form) (joinResult (s .args .form) sheet x)) old) (k .1)
+          ∙ add-leaves (s .args .form) (s .args .stamp) (s .args .mended) sheet f h (k .0) long old ∙ p .1,
     )
 
 pub add-spec : {M : Type 1} → statement M

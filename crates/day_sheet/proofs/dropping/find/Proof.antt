@@ -14,46 +14,46 @@ use Rattle.day_sheet.proofs.dropping.find.Statement.{statement}
 use Rattle.day_sheet.proofs.dropping.find.Tie as tie
 
 abbrev Inv-loop : tie.InvT-loop
-Inv-loop sheet key at₀ at = Halfway sheet at × (spotFrom key at (entriesOf (drop at sheet)) ≡ spotOf key (entriesOf sheet))
+Inv-loop form sheet key at₀ at = Halfway form sheet at × (spotFrom form key at (entriesOf form (drop at sheet)) ≡ spotOf form key (entriesOf form sheet))
 
 abbrev μ-loop : tie.MeasureT-loop
-μ-loop sheet key at₀ at = length sheet - at
+μ-loop form sheet key at₀ at = length sheet - at
 
 loop-holds : tie.Need-loop-holds Inv-loop μ-loop
-loop-holds c = (c .before .pre, spot-start (spotOf (c .before .args .key) (entriesOf (now (c .before .args .sheet)))))
+loop-holds c = (c .before .pre, spot-start (spotOf (c .before .args .form) (c .before .args .key) (entriesOf (c .before .args .form) (now (c .before .args .sheet)))))
 
 returns : tie.Need-returns Inv-loop μ-loop
 returns c =
     let s = c .before .before .before .before in
     let l = c .before .before .loop in
-    spot-none (now (s .args .sheet)) (l .at) (s .args .key) (l .inv .0) _ (c .before .entry-at .ensures) (not-true _ (c .if1 .taken)) ∙ l .inv .1
+    spot-none (s .args .form) (now (s .args .sheet)) (l .at) (s .args .key) (l .inv .0) _ (c .before .entry-at .ensures) (not-true _ (c .if1 .taken)) ∙ l .inv .1
 
 returns-2 : tie.Need-returns-2 Inv-loop μ-loop
 returns-2 c =
     let s = c .before .before .before .before .before .before in
     let l = c .before .before .before .before .loop in
-    spot-here (now (s .args .sheet)) (l .at) (s .args .key) (l .inv .0) _ (c .before .before .before .entry-at .ensures) (not-false _ (c .before .before .if1 .left)) (omega arith)
+    spot-here (s .args .form) (now (s .args .sheet)) (l .at) (s .args .key) (l .inv .0) _ (c .before .before .before .entry-at .ensures) (not-false _ (c .before .before .if1 .left)) (omega arith)
     ∙ l .inv .1
 
 add-at : tie.Need-add-at Inv-loop μ-loop
 add-at c =
     let s = c .before .before .before .before .before .before .before in
     let l = c .before .before .before .before .before .loop in
-    let o = spot-on (now (s .args .sheet)) (l .at) (s .args .key) (l .inv .0) _ (c .before .before .before .before .entry-at .ensures) (not-false _ (c .before .before .before .if1 .left)) (λ z. omega arith) in
+    let o = spot-on (s .args .form) (now (s .args .sheet)) (l .at) (s .args .key) (l .inv .0) _ (c .before .before .before .before .entry-at .ensures) (not-false _ (c .before .before .before .if1 .left)) (λ z. omega arith) in
     omega (arith, o .2, l .inv .0 .within .short)
 
 loop-less : tie.Need-loop-less Inv-loop μ-loop
 loop-less c =
     let s = c .before .before .before .before .before .before .before in
     let l = c .before .before .before .before .before .loop in
-    let o = spot-on (now (s .args .sheet)) (l .at) (s .args .key) (l .inv .0) _ (c .before .before .before .before .entry-at .ensures) (not-false _ (c .before .before .before .if1 .left)) (λ z. omega arith) in
+    let o = spot-on (s .args .form) (now (s .args .sheet)) (l .at) (s .args .key) (l .inv .0) _ (c .before .before .before .before .entry-at .ensures) (not-false _ (c .before .before .before .if1 .left)) (λ z. omega arith) in
     omega (arith, o .1, o .2)
 
 loop-again : tie.Need-loop-again Inv-loop μ-loop
 loop-again c =
     let s = c .before .before .before .before .before .before .before in
     let l = c .before .before .before .before .before .loop in
-    let o = spot-on (now (s .args .sheet)) (l .at) (s .args .key) (l .inv .0) _ (c .before .before .before .before .entry-at .ensures) (not-false _ (c .before .before .before .if1 .left)) (λ z. omega arith) in
+    let o = spot-on (s .args .form) (now (s .args .sheet)) (l .at) (s .args .key) (l .inv .0) _ (c .before .before .before .before .entry-at .ensures) (not-false _ (c .before .before .before .if1 .left)) (λ z. omega arith) in
     (o .0, o .3 ∙ l .inv .1)
 
 pub find-spec : {M : Type 1} → statement M

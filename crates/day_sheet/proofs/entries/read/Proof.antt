@@ -13,20 +13,20 @@ use Rattle.day_sheet.proofs.entries.read.Statement.{statement}
 use Rattle.day_sheet.proofs.entries.read.Tie as tie
 
 abbrev Inv-loop : tie.InvT-loop
-Inv-loop sheet at₀ least₀ count₀ at least count = (at ≤ length sheet) × (count ≤ at) × (sheetAfter count at (sheetFrom least (drop at sheet)) ≡ sheetRead (sheetOf sheet))
+Inv-loop form sheet at₀ least₀ count₀ at least count = (at ≤ length sheet) × (count ≤ at) × (sheetAfter count at (sheetFrom form least (drop at sheet)) ≡ sheetRead (sheetOf form sheet))
 
 abbrev μ-loop : tie.MeasureT-loop
-μ-loop sheet at₀ least₀ count₀ at least count = length sheet - at
+μ-loop form sheet at₀ least₀ count₀ at least count = length sheet - at
 
 loop-holds : tie.Need-loop-holds Inv-loop μ-loop
-loop-holds c = (omega arith, omega arith, sheet-start (sheetOf (now (c .before .args .sheet))))
+loop-holds c = (omega arith, omega arith, sheet-start (sheetOf (c .before .args .form) (now (c .before .args .sheet))))
 
-add-t8 : tie.Need-add-t8 Inv-loop μ-loop
-add-t8 c =
+add-t9 : tie.Need-add-t9 Inv-loop μ-loop
+add-t9 c =
     let s = c .before .before .before .before .before in
     let loop = c .before .before .before .loop in
     let entry-at = c .before .before .entry-at in
-    let e = sheet-end (now (s .args .sheet)) (loop .at) (loop .least) _ (entry-at .ensures) (loop .count) (not-true _ (c .before .if1 .taken)) in
+    let e = sheet-end (s .args .form) (now (s .args .sheet)) (loop .at) (loop .least) _ (entry-at .ensures) (loop .count) (not-true _ (c .before .if1 .taken)) in
     omega (arith, loop .inv .0, s .pre .short, simp length-drop at (e .0))
 
 returns : tie.Need-returns Inv-loop μ-loop
@@ -34,7 +34,7 @@ returns c =
     let s = c .before .before .before .before .before in
     let loop = c .before .before .before .loop in
     let entry-at = c .before .before .entry-at in
-    let e = sheet-end (now (s .args .sheet)) (loop .at) (loop .least) _ (entry-at .ensures) (loop .count) (not-true _ (c .before .if1 .taken)) in
+    let e = sheet-end (s .args .form) (now (s .args .sheet)) (loop .at) (loop .least) _ (entry-at .ensures) (loop .count) (not-true _ (c .before .if1 .taken)) in
     e .1 ∙ loop .inv .2
 
 add-at : tie.Need-add-at Inv-loop μ-loop
@@ -42,7 +42,7 @@ add-at c =
     let s = c .before .before .before .before .before in
     let loop = c .before .before .before .loop in
     let entry-at = c .before .before .entry-at in
-    let e = sheet-on (now (s .args .sheet)) (loop .at) (loop .least) _ (entry-at .ensures) (loop .count) (not-false _ (c .before .if1 .left)) in
+    let e = sheet-on (s .args .form) (now (s .args .sheet)) (loop .at) (loop .least) _ (entry-at .ensures) (loop .count) (not-false _ (c .before .if1 .left)) in
     omega (arith, loop .inv .0, s .pre .short, simp length-drop at (e .1))
 
 add-least : tie.Need-add-least Inv-loop μ-loop
@@ -51,7 +51,7 @@ add-least c =
     let loop = c .before .before .before .before .loop in
     let entry-at = c .before .before .before .entry-at in
     let if1 = c .before .before .if1 in
-    let e = sheet-on (now (s .args .sheet)) (loop .at) (loop .least) _ (entry-at .ensures) (loop .count) (not-false _ (if1 .left)) in
+    let e = sheet-on (s .args .form) (now (s .args .sheet)) (loop .at) (loop .least) _ (entry-at .ensures) (loop .count) (not-false _ (if1 .left)) in
     omega (arith, e .2)
 
 add-count : tie.Need-add-count Inv-loop μ-loop
@@ -63,7 +63,7 @@ loop-less c =
     let loop = c .before .before .before .before .loop in
     let entry-at = c .before .before .before .entry-at in
     let if1 = c .before .before .if1 in
-    let e = sheet-on (now (s .args .sheet)) (loop .at) (loop .least) _ (entry-at .ensures) (loop .count) (not-false _ (if1 .left)) in
+    let e = sheet-on (s .args .form) (now (s .args .sheet)) (loop .at) (loop .least) _ (entry-at .ensures) (loop .count) (not-false _ (if1 .left)) in
     omega (arith, e .0, loop .inv .0, simp length-drop at (e .1))
 
 loop-again : tie.Need-loop-again Inv-loop μ-loop
@@ -72,7 +72,7 @@ loop-again c =
     let loop = c .before .before .before .before .loop in
     let entry-at = c .before .before .before .entry-at in
     let if1 = c .before .before .if1 in
-    let e = sheet-on (now (s .args .sheet)) (loop .at) (loop .least) _ (entry-at .ensures) (loop .count) (not-false _ (if1 .left)) in
+    let e = sheet-on (s .args .form) (now (s .args .sheet)) (loop .at) (loop .least) _ (entry-at .ensures) (loop .count) (not-false _ (if1 .left)) in
     let l = c .before .before .before .before .loop in
     (omega (arith, l .inv .0, simp length-drop at (e .1)), omega (arith, e .0, l .inv .1), e .3 ∙ l .inv .2)
 
@@ -84,7 +84,7 @@ read-spec =
     μ-loop
     loop-holds
     (λ c κs. search needs)
-    add-t8
+    add-t9
     returns
     add-at
     add-least

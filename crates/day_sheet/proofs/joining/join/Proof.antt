@@ -19,9 +19,9 @@ returns c =
     let f : List ℕ = now (s .args .first) in
     let g : List ℕ = now (s .args .second) in
     let j = c .before .before .before .before .before .judge-join .ensures in
-    let v = lent-value (joinRules f g) (sheetText (joinResult f g)) (now (s .args .out)) _ j (c .before .before .before .n .given .1) in
+    let v = lent-value (joinRules (s .args .form) f g) (sheetText (s .args .form) (joinResult (s .args .form) f g)) (now (s .args .out)) _ j (c .before .before .before .n .given .1) in
     let p =
-    lent-short (joinRules f g) (sheetText (joinResult f g)) (now (s .args .out)) _ j (c .before .before .before .n .given .1) (omega (arith, v, c .before .if1 .taken)) in
+    lent-short (joinRules (s .args .form) f g) (sheetText (s .args .form) (joinResult (s .args .form) f g)) (now (s .args .out)) _ j (c .before .before .before .n .given .1) (omega (arith, v, c .before .if1 .taken)) in
     (c .refuse .ensures ∙ p .0, p .1)
 
 put-joined-requires : tie.Need-put-joined-requires
@@ -30,7 +30,7 @@ put-joined-requires c κs =
     let f : List ℕ = now (s .args .first) in
     let g : List ℕ = now (s .args .second) in
     let j = c .before .before .before .before .before .judge-join .ensures in
-    judged-halves f g _ _ (sym j ∙ c .before .before .before .n .given .1)
+    judged-halves (s .args .form) f g _ _ (sym j ∙ c .before .before .before .n .given .1)
 
 returns-2 : tie.Need-returns-2
 returns-2 c =
@@ -38,7 +38,7 @@ returns-2 c =
     let f : List ℕ = now (s .args .first) in
     let g : List ℕ = now (s .args .second) in
     let j = c .before .before .before .judge-join .ensures in
-    lent-refused (joinRules f g) (sheetText (joinResult f g)) (now (s .args .out)) _ j (c .before .why .given .1)
+    lent-refused (joinRules (s .args .form) f g) (sheetText (s .args .form) (joinResult (s .args .form) f g)) (now (s .args .out)) _ j (c .before .why .given .1)
 
 returns-3 : tie.Need-returns-3
 returns-3 c =
@@ -49,9 +49,9 @@ returns-3 c =
     let f : List ℕ = now (s .args .first) in
     let g : List ℕ = now (s .args .second) in
     let j = c .before .before .before .before .before .before .before .before .judge-join .ensures in
-    let v = lent-value (joinRules f g) (sheetText (joinResult f g)) (now (s .args .out)) _ j (n .given .1) in
+    let v = lent-value (joinRules (s .args .form) f g) (sheetText (s .args .form) (joinResult (s .args .form) f g)) (now (s .args .out)) _ j (n .given .1) in
     let p =
-    lent-done (joinRules f g) (sheetText (joinResult f g)) (now (s .args .out)) _ j (n .given .1) (omega (arith, v, if1 .left)) in
+    lent-done (joinRules (s .args .form) f g) (sheetText (s .args .form) (joinResult (s .args .form) f g)) (now (s .args .out)) _ j (n .given .1) (omega (arith, v, if1 .left)) in
     (ap Done v ∙ p .0, put-joined .ensures .0 ∙ p .1)
 
 pub join-spec : {M : Type 1} → statement M

@@ -18,7 +18,7 @@ returns c =
     let y = drop (s .args .j) (now (s .args .second)) in
     let f = c .before .before .before .entry-at in
     let g = c .before .before .entry-at2 in
-    by-second (f .result) (g .result) (not-true (f .result .more) (c .if1 .taken)) ∙ turn-found x y (f .ensures) (g .ensures)
+    by-second (f .result) (g .result) (not-true (f .result .more) (c .if1 .taken)) ∙ turn-found (s .args .form) x y (f .ensures) (g .ensures)
 
 returns-2 : tie.Need-returns-2
 returns-2 c =
@@ -27,7 +27,7 @@ returns-2 c =
     let y = drop (s .args .j) (now (s .args .second)) in
     let f = c .before .before .before .before .before .entry-at in
     let g = c .before .before .before .before .entry-at2 in
-    by-first (f .result) (g .result) (not-false (f .result .more) (c .before .before .if1 .left)) (not-true (g .result .more) (c .if2 .taken)) ∙ turn-found x y (f .ensures) (g .ensures)
+    by-first (f .result) (g .result) (not-false (f .result .more) (c .before .before .if1 .left)) (not-true (g .result .more) (c .if2 .taken)) ∙ turn-found (s .args .form) x y (f .ensures) (g .ensures)
 
 returns-3 : tie.Need-returns-3
 returns-3 c =
@@ -36,7 +36,7 @@ returns-3 c =
     let y = drop (s .args .j) (now (s .args .second)) in
     let f = c .before .before .before .before .before .before .before .before .before .entry-at in
     let g = c .before .before .before .before .before .before .before .before .entry-at2 in
-    ap (turn (f .result)) (c .nothing .ensures) ∙ by-less (f .result) (g .result) (not-false (f .result .more) (c .before .before .before .before .before .before .if1 .left)) (not-false (g .result .more) (c .before .before .before .before .if2 .left)) (omega (arith, c .before .if3 .taken)) ∙ turn-found x y (f .ensures) (g .ensures)
+    ap (turn (f .result)) (c .nothing .ensures) ∙ by-less (f .result) (g .result) (not-false (f .result .more) (c .before .before .before .before .before .before .if1 .left)) (not-false (g .result .more) (c .before .before .before .before .if2 .left)) (omega (arith, c .before .if3 .taken)) ∙ turn-found (s .args .form) x y (f .ensures) (g .ensures)
 
 returns-4 : tie.Need-returns-4
 returns-4 c =
@@ -45,7 +45,7 @@ returns-4 c =
     let y = drop (s .args .j) (now (s .args .second)) in
     let f = c .before .before .before .before .before .before .before .before .before .before .before .before .entry-at in
     let g = c .before .before .before .before .before .before .before .before .before .before .before .entry-at2 in
-    ap (λ (h : Found). turn h (g .result)) (c .nothing2 .ensures) ∙ by-more (f .result) (g .result) (not-false (f .result .more) (c .before .before .before .before .before .before .before .before .before .if1 .left)) (not-false (g .result .more) (c .before .before .before .before .before .before .before .if2 .left)) (omega (arith, c .before .if4 .taken)) ∙ turn-found x y (f .ensures) (g .ensures)
+    ap (λ (h : Found). turn h (g .result)) (c .nothing2 .ensures) ∙ by-more (f .result) (g .result) (not-false (f .result .more) (c .before .before .before .before .before .before .before .before .before .if1 .left)) (not-false (g .result .more) (c .before .before .before .before .before .before .before .if2 .left)) (omega (arith, c .before .if4 .taken)) ∙ turn-found (s .args .form) x y (f .ensures) (g .ensures)
 
 returns-5 : tie.Need-returns-5
 returns-5 c =
@@ -54,7 +54,7 @@ returns-5 c =
     let y = drop (s .args .j) (now (s .args .second)) in
     let f = c .before .before .before .before .before .before .before .before .before .before .before .entry-at in
     let g = c .before .before .before .before .before .before .before .before .before .before .entry-at2 in
-    by-same (f .result) (g .result) (not-false (f .result .more) (c .before .before .before .before .before .before .before .before .if1 .left)) (not-false (g .result .more) (c .before .before .before .before .before .before .if2 .left)) (omega (arith, c .before .before .before .if3 .left, c .if4 .left)) ∙ turn-found x y (f .ensures) (g .ensures)
+    by-same (f .result) (g .result) (not-false (f .result .more) (c .before .before .before .before .before .before .before .before .if1 .left)) (not-false (g .result .more) (c .before .before .before .before .before .before .if2 .left)) (omega (arith, c .before .before .before .if3 .left, c .if4 .left)) ∙ turn-found (s .args .form) x y (f .ensures) (g .ensures)
 
 pub next-turn-spec : {M : Type 1} → statement M
 next-turn-spec =

@@ -22,7 +22,7 @@ returns-3 : tie.Need-returns-3
 returns-3 c =
     let s = c .before .before .before .before .before .before .before .before .before .before .before .before .before .before .before in
     let a = s .args in
-    c .is-before .ensures
+    c .lines-stay .ensures
     ∙ (rw (lines-part (now (a .first)) (a .i) (a .a) (s .pre .0), lines-part (now (a .second)) (a .j) (a .b) (s .pre .1))
     (stays-same (drop (a .i) (now (a .first))) (a .a) (drop (a .j) (now (a .second))) (a .b) (omega arith)))
 

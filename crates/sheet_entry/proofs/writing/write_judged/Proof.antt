@@ -12,14 +12,14 @@ returns : tie.Need-returns
 returns c =
     let s = c .before .before .before .before .before .before .before in
     let p = c .before .before .before .put-entry .ensures in
-    let d = held-short (entryText (stamped (s .args .stamp) (now (s .args .table)))) (now (s .args .out)) (p .0) (p .1) (c .before .if1 .taken) in
+    let d = held-short (entryText (s .args .form) (stamped (s .args .stamp) (s .args .mended) (now (s .args .table)))) (now (s .args .out)) (p .0) (p .1) (c .before .if1 .taken) in
     (c .refuse .ensures ∙ d .0, d .1)
 
 returns-2 : tie.Need-returns-2
 returns-2 c =
     let s = c .before .before .before .before .before .before .before .before .before .before .before in
     let p = c .before .before .before .before .before .before .before .put-entry .ensures in
-    held-done (entryText (stamped (s .args .stamp) (now (s .args .table)))) (now (s .args .out)) (p .0) (p .1) (search needs) (c .before .before .copy .ensures)
+    held-done (entryText (s .args .form) (stamped (s .args .stamp) (s .args .mended) (now (s .args .table)))) (now (s .args .out)) (p .0) (p .1) (search needs) (c .before .before .copy .ensures)
 
 pub write-judged-spec : {M : Type 1} → statement M
 write-judged-spec =
