@@ -29,7 +29,7 @@ use Rattle.table.proofs.Calls.{call-says}
 use Rattle.menu_forms.specs.Form.{form as Menu·form, menuIn}
 use Rattle.menu_forms.specs.Writing.{writeRules as Menu·writeRules}
 use Rattle.menu_forms.specs.Block.{recordOf as Menu·recordOf, Says as Menu·Says}
-use Rattle.menu_reader.specs.Reading.{mendedIn as Menu·mendedIn, menuRead, readRules as Menu·readRules}
+use Rattle.menu_reader.specs.Reading.{mendedControl, menuRead, readRules as Menu·readRules}
 use Rattle.menu_reader.proofs.Written.{written-says}
 use Rattle.menu_reader.proofs.Calls.{call-back, call-writable, call-says as Menu·call-says}
 use Rattle.claims.specs.Calls.{Writes, Reads, WritesMenu, write-menu, ReadsMenu, read-menu, reported}
@@ -99,7 +99,7 @@ writes-menu (write-menu κs a x t post) = post
 
 reads-menu :
     {application : ℕ} {r old out : List ℕ} {x : Read} → ReadsMenu application r old x out
-    → (x ≡ counted (Menu·mendedIn r) (answered (Menu·readRules application r) (Menu·form (menuRead (drop headLength r))) old))
+    → (x ≡ counted (mendedControl r) (answered (Menu·readRules application r) (Menu·form (menuRead (drop headLength r))) old))
     × (out ≡ left (Menu·readRules application r) (Menu·form (menuRead (drop headLength r))) old)
 reads-menu (read-menu κs a x t post) = post
 

@@ -10,7 +10,7 @@ use borrow.Author.Tests.{lt-ltb, eqb-true, eq-eqb}
 use lib.Dec.{eqb}
 use lib.ListN.{length}
 use Rattle.laws.specs.Pick.{pick, either}
-use Rattle.laws.proofs.Tests.{both-true, both-first, both-second, both-holds}
+use Rattle.laws.proofs.Tests.{both-first, both-second, both-holds}
 use Rattle.fields.specs.Fields.{Field, laid, fitting, field}
 use Rattle.fields.proofs.Laid.{field-lt, fitting-append}
 use Rattle.codecs.specs.Rows.{each}

@@ -1,12 +1,12 @@
 -- A form that is as long as its counts make it is the form of the menu that it stands for. Assumes nothing.
 use mathlib.Core.Path.{_≡_, _∙_, refl, sym, ap, ap₂, subst}
-use mathlib.Core.List.{List, [], _∷_, _++_, append-nil}
+use mathlib.Core.List.{List, [], _∷_, _++_}
 use Prim.Native.Nat.{ℕ, zero, suc, _+_, _*_, _/_, _%_, _<_}
-use native.Mathlib.Nat.{add-zero, zero-add, suc-add}
+use native.Mathlib.Nat.{add-zero}
 use native.Mathlib.Numerals.{add-one}
 use native.Mathlib.Omega.{arith}
-use lib.ListN.{length, getD, drop, length-append}
-use lib.Seq.{drop-nil, drop-drop, getD-drop}
+use lib.ListN.{length, getD, drop}
+use lib.Seq.{drop-drop, getD-drop}
 use Rattle.fields.specs.Fields.{whole}
 use Rattle.laws.specs.Bytes.{Bytes}
 use Rattle.laws.proofs.Byted.{bytes-drop}

@@ -29,7 +29,7 @@ use Rattle.menu_reader.specs.Internal.{bitsAt}
 use Rattle.menu_reader.proofs.Places.{bits-take}
 use Rattle.menu_reader.proofs.Walked.{block-at}
 use Rattle.menu_reader.proofs.Exact.{accepted-says, sent-ends}
-use Rattle.menu_reader.specs.Reading.{controlLength, menuRead, mendedIn, readRules, readMenu}
+use Rattle.menu_reader.specs.Reading.{controlLength, menuRead, mendedControl, readRules, readMenu}
 
 -- ---- a form is no longer than its block: a byte of it comes from four bits of control data at least, or from a byte of a string
 
@@ -144,7 +144,7 @@ module _ (application : ℕ) (rec : List ℕ) (b : Bytes rec) (e : Every (readRu
   -- it says its menu
   said : Says application rec m
   unfolding readMenu
-  said = accepted-says application rec m (mendedIn rec) b (passes refused (accepted m (mendedIn rec)) e) .0
+  said = accepted-says application rec m (mendedControl rec) b (passes refused (accepted m (mendedControl rec)) e) .0
 
   pub accepted-fits : fits m ≡ true
   accepted-fits = said .sendable

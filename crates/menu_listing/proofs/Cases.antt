@@ -12,8 +12,8 @@ use Rattle.fields.specs.Fields.{width, field, whole, laid, parts}
 use Rattle.parity.specs.Parity.{ones, isOdd, letter, odds}
 use Rattle.sums.specs.Sums.{total, checksum, sound}
 use Rattle.frames.specs.Framing.{frameRules}
-use Rattle.menu_forms.specs.Rows.{each, inRow}
-use Rattle.menu_forms.specs.Menus.{infoBytes, textFields, eventFields, fillFields, fields, strings, eventFormat, fillUp, textFormat}
+use Rattle.menu_forms.specs.Rows.{inRow}
+use Rattle.menu_forms.specs.Menus.{infoBytes, fields, strings, eventFormat, fillUp, textFormat}
 use Rattle.menu_forms.specs.Form.{codesIn, textIn, eventIn, menuIn, textForm, eventForm}
 use Rattle.shelf.specs.Shelf.{three, numberIn, wayBack, placeOf}
 use Rattle.menu_forms.specs.Block.{inNibbles}

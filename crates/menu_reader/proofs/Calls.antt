@@ -18,7 +18,7 @@ use Rattle.menu_forms.specs.Menus.{Menu, zeros}
 use Rattle.menu_forms.specs.Form.{form, menuIn}
 use Rattle.menu_forms.specs.Block.{recordOf, Says}
 use Rattle.menu_forms.specs.Writing.{writeRules}
-use Rattle.menu_reader.specs.Reading.{mendedIn, menuRead, readRules, readMenu}
+use Rattle.menu_reader.specs.Reading.{mendedControl, menuRead, readRules, readMenu}
 use Rattle.menu_reader.proofs.Exact.{accepted-says, says-rules, menu-said}
 use Rattle.menu_reader.proofs.Written.{with-none, written-says, writes-back-form, says-writable}
 
@@ -29,27 +29,27 @@ found r = menuRead (drop headLength r)
 module _ (application : ℕ) (r : List ℕ) (old : List ℕ) where
   -- what the call answers
   abbrev pub callReads : Read
-  callReads = counted (mendedIn r) (answered (readRules application r) (form (found r)) old)
+  callReads = counted (mendedControl r) (answered (readRules application r) (form (found r)) old)
 
   -- a record that says m, with room: m's form stands at the front of the output, and the count is its own
   pub call-takes :
       (m : Menu) → Says application r m → length (form m) ≤ length old
-      → (callReads ≡ Taken (length (form m)) (mendedIn r))
+      → (callReads ≡ Taken (length (form m)) (mendedControl r))
       × (left (readRules application r) (form (found r)) old ≡ form m ++ drop (length (form m)) old)
   call-takes m s h =
-      counted-takes form (readRules application r) (found r) (mendedIn r) old m (says-rules application r m s) (menu-said application r m s) h
+      counted-takes form (readRules application r) (found r) (mendedControl r) old m (says-rules application r m s) (menu-said application r m s) h
 
   -- a record that the call accepts says the menu whose form it hands out, and the count is its own
   pub call-says :
       (n c : ℕ) → Bytes r → callReads ≡ Taken n c
       → Says application r (found r)
       × (n ≡ length (form (found r)))
-      × (c ≡ mendedIn r)
+      × (c ≡ mendedControl r)
       × (left (readRules application r) (form (found r)) old ≡ form (found r) ++ drop (length (form (found r))) old)
   unfolding readMenu
   call-says n c b e =
-      let a = counted-all form (readRules application r) (found r) (mendedIn r) old n c e in
-      let s = accepted-says application r (found r) (mendedIn r) b (passes refused (accepted (found r) (mendedIn r)) (a .0)) in
+      let a = counted-all form (readRules application r) (found r) (mendedControl r) old n c e in
+      let s = accepted-says application r (found r) (mendedControl r) b (passes refused (accepted (found r) (mendedControl r)) (a .0)) in
       (s .0, a .1, a .2, a .3)
 
 -- a form that writing takes, written and read again by calls with room: it comes back byte for byte, with nothing mended

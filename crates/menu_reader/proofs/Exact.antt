@@ -41,7 +41,7 @@ use Rattle.menu_forms.proofs.Nibbled.{menu-nibbled, menu-bytes, menu-whole}
 use Rattle.menu_forms.proofs.Saying.{nibbles-long, sum-apart}
 use Rattle.menu_reader.specs.Control.{sentOf}
 use Rattle.menu_reader.specs.Internal.{bitsAt}
-use Rattle.menu_reader.specs.Reading.{controlLength, controlPart, stringPart, codeOf, frontRules, wholeRules, lengthRules, sentHeld, menuRead, bodyRules, mendedIn, readRules, readMenu}
+use Rattle.menu_reader.specs.Reading.{controlLength, controlPart, stringPart, codeOf, frontRules, wholeRules, lengthRules, sentHeld, menuRead, bodyRules, mendedControl, readRules, readMenu}
 use Rattle.menu_reader.proofs.Places.{bits-take}
 use Rattle.menu_reader.proofs.Strings.{letters-again, codes-seven, codes-again, letters-odd}
 use Rattle.menu_reader.proofs.Walked.{opened, spare-lt}
@@ -360,10 +360,10 @@ taken application r e =
 -- what is accepted says the menu, and the count is its own
 pub accepted-says :
     (application : ℕ) (r : List ℕ) (m : Menu) (c : ℕ) → Bytes r → readMenu application r ≡ accepted m c
-    → Says application r m × (c ≡ mendedIn r)
+    → Says application r m × (c ≡ mendedControl r)
 unfolding readMenu
 accepted-says application r m c b e =
-    let a = accepts (readRules application r) (menuRead (drop 4 r)) m (mendedIn r) c e in
+    let a = accepts (readRules application r) (menuRead (drop 4 r)) m (mendedControl r) c e in
     let k = taken application r (a .0) in
     (subst (Says application r) (a .1) (says application r b (k .0) (k .1)), sym (a .2))
 
@@ -377,15 +377,15 @@ says-rules application r m s =
     (body-holds (headOf r) (map nib (controlPart raw)) (stringPart raw) (sentHeld (controlPart raw) (stringPart raw)) eight (bodied-said application r m s))
 
 pub says-accepted :
-    (application : ℕ) (r : List ℕ) (m : Menu) → Says application r m → readMenu application r ≡ accepted m (mendedIn r)
+    (application : ℕ) (r : List ℕ) (m : Menu) → Says application r m → readMenu application r ≡ accepted m (mendedControl r)
 unfolding readMenu
 says-accepted application r m s =
-    passes refused (accepted (menuRead (drop 4 r)) (mendedIn r)) (says-rules application r m s)
-    ∙ ap (λ (x : Menu). accepted x (mendedIn r)) (menu-said application r m s)
+    passes refused (accepted (menuRead (drop 4 r)) (mendedControl r)) (says-rules application r m s)
+    ∙ ap (λ (x : Menu). accepted x (mendedControl r)) (menu-said application r m s)
 
 -- a count is at most 5 and twice the greatest control size
-pub mended-most : (application : ℕ) (r : List ℕ) → Every (readRules application r) → mendedIn r ≤ 2051
-unfolding mendedIn
+pub mended-most : (application : ℕ) (r : List ℕ) → Every (readRules application r) → mendedControl r ≤ 2051
+unfolding mendedControl
 mended-most application r e =
     let raw = drop 4 r in
     let part = taken application r e .0 .in-range .part in
@@ -398,12 +398,12 @@ pub odd-all :
     → odds (stringPart (drop 4 r)) ≡ length (stringPart (drop 4 r))
 unfolding readMenu
 odd-all application r m c e =
-    taken application r (accepts (readRules application r) (menuRead (drop 4 r)) m (mendedIn r) c e .0) .1 .odd
+    taken application r (accepts (readRules application r) (menuRead (drop 4 r)) m (mendedControl r) c e .0) .1 .odd
 
 pub reads-exactly :
     (application : ℕ) (r : List ℕ) (m : Menu) (c : ℕ) → Bytes r
-    → (readMenu application r ≡ accepted m c) ↔ (Says application r m × (c ≡ mendedIn r))
+    → (readMenu application r ≡ accepted m c) ↔ (Says application r m × (c ≡ mendedControl r))
 reads-exactly application r m c b = (accepted-says application r m c b, from)
   where
-    from : Says application r m × (c ≡ mendedIn r) → readMenu application r ≡ accepted m c
+    from : Says application r m × (c ≡ mendedControl r) → readMenu application r ≡ accepted m c
     from s = says-accepted application r m (s .0) ∙ ap (accepted m) (sym (s .1))

@@ -9,14 +9,14 @@ use Rattle.answer.specs.Rules.{Every}
 use Rattle.answer.proofs.Lent.{front-holds}
 use Rattle.octet.specs.Hearing.{harms}
 use Rattle.blocks.specs.Block.{headOf}
-use Rattle.sums.specs.Block.{mendedIn as Sums·mendedIn}
+use Rattle.sums.specs.Block.{mendedIn}
 use Rattle.frames.specs.Framing.{framing}
 use Rattle.frames.proofs.Framed.{framed}
-use Rattle.menu_reader.specs.Reading.{controlLength, bodyRules, readRules, mendedIn}
+use Rattle.menu_reader.specs.Reading.{controlLength, bodyRules, readRules, mendedControl}
 
 pub mended-part :
-    (r : List ℕ) (n : ℕ) → 4 ≤ length r → n ≡ controlLength (drop 4 r) → Sums·mendedIn (take (4 + n) r) ≡ mendedIn r
-unfolding mendedIn Sums·mendedIn
+    (r : List ℕ) (n : ℕ) → 4 ≤ length r → n ≡ controlLength (drop 4 r) → mendedIn (take (4 + n) r) ≡ mendedControl r
+unfolding mendedControl mendedIn
 mended-part r n h e =
     let part : getD (take (4 + n) r) 2 0 ≡ getD r 2 0 = getD-take (4 + n) r 2 0 (omega arith) in
     let raw : drop 4 (take (4 + n) r) ≡ take n (drop 4 r) =

@@ -20,10 +20,9 @@ use Rattle.sums.specs.Sums.{total, checksum}
 use Rattle.frames.specs.Outcome.{accepted}
 use Rattle.parity.specs.Parity.{isOdd, ones, letter}
 use Rattle.parity.proofs.Letters.{odds-at}
-use Rattle.menu_forms.specs.Rows.{each}
-use Rattle.menu_forms.specs.Menus.{Menu, textFields, fillFields, fields, strings, control, sevens, fits, fillUp, textFormat}
+use Rattle.menu_forms.specs.Menus.{Menu, fields, strings, control, sevens, fits, fillUp, textFormat}
 use Rattle.menu_forms.specs.Block.{inNibbles, checksumOf, blockWith, recordOf, Says}
-use Rattle.menu_reader.specs.Reading.{stringPart, mendedIn, readMenu}
+use Rattle.menu_reader.specs.Reading.{stringPart, mendedControl, readMenu}
 use Rattle.menu_reader.proofs.Exact.{odd-all, says-accepted}
 use Rattle.menu_reader.proofs.Written.{writes-back}
 
@@ -34,7 +33,7 @@ pub reads-alike :
     → map nib (take (2 * control m) (drop 4 r)) ≡ map nib (take (2 * control m) (drop 4 r′))
     → drop (2 * control m) (drop 4 r) ≡ drop (2 * control m) (drop 4 r′)
     → Says application r′ m
-    → readMenu application r ≡ accepted m (mendedIn r)
+    → readMenu application r ≡ accepted m (mendedControl r)
 reads-alike application r r′ m i h n l s =
     says-accepted application r m
     (record {

@@ -23,13 +23,13 @@ use Rattle.menu_forms.specs.Writing.{formRules, writeRules}
 use Rattle.menu_forms.proofs.Forms.{form-back, form-taken}
 use Rattle.menu_forms.proofs.Formed.{in-form}
 use Rattle.menu_forms.proofs.Saying.{images-long, record-says}
-use Rattle.menu_reader.specs.Reading.{mendedIn, readMenu}
+use Rattle.menu_reader.specs.Reading.{mendedControl, readMenu}
 use Rattle.menu_reader.proofs.Exact.{sent-ends, accepted-says, says-accepted}
 
 module _ (application : ℕ) (spare : Spare) (m : Menu) (s : Says application (recordWith application spare m) m) where
   -- none of the bytes of a record that is made is mended
-  pub with-none : mendedIn (recordWith application spare m) ≡ 0
-  unfolding mendedIn blockWith
+  pub with-none : mendedControl (recordWith application spare m) ≡ 0
+  unfolding mendedControl blockWith
   with-none =
       let xs = map image (nibbles (checksumOf application spare m) spare m) in
       let ys = map letter (strings m) in

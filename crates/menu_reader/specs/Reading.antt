@@ -77,9 +77,9 @@ abbrev pub readRules : ℕ → List ℕ → List Rule
 readRules application r = framing application r ++ bodyRules (headOf r) (drop headLength r)
 
 -- the count of mended bytes: the part, and the control bytes that aren't images; string bytes don't count (SCOPE 23.6)
-unfoldable pub mendedIn : List ℕ → ℕ
-mendedIn r = partOf r + harms (controlPart (drop headLength r))
+unfoldable pub mendedControl : List ℕ → ℕ
+mendedControl r = partOf r + harms (controlPart (drop headLength r))
 
 -- what reading makes of a record, room apart
 unfoldable pub readMenu : ℕ → List ℕ → Outcome Menu
-readMenu application r = judged refused (readRules application r) (accepted (menuRead (drop headLength r)) (mendedIn r))
+readMenu application r = judged refused (readRules application r) (accepted (menuRead (drop headLength r)) (mendedControl r))

@@ -14,7 +14,7 @@ ghost use Rattle.blocks.specs.Block.{headLength};
 ghost use Rattle.octet.specs.Decoding.{nib};
 ghost use Rattle.frames.specs.Values.{counted};
 ghost use Rattle.menu_forms.specs.Form.{form};
-ghost use Rattle.menu_reader.specs.Reading.{controlLength, frontRules, wholeRules, partRules, bodyRules, lengthRules, readRules, sentHeld, menuHeld, menuRead, mendedIn};
+ghost use Rattle.menu_reader.specs.Reading.{controlLength, frontRules, wholeRules, partRules, bodyRules, lengthRules, readRules, sentHeld, menuHeld, menuRead, mendedControl};
 use answer::Answer;
 use blocks::HEAD;
 use frames::Frame;
@@ -42,7 +42,7 @@ pub(crate) enum Loop {
 pub fn read_menu(application: u8, rec: &[u8], out: &mut [u8]) -> Read
     ensures answer { λ r.
         ⌜ r
-        ≡ counted (mendedIn (now (rec .entry)))
+        ≡ counted (mendedControl (now (rec .entry)))
         (answered (readRules application (now (rec .entry))) (form (menuRead (drop headLength (now (rec .entry))))) (now (out .entry))) ⌝ }
     ensures output { λ _.
         ⌜ now (out .exit)
@@ -74,7 +74,7 @@ fn read_form(application: u8, rec: &[u8], out: &mut [u8]) -> Answer
 // How many bytes were mended of a record whose frame is taken: its part, and its control bytes that aren't images.
 fn mended_in(rec: &[u8]) -> usize
     requires { ⌜ 12 ≤ length (now rec) ⌝ }
-    ensures { λ r. ⌜ r ≡ mendedIn (now (rec .entry)) ⌝ }
+    ensures { λ r. ⌜ r ≡ mendedControl (now (rec .entry)) ⌝ }
 {
     let end = HEAD + control_length(&rec[HEAD..]);
     sums::mended_in(&rec[..end])

@@ -10,7 +10,7 @@ use Rattle.answer.proofs.Lent.{lent-all}
 use Rattle.frames.specs.declared.Read.the-variants.{Taken}
 use Rattle.frames.specs.Values.{counted}
 use Rattle.menu_forms.specs.Form.{form}
-use Rattle.menu_reader.specs.Reading.{readRules, menuRead, mendedIn}
+use Rattle.menu_reader.specs.Reading.{readRules, menuRead, mendedControl}
 use Rattle.menu_reader.proofs.Exact.{mended-most}
 use Rattle.menu_reader.proofs.Mending.{record-long}
 use Rattle.menu_reader.proofs.read_menu.Statement.{statement}
@@ -35,13 +35,13 @@ cast-mended c =
 returns : tie.Need-returns
 returns c =
     let b = c .before .before .before .before .before in
-    (sym (ap (counted (mendedIn _)) (sym (b .read-form .ensures .0) ∙ c .before .why .given .1)), b .read-form .ensures .1)
+    (sym (ap (counted (mendedControl _)) (sym (b .read-form .ensures .0) ∙ c .before .why .given .1)), b .read-form .ensures .1)
 
 returns-2 : tie.Need-returns-2
 returns-2 c =
     let b = c .before .before .before .before .before .before in (
       ap (Taken (c .before .before .written .given .0 .0)) (c .mended-in .ensures)
-          ∙ sym (ap (counted (mendedIn _)) (sym (b .read-form .ensures .0) ∙ c .before .before .written .given .1)),
+          ∙ sym (ap (counted (mendedControl _)) (sym (b .read-form .ensures .0) ∙ c .before .before .written .given .1)),
       b .read-form .ensures .1,
     )
 

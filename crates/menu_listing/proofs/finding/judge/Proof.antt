@@ -9,7 +9,7 @@ use Rattle.laws.proofs.Lists.{part-rest}
 use Rattle.fields.specs.Fields.{field}
 use Rattle.fields.specs.Compound.{compound}
 use Rattle.laws.specs.Bytes.{Bytes}
-use Rattle.menu_reader.specs.Reading.{mendedIn}
+use Rattle.menu_reader.specs.Reading.{mendedControl}
 use Rattle.menu_listing.proofs.Records.{judged-other, judged-taken, judged-refused}
 use Rattle.menu_listing.proofs.finding.judge.Statement.{statement}
 use Rattle.menu_listing.proofs.finding.judge.Tie as tie
@@ -34,7 +34,7 @@ returns-2 c =
     let bytes : Bytes r = λ (i : ℕ). omega (arith, b .before .before .before .before .shared-slice-known .given i) in
     let n = b .before .field-of .ensures .0 ∙ ap (λ (l : List ℕ). field 28 16 (compound l)) (part-rest 4 r) in
     let taken = sym (w .0) ∙ c .enum-told .given .1 in
-    judged-taken (s .application) (s .number) r _ bytes (now (s .form)) (mendedIn r) (sym n ∙ b .if1 .left) taken (w .1)
+    judged-taken (s .application) (s .number) r _ bytes (now (s .form)) (mendedControl r) (sym n ∙ b .if1 .left) taken (w .1)
 
 returns-3 : tie.Need-returns-3
 returns-3 c =
@@ -44,7 +44,7 @@ returns-3 c =
     let r : List ℕ = now (s .rec) in
     let bytes : Bytes r = λ (i : ℕ). omega (arith, b .shared-slice-known .given i) in
     let refused = sym (w .0) ∙ c .enum-told2 .given .1 in
-    judged-refused (s .application) (s .number) r _ bytes (now (s .form)) (mendedIn r) (b .before .pre .1) refused
+    judged-refused (s .application) (s .number) r _ bytes (now (s .form)) (mendedControl r) (b .before .pre .1) refused
 
 pub judge-spec : {M : Type 1} → statement M
 judge-spec =
