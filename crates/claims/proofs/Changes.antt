@@ -18,7 +18,7 @@ use Rattle.claims.specs.Calls.{reported}
 use Rattle.claims.specs.Sheets.{ComparesSheets, compare-sheets, Accepted}
 use Rattle.sheet_entry.specs.declared.Form.{Form}
 
-compares :
+pub compares :
     {form : Form} {first second old out : List ℕ} {x : Compared} → ComparesSheets form first second old x out
     → (x .answer ≡ compareAnswer form first second old) × (x .sheet ≡ faultIn form first second) × (out ≡ compareLeft form first second old)
 compares (compare-sheets κs a x t post) = (post .0, post .1 .0, post .1 .1)

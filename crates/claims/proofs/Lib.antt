@@ -40,6 +40,7 @@ pub mod Sheets
 pub mod Leaving
 pub mod Changes
 pub mod Descriptors
+pub mod OtherForm
 pub mod CutLineCalls
 pub mod BothCalls
 pub mod Again

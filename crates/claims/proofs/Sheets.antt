@@ -38,16 +38,16 @@ use Rattle.sheet_entry.specs.declared.Form.{Form}
 
 -- ---- what each call says
 
-rewrites :
+pub rewrites :
     {form : Form} {sheet old out : List ℕ} {x : Answer} → Rewrites form sheet old x out → (x ≡ rewriteAnswer form sheet old) × (out ≡ rewriteLeft form sheet old)
 rewrites (rewrite-sheet κs a x t post) = post
 
-joins-sheets :
+pub joins-sheets :
     {form : Form} {first second old out : List ℕ} {x : Answer} → JoinsSheets form first second old x out
     → (x ≡ joinAnswer form first second old) × (out ≡ joinLeft form first second old)
 joins-sheets (join-sheets κs a x t post) = post
 
-adds-table :
+pub adds-table :
     {form : Form} {stamp mended : ℕ} {sheet table old out : List ℕ} {x : Answer} → AddsTable form stamp mended sheet table old x out
     → (x ≡ answered (addRules form stamp mended sheet table) (sheetText form (addResult form stamp mended sheet table)) old)
     × (out ≡ left (addRules form stamp mended sheet table) (sheetText form (addResult form stamp mended sheet table)) old)

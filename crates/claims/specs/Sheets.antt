@@ -7,7 +7,9 @@ use denote.Ref.{now}
 use Rattle.answer.specs.declared.Answer.{Answer}
 use Rattle.answer.specs.declared.Answer.the-variants.{Done}
 use Rattle.sheet_entry.specs.declared.Form.{Form}
-use Rattle.sheet_entry.specs.Entries.{stampMost}
+use Rattle.sheet_entry.specs.declared.Form.the-variants.{Old, New}
+use Rattle.text_lines.specs.Lines.{numberLine}
+use Rattle.sheet_entry.specs.Entries.{Entry, stampName, stampMost}
 use Rattle.day_sheet.specs.AnyOrder.{Captured}
 use Rattle.day_sheet.specs.Work.{Work, stands, join, add}
 use Rattle.day_sheet.proofs.rewrite.Reads as day-sheet·rewrite
@@ -58,6 +60,16 @@ pub data Counts : List ℕ → ℕ → Type 0 where
 -- the call was accepted
 abbrev pub Accepted : Answer → Type 0
 Accepted x = (n : ℕ) × (x ≡ Done n)
+
+-- ---- the other form
+
+abbrev pub other : Form → Form
+other Old = New
+other New = Old
+
+-- how long an entry's line `stamp=` is: the line behind it is `mended=` in the new form and `kind=` in the old one
+abbrev pub behindStamp : Entry → ℕ
+behindStamp e = length (numberLine stampName (e .stamp))
 
 -- ---- calls one on what others wrote
 
