@@ -62,6 +62,7 @@ use Rattle.walk.proofs.starts.find.Reads as walk·find
 use Rattle.walk.proofs.head_on.Reads as walk·head-on
 use Rattle.walk.proofs.starts.falls.Reads as walk·falls
 use Rattle.pages.proofs.judge.Reads as pages·judge
+use Rattle.pages.proofs.judge_y.Reads as pages·judge-y
 use Rattle.pages.proofs.two.judge.Reads as pages·two-judge
 use Rattle.pages.proofs.two.page_of.Reads as pages·two-page-of
 use Rattle.survey.proofs.count.Reads as survey·count
@@ -292,6 +293,9 @@ walk·falls-settled κs a x y s t p q = same p q
 
 pub pages·judge-settled : (κs : _) (a : _) (x y : _) (s t : _) → pages·judge.Post κs a x s → pages·judge.Post κs a y t → x ≡ y
 pages·judge-settled κs a x y s t p q = same p q
+
+pub pages·judge-y-settled : (κs : _) (a : _) (x y : _) (s t : _) → pages·judge-y.Post κs a x s → pages·judge-y.Post κs a y t → x ≡ y
+pages·judge-y-settled κs a x y s t p q = same p q
 
 pub pages·two-judge-settled : (κs : _) (a : _) (x y : _) (s t : _) → pages·two-judge.Post κs a x s → pages·two-judge.Post κs a y t → x ≡ y
 pages·two-judge-settled κs a x y s t p q = same p q

@@ -9,7 +9,6 @@ pub use headers::Verdict;
 use packet::PACKET;
 use packet::Setting;
 ghost use mathlib.Core.Path.{_≡_};
-ghost use Prim.Native.Nat.{_≤_};
 ghost use Rattle.pages.specs.Judging.{wrongY, verdictOfY, verdictOf};
 ghost use Rattle.pages.specs.Seen.{seenAs};
 
@@ -55,9 +54,8 @@ pub fn judge(setting: Setting, page: Page, index: u8, address: usize, packet: &[
     judge_y(page, index, y)
 }
 
-// Packet y of our magazine.
-fn judge_y(page: Page, index: u8, y: u8) -> Verdict
-    requires { ⌜ 1 ≤ y ⌝ }
+// Packet y of our magazine, 1 to 25: what `judge` says of one, where the address has been looked at.
+pub fn judge_y(page: Page, index: u8, y: u8) -> Verdict
     ensures { λ r. ⌜ r ≡ verdictOfY page index y ⌝ }
 {
     match page {
@@ -92,9 +90,11 @@ fn judge_y(page: Page, index: u8, y: u8) -> Verdict
 
 // Whether packet y of our page isn't the one that is due.
 fn is_wrong(n: u8, last: u8, y: u8) -> bool
-    requires { ⌜ 1 ≤ y ⌝ }
     ensures { λ r. ⌜ r ≡ wrongY n last y ⌝ }
 {
+    if y == 0 {
+        return true;
+    }
     if y - 1 != last {
         return true;
     }

@@ -15,8 +15,13 @@ returns c =
 
 returns-2 : tie.Need-returns-2
 returns-2 c =
-    let e : c .before .args .y ≡ c .before .args .last + 1 = omega arith in
-    rw (eq-eqb _ _ e) (over (c .before .args .n) (c .before .args .y))
+    let n : c .before .before .args .y ≡ c .before .before .args .last + 1 → ⊥ = λ e. omega arith in
+    rw (ne-eqb _ _ n)
+
+returns-3 : tie.Need-returns-3
+returns-3 c =
+    let e : c .before .before .args .y ≡ c .before .before .args .last + 1 = omega arith in
+    rw (eq-eqb _ _ e) (over (c .before .before .args .n) (c .before .before .args .y))
 
 pub is-wrong-spec : {M : Type 1} → statement M
-is-wrong-spec = tie.close (tie.spec (λ c. search needs) returns returns-2)
+is-wrong-spec = tie.close (tie.spec returns (λ c. search needs) returns-2 returns-3)
