@@ -31,7 +31,11 @@ pub marked-none : (s : Streams) → markedAll s [] ≡ []
 unfolding markedAll
 marked-none s = refl
 
--- where a call goes on, each stream's block is held
+-- where a call goes on, the setting is in range
+pub both-fits : (s : Streams) (r : Readers) {b : Bool} → b ≡ both (inRangeOfTwo s) (readersInRange r) → b ≡ true → inRangeOfTwo s ≡ true
+both-fits s r x y = both-true (inRangeOfTwo s) _ (sym x ∙ y) .0
+
+-- and each stream's block is held
 pub both-kept :
     (s : Streams) (r : Readers) {b : Bool} → b ≡ both (inRangeOfTwo s) (readersInRange r) → b ≡ true → Sixteen (r .first .run) × Sixteen (r .second .run)
     → length (r .store1) ≡ storeLength → length (r .store2) ≡ storeLength → Kept (r .first .run) (r .store1) × Kept (r .second .run) (r .store2)

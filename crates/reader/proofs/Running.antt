@@ -26,12 +26,10 @@ use Rattle.reader.specs.Many.{Ran, begun}
 use Rattle.walk.specs.Internal.{Kept}
 use Rattle.walk.specs.Mode.{Good}
 use Rattle.reader.specs.Internal.{CameTo, ReachedBy, Acted, stateIn, RanTo, taking, packetAt, Reached, OthersOnly, none-passed, one-passed, Passed}
-use Rattle.walk.proofs.Keeping.{holds-mode, holds-kept}
+use Rattle.walk.proofs.Keeping.{holds-mode}
 use Rattle.walk.proofs.Adding.{recordsOf-append}
 use Rattle.walk.proofs.Room.{head-each}
 use Rattle.state.proofs.Bounding.{packet-room}
-use Rattle.pages.proofs.Judged.{see-elsewhere}
-use Rattle.reader.proofs.Heeding.{act-other}
 
 -- a packet's part of the list
 pub packet-length : (packets : List ℕ) (at : ℕ) → at + 42 ≤ length packets → length (take (at + 42 - at) (drop at packets)) ≡ packetLength
@@ -120,7 +118,7 @@ module _ {b : Ran} {a : Going} {count : ℕ} {store old mid : List ℕ} (w : Ran
   ran-state = rw (w .page, w .index, w .joined, holds-mode (b .state .mode) (w .holds))
 
   -- one packet more
-  one-more :
+  pub one-more :
       (s : Setting) (p : List ℕ) {after : Going} {store′ new : List ℕ} → Acted (see s p) (stateIn a store) a after store′ mid new
       → RanTo (ranOn (doesFor s) b p) (taking after (count + 1)) store′ old new
   one-more s p {after} {store′} {new} x =
@@ -162,17 +160,6 @@ pub passed-by :
     → OthersOnly s packets from at → Step from → Step at
 passed-by Step keeps none-passed x = x
 passed-by Step keeps (one-passed {at = k} w h e) x = keeps k h e (passed-by Step keeps w x)
-
--- of one stream: what is left comes to the same
-pub passed-reached :
-    (s : Setting) (long : ℕ) (packets : List ℕ) {from at : ℕ} {a : Going} {store old new : List ℕ} {whole : Ran} → Passed s packets from at
-    → a .got .written + room ≤ long → Reached s long packets from a store old new whole → Reached s long packets at a store old new whole
-passed-reached s long packets {a = a} {store = store} {old = old} {new = new} {whole = whole} p r =
-    passed-by (λ (k : ℕ). Reached s long packets k a store old new whole)
-    (λ k h e w.
-    further s long packets k h r
-    (act-other a new (holds-kept _ (w .1 .holds)) (see-elsewhere s (packetAt packets k) (packet-length packets k h) refl e)) w)
-    (p .by)
 
 -- ---- the room
 

@@ -1,29 +1,24 @@
 -- Packets of two streams one after the other: what any reader's are. Assumes nothing.
-use mathlib.Core.Path.{_≡_, refl, sym}
+use mathlib.Core.Path.{_≡_, refl}
 use mathlib.Core.List.{List, [], _∷_}
 use Prim.Native.Nat.{ℕ, _+_, _/_, _≤_}
 use native.Mathlib.Omega.{arith}
 use lib.ListN.{length, length-append}
 use Rattle.packet.specs.declared.two.Streams.{Streams}
 use Rattle.packet.specs.Packet.{packetLength}
-use Rattle.packet.specs.Two.{firstOf}
-use Rattle.pages.specs.Headers.{other}
-use Rattle.pages.specs.Seen.{see}
-use Rattle.pages.specs.Two.{seenByTwoAs, seeByTwo}
-use Rattle.pages.proofs.Judged.{see-elsewhere}
-use Rattle.laws.proofs.Tests.{either-false}
+use Rattle.pages.specs.Two.{seeByTwo}
 use Rattle.walk.specs.Internal.{Kept}
-use Rattle.walk.proofs.Keeping.{holds-mode, holds-kept}
+use Rattle.walk.proofs.Keeping.{holds-mode}
 use Rattle.state.specs.Two.{Handed, Own, ownHeld, actOfTwo, handedOfTwo, droppedOfTwo}
 use Rattle.state.specs.declared.two.Half.{Half}
 use Rattle.reader.specs.declared.two.Pair.{Pair}
 use Rattle.reader.specs.Calls.{begun, ranOn}
-use Rattle.reader.specs.Internal.{packetAt, Passed}
+use Rattle.reader.specs.Internal.{packetAt}
 use Rattle.reader.specs.Two.{roomOfTwo, markedAll, RanOfTwo, doesForTwo}
 use Rattle.reader.specs.InternalTwo.{OwnIn, pairIn, none-yet, ActedOfTwo, SteppedTwo, RanOfTwoTo, ReachedTwo}
 use Rattle.reader.proofs.Tagging.{marked-append}
 use Rattle.reader.proofs.HeedingTwo.{both-room}
-use Rattle.reader.proofs.Running.{packet-length, came-on, onward, passed-by}
+use Rattle.reader.proofs.Running.{came-on, onward}
 
 -- ---- what has come
 
@@ -43,7 +38,7 @@ own-held : {o : Own} {h : Half} {store : List ℕ} → OwnIn o h store → ownHe
 own-held {o} w = rw (w .index, w .joined, holds-mode (o .mode) (w .holds))
 
 module _ (s : Streams) {b : RanOfTwo} {a : Pair} {count : ℕ} {store1 store2 old mid : List ℕ} (w : RanOfTwoTo s b a count store1 store2 old mid) where
-  ran-pair : pairIn a store1 store2 ≡ b .state
+  pub ran-pair : pairIn a store1 store2 ≡ b .state
   ran-pair = rw (w .page, own-held (w .first), own-held (w .second))
 
   -- one packet more
@@ -72,36 +67,6 @@ further-two s long packets at {after = after} {now1 = now1} {now2 = now2} {old =
     let k : at / packetLength + 1 ≡ (at + 42) / packetLength = omega arith in
     let y : RanOfTwoTo s (ranOn (doesForTwo s) b p) after (at / packetLength + 1) now1 now2 old new = one-more-two s w p x in
     onward (doesForTwo s) long packets at b h (omega (arith, r, w .came .written)) (rw k at y) e
-
--- a packet of another magazine changes nothing for both
-pub passes-both :
-    (s : Streams) (p : List ℕ) (a : Pair) {store1 store2 : List ℕ} (out : List ℕ) → Kept (a .first .run) store1 → Kept (a .second .run) store2
-    → see (firstOf s) p ≡ other → ActedOfTwo s p a a store1 store2 store1 store2 out out
-unfolding see seeByTwo seenByTwoAs actOfTwo handedOfTwo droppedOfTwo markedAll
-passes-both s p a out k l e =
-    rw e
-    (record {
-      page = refl;
-      first = record { index = refl; joined = refl; holds = k };
-      second = record { index = refl; joined = refl; holds = l };
-      blocks = omega arith;
-      written = omega arith;
-      dropped = sym (either-false (a .dropped));
-      out = refl;
-    })
-
--- so where such are passed by what is left comes to the same
-pub passed-reached-two :
-    (s : Streams) (long : ℕ) (packets : List ℕ) {from at : ℕ} {a : Pair} {store1 store2 old new : List ℕ} {whole : RanOfTwo}
-    → Passed (firstOf s) packets from at → a .written + roomOfTwo ≤ long → ReachedTwo s long packets from a store1 store2 old new whole
-    → ReachedTwo s long packets at a store1 store2 old new whole
-passed-reached-two s long packets {a = a} {store1 = store1} {store2 = store2} {old = old} {new = new} {whole = whole} p r =
-    passed-by (λ (k : ℕ). ReachedTwo s long packets k a store1 store2 old new whole)
-    (λ k h e w.
-    further-two s long packets k h r
-    (passes-both s (packetAt packets k) a new (holds-kept _ (w .1 .first .holds)) (holds-kept _ (w .1 .second .holds))
-    (see-elsewhere (firstOf s) (packetAt packets k) (packet-length packets k h) refl e)) w)
-    (p .by)
 
 -- ---- the room
 

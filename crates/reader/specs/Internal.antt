@@ -3,23 +3,27 @@
 use mathlib.Core.Path.{_≡_}
 use mathlib.Core.Bool.{Bool, true, false}
 use mathlib.Core.List.{List}
-use Prim.Native.Nat.{ℕ, _+_, _-_, _/_, _%_, _≤_, _<_}
+use Prim.Native.Nat.{ℕ, _+_, _-_, _*_, _/_, _%_, _≤_, _<_}
+use lib.Dec.{eqb, ltb}
 use lib.ListN.{length, getD, take, drop}
 use lib.Seq.{sets}
 use Rattle.octet.specs.Decoding.{nib}
-use Rattle.blocks.specs.Block.{Block, recordsOf}
+use Rattle.laws.specs.Pick.{either}
+use Rattle.blocks.specs.Block.{Block, headLength, recordsOf}
 use Rattle.packet.specs.declared.Setting.{Setting}
 use Rattle.packet.specs.Packet.{packetLength}
 use Rattle.packet.specs.Address.{addressOf, elsewhere}
 use Rattle.pages.specs.declared.headers.Page.{Page}
 use Rattle.pages.specs.declared.headers.Verdict.{Verdict}
 use Rattle.pages.specs.Headers.{Seen}
+use Rattle.pages.specs.Seen.{see}
 use Rattle.walk.specs.declared.Run.{Run}
 use Rattle.walk.specs.declared.Got.{Got}
 use Rattle.walk.specs.declared.Taken.{Taken}
 use Rattle.walk.specs.Mode.{Mode, running}
 use Rattle.walk.specs.Store.{modeOf}
-use Rattle.walk.specs.Internal.{Holds, Went, TookIn, ContinuedTo, ContinuedOn, ReadPacket, runs}
+use Rattle.walk.specs.Reading.{room}
+use Rattle.walk.specs.Internal.{Holds, Kept, Went, TookIn, ContinuedTo, ContinuedOn, ReadPacket, runs}
 use Rattle.state.specs.Acting.{State, heeded, heededBlocks, heededDrops, act, handed, dropped}
 use Rattle.reader.specs.declared.Heard.{Heard}
 use Rattle.reader.specs.declared.Heard.the-variants.{Took, Refused}
@@ -28,6 +32,7 @@ use Rattle.reader.specs.declared.many.HeardAll.the-variants.{TookAll, Re
 use Rattle.reader.specs.declared.many.Going.{Going}
 use Rattle.reader.specs.declared.many.Taking.{Taking}
 use Rattle.reader.specs.declared.many.Met.{Met}
+use Rattle.reader.specs.declared.many.Gone.{Gone}
 use Rattle.reader.specs.Calls.{Ran as Calls·Ran, run as Calls·run}
 use Rattle.reader.specs.Calls.{Does}
 use Rattle.reader.specs.Feeding.{doesFor}
@@ -130,10 +135,54 @@ pub record Passed (s : Setting) (packets : List ℕ) (from at : ℕ) : Type 0 wh
   pub even : (length packets - at) % packetLength ≡ 0
   pub by : OthersOnly s packets from at
 
--- and the packet that is met there, if one is, has this address
+-- and the packet that is met there, if one is, has this address, and isn't another magazine's; where none is, no address can be decoded
 abbrev pub PassedTo : Setting → List ℕ → ℕ → Met → Type 0
 PassedTo s packets from r =
-    Passed s packets from (r .at) × (r .at < length packets → r .address ≡ addressOf (packetAt packets (r .at)))
+    Passed s packets from (r .at)
+    × (r .at < length packets → (r .address ≡ addressOf (packetAt packets (r .at))) × (elsewhere s (r .address) ≡ false))
+    × (r .address ≤ 255 → r .at < length packets)
+
+-- ---- up to a mark
+
+-- a packet with this address is a mark: it can't be read, or is a packet 0 of our magazine
+unfoldable pub marks : Setting → ℕ → Bool
+marks s address = either (ltb 255 address) (eqb address (s .magazine % 8))
+
+-- packets from one place to another, each with room for what one can give, have come from a₀ to a; where the reader isn't alone none is a
+-- mark
+pub data Along (s : Setting) (alone : Bool) (packets : List ℕ) (limit from : ℕ) (a₀ : Going) (store₀ old : List ℕ)
+    : ℕ → Going → List ℕ → List ℕ → Type 0 where
+  along-none : Along s alone packets limit from a₀ store₀ old from a₀ store₀ old
+  along-one :
+      {at : ℕ} {a after : Going} {store store′ mid new : List ℕ} → Along s alone packets limit from a₀ store₀ old at a store mid
+      → at + 42 ≤ length packets → a .got .written + room ≤ limit → (alone ≡ false → marks s (addressOf (packetAt packets at)) ≡ false)
+      → Acted (see s (packetAt packets at)) (stateIn a store) a after store′ mid new
+      → Along s alone packets limit from a₀ store₀ old (at + 42) after store′ new
+
+-- whole packets are left from the place, and what has been written fits
+pub record Startable (packets : List ℕ) (from : ℕ) (a : Going) (limit : ℕ) (out : List ℕ) : Type 0 where
+  pub within : from ≤ length packets
+  pub even : (length packets - from) % packetLength ≡ 0
+  pub fits : a .got .written ≤ limit
+  pub few : headLength * a .got .blocks ≤ a .got .written
+  pub room : limit ≤ length out
+
+-- they have come to a at the place `at`
+pub record WentTo (s : Setting) (alone : Bool) (packets : List ℕ) (limit from : ℕ) (a₀ : Going) (store₀ old : List ℕ) (at : ℕ) (a : Going) (store new : List ℕ) : Type 0 where
+  pub along : Along s alone packets limit from a₀ store₀ old at a store new
+  pub kept : Kept (a .got .run) store
+  pub onward : from ≤ at
+  pub still : at ≡ from → a .got .written ≡ a₀ .got .written
+  pub start : Startable packets at a limit new
+  pub long : length new ≡ length old
+
+-- and end there: for want of room, at a mark where the reader isn't alone, or because none is left
+pub record WentOn (s : Setting) (alone : Bool) (packets : List ℕ) (limit from : ℕ) (a₀ : Going) (store₀ old : List ℕ) (r : Gone) (store new : List ℕ) : Type 0 where
+  pub went : WentTo s alone packets limit from a₀ store₀ old (r .at) (r .going) store new
+  pub full : r .full ≡ true → limit < r .going .got .written + room
+  pub fits : r .full ≡ false → r .at < length packets → r .going .got .written + room ≤ limit
+  pub met : r .full ≡ false → r .at < length packets → r .address ≡ addressOf (packetAt packets (r .at))
+  pub mark : r .full ≡ false → r .at < length packets → (alone ≡ false) × (marks s (r .address) ≡ true)
 
 -- ---- a list of one
 

@@ -13,7 +13,8 @@ use walk::Got;
 use walk::Run;
 ghost use mathlib.Core.Path.{_≡_};
 ghost use mathlib.Core.Bool.{true, false};
-ghost use Prim.Native.Nat.{_-_, _%_, _≤_};
+ghost use mathlib.Core.List.{List};
+ghost use Prim.Native.Nat.{ℕ, _-_, _%_, _≤_};
 ghost use lib.ListN.{length, getD, drop};
 ghost use Rattle.laws.specs.Pick.{both};
 ghost use Rattle.packet.specs.Setting.{inRange};
@@ -22,7 +23,7 @@ ghost use Rattle.octet.specs.Decoding.{nib};
 ghost use Rattle.walk.specs.Internal.{Kept, PacketRoom};
 ghost use Rattle.state.specs.State.{readerInRange, Sixteen};
 ghost use Rattle.reader.specs.Many.{refusedAll, feedAllHeard, feedAllReader, feedAllOut};
-ghost use Rattle.reader.specs.Internal.{stateIn, Heeded, started, ranFrom, RanTo, PassedTo};
+ghost use Rattle.reader.specs.Internal.{stateIn, Heeded, started, ranFrom, RanTo, PassedTo, marks, Startable, WentOn};
 
 // What a list of packets gave: how many of them were taken, how many blocks they finished, as how many
 // bytes of records at the front of the output, and whether a block was dropped.
@@ -57,9 +58,18 @@ struct Taking {
 }
 
 // The place of a packet, and its address.
-pub(crate) struct Met {
+struct Met {
+    at: usize,
+    address: usize,
+}
+
+// What packets up to a mark have come to: the place where they end, whether that is for want of room, and the mark's address if
+// one stands there.
+pub(crate) struct Gone {
+    pub going: Going,
     pub at: usize,
     pub address: usize,
+    pub full: bool,
 }
 
 // A list of packets of 42 bytes, taken one after the other, while at least 2,112 bytes of the output are
@@ -121,35 +131,159 @@ fn take_all(
     ensures { λ r. ⌜ RanTo (ranFrom setting (length (now (out .entry))) from (now (store .entry)) (now (packets .entry))) r (now (store .exit)) (now (out .entry)) (now (out .exit)) ⌝ }
     ensures { λ r. ⌜ r .going .got .written ≤ length (now (out .entry)) ⌝ }
 {
+    let limit = out.len();
+    let t = go_on(setting, from, store, packets, 0, out, limit, true);
+    let a = t.going;
+    Taking {
+        going: a,
+        packets: t.at / PACKET,
+    }
+}
+
+// Packets from a place on, while there is room for what one can give in so many bytes of the output: of a reader of one stream
+// all of them, of one of two up to the next mark. The store is copied and copied back, so that the compiler knows that it lies
+// apart from packets and output.
+pub(crate) fn go_on(
+    setting: Setting,
+    from: Going,
+    kept: &mut [u8; STORE],
+    packets: &[u8],
+    start: usize,
+    out: &mut [u8],
+    limit: usize,
+    alone: bool,
+) -> Gone
+    requires { ⌜ Kept (from .got .run) (now kept) ⌝ }
+    requires { ⌜ Startable (now packets) start from limit (now out) ⌝ }
+    ensures { λ r. ⌜ WentOn setting alone (now (packets .entry)) limit start from (now (kept .entry)) (now (out .entry)) r (now (kept .exit)) (now (out .exit)) ⌝ }
+{
+    let mut store = *kept;
+    let gone = go_past(setting, from, &mut store, packets, start, out, limit, alone);
+    *kept = store;
+    gone
+}
+
+// The same, in the copy.
+fn go_past(
+    setting: Setting,
+    from: Going,
+    store: &mut [u8; STORE],
+    packets: &[u8],
+    start: usize,
+    out: &mut [u8],
+    limit: usize,
+    alone: bool,
+) -> Gone
+    requires { ⌜ Kept (from .got .run) (now store) ⌝ }
+    requires { ⌜ Startable (now packets) start from limit (now out) ⌝ }
+    ensures { λ r. ⌜ WentOn setting alone (now (packets .entry)) limit start from (now (store .entry)) (now (out .entry)) r (now (store .exit)) (now (out .exit)) ⌝ }
+{
     let mut a = from;
-    let mut at = 0;
+    let mut at = start;
+    while at < packets.len() {
+        let t = go_along(setting, a, store, packets, at, out, limit);
+        a = t.going;
+        at = t.at;
+        if t.full {
+            return Gone {
+                going: a,
+                at: at,
+                address: 256,
+                full: true,
+            };
+        }
+        if at < packets.len() {
+            if !alone {
+                return Gone {
+                    going: a,
+                    at: at,
+                    address: t.address,
+                    full: false,
+                };
+            }
+            let next = at + PACKET;
+            let page = a.page;
+            let v = pages::judge(setting, page, a.index, t.address, &packets[at..next]);
+            a = turn(v, a, store);
+            at = next;
+        }
+    }
+    Gone {
+        going: a,
+        at: at,
+        address: 256,
+        full: false,
+    }
+}
+
+// Packets from a place on up to the next mark.
+fn go_along(
+    setting: Setting,
+    from: Going,
+    store: &mut [u8; STORE],
+    packets: &[u8],
+    start: usize,
+    out: &mut [u8],
+    limit: usize,
+) -> Gone
+    requires { ⌜ Kept (from .got .run) (now store) ⌝ }
+    requires { ⌜ Startable (now packets) start from limit (now out) ⌝ }
+    ensures { λ r. ⌜ WentOn setting false (now (packets .entry)) limit start from (now (store .entry)) (now (out .entry)) r (now (store .exit)) (now (out .exit)) ⌝ }
+{
+    let mut a = from;
+    let mut at = start;
     while at < packets.len() {
         let got = a.got;
         let q = got.written;
-        if out.len() - q < ROOM {
-            return Taking {
+        if limit - q < ROOM {
+            return Gone {
                 going: a,
-                packets: at / PACKET,
+                at: at,
+                address: 256,
+                full: true,
             };
         }
         let met = pass_on(setting, packets, at);
         at = met.at;
-        if at < packets.len() {
-            let next = at + PACKET;
-            let page = a.page;
-            let v = pages::judge(setting, page, a.index, met.address, &packets[at..next]);
-            a = heed(v, a, store, &packets[at..next], out);
-            at = next;
+        let address = met.address;
+        if is_mark(setting, address) {
+            return Gone {
+                going: a,
+                at: at,
+                address: address,
+                full: false,
+            };
         }
+        let next = at + PACKET;
+        let y = (address / 8) as u8;
+        if y < 26 {
+            let page = a.page;
+            let v = pages::judge_y(page, a.index, y);
+            a = heed(v, a, store, &packets[at..next], out);
+        }
+        at = next;
     }
-    Taking {
+    Gone {
         going: a,
-        packets: at / PACKET,
+        at: at,
+        address: 256,
+        full: false,
     }
 }
 
+// Whether a packet with this address is a mark: one that can't be read, or a packet 0 of our magazine. Only at a mark can a page
+// be opened or shut.
+fn is_mark(setting: Setting, address: usize) -> bool
+    ensures { λ r. ⌜ r ≡ marks setting address ⌝ }
+{
+    if address > 255 {
+        return true;
+    }
+    address == (setting.magazine % 8) as usize
+}
+
 // The first packet from `from` on that isn't another magazine's; the end where there is none.
-pub(crate) fn pass_on(setting: Setting, packets: &[u8], from: usize) -> Met
+fn pass_on(setting: Setting, packets: &[u8], from: usize) -> Met
     requires { ⌜ from ≤ length (now packets) ⌝ }
     requires { ⌜ (length (now packets) - from) % packetLength ≡ 0 ⌝ }
     ensures { λ r. ⌜ PassedTo setting (now (packets .entry)) from r ⌝ }
@@ -167,13 +301,7 @@ pub(crate) fn pass_on(setting: Setting, packets: &[u8], from: usize) -> Met
 }
 
 // What the verdict says: the running block is dropped or not, and then the packet's bytes are read or not.
-pub(crate) fn heed(
-    v: Verdict,
-    a: Going,
-    store: &mut [u8; STORE],
-    packet: &[u8],
-    out: &mut [u8],
-) -> Going
+fn heed(v: Verdict, a: Going, store: &mut [u8; STORE], packet: &[u8], out: &mut [u8]) -> Going
     requires { ⌜ Kept (a .got .run) (now store) ⌝ }
     requires { ⌜ length (now packet) ≡ packetLength ⌝ }
     requires { ⌜ PacketRoom (a .got) (now out) ⌝ }
@@ -196,6 +324,26 @@ pub(crate) fn heed(
             got: next,
         };
     }
+    Going {
+        page: page,
+        index: v.index,
+        joined: joined,
+        got: got,
+    }
+}
+
+// What the verdict on a mark says: the running block is dropped or not, and no bytes are read.
+pub(crate) fn turn(v: Verdict, a: Going, store: &mut [u8; STORE]) -> Going
+    requires { ⌜ Kept (a .got .run) (now store) ⌝ }
+    requires { ⌜ v .reads ≡ false ⌝ }
+    ensures { λ r. ⌜ ((p : ℕ) (l out : List ℕ) → Heeded v p l (stateIn a (now (store .entry))) a r (now (store .exit)) out out) ⌝ }
+{
+    let was = a.got;
+    let running = was.run;
+    let page = v.page;
+    let ran = crate::held::is_running(running);
+    let joined = state::joined::spans(v, ran, a.joined);
+    let got = crate::held::lose(v.drops, was, store);
     Going {
         page: page,
         index: v.index,

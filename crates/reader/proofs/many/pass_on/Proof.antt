@@ -5,7 +5,7 @@ use native.Mathlib.Omega.{arith}
 use lib.ListN.{length}
 use denote.Ref.{now}
 use borrow.Author.Needs.{needs}
-use borrow.Author.Tests.{not-false}
+use borrow.Author.Tests.{not-true, not-false}
 use Rattle.reader.specs.Internal.{Passed}
 use Rattle.reader.proofs.Running.{passed-none, passed-one}
 use Rattle.reader.proofs.many.pass_on.Statement.{statement}
@@ -23,7 +23,11 @@ loop-holds c =
     passed-none (a .setting) (now (a .packets)) (a .from) (c .before .pre .0) (c .before .pre .1)
 
 returns : tie.Need-returns Inv-loop μ-loop
-returns c = (c .before .before .before .before .before .loop .inv, λ h. c .before .before .address .ensures)
+returns c = (
+  c .before .before .before .before .before .loop .inv,
+  λ h. (c .before .before .address .ensures, sym (c .before .passes-by .ensures) ∙ not-true _ (c .if1 .taken)),
+  λ h. omega arith,
+)
 
 loop-less : tie.Need-loop-less Inv-loop μ-loop
 loop-less c = search needs
@@ -36,7 +40,7 @@ loop-again c =
     (c .before .before .address .ensures) (sym (c .before .passes-by .ensures) ∙ not-false _ (c .if1 .left))
 
 returns-2 : tie.Need-returns-2 Inv-loop μ-loop
-returns-2 c = (c .before .loop .inv, λ h. absurd (omega arith))
+returns-2 c = (c .before .loop .inv, λ h. absurd (omega arith), λ h. absurd (omega (arith, h)))
 
 pub pass-on-spec : {M : Type 1} → statement M
 pass-on-spec =

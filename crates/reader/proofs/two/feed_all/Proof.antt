@@ -7,7 +7,7 @@ use denote.Ref.{now}
 use borrow.Author.Needs.{needs}
 use borrow.Author.Tests.{not-true, not-false}
 use Rattle.walk.specs.Store.{storeLength}
-use Rattle.reader.proofs.AnsweringTwo.{both-kept, not-whole-two, not-ready-two, no-room-two, taken-two}
+use Rattle.reader.proofs.AnsweringTwo.{both-fits, both-kept, not-whole-two, not-ready-two, no-room-two, taken-two}
 use Rattle.reader.proofs.two.feed_all.Statement.{statement}
 use Rattle.reader.proofs.two.feed_all.Tie as tie
 
@@ -39,7 +39,7 @@ take-all-requires c κs =
     let r = c .before .before .before .before .before .before .before .is-ready .ensures in
     let n = not-false _ (c .before .before .before .before .before .before .if2 .left) in
     let k = both-kept (b .args .setting) (b .args .readers) (r .0) n (r .1 n) (long1 b) (long2 b) in
-    rw (c .before .before .before .before .start .ensures) (k .0, (k .1, (omega (arith, c .before .before .before .before .before .before .before .before .before .before .before .before .before .before .if1 .left), (length-replicate {A = ℕ} 2112 0, (refl, refl, refl)))))
+    rw (c .before .before .before .before .start .ensures) (both-fits (b .args .setting) (b .args .readers) (r .0) n, (k .0, (k .1, (omega (arith, c .before .before .before .before .before .before .before .before .before .before .before .before .before .before .if1 .left), (length-replicate {A = ℕ} 4224 0, (refl, refl, refl))))))
 
 returns-4 : tie.Need-returns-4
 returns-4 c =
