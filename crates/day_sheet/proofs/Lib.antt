@@ -4,6 +4,7 @@ pub mod AnyOrder
 pub mod Around
 pub mod Asked
 pub mod Calls
+pub mod Carried
 pub mod Choosing
 pub mod Comparing
 pub mod Dropped

@@ -13,3 +13,5 @@ pub mod Saying
 pub mod Faults
 pub mod Dropped
 pub mod Internal
+pub mod Moving
+pub mod Carrying

@@ -4,11 +4,14 @@ pub mod adding;
 pub mod dropping;
 mod entries;
 pub mod joining;
+pub mod moving;
 
 pub use adding::add;
 pub use dropping::drop;
 pub use joining::join;
 pub use joining::next_turn;
+pub use moving::down;
+pub use moving::up;
 ghost use mathlib.Core.Path.{_≡_};
 ghost use mathlib.Core.List.{_∷_, []};
 ghost use Prim.Native.Nat.{_≤_};
