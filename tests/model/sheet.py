@@ -203,7 +203,7 @@ def down(data, room=65536):
 
 # --- the program ----------------------------------------------------------------
 
-KEPT = OLD                      # the form of the files that it keeps
+KEPT = NEW                      # the form of the files that it keeps
 
 
 def fed(form, data, captures, setting=DESK):

@@ -61,6 +61,31 @@ def runs(dice):
     yield "some", "", DESK, entries(dice, 9), some
     yield "full", "", DESK, sheet.written(KEPT, small(63)), [(1, "last.t42", sent(DESK, [CASE_G._replace(network=255)]))]
     yield "long", "", DESK, entries(dice, 30), [(DAY + i, f"long{i}.t42", night(dice, 9, 25)) for i in range(3)]
+    yield from runs_mended(Dice(41))
+
+
+def flipped(dice, data, of):
+    """A bit of about one byte of so many is another; never two of one byte."""
+    return bytes(byte ^ (1 << dice.below(8)) if dice.below(of) == 0 else byte for byte in data)
+
+
+def runs_mended(dice):
+    """Tables that come again with more mended bytes, with fewer and with none: within a capture, in captures of one start and of others, and of what stands."""
+    tables = [some_table(dice, most=2)._replace(network=dice.below(3)) for _ in range(5)]
+    tables += [t._replace(copyright=1 - t.copyright) for t in tables[:2]]                # equal but for what the lines don't say
+    clean = sent(DESK, tables)
+    rough = b"".join(flipped(dice, clean, of) for of in (10, 25, 12, 40, 15, 30, 12))
+    worse = b"".join(flipped(dice, clean, of) for of in (8, 10))
+    stood, line = sheet.fed(KEPT, b"", [(DAY, rough)])
+    assert "same=0" not in line and "replaced=0" not in line and any(entry.mended for entry in sheet.read(KEPT, stood))
+    lower, higher = ([entry._replace(mended=number) for entry in sheet.read(KEPT, stood)] for number in (1, 2051))
+    yield "mended", "", DESK, None, [(DAY, "rough.t42", rough)]
+    yield "mended-falls", "", DESK, None, [(DAY, "worse.t42", worse), (DAY, "rough.t42", rough), (DAY, "clean.t42", clean)]
+    yield "mended-rises", "", DESK, None, [(DAY, "clean.t42", clean), (DAY, "rough.t42", rough), (DAY, "worse.t42", worse)]
+    yield "mended-later", "", DESK, sheet.fed(KEPT, b"", [(DAY, clean)])[0], [(DAY + 1, "worse.t42", worse)]        # a rough capture that started later takes a clean one's place
+    yield "mended-older", "", DESK, sheet.fed(KEPT, b"", [(DAY, worse)])[0], [(DAY - 1, "clean.t42", clean), (DAY, "rough.t42", rough)]
+    yield "mended-stands", "", DESK, sheet.written(KEPT, lower), [(DAY, "rough.t42", rough)]
+    yield "mended-most", "", DESK, sheet.written(KEPT, higher), [(DAY, "rough.t42", rough), (DAY, "worse.t42", worse)]
 
 
 def night_of_two(dice, networks, count):
@@ -136,7 +161,7 @@ def drops(folder, dice):
         (folder / f"{name}.before").write_bytes(sheet.written(KEPT, before))
         (folder / f"{name}.after").write_bytes(sheet.written(KEPT, [e for e in before if e != entry]))
         lines.append((entry, name))
-    for name, data, no in (("d66", sheet.written(KEPT, many), 21), ("cut", sheet.written(KEPT, many[:3])[:-1], 20), ("over", b"x" * 16385, 21)):
+    for name, data, no in (("d66", sheet.written(KEPT, many), 21), ("cut", sheet.written(KEPT, many[:3])[:-1], 20), ("over", b"x" * 17153, 21)):
         (folder / f"{name}.before").write_bytes(data)
         (folder / f"{name}.no").write_text(str(no))
         lines.append((many[1], name))

@@ -178,7 +178,7 @@ def changes_each_time(times):
     def heed(number, first, back):
         if number == FSYNC and back is not None and state["times"] < times:
             state["times"] += 1
-            (folder.parent / "other").write_bytes(b"stamp=%d\nkind=LI\nnetwork=255\nblock=0\n\n" % state["times"])
+            (folder.parent / "other").write_bytes(b"stamp=%d\nmended=0\nkind=LI\nnetwork=255\nblock=0\n\n" % state["times"])
             (folder.parent / "other").rename(folder / "day")
         return None
 
@@ -188,7 +188,7 @@ def changes_each_time(times):
 
 
 def while_it_changes():
-    last = b"stamp=%d\nkind=LI\nnetwork=255\nblock=0\n\n"
+    last = b"stamp=%d\nmended=0\nkind=LI\nnetwork=255\nblock=0\n\n"
     day, wrote, said = changes_each_time(16)
     if last % 16 not in day or said or not wrote.endswith(f"bytes={len(day)}\n") or day.count(b"stamp=") == 1:
         sys.exit(f"a sheet that changes 16 times: wrote {wrote!r} and said {said!r}")

@@ -2,6 +2,7 @@
 // against the space that they count in, so that no proof here has to know the room's definitions; a count that doesn't fit never comes.
 use crate::kept;
 use crate::says;
+use crate::standing;
 use crate::work;
 use crate::work::Work;
 use answer::Answer;
@@ -12,6 +13,7 @@ use captures::PIECE;
 use captures::RECORDS;
 use frames::Read;
 use packet::two::Streams;
+use sheet_entry::Form;
 use sight::PAGES;
 ghost use Prim.Native.Nat.{_≤_};
 
@@ -316,10 +318,11 @@ fn add_record(
     }
     let answer = table::read_block(application, record, form);
     match answer {
-        Read::Taken { written, mended: _ } => {
+        Read::Taken { written, mended } => {
             take(
                 added,
                 source,
+                mended,
                 told::front(form, written),
                 sheet,
                 spare,
@@ -330,29 +333,31 @@ fn add_record(
     }
 }
 
-// A table that was accepted is kept and added.
+// A table that was accepted, with so many mended bytes, is kept and added.
 fn take(
     added: Added,
     source: Source,
+    mended: u16,
     form: &[u8],
     sheet: &mut [u8],
     spare: &mut [u8],
     kept: &mut [u8],
 ) -> Added {
-    let one = keep(added.work, source, form, kept);
-    add_form(one.work, one.at, source, form, sheet, spare, kept)
+    let one = keep(added.work, source, mended, form, kept);
+    add_form(one.work, one.at, source, mended, form, sheet, spare, kept)
 }
 
-// Keeps a table: its form, unless that was kept before, and which it is.
-fn keep(work: Work, source: Source, form: &[u8], kept: &mut [u8]) -> Kept {
+// Keeps a table: its form, unless that was kept before, which it is, and its number where that fell.
+fn keep(work: Work, source: Source, mended: u16, form: &[u8], kept: &mut [u8]) -> Kept {
     let at = kept::find(kept, work.since, work.kept, work.next, form);
     let one = keep_form(work, at, source, form, kept);
-    note(one.work, one.at, kept)
+    note(one.work, one.at, mended, kept)
 }
 
-fn note(work: Work, at: usize, kept: &mut [u8]) -> Kept {
-    let is_noted = kept::note(kept, work.came, at);
-    let mut work = work;
+fn note(work: Work, at: usize, mended: u16, kept: &mut [u8]) -> Kept {
+    let has_fallen = kept::is_fallen(kept, at, mended);
+    let mut work = note_number(work, has_fallen, mended, kept);
+    let is_noted = kept::note(kept, work.came, at, has_fallen);
     work.next = kept::after(at);
     if is_noted {
         work.came = kept::after(work.came);
@@ -360,6 +365,18 @@ fn note(work: Work, at: usize, kept: &mut [u8]) -> Kept {
     }
     work.whole = false;
     Kept { work, at }
+}
+
+fn note_number(work: Work, has_fallen: bool, mended: u16, kept: &mut [u8]) -> Work {
+    if !has_fallen {
+        return work;
+    }
+    if kept::keep_number(kept, work.fallen, mended) {
+        return work::falls(work);
+    }
+    let mut work = work;
+    work.whole = false;
+    work
 }
 
 // A form that isn't kept yet gets the next slot.
@@ -425,21 +442,57 @@ fn add_kept(
     if added.no > 0 {
         return added;
     }
+    add_noted(added.work, i, form, sheet, spare, kept)
+}
+
+fn add_noted(
+    work: Work,
+    i: usize,
+    form: &mut [u8; FORM],
+    sheet: &mut [u8],
+    spare: &mut [u8],
+    kept: &mut [u8],
+) -> Added {
     let at = kept::noted(kept, i);
+    let work = fall_again(work, i, at, kept);
+    add_slot(work, at, form, sheet, spare, kept)
+}
+
+// The form in a slot, with the least number with which it came so far.
+fn add_slot(
+    work: Work,
+    at: usize,
+    form: &mut [u8; FORM],
+    sheet: &mut [u8],
+    spare: &mut [u8],
+    kept: &mut [u8],
+) -> Added {
+    let mended = kept::least_at(kept, at);
     let long = copy_form(kept, at, form);
     let source = Source {
         stamp: kept::stamp_at(kept, at),
         word: kept::word_at(kept, at),
     };
     add_form(
-        added.work,
+        work,
         at,
         source,
+        mended,
         told::front(form, long),
         sheet,
         spare,
         kept,
     )
+}
+
+// A number that fell when the table came falls again.
+fn fall_again(work: Work, i: usize, at: usize, kept: &mut [u8]) -> Work {
+    if !kept::has_fallen(kept, i) {
+        return work;
+    }
+    let mended = kept::number_at(kept, work.fallen);
+    kept::put_least(kept, at, mended);
+    work::falls(work)
 }
 
 fn end_again(added: Added) -> Work {
@@ -466,17 +519,18 @@ fn add_form(
     work: Work,
     at: usize,
     source: Source,
+    mended: u16,
     form: &[u8],
     sheet: &mut [u8],
     spare: &mut [u8],
     kept: &mut [u8],
 ) -> Added {
     let work = work::table(work);
-    let stands = kept::stands(kept, at, work.changes);
+    let stands = kept::stands(kept, at, mended, work.changes);
     if stands != kept::UNKNOWN {
         return done(work::stays(work, stands == kept::SAME));
     }
-    add_other(work, at, source, form, sheet, spare, kept)
+    add_other(work, at, source, mended, form, sheet, spare, kept)
 }
 
 fn done(work: Work) -> Added {
@@ -488,10 +542,28 @@ fn done(work: Work) -> Added {
     }
 }
 
+// Adds a table to the sheet. What stands there of it is asked before, as long as that can be seen.
 fn add_other(
     work: Work,
     at: usize,
     source: Source,
+    mended: u16,
+    form: &[u8],
+    sheet: &mut [u8],
+    spare: &mut [u8],
+    kept: &mut [u8],
+) -> Added {
+    let stamp = source.stamp;
+    let stood = standing::number(stamp, form, told::front(sheet, work.length), spare);
+    add_beside(work, at, source, mended, stood, form, sheet, spare, kept)
+}
+
+fn add_beside(
+    work: Work,
+    at: usize,
+    source: Source,
+    mended: u16,
+    stood: u16,
     form: &[u8],
     sheet: &mut [u8],
     spare: &mut [u8],
@@ -499,15 +571,15 @@ fn add_other(
 ) -> Added {
     let stamp = source.stamp;
     let answer = day_sheet::add(
-        sheet_entry::Form::Old,
+        Form::New,
         stamp,
-        0,
+        mended,
         told::front(sheet, work.length),
         form,
         spare,
     );
     match answer {
-        Answer::Done(n) => done(settle(work, at, stamp, form, n, sheet, spare, kept)),
+        Answer::Done(n) => done(settle(work, at, mended, stood, n, sheet, spare, kept)),
         Answer::Refused(r) => Added {
             work,
             no: r.no,
@@ -517,40 +589,31 @@ fn add_other(
     }
 }
 
-// The sheet with the table is in the first n bytes of the spare space.
+// The sheet with the table is in the first n bytes of the spare space. Where an entry with its stamp and lines stood, that has this number.
 fn settle(
     work: Work,
     at: usize,
-    stamp: u32,
-    form: &[u8],
+    mended: u16,
+    stood: u16,
     n: usize,
     sheet: &mut [u8],
-    spare: &mut [u8],
+    spare: &[u8],
     kept: &mut [u8],
 ) -> Work {
     if texts::same(told::front(spare, n), told::front(sheet, work.length)) {
-        let is_same = is_there(stamp, form, told::front(sheet, work.length), spare);
-        kept::judge(kept, at, is_same, work.changes);
-        return work::stays(work, is_same);
+        kept::judge(kept, at, stood, work.changes);
+        return work::stays(work, stood != kept::NO_NUMBER);
     }
     lent_bytes::copy(spare, 0, n, sheet, 0);
-    let work = work::changed(work, n, texts::entries(told::front(spare, n)) as u64);
-    kept::judge(kept, at, true, work.changes);
+    let work = changed(work, stood, n, spare);
+    kept::judge(kept, at, mended, work.changes);
     work
 }
 
-// Whether the table's entry stands in the sheet: its text is that of a sheet with no other.
-fn is_there(stamp: u32, form: &[u8], sheet: &[u8], spare: &mut [u8]) -> bool {
-    let answer = day_sheet::add(
-        sheet_entry::Form::Old,
-        stamp,
-        0,
-        told::front(sheet, 0),
-        form,
-        spare,
-    );
-    match answer {
-        Answer::Done(n) => texts::holds(sheet, told::front(spare, n)),
-        Answer::Refused(_) => false,
+// The sheet has n bytes now. Where the entry stood but for its number, nothing else has changed.
+fn changed(work: Work, stood: u16, n: usize, spare: &[u8]) -> Work {
+    if stood != kept::NO_NUMBER {
+        return work::lowered(work, n);
     }
+    work::changed(work, n, texts::entries(told::front(spare, n)) as u64)
 }

@@ -4,11 +4,12 @@ use crate::help::PROGRAM;
 use crate::says;
 use answer::Answer;
 use captures::Got;
+use sheet_entry::Form;
 use sheet_file::kinds;
 use sheet_file::kinds::NOT_PLAIN;
 
 // The most that is printed: two sheets together.
-const PRINT: usize = 32768;
+const PRINT: usize = 34304;
 
 // A sheet that was read, or couldn't be.
 struct Read {
@@ -81,7 +82,7 @@ fn print(
     let mut out = [0u8; PRINT];
     let first = told::front(first, a);
     let second = told::front(second, b);
-    let found = changes::compare(sheet_entry::Form::Old, first, second, &mut out);
+    let found = changes::compare(Form::New, first, second, &mut out);
     let sheet = found.sheet;
     let answer = found.answer;
     match answer {

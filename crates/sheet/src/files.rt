@@ -4,15 +4,16 @@ use crate::work;
 use crate::work::Work;
 use answer::Answer;
 use captures::Got;
+use sheet_entry::Form;
 use sheet_file::kinds;
 use sheet_file::kinds::NOT_PLAIN;
 
 // One more than the most that a sheet has, so that a longer one is seen.
-pub const SHEET: usize = 16385;
+pub const SHEET: usize = 17153;
 
 // Whether the sheet is in form, in order and within its limits; what it isn't is told.
 pub fn is_judged(name: &[u8], sheet: &[u8], spare: &mut [u8]) -> bool {
-    let answer = day_sheet::rewrite(sheet_entry::Form::Old, sheet, spare);
+    let answer = day_sheet::rewrite(Form::New, sheet, spare);
     match answer {
         Answer::Done(_) => true,
         Answer::Refused(r) => {
@@ -88,12 +89,7 @@ fn fill_sheet(fd: i32, sheet: &mut [u8; SHEET]) -> Got {
 }
 
 fn join(name: &[u8], other: &[u8], work: Work, sheet: &mut [u8], spare: &mut [u8]) -> Work {
-    let answer = day_sheet::join(
-        sheet_entry::Form::Old,
-        told::front(sheet, work.length),
-        other,
-        spare,
-    );
+    let answer = day_sheet::join(Form::New, told::front(sheet, work.length), other, spare);
     match answer {
         Answer::Done(n) => {
             lent_bytes::copy(spare, 0, n, sheet, 0);
@@ -117,7 +113,7 @@ pub fn drop(
     spare: &mut [u8],
 ) -> Work {
     let answer = day_sheet::drop(
-        sheet_entry::Form::Old,
+        Form::New,
         network,
         kind,
         block,

@@ -1,14 +1,16 @@
 // The tables that came, in their order, so that they can be added anew to a sheet that has changed meanwhile: of each capture every form once, with its stamp and the word that
 // names the capture, and for each table which form it was. Tables repeat, so a form also has how it stood to the sheet when it was last added: one that
-// left the sheet as it is changes nothing again, until the sheet changes.
+// left the sheet as it is changes nothing again, until the sheet changes, or until it comes with fewer mended bytes than the entry that stands.
+//
+// A table whose form came before with as few mended bytes, or fewer, can't lower what stands, so its own number is let go: only those that fall are kept, in their order.
 ghost use mathlib.Core.Path.{_≡_};
 ghost use Prim.Native.Nat.{_≤_, _<_};
 
 // So many forms are kept.
 const SLOTS: usize = 512;
 
-// A slot: the form's length, low byte first; how it stands; at which change of the sheet that was; its stamp; the capture's word; and the form,
-// of which none has more bytes than 1,068.
+// A slot: the form's length, low byte first; how it stands; at which change of the sheet that was; its stamp; the capture's word; the number of mended bytes that
+// stands; the least with which it came; and the form, of which none has more bytes than 1,068.
 const SLOT: usize = 1088;
 
 const STANDS: usize = 2;
@@ -19,14 +21,29 @@ const STAMP: usize = 7;
 
 const WORD: usize = 11;
 
-const HEAD: usize = 15;
+const STOOD: usize = 15;
+
+const LEAST: usize = 17;
+
+const HEAD: usize = 19;
 
 // Behind the slots stands which form each table was, two bytes each: so many are kept.
 const BEHIND: usize = 557056;
 
 const TABLES: usize = 131072;
 
-pub const KEPT: usize = 819200;
+// Of a table that came with fewer mended bytes than its form before, the form has so much more.
+const FALLS: u16 = 32768;
+
+// Behind the tables stand the numbers that fell, two bytes each: so many are kept.
+const NUMBERS: usize = 819200;
+
+const FALLEN: usize = 4096;
+
+pub const KEPT: usize = 827392;
+
+// More than every number of mended bytes.
+pub const NO_NUMBER: u16 = 65535;
 
 // How a form stands: it isn't known, it is what stands in the sheet, or it lost to that.
 pub const UNKNOWN: u8 = 0;
@@ -98,8 +115,8 @@ fn slot(kept: &[u8], at: usize) -> &[u8] {
     &kept[from..from + SLOT]
 }
 
-// How a form stands to the sheet that has changed so often.
-pub fn stands(kept: &[u8], at: usize, changes: u32) -> u8 {
+// How a form with so many mended bytes stands to the sheet that has changed so often. One that is what stands is known from the number that stands on.
+pub fn stands(kept: &[u8], at: usize, mended: u16, changes: u32) -> u8 {
     let slot = slot(kept, at);
     if slot.len() < HEAD {
         return UNKNOWN;
@@ -107,7 +124,13 @@ pub fn stands(kept: &[u8], at: usize, changes: u32) -> u8 {
     if number(slot, CHANGES) != changes {
         return UNKNOWN;
     }
-    slot[STANDS]
+    if slot[STANDS] != SAME {
+        return slot[STANDS];
+    }
+    if mended < half(slot, STOOD) {
+        return UNKNOWN;
+    }
+    SAME
 }
 
 pub fn stamp_at(kept: &[u8], at: usize) -> u32 {
@@ -116,6 +139,23 @@ pub fn stamp_at(kept: &[u8], at: usize) -> u32 {
 
 pub fn word_at(kept: &[u8], at: usize) -> usize {
     number(slot(kept, at), WORD) as usize
+}
+
+// The least number of mended bytes with which the form in a slot came.
+pub fn least_at(kept: &[u8], at: usize) -> u16 {
+    half(slot(kept, at), LEAST)
+}
+
+// The number in two bytes at a place, low byte first; 0 where there are none.
+fn half(bytes: &[u8], at: usize) -> u16 {
+    if bytes.len() < 2 {
+        return 0;
+    }
+    if bytes.len() - 2 < at {
+        return 0;
+    }
+    let sum = wide(bytes[at]) + 256 * wide(bytes[at + 1]);
+    (sum % 65536) as u16
 }
 
 // The number in four bytes at a place, low byte first; 0 where there are none.
@@ -142,18 +182,25 @@ fn bytes_of(n: usize) -> [u8; 4] {
     ]
 }
 
-// Says how the form in a slot stands to the sheet that has changed so often.
-pub fn judge(kept: &mut [u8], at: usize, is_same: bool, changes: u32) {
+// Says how the form in a slot stands to the sheet that has changed so often, and which number stands where it is the same; else there is no number.
+pub fn judge(kept: &mut [u8], at: usize, stood: u16, changes: u32) {
     if at >= SLOTS {
         return;
     }
-    let head = [mark(is_same)];
+    let head = [mark(stood)];
     lent_bytes::copy(&head, 0, 1, kept, at * SLOT + STANDS);
     let head = bytes_of(changes as usize);
     lent_bytes::copy(&head, 0, 4, kept, at * SLOT + CHANGES);
+    put_half(kept, at * SLOT + STOOD, stood);
 }
 
-// Keeps a form in a slot, and answers whether there was room for it.
+// Puts a number of two bytes at a place, low byte first.
+fn put_half(kept: &mut [u8], at: usize, number: u16) {
+    let two = [(number % 256) as u8, (number / 256) as u8];
+    lent_bytes::copy(&two, 0, 2, kept, at);
+}
+
+// Keeps a form in a slot, and answers whether there was room for it. No number came with it yet.
 pub fn keep(kept: &mut [u8], at: usize, stamp: u32, word: usize, form: &[u8]) -> bool {
     if at >= SLOTS {
         return false;
@@ -172,40 +219,92 @@ pub fn keep(kept: &mut [u8], at: usize, stamp: u32, word: usize, form: &[u8]) ->
     lent_bytes::copy(&four, 0, 4, kept, from + STAMP);
     let four = bytes_of(word);
     lent_bytes::copy(&four, 0, 4, kept, from + WORD);
+    put_half(kept, from + LEAST, NO_NUMBER);
     lent_bytes::copy(form, 0, form.len(), kept, from + HEAD);
     true
 }
 
-// Keeps which form a table was, and answers whether there was room for it.
-pub fn note(kept: &mut [u8], i: usize, at: usize) -> bool {
+// Whether a number is less than every one with which the form in a slot came; then it is the least.
+pub fn is_fallen(kept: &mut [u8], at: usize, mended: u16) -> bool {
+    if at >= SLOTS {
+        return false;
+    }
+    if least_at(kept, at) <= mended {
+        return false;
+    }
+    put_least(kept, at, mended);
+    true
+}
+
+// The form in a slot comes with this number.
+pub fn put_least(kept: &mut [u8], at: usize, mended: u16) {
+    if at >= SLOTS {
+        return;
+    }
+    put_half(kept, at * SLOT + LEAST, mended);
+}
+
+// Keeps a number that fell, and answers whether there was room for it.
+pub fn keep_number(kept: &mut [u8], i: usize, mended: u16) -> bool {
+    if i >= FALLEN {
+        return false;
+    }
+    put_half(kept, NUMBERS + 2 * i, mended);
+    true
+}
+
+// One of the numbers that fell.
+pub fn number_at(kept: &[u8], i: usize) -> u16 {
+    if i >= FALLEN {
+        return 0;
+    }
+    half(kept, NUMBERS + 2 * i)
+}
+
+// Keeps which form a table was and whether its number fell, and answers whether there was room for it.
+pub fn note(kept: &mut [u8], i: usize, at: usize, has_fallen: bool) -> bool {
     if i >= TABLES {
         return false;
     }
     if at >= SLOTS {
         return false;
     }
-    let two = [(at % 256) as u8, (at / 256 % 256) as u8];
-    lent_bytes::copy(&two, 0, 2, kept, BEHIND + 2 * i);
+    let falls = falls_of(has_fallen);
+    put_half(kept, BEHIND + 2 * i, (at % SLOTS) as u16 + falls);
     true
+}
+
+fn falls_of(has_fallen: bool) -> u16
+    ensures { λ r. ⌜ r ≤ 32768 ⌝ }
+{
+    if has_fallen {
+        return FALLS;
+    }
+    0
 }
 
 // Which form a table was.
 pub fn noted(kept: &[u8], i: usize) -> usize {
-    if i >= TABLES {
-        return SLOTS;
-    }
-    let at = BEHIND + 2 * i;
-    if kept.len() < at + 2 {
-        return SLOTS;
-    }
-    wide(kept[at]) + 256 * wide(kept[at + 1])
+    (noted_at(kept, i) % FALLS) as usize
 }
 
-fn mark(is_same: bool) -> u8 {
-    if is_same {
-        return SAME;
+// Whether a table's number fell.
+pub fn has_fallen(kept: &[u8], i: usize) -> bool {
+    noted_at(kept, i) >= FALLS
+}
+
+fn noted_at(kept: &[u8], i: usize) -> u16 {
+    if i >= TABLES {
+        return 0;
     }
-    OLDER
+    half(kept, BEHIND + 2 * i)
+}
+
+fn mark(stood: u16) -> u8 {
+    if stood == NO_NUMBER {
+        return OLDER;
+    }
+    SAME
 }
 
 fn wide(b: u8) -> usize

@@ -13,6 +13,7 @@ mod help;
 mod kept;
 mod lines;
 mod says;
+mod standing;
 mod work;
 
 use capture::Source;

@@ -103,7 +103,7 @@ pub fn refuse_compared(name: &[u8], no: u8, at: usize, sheet: &[u8]) {
         return;
     }
     if no == 21 {
-        say(b": more than 64 entries or 16384 bytes\n");
+        say(b": more than 64 entries or 17152 bytes\n");
         return;
     }
     say(b"\n");
@@ -136,7 +136,7 @@ fn refuse(name: &[u8], no: u8, at: usize) {
 fn say_cause(no: u8) {
     if no == 21 {
         say(
-            b": more than 64 entries or 16384 bytes; the sheet stays as it was, so it is not today's",
+            b": more than 64 entries or 17152 bytes; the sheet stays as it was, so it is not today's",
         );
         return;
     }

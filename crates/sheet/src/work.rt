@@ -13,14 +13,15 @@ pub struct Work {
     pub replaced: u64,
     pub older: u64,
     pub same: u64,
-    // How many forms are kept, from which on they are this capture's, and at which one looks first; how many tables they came in; and
-    // whether that is all that came.
+    // How many forms are kept, from which on they are this capture's, and at which one looks first; how many tables they came in, and how many
+    // numbers of theirs fell; and whether that is all that came.
     pub kept: usize,
     pub since: usize,
     pub next: usize,
     pub came: usize,
+    pub fallen: usize,
     pub whole: bool,
-    // How often the sheet has changed.
+    // How often the sheet has changed, but for a number alone.
     pub changes: u32,
 }
 
@@ -40,12 +41,13 @@ pub fn start(length: usize, entries: u64) -> Work {
         since: 0,
         next: 0,
         came: 0,
+        fallen: 0,
         whole: true,
         changes: 0,
     }
 }
 
-// The same work, to be done anew with a sheet of so many bytes and entries: what came is kept.
+// The same work, to be done anew with a sheet of so many bytes and entries: what came is kept, and its numbers fall anew.
 pub fn anew(work: Work, length: usize, entries: u64) -> Work {
     let mut fresh = start(length, entries);
     fresh.captures = work.captures;
@@ -101,6 +103,23 @@ pub fn changed(work: Work, length: usize, entries: u64) -> Work {
         return work;
     }
     work.replaced = one_more(work.replaced);
+    work
+}
+
+// A table that only lowered the number of the entry that stands: what is known of other forms stays.
+pub fn lowered(work: Work, length: usize) -> Work {
+    let mut work = work;
+    work.length = length;
+    work.replaced = one_more(work.replaced);
+    work
+}
+
+// One number more that fell.
+pub fn falls(work: Work) -> Work {
+    let mut work = work;
+    if work.fallen < usize::MAX {
+        work.fallen += 1;
+    }
     work
 }
 
