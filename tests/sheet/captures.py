@@ -4,7 +4,8 @@
 is one), NAME.after (the sheet afterwards), NAME.line (what is printed) and NAME.said (what is said of captures that gave nothing). And for late files: orders (every order of four captures, a
 line each), four.after; twenty (a stamp and a capture, a line each), twenty.after, groupings (pairs of sheets to be joined, the second
 into the first, a grouping after each empty line). And of two sheets that are compared NAME.first and NAME.second, with NAME.print, or NAME.fault where one
-of them is refused: which, the number and the offset."""
+of them is refused: which, the number and the offset. And of sheets that are moved NAME.up or NAME.down, by the task, with NAME.moved, or NAME.refused: the number
+and the offset."""
 
 import itertools
 import pathlib
@@ -21,7 +22,7 @@ from cases.table import CASE_G, some_table
 from model import Refused, both, changes, guide, pes, sheet, streams, survey, table
 from model.guide import Setting
 from model.listing import DESK
-from model.sheet import KEPT
+from model.sheet import KEPT, NEW, OLD
 from samples import EVENING, MORNING, TWO, aired, aired_both, both_streams, packets_in
 
 DAY = 1794787200
@@ -148,6 +149,7 @@ def main(folder):
     drops(folder, dice)
     late(folder, dice)
     compares(folder, dice)
+    moves(folder, Dice(40))
 
 
 def drops(folder, dice):
@@ -208,6 +210,31 @@ def compares(folder, dice):
             (folder / f"{name}.print").write_bytes(changes.compare(KEPT, first, second))
         except Refused as refused:
             (folder / f"{name}.fault").write_text(f"{changes.at_fault(KEPT, first, second)} {refused.no} {refused.at}\n")
+
+
+def moves(folder, dice):
+    """Sheets moved up and down: what each wrote, both limits and one more, numbers that would be lost, and each form where the other is asked for."""
+    def of(count, number=0, descriptors=()):
+        return [sheet.Entry(1, CASE_G._replace(network=n, copyright=0, descriptors=list(descriptors) or CASE_G.descriptors), number) for n in range(count)]
+    some = [entry._replace(mended=0) for entry in FIVE]
+    lost = [*some[:2], some[2]._replace(mended=1), some[3]._replace(mended=2051), *some[4:]]
+    old, new = sheet.written(OLD, some), sheet.written(NEW, some)
+    many = of(64, 0, [(d, [0x656E67, 0x000100 + d]) for d in range(6)])
+    narrow = many[:next(k for k in range(64, 0, -1) if len(sheet.written(OLD, many[:k])) <= 16384)]
+    wide = [*narrow, sheet.Entry(1, CASE_G._replace(network=255, copyright=0, descriptors=[]), 0)]
+    assert 16384 < len(sheet.written(OLD, wide)) and len(sheet.written(NEW, wide)) <= 17152
+    cases = {"none": b"", "old": old, "new": new, "lost": sheet.written(NEW, lost), "first": sheet.written(NEW, [some[0]._replace(mended=7)]), "cut-old": old[:-1], "cut-new": new[:-1],
+             "64-old": sheet.written(OLD, of(64)), "64-new": sheet.written(NEW, of(64)), "65-old": sheet.written(OLD, of(65)), "65-new": sheet.written(NEW, of(65)), "65-lost": sheet.written(NEW, of(65, 3)),
+             "long-old": sheet.written(OLD, narrow), "long-new": sheet.written(NEW, narrow), "over-old": sheet.written(OLD, wide), "over-new": sheet.written(NEW, wide),
+             "over-lost": sheet.written(NEW, [*wide[:-1], wide[-1]._replace(mended=9)])}
+    cases.update({f"some{i}": sheet.written(dice.pick([OLD, NEW]), [entry._replace(mended=0) for entry in some_sheet(dice, dice.below(9), 5)]) for i in range(6)})
+    for name, data in cases.items():
+        for task, move in (("up", sheet.up), ("down", sheet.down)):
+            (folder / f"{name}.{task}").write_bytes(data)
+            try:
+                (folder / f"{name}.{task}.moved").write_bytes(move(data))
+            except Refused as refused:
+                (folder / f"{name}.{task}.refused").write_text(f"{refused.no} {refused.at}\n")
 
 
 main(pathlib.Path(sys.argv[1]))

@@ -1,8 +1,8 @@
 #!/usr/bin/env python3
 """Ends `sheet` at its writes and between them: tests/sheet/ended.py FOLDER OLD NEW START WORD.. where START WORD.. turns FOLDER/day from
 OLD's bytes to NEW's. After each end the file is one of the two, never another; a temporary file is left only where a signal killed it.
-Where calls of the system can be watched, also: the order of those by which the file is replaced, a read that fails in the middle of a capture, and a
-sheet that changes each time that the new one is written."""
+Where calls of the system can be watched, also: the order of those by which the file is replaced, a read that fails in the middle of a capture (of `add`), and a
+sheet that changes each time that the new one is written (where that is moved, each in the form that it is moved from)."""
 
 import ctypes
 import os
@@ -16,6 +16,9 @@ import time
 
 folder, old, new = pathlib.Path(sys.argv[1]), *(pathlib.Path(name).read_bytes() for name in sys.argv[2:4])
 command = sys.argv[4:]
+task = next(word for word in command[1:] if word in ("add", "up", "down"))
+OLD, NEW = b"stamp=%d\nkind=LI\nnetwork=255\nblock=0\n\n", b"stamp=%d\nmended=0\nkind=LI\nnetwork=255\nblock=0\n\n"
+OTHER, MOVED = (OLD, NEW) if task == "up" else (NEW, OLD)                                        # another's sheet, and moved
 TRACEME, GETREGS, SETREGS, SYSCALL = 0, 12, 13, 24                                             # of ptrace
 READ, WRITE, CLOSE, FSYNC, RENAME, OPENAT = 0, 1, 3, 74, 82, 257                               # calls of the system
 LIMIT = 60                                                                                     # seconds, after which nothing hangs on
@@ -178,7 +181,7 @@ def changes_each_time(times):
     def heed(number, first, back):
         if number == FSYNC and back is not None and state["times"] < times:
             state["times"] += 1
-            (folder.parent / "other").write_bytes(b"stamp=%d\nmended=0\nkind=LI\nnetwork=255\nblock=0\n\n" % state["times"])
+            (folder.parent / "other").write_bytes(OTHER % state["times"])
             (folder.parent / "other").rename(folder / "day")
         return None
 
@@ -188,12 +191,12 @@ def changes_each_time(times):
 
 
 def while_it_changes():
-    last = b"stamp=%d\nmended=0\nkind=LI\nnetwork=255\nblock=0\n\n"
     day, wrote, said = changes_each_time(16)
-    if last % 16 not in day or said or not wrote.endswith(f"bytes={len(day)}\n") or day.count(b"stamp=") == 1:
+    is_done = OTHER % 16 in day and day.count(b"stamp=") > 1 if task == "add" else day == MOVED % 16
+    if not is_done or said or not wrote.endswith(f"bytes={len(day)}\n"):
         sys.exit(f"a sheet that changes 16 times: wrote {wrote!r} and said {said!r}")
     day, wrote, said = changes_each_time(17)
-    if day != last % 17 or wrote or not said.startswith(f"sheet: {folder}/day: it changed sixteen times meanwhile"):
+    if day != OTHER % 17 or wrote or not said.startswith(f"sheet: {folder}/day: it changed sixteen times meanwhile"):
         sys.exit(f"a sheet that changes 17 times: wrote {wrote!r} and said {said!r}")
 
 
@@ -221,6 +224,7 @@ else:
     os.waitpid(probe, 0)
     at_each_call()
     in_order()
-    fails_in_a_capture()
+    if task == "add":
+        fails_in_a_capture()
     while_it_changes()
 put_back()

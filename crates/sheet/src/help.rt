@@ -10,6 +10,8 @@ pub fn put() -> bool {
     let on = line(on, b"       sheet drop [--] SHEET KIND NETWORK BLOCK\n");
     let on = line(on, b"       sheet check [--] SHEET ...\n");
     let on = line(on, b"       sheet compare [--] FIRST SECOND\n");
+    let on = line(on, b"       sheet up [--] SHEET\n");
+    let on = line(on, b"       sheet down [--] SHEET\n");
     let on = line(
         on,
         b"  add        add the tables of captures to the sheet; a stamp is the second at which the capture behind it started\n",
@@ -26,6 +28,14 @@ pub fn put() -> bool {
     let on = line(
         on,
         b"  compare    print what went, came and changed from the first sheet to the second\n",
+    );
+    let on = line(
+        on,
+        b"  up         move a sheet of the old form, without mended= lines, to the new one\n",
+    );
+    let on = line(
+        on,
+        b"  down       move a sheet to the old form, where every number of mended bytes is 0\n",
     );
     let on = line(on, b"  -m 1..8    the magazine, usually 1\n");
     let on = line(on, b"  -p 00..FF  the page, usually DF\n");

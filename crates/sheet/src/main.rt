@@ -1,5 +1,5 @@
 // The day sheet, a file with an entry for each table: captures' tables are added to it, other sheets are joined to it, it is looked
-// at (SCOPE 20.11), or two are held side by side (SCOPE 28.7). What it says is settled by the rooms `day_sheet`, `changes` and `words`; here are the tasks.
+// at (SCOPE 20.11), two are held side by side (SCOPE 28.7), or one is moved between its forms (SCOPE 30.9). What it says is settled by the rooms `day_sheet`, `changes` and `words`; here are the tasks.
 //
 // The file is replaced whole or not at all (`sheet_file`). Whatever fails before that leaves the file as it was. Where another has taken its place meanwhile, the work is done
 // anew on that: captures aren't read again, since their tables are kept.
@@ -12,6 +12,7 @@ mod files;
 mod help;
 mod kept;
 mod lines;
+mod moving;
 mod says;
 mod standing;
 mod work;
@@ -55,14 +56,19 @@ const OPTIONS: [u32; 20] = [
 ];
 
 // The rows (SCOPE 20.12, 20.13). A name is `f` the sheet, `s` a stamp, `c` a capture, `o` another sheet, or `k`, `n` and `b` an entry's kind, network and block.
-const TASKS: [u8; 57] = *b"add mpsa f+sc\njoin  f+o\ndrop  fknb\ncheck  +f\ncompare  fo\n";
+const TASKS: [u8; 71] =
+    *b"add mpsa f+sc\njoin  f+o\ndrop  fknb\ncheck  +f\ncompare  fo\nup  f\ndown  f\n";
 
-// The tasks that change a sheet.
+// The tasks that change a sheet. From `drop` on the call that does it judges the sheet, and what is printed is the line of `check`.
 const ADD: u8 = 1;
 
 const JOIN: u8 = 2;
 
 const DROP: u8 = 3;
+
+const UP: u8 = 4;
+
+const DOWN: u8 = 5;
 
 // How often the work is done at most: once, and sixteen times anew where the sheet has changed meanwhile.
 const TURNS: usize = 17;
@@ -119,6 +125,12 @@ fn task_of(said: Said) -> u8 {
     if words::is_task(&TASKS, said, b"join") {
         return JOIN;
     }
+    if words::is_task(&TASKS, said, b"up") {
+        return UP;
+    }
+    if words::is_task(&TASKS, said, b"down") {
+        return DOWN;
+    }
     DROP
 }
 
@@ -151,7 +163,7 @@ fn is_bad_stamp(place: u8, n: usize, word: &mut [u8; 4096]) -> bool {
     true
 }
 
-// Adds captures to a sheet, or joins sheets to it, all of them or none; or drops an entry of it. A link leads to the sheet's own place.
+// Adds captures to a sheet, or joins sheets to it, all of them or none; drops an entry of it; or moves it. A link leads to the sheet's own place.
 fn change(job: Job) {
     let named = word_of(b'f');
     let mut shown = io::buffer();
@@ -231,9 +243,10 @@ fn change_at(job: Job, is_linked: bool, path: &[u8], shown: &[u8]) {
     change_all(job, stand, path, shown, &mut base, &mut spare);
 }
 
-// Whether a sheet is one to begin with. Where an entry is dropped, the call that drops it judges that, since one entry too many may be the one.
+// Whether a sheet is one to begin with. Where an entry is dropped, the call that drops it judges that, since one entry too many may be the one; and so does the call
+// that moves a sheet, which may have the old form.
 fn is_fit(job: Job, shown: &[u8], sheet: &[u8], spare: &mut [u8]) -> bool {
-    if job.task == DROP {
+    if job.task >= DROP {
         return true;
     }
     files::is_judged(shown, sheet, spare)
@@ -322,7 +335,7 @@ fn finish(job: Job, work: Work, shown: &[u8], is_renamed: bool) {
     if !is_renamed {
         return;
     }
-    if job.task == DROP {
+    if job.task >= DROP {
         says::put_left(shown, work);
         return;
     }
@@ -437,8 +450,29 @@ fn visit(
             visited.work = files::open_other(&mut word, n, work, sheet, spare);
             visited
         }
+        b'f' => {
+            visited.work = move_sheet(job.task, shown, work, sheet, spare);
+            visited
+        }
         _ => visited,
     }
+}
+
+// The sheet itself is heard: it is moved, where that is the task.
+fn move_sheet(
+    task: u8,
+    shown: &[u8],
+    work: Work,
+    sheet: &mut [u8; SHEET],
+    spare: &mut [u8; SHEET],
+) -> Work {
+    if task == UP {
+        return moving::up(shown, work, sheet, spare);
+    }
+    if task == DOWN {
+        return moving::down(shown, work, sheet, spare);
+    }
+    work
 }
 
 // Notes what a word says; the words were judged before.

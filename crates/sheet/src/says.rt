@@ -2,9 +2,12 @@
 // failure begins `sheet: `, and one that doesn't `note: `.
 use crate::help::PROGRAM;
 use crate::lines;
+use crate::moving;
+use crate::standing;
 use crate::work::Work;
 use captures::Course;
 use libc::STDOUT_FILENO;
+use sheet_entry::Form;
 pub use sheet_file::says::fail;
 pub use sheet_file::says::tell;
 use sight::PAGES;
@@ -22,7 +25,7 @@ pub fn usage() {
     say(
         b"sheet join [--] SHEET OTHER ..., sheet drop [--] SHEET KIND NETWORK BLOCK, sheet check [--] SHEET ..., ",
     );
-    say(b"sheet compare [--] FIRST SECOND\n");
+    say(b"sheet compare [--] FIRST SECOND, sheet up [--] SHEET, sheet down [--] SHEET\n");
 }
 
 // A word that has to be a stamp and isn't.
@@ -82,11 +85,11 @@ pub fn stuck(name: &[u8]) {
     say(b": the reader took nothing, and the sheet stays as it was\n");
 }
 
-// A sheet that was refused by itself. Of 20 the line at fault is told too.
+// A sheet that was refused by itself. Of 20 the line at fault is told too, or that it has the old form.
 pub fn refuse_sheet(name: &[u8], no: u8, at: usize, sheet: &[u8]) {
     refuse(name, no, at);
     if no == 20 {
-        lines::say_fault(sheet, at);
+        say_fault(name, at, sheet);
         say(b"; the sheet stays as it was\n");
         return;
     }
@@ -94,11 +97,77 @@ pub fn refuse_sheet(name: &[u8], no: u8, at: usize, sheet: &[u8]) {
     say(b"\n");
 }
 
-// A sheet that can't be compared. Of 20 the line at fault is told too.
+// What the new form has against a sheet: a line, or that it has the old form.
+fn say_fault(name: &[u8], at: usize, sheet: &[u8]) {
+    if !moving::is_of(Form::Old, sheet) {
+        lines::say_fault(sheet, at);
+        return;
+    }
+    say(b": it has the old form, and \"sheet up ");
+    say(name);
+    say(b"\" moves it to the new one");
+}
+
+// A sheet that can't be moved to the new form.
+pub fn refuse_up(name: &[u8], no: u8, at: usize, sheet: &[u8]) {
+    refuse(name, no, at);
+    say_up(no, at, sheet);
+    say(b"; the sheet stays as it was\n");
+}
+
+fn say_up(no: u8, at: usize, sheet: &[u8]) {
+    if moving::is_of(Form::New, sheet) {
+        say(b": it has the new form already");
+        return;
+    }
+    if no == 20 {
+        lines::say_fault(sheet, at);
+        return;
+    }
+    say(
+        b": more than 64 entries or 16384 bytes, and one of the new form has up to 64 entries and 17152 bytes",
+    );
+}
+
+// A sheet that can't be moved to the old form.
+pub fn refuse_down(name: &[u8], no: u8, at: usize, sheet: &[u8]) {
+    refuse(name, no, at);
+    say_down(no, at, sheet);
+    say(b"; the sheet stays as it was\n");
+}
+
+fn say_down(no: u8, at: usize, sheet: &[u8]) {
+    if moving::is_of(Form::Old, sheet) {
+        say(b": it has the old form already");
+        return;
+    }
+    if no == 20 {
+        lines::say_fault(sheet, at);
+        return;
+    }
+    if no == 25 {
+        say(b": the old form has no line for the mended bytes of ");
+        say_key(standing::lost(sheet));
+        say(b", and their number would be lost");
+        return;
+    }
+    say(b": in the old form it would have more than 64 entries or 16384 bytes");
+}
+
+// An entry's kind, network and block.
+fn say_key(key: usize) {
+    say_kind((7 + key / 65536 % 2) as u8);
+    say(b",");
+    say_number((key / 131072) as u64);
+    say(b",");
+    say_number((key % 65536) as u64);
+}
+
+// A sheet that can't be compared. Of 20 the line at fault is told too, or that it has the old form.
 pub fn refuse_compared(name: &[u8], no: u8, at: usize, sheet: &[u8]) {
     refuse(name, no, at);
     if no == 20 {
-        lines::say_fault(sheet, at);
+        say_fault(name, at, sheet);
         say(b"\n");
         return;
     }
@@ -157,7 +226,7 @@ pub fn put_work(work: Work, is_new: bool) {
     not_put();
 }
 
-// The line of a sheet that stands without an entry.
+// The line of a sheet that stands without an entry, or in its other form.
 pub fn put_left(name: &[u8], work: Work) {
     let mut line = [0u8; LINE];
     let n = sheet_line(name, work.entries, work.length as u64, &mut line);

@@ -1,11 +1,14 @@
-// The entries of a sheet, one by one: what stands there of a table.
+// The entries of a sheet, one by one: what stands there of a table, and which entry has a number that the old form can't say.
 use crate::kept::NO_NUMBER;
 use answer::Answer;
 use sheet_entry::Form;
 use sheet_entry::Found;
 
-// More entries than a sheet has.
-const TURNS: usize = 65;
+// More entries than a lent sheet in form has.
+const TURNS: usize = 378;
+
+// The key of no entry: the first entry with a number is sought.
+const ANY: usize = usize::MAX;
 
 // The number of the entry that stands in the sheet with the stamp and the lines of a table form; none where there is no such entry. The table's own entry
 // is written to the spare space.
@@ -48,7 +51,14 @@ fn from(text: &[u8], at: usize) -> &[u8] {
     &text[at..]
 }
 
-// Where the entry of a key stands; where there is none, a place at which no entry stands.
+// The key of the first entry with a number of mended bytes.
+pub fn lost(sheet: &[u8]) -> usize {
+    let at = seek(sheet, ANY);
+    let found = sheet_entry::entry_at(Form::New, sheet, at, 0);
+    found.key
+}
+
+// Where the first entry stands that is sought; where there is none, a place at which no entry stands.
 fn seek(sheet: &[u8], key: usize) -> usize {
     let mut at = 0;
     let mut left = TURNS;
@@ -67,6 +77,9 @@ fn seek(sheet: &[u8], key: usize) -> usize {
 fn is_sought(found: Found, key: usize) -> bool {
     if !found.more {
         return true;
+    }
+    if key == ANY {
+        return found.mended > 0;
     }
     found.key == key
 }
