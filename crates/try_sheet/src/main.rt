@@ -1,5 +1,5 @@
 // Runs cases of day sheets: op 50 writes one again, op 51 adds a table to one, op 52 joins two, op 53 compares two, op 56 drops an
-// entry, each of the old form; ops 60 to 63 and 66 do the same in the new one.
+// entry, each of the old form; ops 60 to 63 and 66 do the same in the new one. Op 54 moves one of the old form to the new one, op 55 back.
 ghost use Prim.Native.Nat.{_≤_, _<_};
 use sheet_entry::Form;
 use vectors::Case;
@@ -44,6 +44,8 @@ fn call(op: u8, payload: &[u8], out: &mut [u8]) -> Line {
         51 => add(op, payload, out),
         52 => join(op, Form::Old, payload, out),
         53 => compare(op, Form::Old, payload, out),
+        54 => up(op, payload, out),
+        55 => down(op, payload, out),
         56 => drop(op, Form::Old, payload, out),
         60 => rewrite(op, Form::New, payload, out),
         61 => add_counted(op, payload, out),
@@ -58,6 +60,20 @@ fn rewrite(op: u8, form: Form, payload: &[u8], out: &mut [u8]) -> Line {
     Line::Answered {
         op: op,
         answer: day_sheet::rewrite(form, payload, out),
+    }
+}
+
+fn up(op: u8, payload: &[u8], out: &mut [u8]) -> Line {
+    Line::Answered {
+        op: op,
+        answer: day_sheet::up(payload, out),
+    }
+}
+
+fn down(op: u8, payload: &[u8], out: &mut [u8]) -> Line {
+    Line::Answered {
+        op: op,
+        answer: day_sheet::down(payload, out),
     }
 }
 
