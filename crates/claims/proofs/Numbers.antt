@@ -36,6 +36,7 @@ use Rattle.menu_listing.specs.Kept.{keptRules}
 use Rattle.shelf.specs.Putting.{putRules}
 use Rattle.sheet_entry.specs.declared.Form.{Form}
 use Rattle.day_sheet.specs.Calls.{rewriteRules, joinRules, addRules, dropRules}
+use Rattle.day_sheet.specs.Moving.{upRules, downRules}
 use Rattle.changes.specs.Calls.{compareRules}
 use Rattle.claims.specs.Calls.{Feeds, feed, FeedsAll, feed-all}
 use Rattle.claims.specs.Judges.{Judges}
@@ -91,6 +92,14 @@ adds-table form stamp mended sheet table = refl
 pub drops-entry : (form : Form) (network kind block : ℕ) (sheet : List ℕ) → allRefusing (dropRules form network kind block sheet) ≡ true
 unfolding allRefusing dropRules
 drops-entry form network kind block sheet = refl
+
+pub moves-up : (old : List ℕ) → allRefusing (upRules old) ≡ true
+unfolding allRefusing upRules
+moves-up old = refl
+
+pub moves-down : (new : List ℕ) → allRefusing (downRules new) ≡ true
+unfolding allRefusing downRules
+moves-down new = refl
 
 pub compares-sheets : (form : Form) (first second : List ℕ) → allRefusing (compareRules form first second) ≡ true
 unfolding allRefusing compareRules rewriteRules

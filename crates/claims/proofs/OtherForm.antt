@@ -125,7 +125,8 @@ not-none form (b ∷ bytes) z = omega arith
 -- ---- the sheet
 
 module _ (form : Form) (sheet : List ℕ) (e : Entry) (es : List Entry) (f : InForm (other form) sheet) (has : entriesOf (other form) sheet ≡ e ∷ es) where
-  read-fault : sheetOf form sheet ≡ row-none false (behindStamp e)
+  -- read in this form, it is at fault behind its first stamp
+  pub read-fault : sheetOf form sheet ≡ row-none false (behindStamp e)
   unfolding sheetFrom sheetText allWritten
   read-fault =
       let r = read-written (other form) sheet 0 f in

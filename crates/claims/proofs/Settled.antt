@@ -134,6 +134,8 @@ use Rattle.day_sheet.proofs.rewrite.Reads as day-sheet·rewrite
 use Rattle.day_sheet.proofs.joining.join.Reads as day-sheet·join
 use Rattle.day_sheet.proofs.adding.add.Reads as day-sheet·add
 use Rattle.day_sheet.proofs.dropping.drop.Reads as day-sheet·drop
+use Rattle.day_sheet.proofs.moving.up.Reads as day-sheet·up
+use Rattle.day_sheet.proofs.moving.down.Reads as day-sheet·down
 use Rattle.day_sheet.proofs.judge.Reads as day-sheet·judge
 use Rattle.day_sheet.proofs.joining.next_turn.Reads as day-sheet·next-turn
 use Rattle.changes.specs.declared.Compared.{Compared}
@@ -606,6 +608,16 @@ pub day-sheet·drop-settled :
     (κs : _) (a : _) (x y : _) (s t : _) → day-sheet·drop.Post κs a x s → day-sheet·drop.Post κs a y t
     → (x ≡ y) × (now (s .1 .1 .1 .1 .1 .0) ≡ now (t .1 .1 .1 .1 .1 .0))
 day-sheet·drop-settled κs a x y s t p q = (same (p .0) (q .0), same (p .1) (q .1))
+
+pub day-sheet·up-settled :
+    (κs : _) (a : _) (x y : _) (s t : _) → day-sheet·up.Post κs a x s → day-sheet·up.Post κs a y t
+    → (x ≡ y) × (now (s .1 .0) ≡ now (t .1 .0))
+day-sheet·up-settled κs a x y s t p q = (same (p .0) (q .0), same (p .1) (q .1))
+
+pub day-sheet·down-settled :
+    (κs : _) (a : _) (x y : _) (s t : _) → day-sheet·down.Post κs a x s → day-sheet·down.Post κs a y t
+    → (x ≡ y) × (now (s .1 .0) ≡ now (t .1 .0))
+day-sheet·down-settled κs a x y s t p q = (same (p .0) (q .0), same (p .1) (q .1))
 
 pub day-sheet·judge-settled : (κs : _) (a : _) (x y : _) (s t : _) → day-sheet·judge.Post κs a x s → day-sheet·judge.Post κs a y t → x ≡ y
 day-sheet·judge-settled κs a x y s t p q = same p q

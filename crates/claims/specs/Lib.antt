@@ -11,6 +11,7 @@ pub mod March
 pub mod Tells
 pub mod Calls
 pub mod Sheets
+pub mod Moves
 pub mod Descriptors
 pub mod CutLine
 pub mod Differing

@@ -18,6 +18,7 @@ pub mod Meeting
 pub mod Members
 pub mod Merged
 pub mod Mixed
+pub mod Moved
 pub mod OneByOne
 pub mod Premise
 pub mod Rewriting

@@ -1,4 +1,4 @@
--- The moves between the two forms (SCOPE 30.4): the same entries, written in the other one. What the calls judge, in their order.
+-- The moves between the two forms (SCOPE 30.6): the same entries, written in the other one. What the calls judge, in their order.
 use mathlib.Core.Bool.{Bool, true}
 use mathlib.Core.List.{List, [], _∷_}
 use Prim.Native.Nat.{ℕ}

@@ -1,5 +1,5 @@
 // The day sheet (SCOPE 20): text of all tables, an entry for each key, read, written again, added to, joined and dropped from, in
-// either form (SCOPE 30).
+// either form, and moved from one to the other (SCOPE 30).
 pub mod adding;
 pub mod dropping;
 mod entries;

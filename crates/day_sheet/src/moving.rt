@@ -1,4 +1,4 @@
-// A sheet moved to the other form: the same entries, written in it (SCOPE 30.4). One walk for both ways: of each entry what stands before the
+// A sheet moved to the other form: the same entries, written in it (SCOPE 30.6). One walk for both ways: of each entry what stands before the
 // line of what was mended is copied, then that line as the other form has it is put, then what stands behind it is copied.
 ghost use mathlib.Core.Bool.{true};
 ghost use mathlib.Core.Path.{_≡_};
