@@ -12,7 +12,7 @@ and prints a line for each case:
 no and at are the refusal's number and offset, both 0 where it is accepted; out
 is what the call reports as written; kept is whether every other byte is still
 A5. Ops 21 and 25 add blocks=N dropped=yes or no, ops 30 and 32 mended=N joined=N (0 and 0 where refused;
-joined is the record's second byte), op 53 sheet=1 or sheet=2 where that sheet is refused with 20 or 21, and nothing otherwise.
+joined is the record's second byte), ops 53 and 63 sheet=1 or sheet=2 where that sheet is refused with 20 or 21, and nothing otherwise.
 An op that isn't known, or a payload that is too short for it: op=N unknown. A case that the end cuts short: short=N.
 
     op  program      payload                                  out
@@ -47,8 +47,15 @@ An op that isn't known, or a payload that is too short for it: op=N unknown. A c
     52  try_sheet    the first sheet's length (4, low first), the two joined
                      it, the second
     53  try_sheet    as op 52                                 what changed from the first to the second
+    54  try_sheet    a sheet of the old form                  the sheet, moved up to the new form
+    55  try_sheet    a sheet of the new form                  the sheet, moved down to the old form
     56  try_sheet    network, kind, block number (2, low      the sheet without the entry of that key
                      first), a sheet
+    60, 62, 63, 66   as 50, 52, 53 and 56, which are of the   the same, of the new form
+                     old form
+    61  try_sheet    as op 51, with the table's count of      the sheet with the table added
+                     mended bytes (2, low first) between
+                     the sheet and the table form
     70  try_dvb      a table form                             the descriptor
     71  try_dvb      a descriptor                             how many subtitles, how many passed over, the subtitles
 """

@@ -572,7 +572,7 @@ def compare_cases(sheets, dice, size):
         first = [entry for entry, fate in four if fate in (1, 2, 3)]
         second = [entry._replace(table=entry.table._replace(descriptors=[])) if fate == 3 else entry for entry, fate in four if fate in (2, 3, 4)]
         sheets.compare(sheets.text(first), sheets.text(second))
-    for _ in range(24 * size):
+    for _ in range(16 * size):
         first = sheets.some(dice, dice.below(6), 4)
         sheets.compare(sheets.text(first), sheets.text(overnight(dice, first, 4, sheets.form)))
 
@@ -606,20 +606,25 @@ def lent_pairs(sheets):
     one, more, bad = sheets.text(sheets.five[2:3]), sheets.text(small(65)), sheets.text(sheets.sample)
     many = [entry._replace(stamp=at, table=entry.table._replace(descriptors=[(at % 64, [])] * (at % 3))) for at, entry in enumerate(small(68)[4:])]
     return ((b"", b""), (one, one.replace(b"dut", b"eng")), (sheets.text(small(64)), sheets.text(many)), (more, more), (more + b"stamp=01\n", more + b"stamp=1\nkind=\n"),
-            (full, full.replace(b"dut", b"eng")), (over, b"x" * len(over)), (bad.replace(b"block=0", b"block=00", 1), bad.replace(b"kind=TI", b"kind=ti", 1)))
+            (full, full[:len(full) // 2] + full[len(full) // 2:].replace(b"dut", b"eng")), (over, b"x" * len(over)), (bad.replace(b"block=0", b"block=00", 1), bad.replace(b"kind=TI", b"kind=ti", 1)))
 
 
-def compare_limits(sheets):
-    """Every pair of sheets: empty, one entry, 64, 65, 65 and a bad line, 16,384 bytes, 16,385, out of form. The first is judged whole before the second is
-    looked at, and the room last. A long print is shown with just its room, and once with one less."""
-    pairs = lent_pairs(sheets)
-    for at, (first, _) in enumerate(pairs):
-        for to, (_, second) in enumerate(pairs):
-            if changes.at_fault(sheets.form, first, second):
-                sheets.compare(first, second, (at + to) % 2 * 2 * sheets.most)
-                continue
-            need = len(changes.compare(sheets.form, first, second))
-            sheets.compare(first, second, need - (need > 9999 and at == 1))
+EMPTY, ONE, SOME, MORE, MORE_BAD, FULL, OVER, BAD = range(8)            # the places of lent_pairs
+COMPARED = [(first, second) for first in (EMPTY, ONE, BAD) for second in (EMPTY, ONE, BAD)] + [
+    (SOME, SOME), (SOME, MORE), (ONE, MORE), (ONE, MORE_BAD), (BAD, MORE), (BAD, MORE_BAD), (MORE, EMPTY), (MORE, BAD), (MORE, MORE_BAD), (MORE_BAD, MORE), (MORE_BAD, BAD),
+    (FULL, FULL), (ONE, OVER), (OVER, BAD), (BAD, OVER)]
+
+
+def compare_limits(sheets, pairs):
+    """Pairs of sheets: empty, one entry, 64, 65, 65 and a bad line, the most bytes, one more, out of form. The first is judged whole before the second is
+    looked at, and the room last. A print of over 16,384 bytes has just its room."""
+    made = lent_pairs(sheets)
+    for at, to in pairs:
+        first, second = made[at][0], made[to][1]
+        if changes.at_fault(sheets.form, first, second):
+            sheets.compare(first, second, (at + to) % 2 * 2 * sheets.most)
+            continue
+        sheets.compare(first, second, len(changes.compare(sheets.form, first, second)))
 
 
 def spoilt(dice, text):
@@ -644,52 +649,47 @@ BASE = Entry(1, Table(TI, 0, 0, 2, [(3, [0x647574, 0x000888])]))
 
 
 def mended_faults(sheets):
-    """The line `mended=`: every number and spelling, missing, another line in its place, twice, elsewhere; in a first entry and in a later one."""
-    line_ = b"mended=0\n"
-    for before in (b"", sheets.text([Entry(5, BASE.table._replace(network=1), 2051)])):
-        text = sheets.text([BASE])
-        given = lambda new: sheets.rewrite(before + text.replace(line_, new))
-        for value in numbers_tried(NEW.most_mended):
-            given(b"mended=" + value + b"\n")
-        for value in (1, 99, 100, 255, 256, 999, 1000, 1999, 2000, 2009, 2049, 2060, 2100, 2152, 3000, 2 ** 11, 2 ** 12, 2 ** 16 + 5, 2 ** 32 + 2051, 2 ** 64 + 2051):
-            given(b"mended=%d\n" % value)
-        for value in (b"000", b"02051", b"002051", b"2051 ", b"2051\r", b"2051\x00", b"20 51", b"2,051", b"2051x", b"/", b":", b"205:", b"--1"):
-            given(b"mended=" + value + b"\n")
-        for other in (b"", b"\n", b"kind=TI\n", b"kind=LI\n", b"stamp=0\n", b"network=0\n", b"block=0\n", b"descriptor=0\n", b"language=dut\n", b"joined=0\n", b"mended\n", b"mended=\n",
-                      b"mended 0\n", b"mended:0\n", b"mended==0\n", b"mende=0\n", b"mendedd=0\n", b"Mended=0\n", b"MENDED=0\n", b"mEnded=0\n", b" mended=0\n", b"mended =0\n", b"mended= 0\n",
-                      b"\tmended=0\n", b"\x00mended=0\n", b"\xef\xbb\xbfmended=0\n", b"mended=0", b"mended=0\r\n", b"mended=0\r", b"mended=0\n\n", b"\nmended=0\n", b"mended=0\nmended=0\n",
-                      b"mended=0\nmended=1\n", b"mended=0\nstamp=1\n"):
-            given(other)
-        bare = text.replace(line_, b"")
-        for place in (0, *(at + 1 for at, byte in enumerate(bare) if byte == 10)):          # in each other place
-            sheets.rewrite(before + bare[:place] + line_ + bare[place:])
-        for end in range(len(b"stamp=1\n") - 1, len(b"stamp=1\n" + line_) + 1):            # the sheet ends before, in or behind it
-            sheets.rewrite(before + text[:end])
+    """The line `mended=`: every number and spelling, missing, another line in its place, twice, elsewhere. In a later entry fewer of them."""
+    before, text, zero = sheets.text([Entry(5, BASE.table._replace(network=1), 2051)]), sheets.text([BASE]), b"mended=0\n"
+    given = lambda instead: sheets.rewrite(text.replace(zero, instead))
+    for value in numbers_tried(NEW.most_mended):
+        given(b"mended=" + value + b"\n"), sheets.rewrite(before + text.replace(zero, b"mended=" + value + b"\n"))
+    for value in (1, 99, 100, 255, 256, 999, 1000, 1999, 2000, 2009, 2049, 2060, 2100, 2152, 3000, 2 ** 11, 2 ** 12, 2 ** 16 + 5, 2 ** 32 + 2051, 2 ** 64 + 2051):
+        given(b"mended=%d\n" % value)
+    for value in (b"000", b"02051", b"002051", b"2051 ", b"2051\r", b"2051\x00", b"20 51", b"2,051", b"2051x", b"/", b":", b"205:", b"--1"):
+        given(b"mended=" + value + b"\n")
     for digits in (b"9" * 3000, b"1" + b"0" * 4999, b"0" * 2000, b"18446744073709551616" * 100):
-        sheets.rewrite(text.replace(line_, b"mended=" + digits + b"\n"))
-    for bad in (b"", b"kind=TI\n", b"mended=2052\n", b"mended=00\n", b"mended=2051 \n"):        # wherever a sheet is lent
-        sheets.everywhere(before + text.replace(line_, bad)), sheets.script.case(DOWN, 999, before + text.replace(line_, bad))
+        given(b"mended=" + digits + b"\n")
+    for other in (b"", b"\n", b"kind=TI\n", b"kind=LI\n", b"stamp=0\n", b"network=0\n", b"block=0\n", b"descriptor=0\n", b"language=dut\n", b"joined=0\n", b"mended\n", b"mended 0\n", b"mended:0\n",
+                  b"mended==0\n", b"mende=0\n", b"mendedd=0\n", b"Mended=0\n", b"MENDED=0\n", b"mEnded=0\n", b" mended=0\n", b"mended =0\n", b"mended= 0\n", b"\tmended=0\n", b"\x00mended=0\n",
+                  b"\xef\xbb\xbfmended=0\n", b"mended=0", b"mended=0\r\n", b"mended=0\r", b"mended=0\n\n", b"\nmended=0\n", b"mended=0\nmended=0\n", b"mended=0\nmended=1\n", b"mended=0\nstamp=1\n"):
+        given(other)
+    bare, stamp = text.replace(zero, b""), len(b"stamp=1\n")
+    for place in (0, *(at + 1 for at, byte in enumerate(bare) if byte == 10)):              # in each place
+        sheets.rewrite(bare[:place] + zero + bare[place:])
+    for end in range(stamp - 1, stamp + len(zero) + 1):                                     # the sheet ends before, in or behind it
+        sheets.rewrite(text[:end])
+    sheets.rewrite(before + text[:stamp]), sheets.rewrite(before + text[:stamp + 5])
+    for bad in (b"", b"kind=TI\n", b"mended=2052\n", b"mended=00\n", b"mended=2051 \n"):      # wherever a sheet is lent
+        worse = before + text.replace(zero, bad)
+        sheets.everywhere(worse), sheets.script.case(DOWN, 999, worse)
 
 
 def number_choices(sheets):
     """Equal stamps and lines: each order of numbers, in either sheet, and added. A greater stamp or later lines stay with any number."""
     five = RIVALS[4]
-    for one in (0, 1, 9, 10, 2050, 2051):
-        for other in (0, 1, 9, 10, 2050, 2051):
-            sheets.join(sheets.text([Entry(3, five, one)]), sheets.text([Entry(3, five, other)]))
     for one, other in ((0, 1), (1, 0), (1, 1), (2, 10), (10, 2), (99, 100), (100, 99), (255, 256), (256, 255), (511, 1024), (1024, 511), (2050, 2051), (2051, 2050), (2051, 2051), (2051, 0), (0, 2051)):
-        sheets.both(sheets.text([Entry(3, five, one)]), sheets.text([Entry(3, five, other)]))
+        sheets.join(sheets.text([Entry(3, five, one)]), sheets.text([Entry(3, five, other)]))
         sheets.add(3, sheets.text([Entry(3, five, one)]), form_of(Entry(3, five), other % 2), mended=other)
     for one in RIVALS[:7] + RIVALS[10:]:                                # the lines before the number, in either order of numbers
-        for other in (RIVALS[1], RIVALS[4], RIVALS[6]):
+        for other in (RIVALS[1], RIVALS[4]):
             for numbers in ((0, 9), (9, 0)):
-                pair = [sheets.text([Entry(3, t, mended)]) for t, mended in zip((one, other), numbers)]
-                sheets.join(*pair)
-    for stamps in ((3, 4), (9, 10), (MOST_STAMP, 0)):                   # the stamp before both
+                sheets.join(*(sheets.text([Entry(3, t, mended)]) for t, mended in zip((one, other), numbers)))
+    for stamps in ((9, 10), (MOST_STAMP, 0)):                           # the stamp before both
         for tables in ((RIVALS[4], RIVALS[5]), (RIVALS[5], RIVALS[4]), (five, five)):
             for numbers in ((0, 2051), (2051, 0)):
                 pair = [Entry(stamp, t, mended) for stamp, t, mended in zip(stamps, tables, numbers)]
-                sheets.both(sheets.text(pair[:1]), sheets.text(pair[1:]))
+                sheets.join(sheets.text(pair[:1]), sheets.text(pair[1:]))
                 sheets.add(pair[1].stamp, sheets.text(pair[:1]), form_of(pair[1]), mended=pair[1].mended)
     for numbers in ((0, 1, 0, 1, 0), (1, 0, 1, 0, 1), (2051, 7, 2051, 7, 0)):       # some keys from the one sheet, some from the other
         sheets.both(sheets.text(sheets.five), sheets.text(with_numbers(NEW, FIVE, *numbers)))
@@ -702,15 +702,16 @@ def counts_added(sheets):
     """The number up to 2,051 and over it; 15 for it stands behind the table form's own refusals and before every one of the sheet's."""
     text, good = sheets.text(sheets.sample), form_of(sheets.sample[2])
     for mended in (0, 1, 9, 10, 255, 256, 2047, 2048, 2050, 2051, 2052, 2053, 2303, 2307, 4095, 4096, 4099, 8191, 32767, 32768, 34819, 65535):
-        sheets.add(7, text, good, mended=mended), sheets.add(MOST_STAMP, b"", good, mended=mended)
+        sheets.add(MOST_STAMP, b"", good, mended=mended)
     cut, wide, later, kind = good[:-1], good[:1] + b"\x02" + good[2:], good[:2] + b"\x03" + good[3:], b"\x03" + good[1:]
     for table_form in (good, cut, good[:5], good[:3], b"", good + b"\x00", wide, later, later[:-1], kind, later[:1] + b"\x02" + later[2:]):
-        for lent_sheet in (text, b"x", sheets.text(small(64)), sheets.text(small(65)), text[:-1]):
+        for lent_sheet in (text, b"x"):
             for mended in (0, 2051, 2052):
-                if table_form is good or mended != 2051 and len(lent_sheet) < 999:
+                if table_form is good or mended != 2051:
                     sheets.add(1, lent_sheet, table_form, 0 if mended else 999, mended)
-    over = sheets.text(sheets.sized(NEW.most_bytes + 1))
-    sheets.add(1, over, good, 0, 2052), sheets.add(1, b"x" + over, good, 0, 2051), sheets.add(1, over, cut, 0)
+    sheets.add(1, sheets.text(small(64)), good, 0, 2051), sheets.add(1, sheets.text(small(64)), good, 0, 2052), sheets.add(1, sheets.text(small(65))[:-1], good, 0, 2051)
+    over = b"x" + sheets.text(sheets.sized(NEW.most_bytes))
+    sheets.add(1, over, good, 0, 2052), sheets.add(1, over, good, 0, 2051)
     for table_form in (good, form_of(sheets.sample[1])):
         sheets.tried(1, sheets.add_payload(8, text, table_form, 7)), sheets.tried(1, sheets.add_payload(8, b"", table_form, 2051))
     for payload in (b"", bytes(7), bytes(8), bytes(9), bytes(10), bytes(8) + b"\x04\x08", bytes(11), bytes(4) + b"\x01\x00\x00\x00", bytes(4) + b"\x01\x00\x00\x00x", bytes(4) + b"\x01\x00\x00\x00x\x00",
@@ -720,102 +721,90 @@ def counts_added(sheets):
 
 def new_limits(sheets):
     """17,152 bytes and one more, 64 entries and 65, 377: lent, and as a result."""
-    full, over = sheets.sized(NEW.most_bytes), sheets.text(sheets.sized(NEW.most_bytes + 1))
-    sheets.rewrite(sheets.text(full), NEW.most_bytes - 1), sheets.rewrite(over), sheets.rewrite(b"x" + sheets.text(full), 0)
-    later = full[7]._replace(stamp=full[7].stamp + 1)
-    sheets.join(sheets.text(full), sheets.text([later]))
-    one = Entry(5, Table(LI, 0, 0, 200, []), 2051)
-    sheets.join(sheets.text([one]), sheets.text(sheets.sized(NEW.most_bytes - len(sheets.one(one)))), NEW.most_bytes - 1)
+    full, one = sheets.sized(NEW.most_bytes), Entry(5, Table(LI, 0, 0, 200, []), 2051)
+    sheets.rewrite(sheets.text(full)), sheets.join(b"x", b"x" + sheets.text(full), 0), sheets.join(sheets.text(full[::2]), sheets.text(full[1::2]), NEW.most_bytes - 1)
     sheets.add(5, sheets.text(sheets.sized(NEW.most_bytes + 1 - len(sheets.one(one)))), form_of(one), mended=2051)
     for count in (64, 65):
         text = sheets.text(with_numbers(NEW, small(count), 0, 2051, 7))
-        sheets.rewrite(text), sheets.rewrite(text, 0), sheets.rewrite(text + b"stamp=01\n", 0)
+        sheets.rewrite(text), sheets.rewrite(text, 0)
+    sheets.rewrite(text + b"stamp=01\n", 0), sheets.rewrite(sheets.text(most_entries(NEW)))
     for count in (63, 64):
         text = sheets.text(small(count))
-        sheets.add(5, text, form_of(one), mended=9), sheets.add(5, text, form_of(one), 0, 9), sheets.both(sheets.text([one]), text)
-    sheets.add(5, text, form_of(small(1)[0]), mended=9), sheets.rewrite(sheets.text(most_entries(NEW)))
+        sheets.add(5, text, form_of(one), 0, 9), sheets.join(sheets.text([one]), text, 0)
     sheets.add(MOST_STAMP, b"", form_of(largest(NEW)), mended=2051), sheets.add(MOST_STAMP, b"", form_of(largest(NEW)), LONGEST[NEW] - 1, 2051)
-    sheets.join(b"x", over, 0), sheets.join(over, b"x", 0), sheets.join(b"x", b"\nx", 0)
+    for room in (NEW.most_bytes + 1, 65536, 65537):
+        sheets.rewrite(sheets.text([BASE]), room), sheets.script.case(UP, room, sheet.written(OLD, [BASE])), sheets.script.case(DOWN, room, sheets.text([BASE]))
 
 
 def other_reader(old, new):
     """A sheet of one form where one of the other is read; a sheet over that reader's limit."""
-    for entries in (FIVE[2:4], FIVE, SAMPLE[2:]):
+    for entries in (FIVE[2:4], SAMPLE[2:]):
         old.everywhere(new.text(entries)), new.everywhere(old.text(entries))
         old.script.case(UP, 999, new.text(entries)), new.script.case(DOWN, 999, old.text(entries))
     old.everywhere(new.text(new.sample)), old.script.case(UP, 0, new.text(new.sample))
     for sheets, other, move in ((old, new, UP), (new, old, DOWN)):
         own = sheets.text(SAMPLE)
         sheets.both(own, other.text(SAMPLE), 0), sheets.held(own, other.text(FIVE), 0), sheets.compare(other.text(SAMPLE), b"x")
-        sheets.rewrite(other.text(small(65)), 0), sheets.script.case(move, 0, other.text(small(65)))
+        sheets.script.case(move, 0, other.text(small(65)))
         sheets.rewrite(own + other.text(SAMPLE)), sheets.rewrite(sheets.text(SAMPLE[:1]) + other.text(SAMPLE[1:]))
         sheets.rewrite(other.text(SAMPLE[:1]) + sheets.text(SAMPLE[1:]))
-        full, over = (other.text(other.sized(sheets.most + more)) for more in (0, 1))
-        sheets.rewrite(full), sheets.rewrite(over), sheets.script.case(move, 0, over)
+    old.rewrite(new.text(new.sized(OLD.most_bytes + 1))), new.rewrite(old.text(old.sized(NEW.most_bytes + 1)))
 
 
 def up_cases(script, old, dice, size):
-    """Sheets of the old form moved up, and what comes of it moved down again; each refusal, alone and with those behind it."""
+    """Sheets of the old form moved up, and what comes of it moved down again; each refusal, alone and with others."""
     up = lambda text, room=NEW.most_bytes: script.case(UP, room, text)
-    for entries in ([], SAMPLE, SAMPLE[1:2], FIVE, *(old.some(dice, 1 + dice.below(5), 4) for _ in range(6 * size))):
+    for entries in ([], SAMPLE, SAMPLE[1:2], FIVE, *(old.some(dice, 1 + dice.below(3), 4) for _ in range(3 * size))):
         text = old.text(entries)
         room_tried(script, UP, text, sheet.up), room_tried(script, DOWN, sheet.up(text), sheet.down)
     first, second = (sheet.add(OLD, 9, 0, old.text(SAMPLE), form_of(entry)) for entry in FIVE[:2])
     up(sheet.join(OLD, first, second)), script.case(62, 999, join_payload(sheet.up(first), sheet.up(second)))
     text = old.text(SAMPLE)
-    for at in range(0, len(text), 11):                                  # out of form, and whatever the room
+    for at in range(0, len(text), 17):                                  # out of form, and whatever the room
         up(text[:at] + b"?" + text[at + 1:], at % 2 * 999), up(text[:at], 0)
     for whole in (b"\n", text + b"\n", b"\n" + text, text + b"x", text + text, text.replace(b"\n", b"\r\n"), text.replace(b"kind", b"mended=0\nkind"), text.replace(b"kind", b"mended=0\nkind", 1)):
-        up(whole), up(whole, 0)
+        up(whole, 0)
     for t in (shaped(TI, [16]), shaped(LI, [0] * 64), CASE_G._replace(block_no=3)):
         up(old.text([Entry(1, t._replace(network=9))]))
     full, more = old.text(sized(OLD, OLD.most_bytes, 64)), old.text(small(65))
-    up(full, 16960), up(full, 16959), up(old.text(sized(OLD, OLD.most_bytes + 1))), up(b"x" + full, 0)
-    up(old.text(small(64))), up(old.text(small(64)), len(sheet.up(old.text(small(64)))) - 1)
-    up(more), up(more, 0), up(more + b"stamp=01\n"), up(more[:-1], 0), up(old.text(most_entries(OLD)))
+    up(full, 16959), up(b"x" + full, 0), up(old.text(small(64)), len(old.text(small(64))) + 64 * 9 - 1)
+    up(more, 0), up(more + b"stamp=01\n")
 
 
 def down_cases(script, new, dice, size):
-    """Sheets of the new form moved down, and what comes of it moved up again; each refusal, alone and with those behind it."""
+    """Sheets of the new form moved down, and what comes of it moved up again; each refusal, alone and with others."""
     down = lambda text, room=OLD.most_bytes: script.case(DOWN, room, text)
-    zeros = new.text(SAMPLE)
     for at in range(3):                                                 # the number of one entry
-        for mended in (1, 9, 10, 100, 1000, 2050, 2051):
-            lost = new.text(SAMPLE[:at] + [SAMPLE[at]._replace(mended=mended)] + SAMPLE[at + 1:])
-            down(lost), down(lost, 0)
+        for mended in (1, 10, 2051):
+            down(new.text(SAMPLE[:at] + [SAMPLE[at]._replace(mended=mended)] + SAMPLE[at + 1:]), mended % 2 * 999)
     for numbers in ((0, 1, 0, 0, 0), (0, 0, 2, 2, 0), (3, 0, 0, 0, 3), (1, 1, 1, 1, 1)):
         down(new.text(with_numbers(NEW, FIVE, *numbers)), 0)
-    for text in (zeros, new.text(new.sample)):                          # 20 before 25, wherever the line is; and before the room
-        for at in range(0, len(text), 11):
+    for text in (new.text(SAMPLE), new.text(new.sample)):               # 20 before 25, wherever the line is; and before the room
+        for at in range(0, len(text), 17):
             down(text[:at] + b"?" + text[at + 1:], at % 2 * 999), down(text[:at], 0)
         for whole in (text + b"\n", b"\n" + text, text + b"x", text + text, text[:-1], text + b"stamp=1\nmended=2052\n", text.replace(b"mended=0\n", b"mended=00\n"), text.replace(b"mended=0\n", b"")):
-            down(whole), down(whole, 0)
+            down(whole, 0)
     for numbers in ((1, 0), (0, 1)):
         for pair in ((3, 2), (3, 3)):                                   # keys that don't rise, tables that can't be written
             down(new.text(with_numbers(NEW, [Entry(1, Table(TI, 0, 0, network, [])) for network in pair], *numbers)), 0)
         for t in (shaped(TI, [16]), shaped(LI, [0] * 64), CASE_G._replace(block_no=3)):
             down(new.text(with_numbers(NEW, [Entry(1, t._replace(network=1)), Entry(1, CASE_G._replace(network=9, copyright=0))], *numbers)), 0)
-    # of entries: 64 and 65, with a number in none, the first, the last but one, the last; then with a line out of form
+    # of entries: 64 and 65, with a number in none, the first, the last; 65 with a line out of form
     for count in (64, 65):
-        for at in (None, 0, 63, count - 1):
+        for at in (None, 0, count - 1):
             text = new.text([entry._replace(mended=int(place == at)) for place, entry in enumerate(small(count))])
             down(text, 0 if at is not None else OLD.most_bytes)
-        down(text + b"x", 0), down(text[:-1], 0)
-    down(new.text(small(64)), 0), down(new.text(small(65)), 0), down(new.text(small(65)) + b"stamp=01\n"), down(new.text(small(66)), 0)
-    most = most_entries(NEW)
-    down(new.text(most), 0), down(new.text([most[0]._replace(mended=1)] + most[1:]), 0)
-    # of bytes: a result of 16,384 and of 16,385, a lent sheet of 17,152 and of 17,153, with a number and without
-    full = sheet.up(sheet.written(OLD, sized(OLD, OLD.most_bytes, 64)))
-    down(full), down(full, OLD.most_bytes - 1)
-    for length in (OLD.most_bytes + 1 + 20 * 9, NEW.most_bytes):
-        entries = sized(NEW, length)
-        down(new.text(entries)), down(new.text(entries[:-1] + [entries[-1]._replace(mended=1)]), 0)
-    over = sized(NEW, NEW.most_bytes + 1)
-    down(new.text(over[:5] + [over[5]._replace(mended=3)] + over[6:]), 0), down(b"x" + new.text(entries), 0)
-    for _ in range(10 * size):
-        text = new.text(new.some(dice, 1 + dice.below(3), 4))
-        down(text), down(text.replace(b"mended=", b"mended=0\nmended=", 1).replace(b"mended=0\nmended=", b"mended=0\nx=", 1))
-        down(bytes(spoiled(dice, text)), dice.pick([0, 999]))
+    down(text + b"x", 0), down(new.text(small(65)) + b"stamp=01\n")
+    # of bytes: a result of 16,384 and of 16,385, a lent sheet of 17,152 and of 17,153, these two with a number
+    down(sheet.up(sheet.written(OLD, sized(OLD, OLD.most_bytes, 64))), OLD.most_bytes - 1), down(new.text(sized(NEW, OLD.most_bytes + 1 + 20 * 9)))
+    entries = sized(NEW, NEW.most_bytes)
+    text = new.text(entries[:-1] + [entries[-1]._replace(mended=1)])
+    down(text, 0), down(b"x" + text, 0)
+    for _ in range(8 * size):
+        entries = new.some(dice, 1 + dice.below(2), 4)
+        down(new.text(entries)), down(bytes(spoiled(dice, new.text(entries))), dice.pick([0, 999]))
+        if not any(entry.mended for entry in entries):
+            script.case(UP, 999, sheet.down(new.text(entries)))
 
 
 def spoiled(dice, text):
@@ -826,31 +815,31 @@ def spoiled(dice, text):
 
 def new_cases(sheets, dice, size):
     """Some of what is shown in the old form, with numbers; the whole of it is too much to be stored."""
-    drop_cases_few(sheets, dice, size)
-    for _ in range(6 * size):
+    new_drops(sheets)
+    for _ in range(3 * size):
         first, second, third = (sheets.text(sheets.some(dice, dice.below(4), 2)) for _ in range(3))
         sheets.both(first, second), sheets.rewrite(third)
         sheets.join(sheet.join(NEW, first, second), third), sheets.join(first, sheet.join(NEW, second, third))
         sheets.rewrite(bytes(spoiled(dice, first or third or sheets.text(SAMPLE)))), sheets.add(some_stamp(dice), second, form_of(some_entry(dice, dice.below(2))), mended=some_mended(dice))
-    for _ in range(12 * size):                                          # comparing doesn't look at the number
+    compare_limits(sheets, [(ONE, OVER), (MORE, BAD), (BAD, MORE), (MORE_BAD, ONE), (ONE, MORE), (ONE, BAD), (BAD, BAD), (EMPTY, ONE)])
+    sheets.tried(3, join_payload(sheets.text(sheets.five), sheets.text(with_numbers(NEW, SAMPLE, 5, 0)))), sheets.tried(3, join_payload(sheets.text(sheets.five), sheets.text(FIVE)))
+    for payload in (b"", bytes(3), bytes(4), b"\x01\x00\x00\x00", join_payload(sheets.text(FIVE), b"")[:-1]):
+        sheets.case(2, 99, payload), sheets.case(3, 99, payload)
+    for _ in range(6 * size):                                           # comparing doesn't look at the number
         entries = sheets.some(dice, dice.below(5), 4)
         sheets.compare(sheets.text(entries), sheets.text(overnight(dice, entries, 4, NEW)))
         sheets.compare(sheets.text(entries), sheets.text([entry._replace(mended=some_mended(dice)) for entry in entries]), 0)
 
 
-def drop_cases_few(sheets, dice, size):
+def new_drops(sheets):
     text = sheets.text(sheets.five)
     for key in (*map(named, sheets.five), (2, 9, 0), (3, LI, 0), (255, TI, 0), (2, TI, 3)):
         sheets.drop(key, text)
     sheets.tried(6, drop_payload(named(sheets.five[1]), text)), sheets.tried(6, drop_payload((9, LI, 0), text))
     for length in range(5):
         sheets.case(6, 99, drop_payload((2, LI, 0), b"")[:length])
-    for count in (64, 65, 66):
-        entries = with_numbers(NEW, small(count), 0, 2051)
-        sheets.drop(named(entries[5]), sheets.text(entries)), sheets.drop((255, LI, 0), sheets.text(entries), 0)
-    long = largest(NEW)
-    for length, room in ((NEW.most_bytes, NEW.most_bytes - LONGEST[NEW]), (NEW.most_bytes + 1, NEW.most_bytes)):
-        sheets.drop(named(long), sheets.text(sheets.sized(length - LONGEST[NEW]) + [long]), room)
+    entries = with_numbers(NEW, small(66), 0, 2051)
+    sheets.drop(named(entries[5]), sheets.text(entries[:65])), sheets.drop((255, LI, 0), sheets.text(entries[:65]), 0), sheets.drop(named(entries[5]), sheets.text(entries), 0)
 
 
 def form_cases(sheets, dice, size):
@@ -859,28 +848,18 @@ def form_cases(sheets, dice, size):
     lent_faults(sheets), full_cases(sheets), many_cases(sheets)
     add_cases(sheets, dice, size), join_cases(sheets, dice, size), grouping_cases(sheets)
     drop_cases(sheets, dice, size), drop_faults(sheets), drop_limits(sheets)
-    compare_cases(sheets, dice, size), compare_rooms(sheets), compare_faults(sheets), compare_limits(sheets)
+    compare_cases(sheets, dice, size), compare_rooms(sheets), compare_faults(sheets), compare_limits(sheets, COMPARED)
 
 
 def script_of(dice, size):
-    script = Script(Calls(OLD).ops())
-    form_cases(Sheets(script, OLD), dice, size)
-    for op in (0, 49, 55, 57, 58, 255):
-        script.case(op, 99, sheet.written(OLD, SAMPLE))
-    script.cut_short(b"\x32\x40\x00\x00\x00\x08\x00\x00\x00stamp=1")
-    return script
-
-
-def script_of_new(dice, size):
-    """The cases of the new form and of the moves, which aren't stored as yet."""
     script = Script(OPS)
-    both_forms(script, dice, size)
-    return script
-
-
-def both_forms(script, dice, size):
     old, new = Sheets(script, OLD), Sheets(script, NEW)
+    form_cases(old, dice, size)
     mended_faults(new), number_choices(new), counts_added(new), new_limits(new), other_reader(old, new)
     up_cases(script, old, dice, size), down_cases(script, new, dice, size), new_cases(new, dice, size)
     if size > 1:                        # too much to be stored
         form_cases(new, dice, size)
+    for op in (0, 49, 57, 58, 59, 64, 65, 67, 255):
+        script.case(op, 99, sheet.written(OLD, SAMPLE))
+    script.cut_short(b"\x32\x40\x00\x00\x00\x08\x00\x00\x00stamp=1")
+    return script

@@ -21,6 +21,7 @@ from model import Refused, both, changes, dvb, guide, listing, menu, octet, pes,
 from model.listing import DESK
 from model.sheet import NEW, OLD, Entry
 from samples import aired_both
+import vectors
 
 
 def number(call, *given):
@@ -368,6 +369,19 @@ def the_other_form():
             (sheet.rewrite, reader, over), (move, over), (sheet.join, reader, b"x", over), (sheet.add, reader, 1, 0, over, form), (changes.compare, reader, own, over))]
         assert told == [(21, 0)] * len(told)
     assert number(sheet.rewrite, OLD, sheet.written(NEW, sized(NEW, 17152))) == (21, 0)
+
+
+def sheet_vectors():
+    """Every refusal that an op can give is among the cases, and what is stored has room in 2 MB."""
+    stdin, stdout = vectors.make("sheet")
+    given = {}
+    for words in (line.split() for line in stdout.decode().splitlines()[:-1]):
+        given.setdefault(words[0], set()).add(words[1])
+    for op, numbers in ((0, ()), (1, (13, 15, 22)), (2, ()), (3, ()), (6, ())):
+        expected = {f"no={no}" for no in (0, 1, 20, 21, *numbers)} | ({"unknown"} if op else set())
+        assert given[f"op={50 + op}"] == given[f"op={60 + op}"] == expected, op
+    assert given["op=54"] == {f"no={no}" for no in (0, 1, 20, 21)} and given["op=55"] == {f"no={no}" for no in (0, 1, 20, 21, 25)}
+    assert len(stdin) + len(stdout) <= 2_000_000
 
 
 def menus():
@@ -860,7 +874,7 @@ def noise(rounds, most):
 
 def main():
     for check in (images, cases_a_to_f, case_g, cases_h_to_k, annex_l1, editions, lost_pes, pages, day_sheet, dropping, comparing, compared_faults,
-                  the_new_form, smaller_numbers, adding_order, moving, the_other_form, menus, menu_levels, joined_blocks, cut_line, side_by_side, untouched, two_said, desk_of_two, sheet_of_two, menus_of_two,
+                  the_new_form, smaller_numbers, adding_order, moving, the_other_form, sheet_vectors, menus, menu_levels, joined_blocks, cut_line, side_by_side, untouched, two_said, desk_of_two, sheet_of_two, menus_of_two,
                   descriptors, descriptors_judged, descriptors_back):
         check()
         print(f"{check.__name__}: ok")
