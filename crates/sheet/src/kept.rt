@@ -30,17 +30,17 @@ const HEAD: usize = 19;
 // Behind the slots stands which form each table was, two bytes each: so many are kept.
 const BEHIND: usize = 557056;
 
-const TABLES: usize = 131072;
+const TABLES: usize = 16384;
 
 // Of a table that came with fewer mended bytes than its form before, the form has so much more.
 const FALLS: u16 = 32768;
 
 // Behind the tables stand the numbers that fell, two bytes each: so many are kept.
-const NUMBERS: usize = 819200;
+const NUMBERS: usize = 589824;
 
 const FALLEN: usize = 4096;
 
-pub const KEPT: usize = 827392;
+pub const KEPT: usize = 598016;
 
 // More than every number of mended bytes.
 pub const NO_NUMBER: u16 = 65535;
