@@ -27,7 +27,7 @@ struct Tally {
 pub fn list(fd: i32, name: &[u8], is_titled: bool, setting: Streams) -> bool {
     let mut piece = [0u8; PIECE];
     let mut records = [0u8; RECORDS];
-    let mut pages = captures::pages(setting);
+    let mut pages = sight::pages(setting);
     let mut form = [0u8; FORM];
     let mut capture = captures::start(setting, false);
     let mut tally = fresh(is_titled);
