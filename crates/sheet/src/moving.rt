@@ -1,4 +1,4 @@
-// A sheet moved from the old form to the new one, or back (SCOPE 30.9). A sheet that was refused is held against the other form, so that whoever
+// A sheet moved from the old form to the new one, or back (SCOPE 30.8). A sheet that was refused is held against the other form, so that whoever
 // keeps it is told what it is.
 use crate::says;
 use crate::work;
