@@ -76,7 +76,7 @@ pub(crate) struct Gone {
 // left: the blocks that they finish stand as records at the front of the output, and the reader has gone
 // on. Refused with 16 where the setting or the state is out of range or the list isn't whole packets, then
 // with 1 where the output is under 2,112 bytes, also for an empty list: the output and the reader are then
-// as they were. The state is tested once, and it is copied in and out once.
+// as they were. The state is tested once, and it is copied in and out once a call, not once a packet.
 pub fn feed_all(setting: Setting, reader: Reader, packets: &[u8], out: &mut [u8]) -> FedAll
     ensures { λ r. ⌜ r .heard ≡ feedAllHeard setting reader (now (packets .entry)) (now (out .entry)) ⌝ }
     ensures { λ r. ⌜ r .reader ≡ feedAllReader setting reader (now (packets .entry)) (now (out .entry)) ⌝ }
