@@ -92,12 +92,11 @@ def inner(**change):
 
 # --- blocks that aren't as they should be -------------------------------------------
 
-class Block:
-    """A menu's block with other values in some fields; sums agree unless they are told not to."""
+class Strung:
+    """A block of control data and codes with other values in some fields; sums agree unless they are told not to."""
 
-    def __init__(self, made):
-        self.nibbles = menu.control_nibbles(made)
-        self.strings = bytearray(map(with_parity, menu.codes_of(made)))
+    def __init__(self, nibbles, codes):
+        self.nibbles, self.strings = nibbles, bytearray(map(with_parity, codes))
         self.application, self.part, self.second, self.off, self.changes, self.cut, self.room = 1, 0, 0, 0, [], 0, 4096
 
     def field(self, at, width, value):
@@ -114,6 +113,13 @@ class Block:
         if self.cut < 0:
             made = guide.record_of(guide.head_of(1, 7), made[HEAD:HEAD + 7], self.part, self.second)
         return made[:len(made) - max(self.cut, 0)]
+
+
+class Block(Strung):
+    """A menu's."""
+
+    def __init__(self, made):
+        super().__init__(menu.control_nibbles(made), menu.codes_of(made))
 
 
 CONTROL, KIND, ACCESS, HEADER_SIZE, EVENTS, DESCRIPTORS = (8, 10), (18, 6), (24, 2), (44, 2), (46, 4), (54, 6)
@@ -150,35 +156,40 @@ FAULTS = {
 }
 
 
-def fault_cases(read):
+def fault_cases(read, faults=FAULTS, fresh=lambda: Block(SAMPLE)):
     """Each refusal alone, and each two of them."""
-    for one in FAULTS:
-        for two in FAULTS:
-            block = Block(SAMPLE)
-            FAULTS[one](block)
+    for one in faults:
+        for two in faults:
+            block = fresh()
+            faults[one](block)
             if two != one:
-                FAULTS[two](block)
+                faults[two](block)
             read(block.record(), block.application, block.room)
+
+
+def control_sizes(read, fresh, right):
+    """A block that says another control size than its own."""
+    for control in (0, 1, 2, 3, 4, 5, right - 1, right + 1, right + 3, right + 4, 500, 1023):
+        block = fresh()
+        block.field(*CONTROL, control)
+        whole = block.record()
+        read(whole)
+        count = max(8, min(2 * control, len(whole) - HEAD))         # its control bytes, each decoded, and the sum over just those
+        nibbles = [octet.decode(b) for b in whole[HEAD:HEAD + count]]
+        if octet.UNDECODABLE not in nibbles:
+            again = menu.summed(1, nibbles, whole[HEAD + count:])
+            strings = bytes(with_parity(b & 0x7F) for b in again[HEAD + count:])
+            read(again), read(again[:HEAD + count] + strings), read(with_bytes(again, (HEAD + count - 1, LOST)))
+            read(with_bytes(again, (HEAD, octet.image(octet.decode(again[HEAD]) ^ 1))))            # 11 before 14
+            if strings:
+                read(again[:HEAD + count] + strings[:-1] + bytes([strings[-1] ^ 0x80]))
 
 
 def size_cases(read, dice):
     """Control sizes that don't fit: under 4, past the block, one off; then what is a control byte and what a string byte goes by them."""
     for made in (SAMPLE, EMPTY, some_menu(dice, descriptors=2)):
         right = menu.width(made) // 8
-        for control in (0, 1, 2, 3, 4, 5, right - 1, right + 1, right + 3, right + 4, 500, 1023):
-            block = Block(made)
-            block.field(*CONTROL, control)
-            whole = block.record()
-            read(whole)
-            count = max(8, min(2 * control, len(whole) - HEAD))     # its control bytes, each decoded, and the sum over just those
-            nibbles = [octet.decode(b) for b in whole[HEAD:HEAD + count]]
-            if octet.UNDECODABLE not in nibbles:
-                again = menu.summed(1, nibbles, whole[HEAD + count:])
-                strings = bytes(with_parity(b & 0x7F) for b in again[HEAD + count:])
-                read(again), read(again[:HEAD + count] + strings), read(with_bytes(again, (HEAD + count - 1, LOST)))
-                read(with_bytes(again, (HEAD, octet.image(octet.decode(again[HEAD]) ^ 1))))        # 11 before 14
-                if strings:
-                    read(again[:HEAD + count] + strings[:-1] + bytes([strings[-1] ^ 0x80]))
+        control_sizes(read, lambda: Block(made), right)
         for descriptors in (0, 1, 2, 3, 63):
             block = Block(made)
             block.field(*DESCRIPTORS, descriptors)
@@ -207,11 +218,11 @@ def size_cases(read, dice):
                 read(changed(SAMPLE._replace(descriptors=[(7, 1, 0)] * count), place, width, value))
 
 
-def odd_cases(read):
+def odd_cases(read, fresh=lambda: Block(SAMPLE)):
     """An odd size. Where twice the control size is one above it the last byte is a control byte, where it is one below a string byte."""
     for size in (9, 11, 29, 301):
         for control in (size + 1) // 2, (size - 1) // 2:
-            block = Block(SAMPLE)
+            block = fresh()
             block.nibbles, block.strings = (block.nibbles + [7] * size)[:size - 1] + [0], b""
             block.field(*CONTROL, control)
             for block.off in 0, 1:
@@ -227,9 +238,8 @@ def far_cases(read):
     read(with_bytes(control, (-1, 0)))
 
 
-def head_cases(read):
+def head_cases(read, good):
     """What stands before the raw bytes: a record longer than its size says, one that hasn't got a head, part and second byte."""
-    good = listed(1, SAMPLE)
     for more in (1, 2, 3, 4, 100, 256, 2048):
         read((good * 30)[:len(good) + more])
     for application in (1, 31, 32, 33, 255):
@@ -471,8 +481,8 @@ def script_of(dice, size):
     record = menu.write_menu(1, menu.form_of(filled(1023, 1)))
     read(with_bytes(hit(dice, record[:-1], 2046) + record[-1:], (2, 5)), room=8192)
     fault_cases(read), size_cases(read, dice), parity_cases(read, dice), write_faults(write, dice)
-    head_cases(read), odd_cases(read), far_cases(read)
     good = menu.write_menu(1, menu.form_of(SAMPLE))
+    head_cases(read, good), odd_cases(read), far_cases(read)
     for length in range(0, len(good), 3):
         read(good[:length])
     for n in range(12):                                              # small sizes, of images and of anything

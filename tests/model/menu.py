@@ -7,7 +7,7 @@ from .guide import HEAD, head_in, head_of, record_of, records_in
 from .listing import DESK
 from .octet import images, mended
 from .streams import blocks
-from .table import COMMON, FIRST, Bits, Read, checksum, decoded, laid, opened
+from .table import COMMON, FIRST, Bits, Read, checksum, decoded, nibbles_laid, opened
 
 NI = 3                              # datatype_id, clause 11.12.3
 MOST_SIZE = 2047                    # of a block, in bytes
@@ -167,20 +167,39 @@ def with_parity(code):
 
 # --- reading --------------------------------------------------------------------------
 
-def read_menu(application, record, room=65536):
-    """A record's NI form, how many bytes of its start, header and control data were mended, and whether it is joined."""
-    head, size, part, joined, nibbles, front = opened(application, record, [NI])
+class Sound(NamedTuple):
+    """A block with strings whose bytes are sound and whose sum agrees."""
+    size: int
+    control_size: int               # as it says itself
+    nibbles: list                   # of its control bytes
+    codes: bytes                    # of its string bytes
+    mended: int                     # bytes of its start, header and control data
+    joined: int
+
+    def read(self, form, room):
+        """The answer, with a form that has to fit the room."""
+        need(len(form) <= room, 1)
+        return Read(form, self.mended, self.joined)
+
+
+def sound(application, record, kind):
+    """What is judged of a block with strings before its lengths (SCOPE 23.6), and what it has then."""
+    head, size, part, joined, nibbles, front = opened(application, record, [kind])
     control = HEAD + max(FIRST, min(2 * front["control_block_size"], size))
     nibbles += decoded(record, range(HEAD + FIRST, control))
     for at in range(control, len(record)):
         need(with_parity(record[at] & 0x7F) == record[at], 23, at)
     need(front["checksum"] == checksum(head, nibbles), 11)
-    menu, lengths = menu_in(nibbles)
-    need(width(menu) == 8 * front["control_block_size"] and block_size(menu) == size and menu.header_size < 3, 14)
     codes = bytes(byte & 0x7F for byte in record[control:])
-    form = form_of(with_codes(menu, lengths, codes))
-    need(len(form) <= room, 1)
-    return Read(form, part + sum(map(mended, record[HEAD:control])), joined)
+    return Sound(size, front["control_block_size"], nibbles, codes, part + sum(map(mended, record[HEAD:control])), joined)
+
+
+def read_menu(application, record, room=65536):
+    """A record's NI form, how many bytes of its start, header and control data were mended, and whether it is joined."""
+    block = sound(application, record, NI)
+    menu, lengths = menu_in(block.nibbles)
+    need(width(menu) == 8 * block.control_size and block_size(menu) == block.size and menu.header_size < 3, 14)
+    return block.read(form_of(with_codes(menu, lengths, block.codes)), room)
 
 
 def menu_in(nibbles):
@@ -210,9 +229,14 @@ def menu_in(nibbles):
                 [event() for _ in range(events)]), lengths
 
 
+def strings_in(codes, lengths):
+    """Strings of these lengths, cut from the codes of a block."""
+    return [codes[sum(lengths[:i]):sum(lengths[:i + 1])] for i in range(len(lengths))]
+
+
 def with_codes(menu, lengths, codes):
     """The menu with its strings cut from the codes of a block."""
-    cut = [codes[sum(lengths[:i]):sum(lengths[:i + 1])] for i in range(len(lengths))]
+    cut = strings_in(codes, lengths)
     events = [event._replace(string=event.string._replace(codes=own)) for event, own in zip(menu.events, cut[1:])]
     return menu._replace(header=menu.header._replace(codes=cut[0]), events=events)
 
@@ -228,8 +252,7 @@ def summed(application, nibbles, strings):
 
 def control_nibbles(menu):
     common = (0, width(menu) // 8, NI, 0, menu.copyright, 0, menu.block_no)
-    number = laid([(w, value) for (_, w), value in zip(COMMON, common)] + menu_fields(menu))
-    return [number >> 4 * i & 15 for i in range(width(menu) // 4)]
+    return nibbles_laid([(w, value) for (_, w), value in zip(COMMON, common)] + menu_fields(menu))
 
 
 def write_menu(application, form, room=65536):

@@ -36,9 +36,13 @@ def width(table):
     return sum(w for _, w in FRONT) + loops
 
 
-def control_size(table):
+def whole_bytes(bits):
     """In bytes of control bits, fill included (SCOPE 12.6)."""
-    return (width(table) + 7) // 8
+    return (bits + 7) // 8
+
+
+def control_size(table):
+    return whole_bytes(width(table))
 
 
 def checksum(head, nibbles):
@@ -169,6 +173,12 @@ def laid(fields):
     return number
 
 
+def nibbles_laid(fields):
+    """Fields as control data, 0 as fill up to a whole byte."""
+    number = laid(fields)
+    return [number >> 4 * i & 15 for i in range(2 * whole_bytes(sum(width for width, _ in fields)))]
+
+
 def control_fields(table):
     """Tables 15 and 17 as (width, value); the checksum comes last, reserved is 0."""
     values = (0, control_size(table), table.kind, 0, table.copyright, 0,
@@ -191,8 +201,6 @@ def summed(application, nibbles):
 def write_block(application, form, room=65536):
     """The record of a table form; fill is 0 (SCOPE 12.10)."""
     need(application <= 31, 16)
-    table = table_of(form)
-    number = laid(control_fields(table))
-    record = summed(application, [number >> 4 * i & 15 for i in range(2 * control_size(table))])
+    record = summed(application, nibbles_laid(control_fields(table_of(form))))
     need(len(record) <= room, 1)
     return record
