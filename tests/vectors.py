@@ -11,7 +11,7 @@ and prints a line for each case:
 
 no and at are the refusal's number and offset, both 0 where it is accepted; out
 is what the call reports as written; kept is whether every other byte is still
-A5. Ops 21 and 25 add blocks=N dropped=yes or no, ops 30 and 32 mended=N joined=N (0 and 0 where refused;
+A5. Ops 21 and 25 add blocks=N dropped=yes or no, ops 30, 32 and 34 mended=N joined=N (0 and 0 where refused;
 joined is the record's second byte), ops 53 and 63 sheet=1 or sheet=2 where that sheet is refused with 20 or 21, and nothing otherwise.
 An op that isn't known, or a payload that is too short for it: op=N unknown. A case that the end cuts short: short=N.
 
@@ -36,11 +36,14 @@ An op that isn't known, or a payload that is too short for it: op=N unknown. A c
     31  try_table    application, a table form                a record
     32  try_menu     application, a record                    an NI form
     33  try_menu     application, an NI form                  a record
+    34  try_information  application, a record                an AI form
+    35  try_information  application, an AI form              a record
     40  try_listing  how many bytes were mended (2 bytes,     the desk's lines
                      low first), a record's second byte
                      (not judged), a table form
     41  try_menu     application, a block number (2 bytes,    the listing
                      low first), records
+    42  try_information  application, records                 the verdict
     50  try_sheet    a sheet                                  the sheet, written again
     51  try_sheet    stamp (4 bytes, low first), the sheet's  the sheet with the table added
                      length (4, low first), it, a table form
@@ -60,11 +63,11 @@ An op that isn't known, or a payload that is too short for it: op=N unknown. A c
     71  try_dvb      a descriptor                             how many subtitles, how many passed over, the subtitles
 """
 
-from cases import dvb, guide, listing, menu, octet, pes, sheet, table, unpes
+from cases import dvb, guide, information, listing, menu, octet, pes, sheet, table, unpes
 from cases.form import Dice
 from model import unpes as model_unpes
 
-CASES = {"octet": octet, "pes": pes, "guide": guide, "table": table, "listing": listing, "menu": menu, "sheet": sheet, "dvb": dvb}
+CASES = {"octet": octet, "pes": pes, "guide": guide, "table": table, "listing": listing, "menu": menu, "information": information, "sheet": sheet, "dvb": dvb}
 
 
 def make(name, seed=1, size=1):

@@ -1,7 +1,8 @@
 #!/usr/bin/env python3
 """Holds the model to what SCOPE and EN 300 707 print: the sixteen images, cases
 A to K, annex L.1, and the third demand, counts included, under random noise; and
-the programs with two streams to what they do with one; and descriptors for digital sets to those that are known, with what they keep and lose."""
+the programs with two streams to what they do with one; and Application Information and annex D to their limits; and descriptors for digital sets to those
+that are known, with what they keep and lose."""
 
 import functools
 import pathlib
@@ -13,11 +14,12 @@ sys.path.insert(0, str(pathlib.Path(__file__).resolve().parent.parent))
 from cases.form import LOST, Dice, with_bytes
 from cases import both as both_cases
 from cases import dvb as dvb_cases
+from cases import information as information_cases
 from cases.reader import Air, all_cases
 from cases.menu import EMPTY, SAMPLE, filled, linked, listed, some_menu, worded
 from cases.sheet import FIVE, RIVALS, SAMPLE as ENTRIES, Sheets, largest, lent_pairs, most_entries, named, overnight, sized, small, some_entry, some_sheet, with_numbers
 from cases.table import CASE_G, L1_PRINTED, L1_SUM, l1_records, later, shaped, some_table
-from model import Refused, both, changes, dvb, guide, listing, menu, octet, pes, sheet, streams, survey, table, unpes
+from model import Refused, both, changes, dvb, guide, information, listing, menu, octet, pes, sheet, streams, survey, table, unpes
 from model.listing import DESK
 from model.sheet import NEW, OLD, Entry
 from samples import aired_both
@@ -371,12 +373,18 @@ def the_other_form():
     assert number(sheet.rewrite, OLD, sheet.written(NEW, sized(NEW, 17152))) == (21, 0)
 
 
-def sheet_vectors():
-    """Every refusal that an op can give is among the cases, and what is stored has room in 2 MB."""
-    stdin, stdout = vectors.make("sheet")
+def given_by(stdout):
+    """The numbers that each op gives."""
     given = {}
     for words in (line.split() for line in stdout.decode().splitlines()[:-1]):
         given.setdefault(words[0], set()).add(words[1])
+    return given
+
+
+def sheet_vectors():
+    """Every refusal that an op can give is among the cases, and what is stored has room in 2 MB."""
+    stdin, stdout = vectors.make("sheet")
+    given = given_by(stdout)
     for op, numbers in ((0, ()), (1, (13, 15, 22)), (2, ()), (3, ()), (6, ())):
         expected = {f"no={no}" for no in (0, 1, 20, 21, *numbers)} | ({"unknown"} if op else set())
         assert given[f"op={50 + op}"] == given[f"op={60 + op}"] == expected, op
@@ -427,6 +435,160 @@ def menu_levels():
     assert said(linked(0, *[0] * 7)) == "menus: night.t42: the listing of menu 0 is longer than 1 MB and isn't printed; -l 5 fits\n"
     for count, end in ((19, " 18 19\n"), (20, " 19 20\n"), (21, " 19 20 ..\n"), (99, " 19 20 ..\n")):
         assert said(*(linked(n) for n in range(1, count + 1))).endswith(end)
+
+
+def application_information():
+    """The first case; what is written reads back, what is read is written as the same values; fill_up is four bits where networks are odd."""
+    first = bytes.fromhex("01 05 00 00 02 EA 64 02 64") + b"\x15" * 35
+    assert information.write_information(1, b"\x01" + bytes(19)) == first and information.read_information(1, first) == (b"\x01" + bytes(19), 0, 0)
+    dice, cases = Dice(9), information_cases
+    for made in (cases.EMPTY, cases.SAMPLE, cases.named_in_all(80, 7), cases.named_in_all(36, 1107), *(cases.some_information(dice) for _ in range(150))):
+        form, application, networks = information.form_of(made), dice.below(32), len(made.networks)
+        record = information.write_information(application, form)
+        assert information.information_of(form) == made and information.read_information(application, record) == (form, 0, 0)
+        assert len(record) == guide.HEAD + (160 + 100 * networks + 4 * (networks % 2)) // 4 + len(information.codes_of(made))
+        control = guide.HEAD + 2 * information.control_size(made)
+        spares = [(spare, dice.below(1 << spare[1])) for spare in cases.spare_fields(networks)]
+        came = cases.with_fields(made, *spares)         # of our application, 1: spare bits set, some bytes mended, part and second byte
+        flips = [(at, came[at] ^ 1 << dice.below(8)) for at in sorted({dice.between(guide.HEAD, control - 1) for _ in range(dice.below(9))})]
+        came = with_bytes(came, *flips, (2, 3), (3, 1))
+        assert information.read_information(1, came) == (form, 3 + len(flips), 1)
+        again = information.write_information(1, form)
+        assert information.same(came, again) == (not any(value for _, value in spares))
+        assert information.counts(1, came) == information.AI and information.read_information(1, again).form == form
+        assert number(menu.read_menu, 1, again)[0] == number(table.read_block, 1, again)[0] == 12
+        for length in (0, 19, len(form) - 1):
+            assert number(information.write_information, 1, form[:length]) == (13, 0)
+        assert number(information.write_information, 1, form + b"\x00") == (13, 0)
+
+
+def information_limits():
+    """80 networks and 2,047 bytes, the longest form, and annex E: names of 31, strings of 255, none in LI and TI."""
+    cases, most = information_cases, 0
+    for networks in range(82):
+        codes = min(31 * (networks + 1), information.MOST_SIZE - information.block_size(cases.named_in_all(networks, 0)))
+        assert (codes >= 0) == (networks <= 80)
+        if codes < 0:
+            assert number(information.write_information, 1, information.form_of(cases.named_in_all(networks, 0))) == (15, 0)
+            continue
+        made = cases.named_in_all(networks, codes)
+        form = information.form_of(made)
+        assert len(form) <= information.block_size(made) and information.writable(made)
+        assert codes == 31 * (networks + 1) or not information.writable(cases.named_in_all(networks, codes + 1))
+        most = max(most, len(form))
+    assert most == 1739 == len(information.form_of(cases.named_in_all(36, 1107))) and information.block_size(cases.named_in_all(80, 0)) == 2040
+    for at in (None, 0, 2):
+        for length, no in ((31, 0), (32, 15)):
+            assert number(information.write_information, 1, information.form_of(cases.renamed(cases.SAMPLE, at, b"n" * length)))[0] == no
+        for codes, no in ((bytes(range(31)), 0), (b"\x1f\x7f", 0), (b"\x80", 15)):
+            assert number(information.write_information, 1, information.form_of(cases.renamed(cases.SAMPLE, at, codes)))[0] == no
+    for row, at in ((information.OPENING, None), (information.NETWORK, 0), (information.NETWORK, 2)):
+        for name, width in cases.value_widths(row):
+            assert information.writable(cases.changed(cases.SAMPLE, at, **{name: (1 << width) - 1})) and not information.writable(cases.changed(cases.SAMPLE, at, **{name: 1 << width}))
+    assert [width for name, width in information.OPENING + information.NETWORK if "name_len" in name] == [5, 5]
+    longest = menu.write_menu(1, menu.form_of(EMPTY._replace(header=menu.String([], b"h" * 255))))
+    assert menu.menu_of(menu.read_menu(1, longest).form).header.codes == b"h" * 255
+    for kind in (table.LI, table.TI):                   # as long as their control data, so a string byte is one too many
+        record = cases.table_record(kind, 1, counts=[2])
+        assert len(record) == guide.HEAD + 2 * table.control_size(shaped(kind, [2]))
+        for more in (b"\x20", b"\x20\x20"):
+            longer = guide.record_of(guide.head_of(1, len(record) - guide.HEAD + len(more)), record[guide.HEAD:] + more)
+            assert number(table.read_block, 1, longer)[0] in (10, 11, 13, 14)
+
+
+def counted_blocks():
+    """What counts as what, and which records are one block."""
+    cases = information_cases
+    read = {information.AI: cases.guide_of(), menu.NI: listed(1, SAMPLE), table.LI: cases.table_record(table.LI, 1), table.TI: cases.table_record(table.TI, 1)}
+    for kind in range(64):
+        blank = cases.plain(kind)
+        assert information.counts(1, blank) == (information.NOT if kind in read else kind)
+        assert information.counts(1, read.get(kind, blank)) == kind and information.counts(2, read.get(kind, blank)) == information.counts(33, blank) == information.NOT
+        assert information.counts(1, read.get(kind, blank)[:-1]) == information.counts(1, b"") == information.NOT
+        for change in ((2, 6), (3, 2), (guide.HEAD + 12, LOST)):
+            record = read.get(kind, cases.plain(kind, size=13))
+            assert information.counts(1, with_bytes(record, change)) == (information.NOT if kind in read else kind)
+        assert information.counts(1, with_bytes(blank, (guide.HEAD + 7, LOST))) == information.counts(1, cases.plain(kind, size=7)) == information.NOT
+    record, dice = read[information.AI], Dice(3)
+    assert information.same(record, record) and information.same(record, with_bytes(record, (2, 5), (3, 1)))
+    for at in range(guide.HEAD, len(record) - 1):       # the last is a string byte
+        mended = with_bytes(record, (at, record[at] ^ 1 << dice.below(8)))
+        twice = with_bytes(record, (at, record[at] ^ 1 << dice.below(8)))
+        lost = with_bytes(record, (at, LOST))
+        assert information.same(mended, record) and information.same(mended, twice) and information.same(lost, lost)
+        assert not information.same(lost, record) and not information.same(lost, with_bytes(record, (at, LOST ^ 3)))
+        assert not information.same(record, with_bytes(record, (at, octet.image(octet.decode(record[at]) ^ 1))))
+    assert not information.same(record, with_bytes(record, (0, record[0] ^ 1)))
+    ones = [guide.record_of(guide.head_of(1, 1), [byte]) for byte in range(256)]
+    for a in range(256):                                # of string bytes of right parity it is equality
+        for b in range(256):
+            alike = information.same(ones[a], ones[b])
+            assert alike == (a == b or octet.decode(a) == octet.decode(b) < 16)
+            assert alike == (a == b) or menu.with_parity(a & 0x7F) != a or menu.with_parity(b & 0x7F) != b
+
+
+def lawful_lists():
+    """Each rule of table D.1 at its limit and over, in its order; 16, 13, 24 and 1."""
+    cases, yes = information_cases, b"guide=EPG\nlawful=yes\n"
+    no = {rule: b"guide=EPG\nlawful=no\nrule=" + rule.encode() + b"\n" for rule in cases.RULES}
+    assert [row.name for row in information.GUIDES["EPG"]] == ["AI", "PI", "NI", "OI", "MI", "UI", "LI", "TI", "CI", "HI"]
+    assert tuple(information.FAILING.values()) == cases.RULES
+    for channel in (0, 5, 255):
+        good = cases.guide_of(channel)
+        assert information.lawful(1, good) == yes
+        for at, rule in enumerate(cases.RULES):
+            assert information.lawful(1, good + cases.within(rule, channel)) == yes and information.lawful(1, good + cases.over(rule, channel)) == no[rule]
+            for later in cases.RULES[at:] if channel == 5 else ():
+                assert information.lawful(1, cases.over(later, 5) + good + cases.over(rule, 5)) == no[rule]
+    fullest = good + b"".join(cases.within(rule, 255) for rule in ("MI", "UI")) + b"".join(
+        cases.table_record(kind, network) for kind in (table.LI, table.TI) for network in (*range(256), 255))
+    assert information.lawful(1, fullest) == yes
+    for kind, rule in ((table.LI, "LI"), (table.TI, "TI")):
+        assert all(information.lawful(1, fullest + cases.table_record(kind, network)) == no[rule] for network in (0, 254, 255))
+    for given, expected in (((32, b"\x01"), 16), ((1, b"\x01", 0), 13), ((1, good[:-1]), 13), ((1, b"", 0), 24), ((2, good, 0), 24), ((1, good, 20), 1), ((1, good, 21), 0),
+                            ((1, with_bytes(good, (-1, 0))), 24)):
+        assert number(information.lawful, *given) == (expected, 0)
+
+
+def lawful_said():
+    """What `lawful` prints: each block once, however often and however mended it came, and a repeat takes no room; what it says of a no; nothing where
+    no Application Information counts, or where there are more blocks than fit."""
+    cases, dice = information_cases, Dice(5)
+    tables = [cases.table_record(table.LI, 0), cases.table_record(table.LI, 1), *(cases.table_record(table.TI, network, block_no) for network in (0, 1) for block_no in table.NUMBERS)]
+    first, last = [cases.guide_of(0), cases.plain(information.UI), *tables], cases.table_record(table.TI, 3)
+    text = b"guide=EPG\nlawful=no\nrule=TI\nAI=1 MI=0 UI=1 LI=2 TI=4\n"
+    again = [hit_first(dice, record) for record in first]
+    for came in (first, first + first, again + first + again):
+        assert information.told_of(1, came) == (text, b"lawful: standard input: not lawful, by rule TI\n")
+        assert information.told_of(1, came, b"a\nb") == (b"file=a?b\n" + text, b"lawful: a?b: not lawful, by rule TI\n")
+        capture = guide.cut(DESK, 0, 20, b"".join(came))
+        assert information.program(capture)[0] == text
+    assert information.told_of(1, first[:-1] + [last]) == (b"guide=EPG\nlawful=yes\nAI=1 MI=0 UI=1 LI=2 TI=4\n", b"")
+    assert information.told_of(1, first[1:], b"n") == information.told_of(2, first, b"n") == (b"", b"lawful: n: ")
+    pair = both.Pair(1, 0xDF, 1, 2, 1)                  # the blocks of both streams are one list
+    two = guide.cut(DESK, 0, 20, b"".join(first)) + guide.cut(DESK._replace(stream=2), 0, 20, b"".join(again) + last)
+    assert information.program(two, pair)[0] == text.replace(b"TI=4", b"TI=5") and information.program(two)[0] == text
+    longest = table.MOST_BITS // 4 + guide.HEAD, information.MOST_SIZE + guide.HEAD
+    assert 2 * 257 * longest[0] + (1 + 255 + 1) * longest[1] == 1_580_807 < information.STORE
+    message = cases.plain(information.MI, size=2047)    # its sum isn't judged
+    large = [with_bytes(message, *enumerate(octet.images(guide.nibbles_of(n)), guide.HEAD + 8)) for n in range(1023)]
+    assert sum(map(len, large)) > information.STORE and information.told_of(1, first[:1] + large) == (b"", b"lawful: standard input: ")
+    assert information.told_of(1, first[:1] + large[:300] * 4)[0] == b"guide=EPG\nlawful=no\nrule=MI\nAI=1 MI=300 UI=0 LI=0 TI=0\n"
+
+
+def hit_first(dice, record):
+    """A record that came with one of its first eight bytes mended."""
+    at = guide.HEAD + dice.below(8)
+    return with_bytes(record, (at, record[at] ^ 1 << dice.below(8)), (2, 1))
+
+
+def information_vectors():
+    """Every refusal that an op can give is among the cases, and what is stored has room in 1 MB."""
+    stdin, stdout = vectors.make("information")
+    given = given_by(stdout)
+    for op, numbers in ((34, (0, 1, 10, 11, 12, 13, 14, 16, 23)), (35, (0, 1, 13, 15, 16)), (42, (0, 1, 13, 16, 24))):
+        assert given[f"op={op}"] == {"unknown"} | {f"no={no}" for no in numbers}, op
+    assert len(stdin) + len(stdout) <= 1_000_000
 
 
 class Marked(guide.Reader):
@@ -874,7 +1036,8 @@ def noise(rounds, most):
 
 def main():
     for check in (images, cases_a_to_f, case_g, cases_h_to_k, annex_l1, editions, lost_pes, pages, day_sheet, dropping, comparing, compared_faults,
-                  the_new_form, smaller_numbers, adding_order, moving, the_other_form, sheet_vectors, menus, menu_levels, joined_blocks, cut_line, side_by_side, untouched, two_said, desk_of_two, sheet_of_two, menus_of_two,
+                  the_new_form, smaller_numbers, adding_order, moving, the_other_form, sheet_vectors, menus, menu_levels,
+                  application_information, information_limits, counted_blocks, lawful_lists, lawful_said, information_vectors, joined_blocks, cut_line, side_by_side, untouched, two_said, desk_of_two, sheet_of_two, menus_of_two,
                   descriptors, descriptors_judged, descriptors_back):
         check()
         print(f"{check.__name__}: ok")
