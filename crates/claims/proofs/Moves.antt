@@ -54,33 +54,38 @@ module _ (rules : List Rule) (bytes lent : List ℕ) {out : List ℕ} {x : Answe
 
 -- ---- there and back
 
+-- of two calls that write by rules, the second of what the first reported: where the second's text of the first's is the sheet again, it gives those bytes
+back :
+    (rules rules′ : List ℕ → List Rule) (text text′ : List ℕ → List ℕ) (s lent lent′ : List ℕ) {out out′ : List ℕ} {x y : Answer}
+    → x ≡ answered (rules s) (text s) lent → out ≡ left (rules s) (text s) lent → Accepted x
+    → y ≡ answered (rules′ (reported x out)) (text′ (reported x out)) lent′ → out′ ≡ left (rules′ (reported x out)) (text′ (reported x out)) lent′
+    → (Every (rules s) → Every (rules′ (text s)) × (text′ (text s) ≡ s)) → length s ≤ length lent′ → (y ≡ Done (length s)) × (reported y out′ ≡ s)
+back rules rules′ text text′ s lent lent′ {out} {out′} {x} {y} a b d a′ b′ law big =
+    let h = holds (rules s) (text s) lent a b d in
+    let m = law (h .0) in
+    let e : y ≡ answered (rules′ (text s)) (text′ (text s)) lent′ = rw (h .1) at a′ in
+    let f : out′ ≡ left (rules′ (text s)) (text′ (text s)) lent′ = rw (h .1) at b′ in
+    let l = ap length (m .1) in
+    let r = done (rules′ (text s)) (text′ (text s)) lent′ e f (m .0) (omega arith) in
+    (r .0 ∙ ap (λ (t : List ℕ). Done (length t)) (m .1), r .1 ∙ m .1)
+
 -- what `up` writes, `down` takes, and gives the old bytes
 pub up-then-down :
     {old lent out lent′ out′ : List ℕ} {x y : Answer} → MovesUp old lent x out → Accepted x → MovesDown (reported x out) lent′ y out′
     → length old ≤ length lent′ → (y ≡ Done (length old)) × (reported y out′ ≡ old)
-up-then-down {old} {lent} {out} {lent′} {out′} {x} {y} call d call′ big =
+up-then-down {old} {lent} {lent′ = lent′} call d call′ =
     let c = ups call in
-    let h = holds (upRules old) (upText old) lent (c .0) (c .1) d in
-    let m = moved.up-down old (h .0) in
-    let again : MovesDown (upText old) lent′ y out′ = rw (h .1) at call′ in
-    let e = downs again in
-    let l = ap length (m .1) in
-    let r = done (downRules (upText old)) (downText (upText old)) lent′ (e .0) (e .1) (m .0) (omega arith) in
-    (r .0 ∙ ap (λ (s : List ℕ). Done (length s)) (m .1), r .1 ∙ m .1)
+    let e = downs call′ in
+    back upRules downRules upText downText old lent lent′ (c .0) (c .1) d (e .0) (e .1) (moved.up-down old)
 
 -- where `down` is accepted, `up` gives the new bytes
 pub down-then-up :
     {new lent out lent′ out′ : List ℕ} {x y : Answer} → MovesDown new lent x out → Accepted x → MovesUp (reported x out) lent′ y out′
     → length new ≤ length lent′ → (y ≡ Done (length new)) × (reported y out′ ≡ new)
-down-then-up {new} {lent} {out} {lent′} {out′} {x} {y} call d call′ big =
+down-then-up {new} {lent} {lent′ = lent′} call d call′ =
     let c = downs call in
-    let h = holds (downRules new) (downText new) lent (c .0) (c .1) d in
-    let m = moved.down-up new (h .0) in
-    let again : MovesUp (downText new) lent′ y out′ = rw (h .1) at call′ in
-    let e = ups again in
-    let l = ap length (m .1) in
-    let r = done (upRules (downText new)) (upText (downText new)) lent′ (e .0) (e .1) (m .0) (omega arith) in
-    (r .0 ∙ ap (λ (s : List ℕ). Done (length s)) (m .1), r .1 ∙ m .1)
+    let e = ups call′ in
+    back downRules upRules downText upText new lent lent′ (c .0) (c .1) d (e .0) (e .1) (moved.down-up new)
 
 -- no result of `up` has over 16,960 bytes
 pub up-short : {old lent out : List ℕ} {x : Answer} → MovesUp old lent x out → Accepted x → length (reported x out) ≤ 16960
