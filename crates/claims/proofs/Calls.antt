@@ -45,8 +45,7 @@ use Rattle.claims.specs.Damage.{streamIn, Sending, sendings, damage, Cou
 use Rattle.claims.specs.Lists.{Among}
 use Rattle.claims.specs.Feeding.{packetsOf}
 use Rattle.claims.specs.Tables.{recordsOf, sent, sentDamaged, taken, tablesOf}
-use Rattle.claims.specs.Calls.{Writes, write-block, Cuts, cut-pages, cut, Starts, fresh, Reads, read-block, reported, accepted}
-use Rattle.claims.specs.Calls.{Written, no-table, table, ReadOut, no-block, block, Made, MadeWhole, ReadAgain, countedForms, Through, Delivers}
+use Rattle.claims.specs.Calls.{Writes, write-block, Cuts, cut-pages, cut, Starts, fresh, Reads, read-block, reported, accepted, Written, no-table, table, ReadOut, no-block, block, Made, MadeWhole, ReadAgain, countedForms, Through, Delivers}
 use Rattle.claims.proofs.Losing.{came-each, came-map, came-exactly, came-among, among-map}
 use Rattle.claims.proofs.Blocks.{range, aired-long}
 use Rattle.claims.proofs.Tables.{tableBlock, all-fit, all-sized, records-same, blocks-written}
