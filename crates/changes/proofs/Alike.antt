@@ -11,8 +11,8 @@ use Rattle.texts.specs.Texts.{beginsWith, sameText}
 use Rattle.forms.specs.Tables.{Table}
 use Rattle.listing_reader.proofs.Spells.{begins-append}
 use Rattle.sheet_entry.specs.Entries.{Entry, keyOf, tableLines}
-use Rattle.day_sheet.specs.Along.{Stands, inFirst, inSecond, inBoth, along}
-use Rattle.day_sheet.proofs.Meeting.{along-less, along-more, along-same, along-first, along-second, along-none}
+use Rattle.sheet_joins.specs.Along.{Stands, inFirst, inSecond, inBoth, along}
+use Rattle.sheet_joins.proofs.Meeting.{along-less, along-more, along-same, along-first, along-second, along-none}
 use Rattle.changes.specs.Lines.{changeLines, changesOf, printed}
 use Rattle.changes.specs.Calls.{tableOf}
 use Rattle.changes.proofs.Applied.{going, printed-on}

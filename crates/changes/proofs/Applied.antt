@@ -27,10 +27,10 @@ use Rattle.listing_reader.specs.Reading.{descriptorsOf}
 use Rattle.listing_reader.proofs.Spells.{begins-append, begins-with}
 use Rattle.listing_reader.proofs.Rowed.{Closed}
 use Rattle.sheet_entry.specs.Entries.{Entry, keyOf, tableLines}
-use Rattle.day_sheet.specs.Along.{Stands, inFirst, inSecond, inBoth, along}
-use Rattle.day_sheet.proofs.AnyOrder.{Fit}
+use Rattle.sheet_joins.specs.Along.{Stands, inFirst, inSecond, inBoth, along}
+use Rattle.day_sheet.proofs.Fronts.{Fit}
 use Rattle.day_sheet.proofs.Choosing.{key-only}
-use Rattle.day_sheet.proofs.Meeting.{Sheet, sheet-rest, along-less, along-more, along-same, along-first, along-second, along-none}
+use Rattle.sheet_joins.proofs.Meeting.{Sheet, sheet-rest, along-less, along-more, along-same, along-first, along-second, along-none}
 use Rattle.changes.specs.Lines.{goneName, newName, changedName, keyName, keyLine, changeLines, changesOf, printed}
 use Rattle.changes.specs.Calls.{tableOf}
 use Rattle.changes.specs.Applying.{keyOfTable, newLine, newTable, newLong, comesBefore, isNew, changedFrom, changedTo, withDescriptors, nextTable, appliedIn, applied}

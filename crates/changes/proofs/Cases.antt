@@ -14,7 +14,7 @@ use Rattle.listing_reader.specs.Lines.{numberFrom, numberAt, nibbleOf, hexWord,
 use Rattle.listing_reader.specs.Many.{further, many}
 use Rattle.listing_reader.specs.Reading.{withPage, withLanguage, wordsOf, flat, withWords, withNumber, descriptorsOf}
 use Rattle.sheet_entry.specs.Entries.{Entry, keyOf}
-use Rattle.day_sheet.specs.Along.{upTo, along}
+use Rattle.sheet_joins.specs.Along.{upTo, along}
 use Rattle.changes.specs.Lines.{kindWord, keyName, keyLine, changeLines, changesOf, printed}
 use Rattle.changes.specs.Calls.{tableOf}
 use Rattle.changes.specs.Applying.{newLine, newUnder, newTable, newLong, comesBefore, isNew, nextTable, appliedIn, applied}

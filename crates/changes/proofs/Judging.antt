@@ -18,7 +18,7 @@ use Rattle.answer.proofs.Lent.{lent-refused}
 use Rattle.day_sheet.specs.Entries.{byteLimit}
 use Rattle.day_sheet.specs.Calls.{rewriteRules}
 use Rattle.day_sheet.specs.Internal.{Halfway}
-use Rattle.day_sheet.proofs.Judged.{halfway}
+use Rattle.day_sheet.proofs.Limits.{halfway}
 use Rattle.changes.specs.Calls.{compareRules, compareText, compareAnswer, compareLeft, faultIn}
 use Rattle.sheet_entry.specs.declared.Form.{Form}
 

@@ -16,7 +16,7 @@ use Rattle.text_lines.specs.Lines.{decimal, numberLine}
 use Rattle.listing_reader.specs.Lines.{lineOf}
 use Rattle.listing_reader.proofs.Spells.{begins-with, digits-back, number-back}
 use Rattle.sheet_entry.specs.Entries.{Entry, keyIn, keyOf}
-use Rattle.day_sheet.proofs.AnyOrder.{Fit}
+use Rattle.day_sheet.proofs.Fronts.{Fit}
 use Rattle.day_sheet.proofs.Choosing.{written-sendable}
 use Rattle.changes.specs.Lines.{newName, kindWord, keyName, keyLine}
 use Rattle.changes.specs.Applying.{keyOfTable, newKind, newNetwork, newLine}

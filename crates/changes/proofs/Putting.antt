@@ -20,14 +20,16 @@ use Rattle.text_lines.proofs.Printed.{then, put-none, put-as, Left, left-start,
 use Rattle.listing.specs.Lines.{kindLine, kindTI, kindLI, networkName, blockName}
 use Rattle.sheet_entry.specs.declared.Found.{Found}
 use Rattle.sheet_entry.specs.Entries.{Entry, mendedHead, spelledBy, stampName, headLines, tableLines, entryText}
-use Rattle.day_sheet.specs.declared.joining.Turn.{Turn}
-use Rattle.day_sheet.specs.Along.{Stands, inFirst, inSecond, inBoth, along}
-use Rattle.day_sheet.specs.Turns.{turnOf}
+use Rattle.sheet_joins.specs.declared.Turn.{Turn}
+use Rattle.sheet_joins.specs.Along.{Stands, inFirst, inSecond, inBoth, along}
+use Rattle.sheet_joins.specs.Turns.{turnOf}
 use Rattle.day_sheet.specs.Calls.{entriesOf}
-use Rattle.day_sheet.specs.Internal.{Halfway, Lies, Met, foundLines}
+use Rattle.day_sheet.specs.Internal.{Halfway}
+use Rattle.sheet_joins.specs.Internal.{Lies, Met, foundLines}
 use Rattle.day_sheet.specs.Entries.{sheetText}
-use Rattle.day_sheet.proofs.Meeting.{spans, lines-found, Front, front-first, front-second, front-both, Turned, turned, along-out, along-less, along-more, along-same, along-first, along-second, along-none}
-use Rattle.day_sheet.proofs.Turning.{part-length}
+use Rattle.day_sheet.proofs.Fronts.{spans}
+use Rattle.sheet_joins.proofs.Meeting.{lines-found, Front, front-first, front-second, front-both, Turned, turned, along-out, along-less, along-more, along-same, along-first, along-second, along-none}
+use Rattle.sheet_joins.proofs.Turning.{part-length}
 use Rattle.changes.specs.Lines.{goneName, newName, changedName, kindWord, keyName, keyLine, changeLines, changesOf, printed}
 use Rattle.changes.specs.Calls.{compareText}
 use Rattle.changes.specs.Internal.{kindIn, frontOf, keyText, bothText, turnChange, placeMost}

@@ -21,8 +21,8 @@ use Rattle.listing_reader.specs.Reading.{withNumber, descriptorsOf}
 use Rattle.listing_reader.proofs.Rowed.{Closed, table-before, number-some}
 use Rattle.sheet_entry.specs.Entries.{Entry, keyOf, tableLines}
 use Rattle.sheet_entry.proofs.Entered.{all-described, written-parts}
-use Rattle.day_sheet.specs.Along.{Stands, inFirst, inSecond, inBoth}
-use Rattle.day_sheet.proofs.AnyOrder.{Fit}
+use Rattle.sheet_joins.specs.Along.{Stands, inFirst, inSecond, inBoth}
+use Rattle.day_sheet.proofs.Fronts.{Fit}
 use Rattle.day_sheet.proofs.Choosing.{written-sendable, key-only}
 use Rattle.changes.specs.Lines.{newName, changedName, keyName, keyLine, changeLines, changesOf}
 use Rattle.changes.specs.Calls.{tableOf}

@@ -15,8 +15,8 @@ use Rattle.answer.proofs.Steps.{first-holds, others-hold}
 use Rattle.forms.specs.Tables.{Table}
 use Rattle.sheet_entry.specs.Entries.{Entry}
 use Rattle.day_sheet.specs.Calls.{entriesOf, rewriteRules}
-use Rattle.day_sheet.specs.AnyOrder.{InForm}
-use Rattle.day_sheet.proofs.AnyOrder.{sheet-of}
+use Rattle.day_sheet.specs.Reading.{InForm}
+use Rattle.sheet_joins.proofs.AnyOrder.{sheet-of}
 use Rattle.day_sheet.proofs.Exact.{read-written}
 use Rattle.changes.specs.Lines.{printed}
 use Rattle.changes.specs.Calls.{compareRules, compareText, compareAnswer, compareLeft, tablesOf}

@@ -10,8 +10,8 @@ use Rattle.texts.specs.Texts.{sameText}
 use Rattle.forms.specs.Tables.{TI, LI}
 use Rattle.text_lines.specs.Lines.{numberLine}
 use Rattle.sheet_entry.specs.declared.Found.{Found}
-use Rattle.day_sheet.specs.declared.joining.Turn.{Turn}
-use Rattle.day_sheet.specs.Internal.{foundLines}
+use Rattle.sheet_joins.specs.declared.Turn.{Turn}
+use Rattle.sheet_joins.specs.Internal.{foundLines}
 use Rattle.changes.specs.Lines.{goneName, newName, changedName, keyName}
 
 -- what a key's number says

@@ -8,7 +8,7 @@ use Rattle.forms.specs.Tables.{Table, TI}
 use Rattle.text_lines.specs.Codes.{codes}
 use Rattle.text_lines.specs.Lines.{decimal, numberLine}
 use Rattle.sheet_entry.specs.Entries.{Entry, tableLines}
-use Rattle.day_sheet.specs.Along.{Stands, inFirst, inSecond, inBoth, along}
+use Rattle.sheet_joins.specs.Along.{Stands, inFirst, inSecond, inBoth, along}
 
 -- ---- the line of a key
 

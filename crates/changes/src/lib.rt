@@ -7,12 +7,13 @@ ghost use Prim.Native.Nat.{_≤_};
 ghost use lib.ListN.{length, drop};
 ghost use Rattle.answer.specs.Writing.{answered, left};
 ghost use Rattle.text_lines.specs.Putting.{Put};
-ghost use Rattle.day_sheet.specs.Internal.{Halfway, Met};
+ghost use Rattle.day_sheet.specs.Internal.{Halfway};
+ghost use Rattle.sheet_joins.specs.Internal.{Met};
 ghost use Rattle.changes.specs.Calls.{compareAnswer, compareLeft, compareText, faultIn};
 ghost use Rattle.changes.specs.Internal.{turnChange, placeMost};
 use answer::Answer;
-use day_sheet::joining::Turn;
 use sheet_entry::Form;
+use sheet_joins::Turn;
 
 // The call's answer, and the number of the sheet at fault; 0 where neither is.
 pub struct Compared {
@@ -77,7 +78,7 @@ fn put_changes(form: Form, first: &[u8], second: &[u8], out: &mut [u8]) -> usize
     let mut j = 0;
     let mut q = 0;
     while i + j < whole {
-        let t = day_sheet::next_turn(form, first, i, second, j);
+        let t = sheet_joins::next_turn(form, first, i, second, j);
         q = put_change(first, i, second, j, t, out, q);
         i += t.first.long;
         j += t.second.long;

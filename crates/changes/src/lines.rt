@@ -4,7 +4,7 @@ ghost use Prim.Native.Nat.{_+_, _≤_};
 ghost use lib.ListN.{length, drop};
 ghost use Rattle.texts.specs.Texts.{sameText};
 ghost use Rattle.text_lines.specs.Putting.{Put};
-ghost use Rattle.day_sheet.specs.Internal.{Lies, foundLines};
+ghost use Rattle.sheet_joins.specs.Internal.{Lies, foundLines};
 ghost use Rattle.changes.specs.Lines.{kindWord};
 ghost use Rattle.changes.specs.Internal.{kindIn, frontOf, keyText, bothText, placeMost};
 use sheet_entry::Found;

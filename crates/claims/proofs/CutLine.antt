@@ -36,8 +36,7 @@ use Rattle.claims.specs.Mingled.{Kind, elsewhere, header, row, Mingled}
 use Rattle.claims.specs.Lists.{Paired, both-end, with}
 use Rattle.claims.specs.Damage.{byteIn, streamIn, sendings, unharmed}
 use Rattle.claims.specs.Carrying.{heardBlocks}
-use Rattle.claims.specs.CutLine.{magazineIn, numberIn, pageIn, numberOfStream, Readable, of-other, of-header, of-row, beforePage, fromThere, Resumed}
-use Rattle.claims.specs.CutLine.{Behind, alone, after, unjoined}
+use Rattle.claims.specs.CutLine.{magazineIn, numberIn, pageIn, numberOfStream, Readable, of-other, of-header, of-row, beforePage, fromThere, Resumed, Behind, alone, after, unjoined}
 use Rattle.claims.proofs.Losing.{near-length, near-drop, came-exactly}
 use Rattle.claims.proofs.Landing.{same-bytes, stream-near, sendings-near}
 use Rattle.claims.proofs.Hearing.{not-both, Beside, passed, named, beside-row}

@@ -41,6 +41,7 @@ pub mod Leaving
 pub mod Changes
 pub mod Descriptors
 pub mod OtherForm
+pub mod MovedJoined
 pub mod Moves
 pub mod CutLineCalls
 pub mod BothCalls

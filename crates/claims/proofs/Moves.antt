@@ -17,11 +17,13 @@ use Rattle.answer.proofs.Lent.{lent-accepted, lent-all}
 use Rattle.sheet_entry.specs.declared.Form.the-variants.{Old, New}
 use Rattle.sheet_entry.specs.Entries.{Entry}
 use Rattle.day_sheet.specs.Entries.{sheetText, byteLimit}
-use Rattle.day_sheet.specs.Calls.{entriesOf, joinRules, joinResult}
-use Rattle.day_sheet.specs.AnyOrder.{InForm}
-use Rattle.day_sheet.specs.Moving.{upRules, upText, downRules, downText}
-use Rattle.day_sheet.proofs.Accepting.{its-bytes}
-use Rattle.day_sheet.proofs.Moved as moved
+use Rattle.day_sheet.specs.Calls.{entriesOf}
+use Rattle.sheet_joins.specs.Calls.{joinRules, joinResult}
+use Rattle.day_sheet.specs.Reading.{InForm}
+use Rattle.sheet_moves.specs.Moving.{upRules, upText, downRules, downText}
+use Rattle.sheet_joins.proofs.Accepting.{its-bytes}
+use Rattle.sheet_moves.proofs.Moved as moved
+use Rattle.claims.proofs.MovedJoined as joined
 use Rattle.claims.specs.Calls.{reported}
 use Rattle.claims.specs.Sheets.{JoinsSheets, Accepted, behindStamp}
 use Rattle.claims.specs.Moves.{MovesUp, move-up, MovesDown, move-down}
@@ -110,10 +112,10 @@ joined-ups {first} {second} {lent} call acc {lent₁ = lent₁} {lent₂ = lent�
     let j = joins-sheets call in
     let h = holds (joinRules Old first second) (sheetText Old (joinResult Old first second)) lent (j .0) (j .1) acc in
     let sheet : List ℕ = sheetText Old (joinResult Old first second) in
-    let p = moved.first-up first second (h .0) in
-    let q = moved.second-up first second (h .0) in
-    let r = moved.joined-up first second (h .0) in
-    let m = moved.ups-join first second (h .0) in
+    let p = joined.first-up first second (h .0) in
+    let q = joined.second-up first second (h .0) in
+    let r = joined.joined-up first second (h .0) in
+    let m = joined.ups-join first second (h .0) in
     let u₁ = ups one in
     let u₂ = ups two in
     let u₃ = ups (rw (h .1) at three) in

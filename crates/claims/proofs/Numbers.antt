@@ -35,8 +35,9 @@ use Rattle.menu_listing.specs.Listing.{listRules, levelsRules}
 use Rattle.menu_listing.specs.Kept.{keptRules}
 use Rattle.shelf.specs.Putting.{putRules}
 use Rattle.sheet_entry.specs.declared.Form.{Form}
-use Rattle.day_sheet.specs.Calls.{rewriteRules, joinRules, addRules, dropRules}
-use Rattle.day_sheet.specs.Moving.{upRules, downRules}
+use Rattle.day_sheet.specs.Calls.{rewriteRules, dropRules}
+use Rattle.sheet_joins.specs.Calls.{joinRules, addRules}
+use Rattle.sheet_moves.specs.Moving.{upRules, downRules}
 use Rattle.changes.specs.Calls.{compareRules}
 use Rattle.claims.specs.Calls.{Feeds, feed, FeedsAll, feed-all}
 use Rattle.claims.specs.Judges.{Judges}

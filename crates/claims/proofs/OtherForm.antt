@@ -32,11 +32,11 @@ use Rattle.sheet_entry.specs.Writing.{entryRules}
 use Rattle.sheet_entry.specs.Reading.{linesAt, withHead, entryAt, above}
 use Rattle.sheet_entry.proofs.Entered.{entry-begins, written-parts}
 use Rattle.day_sheet.specs.Entries.{sheetText, allWritten, byteLimit}
-use Rattle.day_sheet.specs.Reading.{sheetFrom, sheetOf}
-use Rattle.day_sheet.specs.Calls.{entriesOf, rewriteRules, joinRules}
-use Rattle.day_sheet.specs.AnyOrder.{InForm}
+use Rattle.day_sheet.specs.Reading.{sheetFrom, sheetOf, InForm}
+use Rattle.day_sheet.specs.Calls.{entriesOf, rewriteRules}
+use Rattle.sheet_joins.specs.Calls.{joinRules}
 use Rattle.day_sheet.proofs.Exact.{read-written}
-use Rattle.day_sheet.proofs.Added.{add-goes-on}
+use Rattle.sheet_joins.proofs.Added.{add-goes-on}
 use Rattle.changes.specs.declared.Compared.{Compared}
 use Rattle.changes.specs.Calls.{compareRules}
 use Rattle.claims.specs.Sheets.{Rewrites, JoinsSheets, AddsTable, ComparesSheets, other, behindStamp}

@@ -132,13 +132,15 @@ use Rattle.listing_reader.proofs.table_at.Reads as listing-reader·table-at
 use Rattle.sheet_entry.proofs.entry_at.Reads as sheet-entry·entry-at
 use Rattle.sheet_entry.proofs.writing.write_entry.Reads as sheet-entry·write-entry
 use Rattle.day_sheet.proofs.rewrite.Reads as day-sheet·rewrite
-use Rattle.day_sheet.proofs.joining.join.Reads as day-sheet·join
-use Rattle.day_sheet.proofs.adding.add.Reads as day-sheet·add
+use Rattle.sheet_joins.proofs.join.Reads as sheet-joins·join
+use Rattle.sheet_joins.proofs.adding.add.Reads as sheet-joins·add
 use Rattle.day_sheet.proofs.dropping.drop.Reads as day-sheet·drop
-use Rattle.day_sheet.proofs.moving.up.Reads as day-sheet·up
-use Rattle.day_sheet.proofs.moving.down.Reads as day-sheet·down
+use Rattle.sheet_moves.proofs.up.Reads as sheet-moves·up
+use Rattle.sheet_moves.proofs.down.Reads as sheet-moves·down
 use Rattle.day_sheet.proofs.judge.Reads as day-sheet·judge
-use Rattle.day_sheet.proofs.joining.next_turn.Reads as day-sheet·next-turn
+use Rattle.day_sheet.proofs.count.Reads as day-sheet·count
+use Rattle.day_sheet.proofs.limit.Reads as day-sheet·limit
+use Rattle.sheet_joins.proofs.next_turn.Reads as sheet-joins·next-turn
 use Rattle.changes.specs.declared.Compared.{Compared}
 use Rattle.changes.proofs.compare.Reads as changes·compare
 use Rattle.listing.proofs.list_table.Reads as listing·list-table
@@ -599,37 +601,43 @@ pub day-sheet·rewrite-settled :
     → (x ≡ y) × (now (s .1 .1 .0) ≡ now (t .1 .1 .0))
 day-sheet·rewrite-settled κs a x y s t p q = (same (p .0) (q .0), same (p .1) (q .1))
 
-pub day-sheet·join-settled :
-    (κs : _) (a : _) (x y : _) (s t : _) → day-sheet·join.Post κs a x s → day-sheet·join.Post κs a y t
+pub sheet-joins·join-settled :
+    (κs : _) (a : _) (x y : _) (s t : _) → sheet-joins·join.Post κs a x s → sheet-joins·join.Post κs a y t
     → (x ≡ y) × (now (s .1 .1 .1 .0) ≡ now (t .1 .1 .1 .0))
-day-sheet·join-settled κs a x y s t p q = (same (p .0) (q .0), same (p .1) (q .1))
+sheet-joins·join-settled κs a x y s t p q = (same (p .0) (q .0), same (p .1) (q .1))
 
-pub day-sheet·add-settled :
-    (κs : _) (a : _) (x y : _) (s t : _) → day-sheet·add.Post κs a x s → day-sheet·add.Post κs a y t
+pub sheet-joins·add-settled :
+    (κs : _) (a : _) (x y : _) (s t : _) → sheet-joins·add.Post κs a x s → sheet-joins·add.Post κs a y t
     → (x ≡ y) × (now (s .1 .1 .1 .1 .1 .0) ≡ now (t .1 .1 .1 .1 .1 .0))
-day-sheet·add-settled κs a x y s t p q = (same (p .0) (q .0), same (p .1) (q .1))
+sheet-joins·add-settled κs a x y s t p q = (same (p .0) (q .0), same (p .1) (q .1))
 
 pub day-sheet·drop-settled :
     (κs : _) (a : _) (x y : _) (s t : _) → day-sheet·drop.Post κs a x s → day-sheet·drop.Post κs a y t
     → (x ≡ y) × (now (s .1 .1 .1 .1 .1 .0) ≡ now (t .1 .1 .1 .1 .1 .0))
 day-sheet·drop-settled κs a x y s t p q = (same (p .0) (q .0), same (p .1) (q .1))
 
-pub day-sheet·up-settled :
-    (κs : _) (a : _) (x y : _) (s t : _) → day-sheet·up.Post κs a x s → day-sheet·up.Post κs a y t
+pub sheet-moves·up-settled :
+    (κs : _) (a : _) (x y : _) (s t : _) → sheet-moves·up.Post κs a x s → sheet-moves·up.Post κs a y t
     → (x ≡ y) × (now (s .1 .0) ≡ now (t .1 .0))
-day-sheet·up-settled κs a x y s t p q = (same (p .0) (q .0), same (p .1) (q .1))
+sheet-moves·up-settled κs a x y s t p q = (same (p .0) (q .0), same (p .1) (q .1))
 
-pub day-sheet·down-settled :
-    (κs : _) (a : _) (x y : _) (s t : _) → day-sheet·down.Post κs a x s → day-sheet·down.Post κs a y t
+pub sheet-moves·down-settled :
+    (κs : _) (a : _) (x y : _) (s t : _) → sheet-moves·down.Post κs a x s → sheet-moves·down.Post κs a y t
     → (x ≡ y) × (now (s .1 .0) ≡ now (t .1 .0))
-day-sheet·down-settled κs a x y s t p q = (same (p .0) (q .0), same (p .1) (q .1))
+sheet-moves·down-settled κs a x y s t p q = (same (p .0) (q .0), same (p .1) (q .1))
 
 pub day-sheet·judge-settled : (κs : _) (a : _) (x y : _) (s t : _) → day-sheet·judge.Post κs a x s → day-sheet·judge.Post κs a y t → x ≡ y
 day-sheet·judge-settled κs a x y s t p q = same p q
 
-pub day-sheet·next-turn-settled :
-    (κs : _) (a : _) (x y : _) (s t : _) → day-sheet·next-turn.Post κs a x s → day-sheet·next-turn.Post κs a y t → x ≡ y
-day-sheet·next-turn-settled κs a x y s t p q = same p q
+pub day-sheet·count-settled : (κs : _) (a : _) (x y : _) (s t : _) → day-sheet·count.Post κs a x s → day-sheet·count.Post κs a y t → x ≡ y
+day-sheet·count-settled κs a x y s t p q = same p q
+
+pub day-sheet·limit-settled : (κs : _) (a : _) (x y : _) (s t : _) → day-sheet·limit.Post κs a x s → day-sheet·limit.Post κs a y t → x ≡ y
+day-sheet·limit-settled κs a x y s t p q = same (p .0) (q .0)
+
+pub sheet-joins·next-turn-settled :
+    (κs : _) (a : _) (x y : _) (s t : _) → sheet-joins·next-turn.Post κs a x s → sheet-joins·next-turn.Post κs a y t → x ≡ y
+sheet-joins·next-turn-settled κs a x y s t p q = same p q
 
 pub changes·compare-settled :
     (κs : _) (a : _) (x y : Compared) (s t : _) → changes·compare.Post κs a x s → changes·compare.Post κs a y t

@@ -18,19 +18,22 @@ use Rattle.answer.specs.Writing.{answered, left}
 use Rattle.texts.specs.Texts.{emptyLines}
 use Rattle.sheet_entry.specs.Entries.{Entry, stampMost}
 use Rattle.day_sheet.specs.Entries.{sheetText, byteLimit}
-use Rattle.day_sheet.specs.Calls.{entriesOf, addRules, addResult, dropRules, dropResult}
-use Rattle.day_sheet.specs.AnyOrder.{joinAnswer, joinLeft, InForm, Joins, Captured, sheetOfOne, Adds}
+use Rattle.day_sheet.specs.Calls.{entriesOf, dropRules, dropResult}
+use Rattle.sheet_joins.specs.Calls.{addRules, addResult}
+use Rattle.sheet_joins.specs.AnyOrder.{joinAnswer, joinLeft, Joins, Captured, sheetOfOne, Adds}
+use Rattle.day_sheet.specs.Reading.{InForm}
 use Rattle.day_sheet.specs.Saying.{Says, rewriteAnswer, rewriteLeft}
 use Rattle.day_sheet.specs.Faults.{FirstFault}
-use Rattle.day_sheet.specs.Late.{NeverBack}
-use Rattle.day_sheet.specs.Work.{Work, sheetsOf, Wrote, stood, joined, added, Ready, in-form, each, takes, Same, AllTogether}
+use Rattle.sheet_joins.specs.Late.{NeverBack}
+use Rattle.sheet_joins.specs.Work.{Work, sheetsOf, Wrote, stood, joined, added, Ready, in-form, each, takes, Same, AllTogether}
 use Rattle.day_sheet.proofs.Calls.{call-takes, call-says}
 use Rattle.day_sheet.proofs.Emptied.{counts-entries}
-use Rattle.day_sheet.proofs.Telling.{rewrite-told, join-told, add-told, drop-told}
-use Rattle.day_sheet.proofs.Accepting.{accepted-joins, accepted-adds}
-use Rattle.day_sheet.proofs.Staying.{join-never-back, add-never-back}
-use Rattle.day_sheet.proofs.Mixed.{same-sheet}
-use Rattle.day_sheet.proofs.Premise.{late-files}
+use Rattle.day_sheet.proofs.Telling.{rewrite-told, drop-told}
+use Rattle.sheet_joins.proofs.Telling.{join-told, add-told}
+use Rattle.sheet_joins.proofs.Accepting.{accepted-joins, accepted-adds}
+use Rattle.sheet_joins.proofs.Staying.{join-never-back, add-never-back}
+use Rattle.sheet_joins.proofs.Mixed.{same-sheet}
+use Rattle.sheet_joins.proofs.Premise.{late-files}
 use Rattle.claims.specs.Calls.{reported}
 use Rattle.claims.specs.Sheets.{Rewrites, rewrite-sheet, JoinsSheets, join-sheets, AddsTable, add-table, DropsEntry, drop-entry, Counts, count-entries, Accepted, Called, none, joins, adds}
 use Rattle.claims.proofs.Happening.{lend}

@@ -9,8 +9,7 @@ use Rattle.state.specs.declared.Reader.{Reader}
 use Rattle.state.specs.Acting.{State}
 pub use Rattle.reader.specs.Values.{numberOf, offsetOf, countOf, writtenOf, droppedOf, numberOfAll, offsetOfAll, packetsOfAll, countOfAll, writtenOfAll, droppedOfAll}
 use Rattle.reader.specs.Feeding.{tunedTo}
-use Rattle.claims.specs.Rows.{AsCalls as Rows·AsCalls, Call as Rows·Call, comesOut as Rows·comesOut, drops as Rows·drops, leaves as Rows·leaves}
-use Rattle.claims.specs.Rows.{Feeder}
+use Rattle.claims.specs.Rows.{AsCalls as Rows·AsCalls, Call as Rows·Call, comesOut as Rows·comesOut, drops as Rows·drops, leaves as Rows·leaves, Feeder}
 unfoldable pub use Rattle.claims.specs.Rows.{packetsOf}
 
 -- its records are read back as blocks

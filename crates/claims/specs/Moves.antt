@@ -3,13 +3,13 @@ use mathlib.Core.List.{List}
 use Prim.Native.Nat.{ℕ}
 use denote.Ref.{now}
 use Rattle.answer.specs.declared.Answer.{Answer}
-use Rattle.day_sheet.proofs.moving.up.Reads as day-sheet·up
-use Rattle.day_sheet.proofs.moving.down.Reads as day-sheet·down
+use Rattle.sheet_moves.proofs.up.Reads as sheet-moves·up
+use Rattle.sheet_moves.proofs.down.Reads as sheet-moves·down
 
 -- a sheet of the old form and lent output; the answer, and the output afterwards
 pub data MovesUp : List ℕ → List ℕ → Answer → List ℕ → Type 0 where
-  move-up : (κs : _) (a : _) (x : _) (t : _) → day-sheet·up.Post κs a x t → MovesUp (now (a .0)) (now (a .1 .0)) x (now (t .1 .0))
+  move-up : (κs : _) (a : _) (x : _) (t : _) → sheet-moves·up.Post κs a x t → MovesUp (now (a .0)) (now (a .1 .0)) x (now (t .1 .0))
 
 -- a sheet of the new form and lent output; the answer, and the output afterwards
 pub data MovesDown : List ℕ → List ℕ → Answer → List ℕ → Type 0 where
-  move-down : (κs : _) (a : _) (x : _) (t : _) → day-sheet·down.Post κs a x t → MovesDown (now (a .0)) (now (a .1 .0)) x (now (t .1 .0))
+  move-down : (κs : _) (a : _) (x : _) (t : _) → sheet-moves·down.Post κs a x t → MovesDown (now (a .0)) (now (a .1 .0)) x (now (t .1 .0))

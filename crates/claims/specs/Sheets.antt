@@ -10,11 +10,11 @@ use Rattle.sheet_entry.specs.declared.Form.{Form}
 use Rattle.sheet_entry.specs.declared.Form.the-variants.{Old, New}
 use Rattle.text_lines.specs.Lines.{numberLine}
 use Rattle.sheet_entry.specs.Entries.{Entry, stampName, stampMost}
-use Rattle.day_sheet.specs.AnyOrder.{Captured}
-use Rattle.day_sheet.specs.Work.{Work, stands, join, add}
+use Rattle.sheet_joins.specs.AnyOrder.{Captured}
+use Rattle.sheet_joins.specs.Work.{Work, stands, join, add}
 use Rattle.day_sheet.proofs.rewrite.Reads as day-sheet·rewrite
-use Rattle.day_sheet.proofs.joining.join.Reads as day-sheet·join
-use Rattle.day_sheet.proofs.adding.add.Reads as day-sheet·add
+use Rattle.sheet_joins.proofs.join.Reads as sheet-joins·join
+use Rattle.sheet_joins.proofs.adding.add.Reads as sheet-joins·add
 use Rattle.day_sheet.proofs.dropping.drop.Reads as day-sheet·drop
 use Rattle.changes.specs.declared.Compared.{Compared}
 use Rattle.changes.proofs.compare.Reads as changes·compare
@@ -32,13 +32,13 @@ pub data Rewrites : Form → List ℕ → List ℕ → Answer → List ℕ → T
 -- form, two sheets and lent output; the answer, and the output afterwards
 pub data JoinsSheets : Form → List ℕ → List ℕ → List ℕ → Answer → List ℕ → Type 0 where
   join-sheets :
-      (κs : _) (a : _) (x : _) (t : _) → day-sheet·join.Post κs a x t
+      (κs : _) (a : _) (x : _) (t : _) → sheet-joins·join.Post κs a x t
       → JoinsSheets (a .0) (now (a .1 .0)) (now (a .1 .1 .0)) (now (a .1 .1 .1 .0)) x (now (t .1 .1 .1 .0))
 
 -- form, stamp, what was mended, sheet, table form and lent output; the answer, and the output afterwards
 pub data AddsTable : Form → ℕ → ℕ → List ℕ → List ℕ → List ℕ → Answer → List ℕ → Type 0 where
   add-table :
-      (κs : _) (a : _) (x : _) (t : _) → day-sheet·add.Post κs a x t
+      (κs : _) (a : _) (x : _) (t : _) → sheet-joins·add.Post κs a x t
       → AddsTable (a .0) (a .1 .0) (a .1 .1 .0) (now (a .1 .1 .1 .0)) (now (a .1 .1 .1 .1 .0)) (now (a .1 .1 .1 .1 .1 .0)) x (now (t .1 .1 .1 .1 .1 .0))
 
 -- form, network, kind, block, sheet and lent output; the answer, and the output afterwards

@@ -21,8 +21,7 @@ use Rattle.reader.specs.declared.many.HeardAll.{HeardAll}
 use Rattle.reader.specs.Two.{roomOfTwo, doesForTwo, tunedToTwo}
 use Rattle.reader.proofs.two.feed.Reads as reader·feed-two
 use Rattle.reader.proofs.two.feed_all.Reads as reader·feed-all-two
-use Rattle.claims.specs.Rows.{AsCalls as Rows·AsCalls, Call as Rows·Call, Fed as Rows·Fed, Tells as Rows·Tells, TellsAll as Rows·TellsAll, comesOut as Rows·comesOut, heard as Rows·heard}
-use Rattle.claims.specs.Rows.{Feeder}
+use Rattle.claims.specs.Rows.{AsCalls as Rows·AsCalls, Call as Rows·Call, Fed as Rows·Fed, Tells as Rows·Tells, TellsAll as Rows·TellsAll, comesOut as Rows·comesOut, heard as Rows·heard, Feeder}
 use Rattle.claims.specs.March.{Unreadable}
 
 -- ---- what is written, read back

@@ -1,5 +1,5 @@
 -- A sheet without the entry of a key: where that entry stands, and what is left around it. Assumes nothing.
-use mathlib.Core.Path.{_≡_, _∙_, refl, sym, ap, subst}
+use mathlib.Core.Path.{_≡_, _∙_, refl, sym, ap}
 use mathlib.Core.Bool.{Bool, true, false}
 use mathlib.Core.List.{List, [], _∷_, _++_, append-assoc}
 use Prim.Native.Nat.{ℕ, suc, _+_, _-_, _≤_, _<_}
@@ -24,36 +24,12 @@ use Rattle.sheet_entry.specs.Reading.{entryAt, foundOf}
 use Rattle.day_sheet.specs.declared.dropping.Spot.{Spot}
 use Rattle.day_sheet.specs.Entries.{sheetText, entryLimit, byteLimit}
 use Rattle.day_sheet.specs.Calls.{limited, entriesOf}
-use Rattle.day_sheet.specs.AnyOrder.{InForm}
 use Rattle.day_sheet.specs.Internal.{Halfway, withoutKey, spotOf, spotFrom, mostWith}
-use Rattle.day_sheet.proofs.AnyOrder.{sheet-of, text-of}
-use Rattle.day_sheet.proofs.Meeting.{Sheet, found, found-text, sheet-rest, spans, front-fits}
+use Rattle.day_sheet.proofs.Fronts.{spans, Front, empty, entry, front}
 use Rattle.day_sheet.proofs.Exact.{read-written}
 use Rattle.sheet_entry.specs.declared.Form.{Form}
 
--- ---- a sheet in form at its front
-
 module _ (form : Form) where
-  pub data Front (a : List ℕ) : Type 0 where
-    empty : foundOf form (entryAt form 0 a) .more ≡ false → entriesOf form a ≡ [] → Front a
-    entry :
-        (x : Entry) → foundOf form (entryAt form 0 a) ≡ found form x → entriesOf form a ≡ x ∷ entriesOf form (drop (length (entryText form x)) a)
-        → InForm form (drop (length (entryText form x)) a) → 1 ≤ length (entryText form x) → length (entryText form x) ≤ length a
-        → Front a
-
-  front-texts : (es : List Entry) → Sheet form es → Front (sheetText form es)
-  unfolding sheetText entryAt foundOf
-  front-texts [] g = empty refl (text-of form g .1)
-  front-texts (x ∷ xs) g =
-      let r = sheet-rest form g in
-      let t = text-of form (r .1) in
-      let s = spans form x in
-      entry x (found-text form x (sheetText form xs) (r .0)) (text-of form g .1 ∙ (rw (drop-append-seam (entryText form x) (sheetText form xs), t .1)))
-      (rw (drop-append-seam (entryText form x) (sheetText form xs)) (t .0)) (omega arith) (front-fits form x (sheetText form xs))
-
-  pub front : (a : List ℕ) → InForm form a → Front a
-  front a f = subst Front (sym (read-written form a 0 f .0)) (front-texts (entriesOf form a) (sheet-of form a f))
-
   -- ---- where an entry stands
 
   module _ (key : ℕ) where

@@ -1,12 +1,12 @@
 -- The key that `drop` is asked for as one number, and its rules in their order. Assumes nothing.
-use mathlib.Core.Path.{_≡_, _∙_, refl, sym, ap}
+use mathlib.Core.Path.{_≡_, refl, sym, ap}
 use mathlib.Core.Bool.{Bool, true, false}
 use mathlib.Core.List.{List, [], _∷_}
-use Prim.Native.Nat.{ℕ, _+_, _*_, _≤_, _<_}
+use Prim.Native.Nat.{ℕ, _+_, _*_, _≤_}
 use native.Mathlib.Omega.{arith}
 use lib.Dec.{eqb}
 use lib.ListN.{length}
-use borrow.Author.Tests.{eq-eqb, ne-eqb, eqb-true, eqb-false, le-leb, lt-leb}
+use borrow.Author.Tests.{eq-eqb, ne-eqb, eqb-true, eqb-false, le-leb}
 use Rattle.laws.specs.Pick.{pick, both}
 use Rattle.laws.proofs.Tests.{both-true, both-false}
 use Rattle.answer.specs.declared.Refusal.{Refusal}
@@ -15,19 +15,18 @@ use Rattle.answer.specs.declared.Answer.the-variants.{Done, Refused}
 use Rattle.answer.specs.Rules.{judged}
 use Rattle.answer.specs.Values.{refused}
 use Rattle.answer.specs.Writing.{answered, after, left}
-use Rattle.answer.proofs.Steps.{ends, done-every, done-value, first-holds}
 use Rattle.answer.proofs.Lent.{lent-refused}
 use Rattle.forms.specs.Tables.{TI, LI, known}
 use Rattle.forms.proofs.Sendable.{Sendable}
 use Rattle.sheet_entry.specs.Entries.{Entry, keyIn, keyOf, written}
 use Rattle.sheet_entry.proofs.Finding.{key-small}
 use Rattle.day_sheet.specs.Entries.{sheetText, allWritten, byteLimit}
-use Rattle.day_sheet.specs.Reading.{sheetOf}
 use Rattle.day_sheet.specs.Dropping.{named, without}
-use Rattle.day_sheet.specs.Calls.{formed, limited, entriesOf, dropRules, dropResult}
+use Rattle.day_sheet.specs.Calls.{limited, entriesOf, countRules, dropRules, dropResult}
 use Rattle.day_sheet.specs.Internal.{asked, withoutKey}
 use Rattle.day_sheet.proofs.Choosing.{written-sendable, bit, bit-small, bits-only, kinds-only}
 use Rattle.day_sheet.proofs.Exact.{read-written}
+use Rattle.day_sheet.proofs.Counted.{counted-bad, counted-short, counted-fine}
 use Rattle.sheet_entry.specs.declared.Form.{Form}
 
 -- ---- the key
@@ -108,32 +107,19 @@ module _ (form : Form) where
     abbrev bytes : List ℕ
     bytes = sheetText form (dropResult form network kind block sheet)
 
-    pub drop-long :
-        byteLimit form < length sheet
-        → (refused 21 0 ≡ answered (dropRules form network kind block sheet) bytes old) × (old ≡ left (dropRules form network kind block sheet) bytes old)
-    drop-long h =
-        let e : refused 21 0 ≡ judged refused (dropRules form network kind block sheet) (Done 0) = (unfold dropRules in rw (lt-leb (length sheet) (byteLimit form) h)) in
-        lent-refused (dropRules form network kind block sheet) bytes old 0 e refl
-
-    module _ (short : length sheet ≤ byteLimit form) {r : Answer} (judges : r ≡ judged refused (formed form sheet ∷ []) (Done (length (entriesOf form sheet)))) where
+    module _ {r : Answer} (counts : r ≡ judged refused (countRules form sheet) (Done (length (entriesOf form sheet)))) where
       pub drop-bad :
           {w : Refusal} → r ≡ Refused w
           → (Refused w ≡ answered (dropRules form network kind block sheet) bytes old) × (old ≡ left (dropRules form network kind block sheet) bytes old)
       drop-bad {w} e =
           let a : Refused w ≡ judged refused (dropRules form network kind block sheet) (Done 0) =
-          (unfold dropRules in rw (le-leb (length sheet) (byteLimit form) short) (ends (formed form sheet ∷ []) (limited form (dropResult form network kind block sheet)) (length (entriesOf form sheet)) judges (Done 0) e)) in
+          (unfold dropRules in counted-bad form sheet counts e (limited form (dropResult form network kind block sheet)) (Done 0)) in
           lent-refused (dropRules form network kind block sheet) bytes old 0 a refl
 
       module _ {m : ℕ} (done : r ≡ Done m) where
-        pub drop-fine : sheetOf form sheet .fine ≡ true
-        drop-fine = first-holds (done-every (formed form sheet ∷ []) (length (entriesOf form sheet)) m (sym judges ∙ done))
-
-        pub drop-counted : m ≡ length (entriesOf form sheet)
-        drop-counted = done-value (formed form sheet ∷ []) (length (entriesOf form sheet)) m (sym judges ∙ done)
-
         same-result : withoutKey (asked network kind block) (entriesOf form sheet) ≡ dropResult form network kind block sheet
         unfolding dropResult
-        same-result = sym (without-key network kind block small (entriesOf form sheet) (read-written form sheet 0 drop-fine .2))
+        same-result = sym (without-key network kind block small (entriesOf form sheet) (read-written form sheet 0 (counted-fine form sheet counts done) .2))
 
         pub drop-goes-on :
             (answered (limited form (withoutKey (asked network kind block) (entriesOf form sheet))) (sheetText form (withoutKey (asked network kind block) (entriesOf form sheet))) old
@@ -142,5 +128,5 @@ module _ (form : Form) where
             ≡ left (dropRules form network kind block sheet) bytes old)
         drop-goes-on =
             let e : answered (limited form (dropResult form network kind block sheet)) bytes old ≡ answered (dropRules form network kind block sheet) bytes old =
-            (unfold dropRules in rw (le-leb (length sheet) (byteLimit form) short, drop-fine) refl) in
+            (unfold dropRules in rw (le-leb (length sheet) (byteLimit form) (counted-short form sheet counts done), counted-fine form sheet counts done) refl) in
             (rw same-result e, rw same-result (ap (λ (x : Answer). after x bytes old) e))

@@ -15,7 +15,7 @@ use Rattle.day_sheet.specs.Entries.{sheetText, entryLimit, byteLimit}
 use Rattle.day_sheet.specs.Calls.{entriesOf, limited, rewriteRules, rewritten}
 use Rattle.day_sheet.specs.Saying.{Says, rewriteAnswer, rewriteLeft}
 use Rattle.day_sheet.proofs.Exact.{read-written, reads-exactly}
-use Rattle.day_sheet.proofs.Accepting.{within-limit}
+use Rattle.day_sheet.proofs.Limits.{within-limit}
 use Rattle.sheet_entry.specs.declared.Form.{Form}
 
 module _ (form : Form) where

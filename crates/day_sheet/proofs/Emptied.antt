@@ -21,7 +21,7 @@ use Rattle.listing.specs.Lines.{kindLine, kindTI, kindLI, languageLines, subtit
 use Rattle.sheet_entry.specs.Entries.{Entry, HeadLine, stampName, headValues, spelledBy, headLines, tableLines, emptyLine, entryText, mendedHead}
 use Rattle.day_sheet.specs.Entries.{sheetText}
 use Rattle.day_sheet.specs.Calls.{entriesOf}
-use Rattle.day_sheet.specs.AnyOrder.{InForm}
+use Rattle.day_sheet.specs.Reading.{InForm}
 use Rattle.listing_reader.proofs.Rowed.{number-some}
 use Rattle.day_sheet.proofs.Exact.{read-written}
 use Rattle.sheet_entry.specs.declared.Form.{Form}

@@ -22,8 +22,7 @@ use Rattle.sheet_entry.specs.Entries.{Entry, HeadLine, heading, spelledBy, empt
 use Rattle.day_sheet.specs.Entries.{sheetText}
 use Rattle.listing_reader.specs.Reading.{same, withPage, withLanguage, wordsAt, wordsOf, withWords, withNumber, descriptorAt, descriptorsOf}
 use Rattle.sheet_entry.specs.Reading.{linesAt, kindIn, entryFrom, rises, ended, withTable, withHead, entryAt, above}
-use Rattle.day_sheet.specs.Reading.{sheetFrom, sheetOf}
-use Rattle.day_sheet.specs.AnyOrder.{InForm}
+use Rattle.day_sheet.specs.Reading.{sheetFrom, sheetOf, InForm}
 use Rattle.day_sheet.specs.Faults.{Next, head, table, words, page, rest, begin, Follows, head-line, first-descriptor, next-descriptor, language-line, subtitle-line, page-line, Lines, no-line, and-line, FirstFault}
 use Rattle.listing_reader.proofs.Spells.{begins-with, Spelled, number-sound, number-back, page-back, language-sound, language-back}
 use Rattle.listing_reader.proofs.Rows.{Stepping, texts, row-within, Each, none, more, seen-item}

@@ -1,7 +1,7 @@
 -- A sheet judged and written again. Assumes nothing.
 use mathlib.Core.Path.{_≡_, _∙_, sym, ap}
 use mathlib.Core.Bool.{true, false}
-use mathlib.Core.List.{List, [], _∷_}
+use mathlib.Core.List.{List}
 use Prim.Native.Nat.{ℕ, _≤_, _<_}
 use native.Mathlib.Omega.{arith}
 use borrow.Author.Tests.{le-leb, lt-leb}
@@ -13,67 +13,66 @@ use Rattle.answer.specs.declared.Answer.the-variants.{Done, Refused}
 use Rattle.answer.specs.Rules.{judged}
 use Rattle.answer.specs.Values.{refused}
 use Rattle.answer.specs.Writing.{answered, left}
-use Rattle.answer.proofs.Steps.{ends, done-value, done-every, first-holds, others-hold}
+use Rattle.answer.proofs.Steps.{done-every, first-holds, others-hold}
 use Rattle.answer.proofs.Lent.{lent-refused, lent-short, lent-done}
 use Rattle.day_sheet.specs.declared.entries.Sheet.{Sheet}
 use Rattle.day_sheet.specs.Entries.{sheetText, entryLimit, byteLimit}
 use Rattle.day_sheet.specs.Reading.{sheetOf}
-use Rattle.day_sheet.specs.Calls.{formed, limited, entriesOf, rewriteRules, rewritten}
+use Rattle.day_sheet.specs.Calls.{limited, entriesOf, countRules, rewriteRules, rewritten}
 use Rattle.day_sheet.specs.Internal.{sheetRead}
 use Rattle.day_sheet.proofs.Exact.{read-written}
+use Rattle.day_sheet.proofs.Counted.{counted-bad, counted-short, counted-fine, counted-as}
 use Rattle.sheet_entry.specs.declared.Form.{Form}
 
--- ---- the lines of a sheet
+-- ---- the entries counted
 
 module _ (form : Form) where
-  module _ (sheet : List ℕ) (s : Sheet) (reads : s ≡ sheetRead (sheetOf form sheet)) (a : Answer) where
-    pub lines-bad : s .fine ≡ false → refused 20 (s .long) ≡ judged refused (formed form sheet ∷ []) a
-    lines-bad e =
+  module _ (sheet : List ℕ) (a : Answer) where
+    pub count-long : byteLimit form < length sheet → refused 21 0 ≡ judged refused (countRules form sheet) a
+    count-long h = rw (lt-leb (length sheet) (byteLimit form) h)
+
+  module _ (sheet : List ℕ) (fits : length sheet ≤ byteLimit form) (s : Sheet) (reads : s ≡ sheetRead (sheetOf form sheet)) where
+    pub count-bad : s .fine ≡ false → (a : Answer) → refused 20 (s .long) ≡ judged refused (countRules form sheet) a
+    count-bad e a =
         let f : sheetOf form sheet .fine ≡ false = sym (ap (λ (x : Sheet). x .fine) reads) ∙ e in
         let l : s .long ≡ sheetOf form sheet .long = ap (λ (x : Sheet). x .long) reads in
-        rw (f, l)
+        rw (le-leb (length sheet) (byteLimit form) fits, f, l)
 
-    pub lines-good : s .fine ≡ true → Done (s .count) ≡ judged refused (formed form sheet ∷ []) (Done (length (entriesOf form sheet)))
-    lines-good e =
+    pub count-good : s .fine ≡ true → Done (s .count) ≡ judged refused (countRules form sheet) (Done (length (entriesOf form sheet)))
+    count-good e =
         let f : sheetOf form sheet .fine ≡ true = sym (ap (λ (x : Sheet). x .fine) reads) ∙ e in
         let n : s .count ≡ length (entriesOf form sheet) = ap (λ (x : Sheet). x .count) reads in
-        rw (f, n)
+        rw (le-leb (length sheet) (byteLimit form) fits, f, n)
 
   -- ---- the rules
 
-  module _ (sheet : List ℕ) (a : Answer) where
-    pub judge-long : byteLimit form < length sheet → refused 21 0 ≡ judged refused (rewriteRules form sheet) a
+  module _ (sheet : List ℕ) (a : Answer) {r : Answer} (counts : r ≡ judged refused (countRules form sheet) (Done (length (entriesOf form sheet)))) where
+    pub judge-bad : {w : Refusal} → r ≡ Refused w → Refused w ≡ judged refused (rewriteRules form sheet) a
     unfolding rewriteRules
-    judge-long h = rw (lt-leb (length sheet) (byteLimit form) h)
+    judge-bad e = counted-bad form sheet counts e (limited form (entriesOf form sheet)) a
 
-    module _ (fits : length sheet ≤ byteLimit form) {r : Answer} (judges : r ≡ judged refused (formed form sheet ∷ []) (Done (length (entriesOf form sheet)))) where
-      pub judge-bad : {w : Refusal} → r ≡ Refused w → Refused w ≡ judged refused (rewriteRules form sheet) a
+    module _ {m : ℕ} (done : r ≡ Done m) where
+      fits : length sheet ≤ byteLimit form
+      fits = counted-short form sheet counts done
+
+      counted : m ≡ length (entriesOf form sheet)
+      counted = counted-as form sheet counts done
+
+      pub judge-many : entryLimit < m → refused 21 0 ≡ judged refused (rewriteRules form sheet) a
       unfolding rewriteRules
-      judge-bad e =
-          rw (le-leb (length sheet) (byteLimit form) fits) (ends (formed form sheet ∷ []) (limited form (entriesOf form sheet)) (length (entriesOf form sheet)) judges a e)
+      judge-many h =
+          rw (le-leb (length sheet) (byteLimit form) fits, counted-fine form sheet counts done, lt-leb (length (entriesOf form sheet)) entryLimit (omega (arith, counted)))
 
-      module _ {m : ℕ} (done : r ≡ Done m) where
-        counted : m ≡ length (entriesOf form sheet)
-        counted = done-value (formed form sheet ∷ []) (length (entriesOf form sheet)) m (sym judges ∙ done)
-
-        in-form : sheetOf form sheet .fine ≡ true
-        in-form = first-holds (done-every (formed form sheet ∷ []) (length (entriesOf form sheet)) m (sym judges ∙ done))
-
-        pub judge-many : entryLimit < m → refused 21 0 ≡ judged refused (rewriteRules form sheet) a
-        unfolding rewriteRules
-        judge-many h =
-            rw (le-leb (length sheet) (byteLimit form) fits, in-form, lt-leb (length (entriesOf form sheet)) entryLimit (omega (arith, counted)))
-
-        pub judge-good : m ≤ entryLimit → a ≡ judged refused (rewriteRules form sheet) a
-        unfolding rewriteRules
-        judge-good h =
-            let l : length (sheetText form (entriesOf form sheet)) ≡ length sheet = sym (ap length (read-written form sheet 0 in-form .0)) in
-            rw (
-              le-leb (length sheet) (byteLimit form) fits,
-              in-form,
-              le-leb (length (entriesOf form sheet)) entryLimit (omega (arith, counted)),
-              le-leb (length (sheetText form (entriesOf form sheet))) (byteLimit form) (omega (arith, l)),
-            )
+      pub judge-good : m ≤ entryLimit → a ≡ judged refused (rewriteRules form sheet) a
+      unfolding rewriteRules
+      judge-good h =
+          let l : length (sheetText form (entriesOf form sheet)) ≡ length sheet = sym (ap length (read-written form sheet 0 (counted-fine form sheet counts done) .0)) in
+          rw (
+            le-leb (length sheet) (byteLimit form) fits,
+            counted-fine form sheet counts done,
+            le-leb (length (entriesOf form sheet)) entryLimit (omega (arith, counted)),
+            le-leb (length (sheetText form (entriesOf form sheet))) (byteLimit form) (omega (arith, l, fits)),
+          )
 
   -- ---- written again
 

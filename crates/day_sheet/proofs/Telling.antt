@@ -9,30 +9,29 @@ use Rattle.answer.specs.Values.{refused, numberOf, offsetOf}
 use Rattle.answer.specs.Writing.{room, answered}
 use Rattle.answer.proofs.Judging.{refused-exactly}
 use Rattle.answer.proofs.Steps.{every-first}
-use Rattle.forms.specs.Writing.{formRules}
 use Rattle.sheet_entry.specs.Entries.{Entry}
 use Rattle.day_sheet.specs.Entries.{sheetText}
-use Rattle.day_sheet.specs.Calls.{entriesOf, formed, limited, rewriteRules, rewritten, addRules, addResult, joinRules, joinResult, dropRules, dropResult}
-use Rattle.day_sheet.specs.AnyOrder.{joinAnswer, InForm}
+use Rattle.day_sheet.specs.Calls.{entriesOf, formed, limited, rewriteRules, rewritten, dropRules, dropResult}
+use Rattle.day_sheet.specs.Reading.{InForm}
 use Rattle.day_sheet.specs.Saying.{rewriteAnswer}
 use Rattle.day_sheet.specs.Faults.{FirstFault}
 use Rattle.day_sheet.proofs.Faulting.{first-fault}
 use Rattle.sheet_entry.specs.declared.Form.{Form}
 
 -- the rule that answers 20 at this offset, among these and behind those that are judged before
-record At (n : ℕ) (rs : List Rule) : Type 0 where
-  by : Rule
-  first : First by rs
-  number-is : by .number ≡ 20
-  offset-is : by .offset ≡ n
+pub record At (n : ℕ) (rs : List Rule) : Type 0 where
+  pub by : Rule
+  pub first : First by rs
+  pub number-is : by .number ≡ 20
+  pub offset-is : by .offset ≡ n
 
-at-first : (rules : List Rule) (bytes old : List ℕ) (n : ℕ) → answered rules bytes old ≡ refused 20 n → At n (rules ++ room bytes old ∷ [])
+pub at-first : (rules : List Rule) (bytes old : List ℕ) (n : ℕ) → answered rules bytes old ≡ refused 20 n → At n (rules ++ room bytes old ∷ [])
 at-first rules bytes old n e =
     let r = refused-exactly rules bytes old 20 n (omega arith) .0 (ap numberOf e, ap offsetOf e) in
     record { by = r .0; first = r .1; number-is = r .2; offset-is = r .3 }
 
 -- a rule of another number is passed
-passed : {n : ℕ} {r : Rule} {rs : List Rule} → (r .number ≡ 20 → ⊥) → At n (r ∷ rs) → At n rs
+pub passed : {n : ℕ} {r : Rule} {rs : List Rule} → (r .number ≡ 20 → ⊥) → At n (r ∷ rs) → At n rs
 passed {n} {r} {rs} other a = go (a .first) (a .number-is) (a .offset-is)
   where
     go : {q : Rule} → First q (r ∷ rs) → q .number ≡ 20 → q .offset ≡ n → At n rs
@@ -49,7 +48,7 @@ module _ (form : Form) where
   sized es bytes old a = nowhere (passed (λ e. omega arith) (passed (λ e. omega arith) (passed (λ e. omega arith) a)))
 
   -- the sheet's own rule
-  judged-form : {n : ℕ} (sheet : List ℕ) {rs : List Rule} → At n (formed form sheet ∷ rs) → FirstFault form sheet n ⊎ (InForm form sheet × At n rs)
+  pub judged-form : {n : ℕ} (sheet : List ℕ) {rs : List Rule} → At n (formed form sheet ∷ rs) → FirstFault form sheet n ⊎ (InForm form sheet × At n rs)
   judged-form {n} sheet {rs} a = go (a .first) (a .number-is) (a .offset-is)
     where
       go : {q : Rule} → First q (formed form sheet ∷ rs) → q .number ≡ 20 → q .offset ≡ n → FirstFault form sheet n ⊎ (InForm form sheet × At n rs)
@@ -59,7 +58,7 @@ module _ (form : Form) where
   -- ---- the calls
 
   -- where the form decides, and then only sizes and the room
-  last-form :
+  pub last-form :
       {n : ℕ} (sheet : List ℕ) (es : List Entry) (bytes old : List ℕ) → At n (formed form sheet ∷ (limited form es ++ room bytes old ∷ [])) → FirstFault form sheet n
   last-form {n} sheet es bytes old a = go (judged-form sheet a)
     where
@@ -71,36 +70,6 @@ module _ (form : Form) where
   unfolding rewriteRules
   rewrite-told sheet old n e =
       last-form sheet (entriesOf form sheet) (rewritten form sheet) old (passed (λ e. omega arith) (at-first (rewriteRules form sheet) (rewritten form sheet) old n e))
-
-  -- of the first sheet, or of the second where the first is in form
-  pub join-told :
-      (first second old : List ℕ) (n : ℕ) → joinAnswer form first second old ≡ refused 20 n → FirstFault form first n ⊎ (InForm form first × FirstFault form second n)
-  unfolding joinRules
-  join-told first second old n e =
-      go
-      (judged-form first
-      (passed (λ e. omega arith) (passed (λ e. omega arith) (at-first (joinRules form first second) (sheetText form (joinResult form first second)) old n e))))
-    where
-      go :
-          FirstFault form first n
-          ⊎ (InForm form first × At n (formed form second ∷ (limited form (joinResult form first second) ++ room (sheetText form (joinResult form first second)) old ∷ [])))
-          → FirstFault form first n ⊎ (InForm form first × FirstFault form second n)
-      go (inl f) = inl f
-      go (inr r) = inr (r .0, last-form second (joinResult form first second) (sheetText form (joinResult form first second)) old (r .1))
-
-  pub add-told :
-      (stamp mended : ℕ) (sheet table old : List ℕ) (n : ℕ)
-      → answered (addRules form stamp mended sheet table) (sheetText form (addResult form stamp mended sheet table)) old ≡ refused 20 n → FirstFault form sheet n
-  unfolding addRules formRules
-  add-told stamp mended sheet table old n e =
-      last-form sheet (addResult form stamp mended sheet table) (sheetText form (addResult form stamp mended sheet table)) old
-      (passed (λ e. omega arith)
-      (passed (λ e. omega arith)
-      (passed (λ e. omega arith)
-      (passed (λ e. omega arith)
-      (passed (λ e. omega arith)
-      (passed (λ e. omega arith)
-      (passed (λ e. omega arith) (at-first (addRules form stamp mended sheet table) (sheetText form (addResult form stamp mended sheet table)) old n e))))))))
 
   pub drop-told :
       (network kind block : ℕ) (sheet old : List ℕ) (n : ℕ)

@@ -1,14 +1,12 @@
 -- What the calls judge, in their order (SCOPE 20.9, 30.3), and what they write, in a form.
-use mathlib.Core.List.{List, [], _∷_, _++_}
+use mathlib.Core.List.{List, [], _∷_}
 use Prim.Native.Nat.{ℕ}
 use lib.Dec.{leb}
 use lib.ListN.{length}
 use Rattle.answer.specs.Rules.{Rule, rule}
 use Rattle.sheet_entry.specs.Entries.{Entry}
-use Rattle.sheet_entry.specs.Writing.{stamped, entryRules}
 use Rattle.day_sheet.specs.Entries.{sheetText, entryLimit, byteLimit}
 use Rattle.day_sheet.specs.Reading.{sheetOf}
-use Rattle.day_sheet.specs.Joining.{joined}
 use Rattle.day_sheet.specs.Dropping.{without}
 use Rattle.sheet_entry.specs.declared.Form.{Form}
 
@@ -29,6 +27,11 @@ module _ (form : Form) where
   abbrev pub entriesOf : List ℕ → List Entry
   entriesOf sheet = sheetOf form sheet .items
 
+  -- ---- count
+
+  abbrev pub countRules : List ℕ → List Rule
+  countRules sheet = short sheet ∷ formed sheet ∷ []
+
   -- ---- rewrite
 
   unfoldable pub rewriteRules : List ℕ → List Rule
@@ -36,24 +39,6 @@ module _ (form : Form) where
 
   unfoldable pub rewritten : List ℕ → List ℕ
   rewritten sheet = sheetText form (entriesOf sheet)
-
-  -- ---- add
-
-  unfoldable pub addResult : ℕ → ℕ → List ℕ → List ℕ → List Entry
-  addResult at mended sheet table = joined (entriesOf sheet) (stamped at mended table ∷ [])
-
-  unfoldable pub addRules : ℕ → ℕ → List ℕ → List ℕ → List Rule
-  addRules at mended sheet table =
-      entryRules form mended table ++ short sheet ∷ formed sheet ∷ limited (addResult at mended sheet table)
-
-  -- ---- join
-
-  unfoldable pub joinResult : List ℕ → List ℕ → List Entry
-  joinResult first second = joined (entriesOf first) (entriesOf second)
-
-  unfoldable pub joinRules : List ℕ → List ℕ → List Rule
-  joinRules first second =
-      short first ∷ short second ∷ formed first ∷ formed second ∷ limited (joinResult first second)
 
   -- ---- drop
 

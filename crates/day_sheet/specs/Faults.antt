@@ -15,7 +15,7 @@ use Rattle.sheet_entry.specs.Entries.{Entry, keyOf, HeadLine, heading, emptyLin
 use Rattle.sheet_entry.specs.Reading.{kindIn}
 use Rattle.listing_reader.specs.Lines.{lineOf}
 use Rattle.day_sheet.specs.Entries.{sheetText, allWritten}
-use Rattle.day_sheet.specs.AnyOrder.{InForm}
+use Rattle.day_sheet.specs.Reading.{InForm}
 
 -- what stands next in an entry: a line of its head, with those behind it and the values before it; behind the head a descriptor, behind a
 -- descriptor a language too, behind a language of TI its page

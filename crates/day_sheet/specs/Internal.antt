@@ -1,19 +1,16 @@
 -- What only private calls cite; nothing here needs to be believed.
-use mathlib.Core.Bool.{Bool, true, false}
+use mathlib.Core.Bool.{true}
 use mathlib.Core.List.{List, [], _∷_}
 use mathlib.Core.Path.{_≡_}
-use Prim.Native.Nat.{ℕ, _+_, _≤_, _-_}
-use lib.Dec.{eqb, ltb, leb}
-use lib.ListN.{length, take, drop}
+use Prim.Native.Nat.{ℕ, _+_, _≤_}
+use lib.Dec.{eqb}
+use lib.ListN.{length, drop}
 use Rattle.laws.specs.Pick.{pick}
-use Rattle.laws.specs.Orders.{before}
 use Rattle.listing_reader.specs.Many.{Many}
 use Rattle.sheet_entry.specs.declared.Form.{Form}
-use Rattle.sheet_entry.specs.declared.Found.{Found}
 use Rattle.forms.specs.Tables.{TI, LI}
 use Rattle.sheet_entry.specs.Entries.{Entry, keyIn, keyOf, entryText}
 use Rattle.day_sheet.specs.declared.entries.Sheet.{Sheet}
-use Rattle.day_sheet.specs.declared.joining.Turn.{Turn}
 use Rattle.day_sheet.specs.declared.dropping.Spot.{Spot}
 use Rattle.day_sheet.specs.Entries.{entryLimit}
 use Rattle.day_sheet.specs.Reading.{sheetOf}
@@ -26,47 +23,10 @@ pub record Inside (sheet : List ℕ) (at : ℕ) : Type 0 where
 abbrev pub sheetRead : Many Entry → Sheet
 sheetRead m = record { count = length (m .items); fine = m .fine; long = m .long }
 
--- ---- one entry taken of two sheets that are merged
-
--- the table lines of the entry that was found at the front: behind its head, before its empty line
-unfoldable pub foundLines : List ℕ → Found → List ℕ
-foundLines bytes f = take (f .long - 1 - f .head) (drop (f .head) bytes)
-
--- of two tables' lines, each with what was mended, whether it is the second's that stay
-unfoldable pub linesStay : List ℕ → ℕ → List ℕ → ℕ → Bool
-linesStay a m b n = pick (before a b) (pick (before b a) (leb n m) true) false
-
--- of two entries of one key, whether it is the second's that stays
-unfoldable pub secondStays : List ℕ → Found → List ℕ → Found → Bool
-secondStays a f b g =
-    pick (ltb (f .stamp) (g .stamp)) true
-    (pick (ltb (g .stamp) (f .stamp)) false
-    (linesStay (foundLines a f) (f .mended) (foundLines b g) (g .mended)))
-
--- whether it is the second's entry that stays
-unfoldable pub secondPut : Turn → List ℕ → List ℕ → Bool
-secondPut t a b = pick (t .second .more) (pick (t .first .more) (secondStays a (t .first) b (t .second)) true) false
-
--- the text that stays
-unfoldable pub turnText : Turn → List ℕ → List ℕ → List ℕ
-turnText t a b = pick (secondPut t a b) (take (t .second .long) b) (take (t .first .long) a)
-
 -- a place in a sheet from which on it is in form
 pub record Halfway (form : Form) (sheet : List ℕ) (at : ℕ) : Type 0 where
   pub within : Inside sheet at
   pub fine : sheetOf form (drop at sheet) .fine ≡ true
-
--- an entry that was found there lies within the sheet, with its head before its empty line
-pub record Lies (sheet : List ℕ) (at : ℕ) (f : Found) : Type 0 where
-  pub head-first : f .head + 1 ≤ f .long
-  pub inside : at + f .long ≤ length sheet
-  pub small : length sheet ≤ 65000
-
--- the same of what a turn has of a sheet, where it has an entry of it
-pub record Met (sheet : List ℕ) (at : ℕ) (f : Found) : Type 0 where
-  pub span : f .more ≡ true → f .head + 1 ≤ f .long
-  pub inside : at + f .long ≤ length sheet
-  pub small : length sheet ≤ 65000
 
 -- ---- one entry dropped
 

@@ -1,4 +1,6 @@
 -- The sheet that bytes say, or the first line at fault (SCOPE 20.6, 20.7).
+use mathlib.Core.Path.{_≡_}
+use mathlib.Core.Bool.{true}
 use mathlib.Core.List.{List}
 use Prim.Native.Nat.{ℕ}
 use lib.ListN.{length}
@@ -15,3 +17,7 @@ module _ (form : Form) where
   -- a sheet: `fine` where it is in form; `items` are then its entries, and otherwise `long` is the offset of the first line at fault
   abbrev pub sheetOf : List ℕ → Many Entry
   sheetOf bytes = sheetFrom 0 bytes
+
+  -- a sheet in form
+  abbrev pub InForm : List ℕ → Type 0
+  InForm sheet = sheetOf sheet .fine ≡ true

@@ -33,14 +33,11 @@ pub fn drop(form: Form, network: u8, kind: u8, block: u16, sheet: &[u8], out: &m
         ≡ left (dropRules form network kind block (now (sheet .entry))) (sheetText form (dropResult form network kind block (now (sheet .entry))))
         (now (out .entry)) ⌝ }
 {
-    if crate::limit(form) < sheet.len() {
-        return answer::refuse(21, 0);
-    }
-    match crate::judge_lines(form, sheet) {
+    match crate::count(form, sheet) {
         Answer::Refused(why) => Answer::Refused(why),
-        Answer::Done(count) => {
+        Answer::Done(held) => {
             let key = key_asked(network as usize, kind as usize, block as usize);
-            drop_key(form, key, count, sheet, out)
+            drop_key(form, key, held, sheet, out)
         }
     }
 }

@@ -1,19 +1,9 @@
-// The day sheet (SCOPE 20): text of all tables, an entry for each key, read, written again, added to, joined and dropped from, in
-// either form, and moved from one to the other (SCOPE 30).
-pub mod adding;
+// The day sheet (SCOPE 20): text of all tables, an entry for each key, read, written again and dropped from, in either form (SCOPE 30).
 pub mod dropping;
 mod entries;
-pub mod joining;
-pub mod moving;
 
-pub use adding::add;
 pub use dropping::drop;
-pub use joining::join;
-pub use joining::next_turn;
-pub use moving::down;
-pub use moving::up;
 ghost use mathlib.Core.Path.{_≡_};
-ghost use mathlib.Core.List.{_∷_, []};
 ghost use Prim.Native.Nat.{_≤_};
 ghost use lib.ListN.{length};
 ghost use Rattle.answer.specs.Rules.{judged};
@@ -21,7 +11,7 @@ ghost use Rattle.answer.specs.Values.{refused};
 ghost use Rattle.answer.specs.Writing.{answered, left};
 ghost use Rattle.answer.specs.declared.Answer.the-variants.{Done};
 ghost use Rattle.day_sheet.specs.Entries.{byteLimit};
-ghost use Rattle.day_sheet.specs.Calls.{formed, entriesOf, rewriteRules, rewritten};
+ghost use Rattle.day_sheet.specs.Calls.{entriesOf, countRules, rewriteRules, rewritten};
 use answer::Answer;
 use sheet_entry::Form;
 
@@ -54,13 +44,10 @@ pub fn rewrite(form: Form, sheet: &[u8], out: &mut [u8]) -> Answer
 pub fn judge(form: Form, sheet: &[u8]) -> Answer
     ensures { λ r. ⌜ r ≡ judged refused (rewriteRules form (now (sheet .entry))) (Done (length (now (sheet .entry)))) ⌝ }
 {
-    if limit(form) < sheet.len() {
-        return answer::refuse(21, 0);
-    }
-    match judge_lines(form, sheet) {
+    match count(form, sheet) {
         Answer::Refused(why) => Answer::Refused(why),
-        Answer::Done(count) => {
-            if ENTRIES < count {
+        Answer::Done(held) => {
+            if ENTRIES < held {
                 return answer::refuse(21, 0);
             }
             Answer::Done(sheet.len())
@@ -68,25 +55,27 @@ pub fn judge(form: Form, sheet: &[u8]) -> Answer
     }
 }
 
-// The most bytes of a sheet.
-pub(crate) fn limit(form: Form) -> usize
-    ensures { λ r. ⌜ (r ≡ byteLimit form) × (r ≤ 17152) ⌝ }
+// 21, 20: whether a sheet isn't too long and every line of it is in form and in order; then the number of its entries.
+pub fn count(form: Form, sheet: &[u8]) -> Answer
+    ensures { λ r. ⌜ r ≡ judged refused (countRules form (now (sheet .entry))) (Done (length (entriesOf form (now (sheet .entry))))) ⌝ }
 {
-    match form {
-        Form::Old => BYTES,
-        Form::New => NEW_BYTES,
+    if limit(form) < sheet.len() {
+        return answer::refuse(21, 0);
     }
-}
-
-// 20: whether every line is in form and in order; where each is, the number of entries.
-pub(crate) fn judge_lines(form: Form, sheet: &[u8]) -> Answer
-    requires { ⌜ length (now sheet) ≤ 65000 ⌝ }
-    ensures { λ r. ⌜ r ≡ judged refused (formed form (now (sheet .entry)) ∷ []) (Done (length (entriesOf form (now (sheet .entry))))) ⌝ }
-{
     let all = entries::read(form, sheet);
     let fine = all.fine;
     if !fine {
         return answer::refuse(20, all.long);
     }
     Answer::Done(all.count)
+}
+
+// The most bytes of a sheet.
+pub fn limit(form: Form) -> usize
+    ensures { λ r. ⌜ (r ≡ byteLimit form) × (r ≤ 17152) ⌝ }
+{
+    match form {
+        Form::Old => BYTES,
+        Form::New => NEW_BYTES,
+    }
 }

@@ -570,7 +570,7 @@ fn add_beside(
     kept: &mut [u8],
 ) -> Added {
     let stamp = source.stamp;
-    let answer = day_sheet::add(
+    let answer = sheet_joins::add(
         Form::New,
         stamp,
         mended,

@@ -89,7 +89,7 @@ fn fill_sheet(fd: i32, sheet: &mut [u8; SHEET]) -> Got {
 }
 
 fn join(name: &[u8], other: &[u8], work: Work, sheet: &mut [u8], spare: &mut [u8]) -> Work {
-    let answer = day_sheet::join(Form::New, told::front(sheet, work.length), other, spare);
+    let answer = sheet_joins::join(Form::New, told::front(sheet, work.length), other, spare);
     match answer {
         Answer::Done(n) => {
             lent_bytes::copy(spare, 0, n, sheet, 0);

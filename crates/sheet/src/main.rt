@@ -1,5 +1,5 @@
 // The day sheet, a file with an entry for each table: captures' tables are added to it, other sheets are joined to it, it is looked
-// at (SCOPE 20.11), two are held side by side (SCOPE 28.7), or one is moved between its forms (SCOPE 30.8). What it says is settled by the rooms `day_sheet`, `changes` and `words`; here are the tasks.
+// at (SCOPE 20.11), two are held side by side (SCOPE 28.7), or one is moved between its forms (SCOPE 30.8). What it says is settled by the rooms `day_sheet`, `sheet_joins`, `sheet_moves`, `changes` and `words`; here are the tasks.
 //
 // The file is replaced whole or not at all (`sheet_file`). Whatever fails before that leaves the file as it was. Where another has taken its place meanwhile, the work is done
 // anew on that: captures aren't read again, since their tables are kept.

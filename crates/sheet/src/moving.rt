@@ -17,7 +17,7 @@ pub fn is_of(form: Form, sheet: &[u8]) -> bool {
 
 // Moves the sheet to the new form.
 pub fn up(shown: &[u8], work: Work, sheet: &mut [u8], spare: &mut [u8]) -> Work {
-    let answer = day_sheet::up(told::front(sheet, work.length), spare);
+    let answer = sheet_moves::up(told::front(sheet, work.length), spare);
     match answer {
         Answer::Done(n) => moved(n, work, sheet, spare),
         Answer::Refused(r) => {
@@ -29,7 +29,7 @@ pub fn up(shown: &[u8], work: Work, sheet: &mut [u8], spare: &mut [u8]) -> Work 
 
 // Moves the sheet to the old form.
 pub fn down(shown: &[u8], work: Work, sheet: &mut [u8], spare: &mut [u8]) -> Work {
-    let answer = day_sheet::down(told::front(sheet, work.length), spare);
+    let answer = sheet_moves::down(told::front(sheet, work.length), spare);
     match answer {
         Answer::Done(n) => moved(n, work, sheet, spare),
         Answer::Refused(r) => {

@@ -13,7 +13,7 @@ const ANY: usize = usize::MAX;
 // The number of the entry that stands in the sheet with the stamp and the lines of a table form; none where there is no such entry. The table's own entry
 // is written to the spare space.
 pub fn number(stamp: u32, form: &[u8], sheet: &[u8], spare: &mut [u8]) -> u16 {
-    let answer = day_sheet::add(Form::New, stamp, 0, told::front(sheet, 0), form, spare);
+    let answer = sheet_joins::add(Form::New, stamp, 0, told::front(sheet, 0), form, spare);
     match answer {
         Answer::Done(n) => number_of(told::front(spare, n), sheet),
         Answer::Refused(_) => NO_NUMBER,

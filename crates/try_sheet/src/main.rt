@@ -66,14 +66,14 @@ fn rewrite(op: u8, form: Form, payload: &[u8], out: &mut [u8]) -> Line {
 fn up(op: u8, payload: &[u8], out: &mut [u8]) -> Line {
     Line::Answered {
         op: op,
-        answer: day_sheet::up(payload, out),
+        answer: sheet_moves::up(payload, out),
     }
 }
 
 fn down(op: u8, payload: &[u8], out: &mut [u8]) -> Line {
     Line::Answered {
         op: op,
-        answer: day_sheet::down(payload, out),
+        answer: sheet_moves::down(payload, out),
     }
 }
 
@@ -90,7 +90,7 @@ fn add(op: u8, payload: &[u8], out: &mut [u8]) -> Line {
     let stamp = number_at(payload, 0) as u32;
     Line::Answered {
         op: op,
-        answer: day_sheet::add(Form::Old, stamp, 0, &payload[8..end], &payload[end..], out),
+        answer: sheet_joins::add(Form::Old, stamp, 0, &payload[8..end], &payload[end..], out),
     }
 }
 
@@ -110,7 +110,7 @@ fn add_counted(op: u8, payload: &[u8], out: &mut [u8]) -> Line {
         + 256 * lent_bytes::byte_at(payload, end + 1)) as u16;
     Line::Answered {
         op: op,
-        answer: day_sheet::add(
+        answer: sheet_joins::add(
             Form::New,
             stamp,
             count,
@@ -133,7 +133,7 @@ fn join(op: u8, form: Form, payload: &[u8], out: &mut [u8]) -> Line {
     let end = 4 + long;
     Line::Answered {
         op: op,
-        answer: day_sheet::join(form, &payload[4..end], &payload[end..], out),
+        answer: sheet_joins::join(form, &payload[4..end], &payload[end..], out),
     }
 }
 

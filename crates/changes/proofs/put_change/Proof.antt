@@ -5,7 +5,7 @@ use native.Mathlib.Omega.{arith}
 use lib.ListN.{drop}
 use denote.Ref.{now}
 use Rattle.text_lines.proofs.Printed.{then, put-as}
-use Rattle.day_sheet.proofs.Turning.{lies-met}
+use Rattle.sheet_joins.proofs.Turning.{lies-met}
 use Rattle.changes.proofs.Putting.{turn-gone, turn-new, turn-both}
 use Rattle.changes.proofs.put_change.Statement.{statement}
 use Rattle.changes.proofs.put_change.Tie as tie

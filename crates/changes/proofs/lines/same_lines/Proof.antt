@@ -2,7 +2,7 @@
 use borrow.Author.Needs.{needs}
 use mathlib.Core.Path.{_∙_}
 use denote.Ref.{now}
-use Rattle.day_sheet.proofs.Turning.{lines-part}
+use Rattle.sheet_joins.proofs.Turning.{lines-part}
 use Rattle.changes.proofs.lines.same_lines.Statement.{statement}
 use Rattle.changes.proofs.lines.same_lines.Tie as tie
 

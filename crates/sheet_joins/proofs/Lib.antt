@@ -1,0 +1,16 @@
+pub mod Accepting
+pub mod Added
+pub mod AnyOrder
+pub mod Comparing
+pub mod Judged
+pub mod Late
+pub mod Meeting
+pub mod Members
+pub mod Merged
+pub mod Mixed
+pub mod OneByOne
+pub mod Premise
+pub mod Returned
+pub mod Staying
+pub mod Telling
+pub mod Turning
