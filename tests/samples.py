@@ -1,15 +1,19 @@
-"""Small captures for the desk and `menus`, and what they print for each (magazine 1, page DF,
+"""Small captures for the desk, `menus` and `lawful`, and what they print for each (magazine 1, page DF,
 stream 1, or 1 and 2, application 1); sheets of a day and of two mornings. Made by the model's writer; nothing is off the air."""
 
 from cases.both import mixed
 from cases.form import LOST, Dice, with_bytes
+from cases.information import informed, network
+from cases.information import record_of as informing
 from cases.reader import Air
-from cases.table import CASE_G
-from model import Refused, both, changes, guide, listing, menu, octet, pes, sheet, table, unpes
+from cases.table import CASE_G, nibbles_in
+from model import Refused, both, changes, guide, information, listing, menu, octet, pes, sheet, table, unpes
+from model.guide import HEAD
+from model.information import MI, UI
 from model.listing import DESK
-from model.menu import Event, Menu, String
+from model.menu import Event, Menu, String, with_parity
 from model.sheet import KEPT
-from model.table import LI, TI, Table
+from model.table import LI, TI, Bits, Table, nibbles_laid
 
 LANGUAGES = [int.from_bytes(name, "big") for name in (b"dut", b"eng", b"fre", b"ger", b"ita", b"spa", b"swe", b"tur")]
 
@@ -261,6 +265,72 @@ def both_streams():
     return capture, text
 
 
+# --- the hotel group's guide ----------------------------------------------------------
+
+def laid(kind, fields, text=b""):
+    """A record of a kind that only has to stand in a guide: its fields behind CA_mode, and its codes."""
+    size = table.whole_bytes(26 + sum(width for width, _ in fields))
+    return menu.summed(DESK.application, nibbles_laid([(8, 0), (10, size), (6, kind), (2, 0), *fields]), bytes(map(with_parity, text)))
+
+
+def message(number, text):
+    """Table 23: no descriptors, no escape sequences."""
+    return laid(MI, [(1, 0), (1, 0), (16, number), (6, 0), (6, 0), (8, 0), (10, len(text))], text)
+
+
+def update(version, *changed):
+    """Table 24: of each change network and block."""
+    return laid(UI, [(1, 0), (1, 0), (6, version), (6, 0), (8, len(changed)), *((width, value) for one in changed for width, value in zip((8, 16), one))])
+
+
+def hotel_blocks():
+    """The blocks of each stream. The guide's own channel is network 0, and its two subtitle tables are both in the first stream."""
+    dut, eng, fre, ger, ita, spa, swe, tur = LANGUAGES
+    none = dict(LTO_magnitude=4, no_of_days=1, prog_start_no=1, no_of_LI_structures=1)      # no programmes: they stop before they start
+    own = informing(informed(b"Lakeside Hotels", [
+        network(b"House Channel", cni=0x4A11, no_of_TI_structures=2, **none), network(b"City One", cni=0x4A12, no_of_TI_structures=1, **none),
+        network(b"Sport 24", cni=0x4A13, no_of_TI_structures=1, **none)],
+        epg_version_number=5, epg_version_number_swo=5, no_of_navigation_info=2, no_of_message_info=1, no_of_navigation_info_swo=1, no_of_message_info_swo=1,
+        no_of_updates=1))
+    first = [own, update(5, (1, 2)), message(0, b"Breakfast from 7 to 10, in the lake room."),
+             record(Table(LI, 0, 0, 0, [(0, [eng]), (1, [eng, ger])])), record(Table(TI, 0, 0, 0, [(0, [eng, 0x000888]), (1, [ger, 0x000889])])),
+             record(Table(TI, 0, 0x8000, 0, [(0, [fre, 0x000850])])),
+             offered(0, b"Lakeside Hotels", (b"In the house", 1, 1), (b"Channels", 1, 2)), offered(1, b"In the house", (b"Sauna and pool", 2, 10), (b"Dinner", 2, 11))]
+    second = [record(Table(LI, 0, 0, 1, [(0, [dut]), (1, [dut, eng])])), record(Table(TI, 0, 0, 1, [(0, [dut, 0x000888])])),
+              record(Table(LI, 0, 0, 2, [(0, [swe, spa])])), record(Table(TI, 0, 0, 2, [(0, [swe, 0x000899, ita, 0x00089A, tur, 0x00089B])])),
+              message(1, b"The night bus leaves at 23:40."), offered(2, b"Channels", (b"City One", 2, 20), (b"Sport 24", 2, 21)), first[3]]
+    return first, second
+
+
+def weathered(dice, block):
+    """A repeat of which up to three control bytes came with one flipped bit each."""
+    control = 2 * Bits(nibbles_in(block)[:8]).fields(table.COMMON)["control_block_size"]
+    places = {HEAD + dice.below(control) for _ in range(dice.below(4))}
+    return with_bytes(block, *((at, block[at] ^ 1 << dice.below(8)) for at in places))
+
+
+def hotel():
+    """A hotel group's own guide in two streams, each block three times and some of the repeats mended; what `lawful` prints of its first stream, and the desk."""
+    dice = Dice(36)
+    streams = hotel_blocks()
+    packets = aired_both(dice, [blocks + [weathered(dice, block) for block in blocks * 2] for blocks in streams], (10, 10), (2, 9))
+    capture = b"".join(with_bytes(packet, (at, packet[at] ^ 1 << dice.below(8))) if dice.chance(5) else packet
+                       for packet, at in ((packet, dice.below(3)) for packet in packets))         # address or pointer
+    text, tables = information.program(capture)[0], listing.desk(capture)
+    assert information.program(capture) == (b"guide=EPG\nlawful=yes\nAI=1 MI=1 UI=1 LI=1 TI=2\n", b"")
+    assert information.program(capture, TWO) == (b"guide=EPG\nlawful=yes\nAI=1 MI=2 UI=1 LI=3 TI=4\n", b"")
+    assert information.program(capture, TWO.of(1))[0] == b"" and menu.menus(capture, TWO)[0].count(b"menu=") == 3
+    assert len(set(guide.read_all(DESK, capture))) > len(streams[0]) and tables.count(b"mended=0\n") < tables.count(b"kind=") == 9
+    return capture, text, tables
+
+
+def lawful_run():
+    """The stored run of `lawful`: the smallest Application Information twice, and case G between."""
+    own = information.write_information(DESK.application, b"\x01" + bytes(19))
+    packets = guide.cut(DESK, 0, 4, own + record(CASE_G) + own)
+    return packets, information.program(packets)[0]
+
+
 def make():
     """Each file of samples/ and its bytes."""
     dice = Dice(7)
@@ -281,3 +351,4 @@ def make():
     yield from mornings().items()
     yield from zip(("menus.t42", "menus.txt"), guide_menus())
     yield from zip(("both.t42", "both.txt"), both_streams())
+    yield from zip(("hotel.t42", "hotel.txt", "hotel-desk.txt"), hotel())

@@ -3,14 +3,14 @@ in pairs, and each rule of table D.1 at its limit and over, with blocks that cou
 
 import itertools
 
-from model import guide, information, menu, octet, table
+from model import guide, information, octet, table
 from model.guide import HEAD
 from model.information import AI, GENERAL, MI, NETWORK, OPENING, SPARE, UI, Information, Named, in_form
 from model.table import LI, TI
 
 from . import menu as menu_cases
 from .form import LOST, Script, line, room_tried, with_bytes
-from .menu import ACCESS, CONTROL, KIND, Strung, control_sizes, head_cases, odd_cases
+from .menu import ACCESS, CONTROL, KIND, Strung, control_sizes, first_eight, head_cases, odd_cases
 from .table import block_line, hit, nibbles_in, shaped, with_field
 
 
@@ -137,12 +137,7 @@ def length_cases(read):
             read(block.record())
             block.field(*CONTROL, information.control_size(made) + 1)
             read(block.record())
-    for control in range(5):                                         # whatever it says, a mended byte of the first eight is no string byte of even parity
-        record = with_fields(EMPTY, (CONTROL, control))
-        again = menu.summed(1, [octet.decode(byte) for byte in record[HEAD:HEAD + 8]], record[HEAD + 8:])
-        for made in (record, again):
-            for at in range(HEAD, HEAD + 9):
-                read(with_bytes(made, (at, made[at] ^ 1 << at % 8))) if control in (0, 3) or at > HEAD + 6 else None
+    first_eight(read, lambda: Block(EMPTY))
     for networks in (79, 81):
         read(with_fields(named_in_all(80, 7), (place("no_of_networks"), networks)))
     service, first, last = place("service_name_length"), place("netwop_name_len", 0), place("netwop_name_len", 2)

@@ -185,6 +185,18 @@ def control_sizes(read, fresh, right):
                 read(again[:HEAD + count] + strings[:-1] + bytes([strings[-1] ^ 0x80]))
 
 
+def first_eight(read, fresh):
+    """A control size of up to 4. Whatever it says, the first eight bytes are control bytes: a mended one among them is no string byte of even parity."""
+    for control in range(5):
+        block = fresh()
+        block.field(*CONTROL, control)
+        record = block.record()
+        again = menu.summed(1, [octet.decode(byte) for byte in record[HEAD:HEAD + 8]], record[HEAD + 8:])
+        for made in (record, again):
+            for at in range(HEAD, HEAD + 9):
+                read(with_bytes(made, (at, made[at] ^ 1 << at % 8))) if control in (0, 3) or at > HEAD + 6 else None
+
+
 def size_cases(read, dice):
     """Control sizes that don't fit: under 4, past the block, one off; then what is a control byte and what a string byte goes by them."""
     for made in (SAMPLE, EMPTY, some_menu(dice, descriptors=2)):
@@ -208,6 +220,8 @@ def size_cases(read, dice):
         read(block.record())
         block.field(*CONTROL, right + 1)
         read(block.record())
+    for made in (EMPTY, SAMPLE):
+        first_eight(read, lambda: Block(made))
     for bit in range(4):                                             # reserved, fill and fill_up_2 are anything, and in the sum
         block = Block(SAMPLE._replace(descriptors=[]))
         block.field(27, 1, 1), block.field(53, 1, bit % 2), block.field(60, 4, 1 << bit)

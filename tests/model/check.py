@@ -23,6 +23,7 @@ from model import Refused, both, changes, dvb, guide, information, listing, menu
 from model.listing import DESK
 from model.sheet import NEW, OLD, Entry
 from samples import aired_both
+import samples
 import vectors
 
 
@@ -565,6 +566,7 @@ def lawful_said():
         assert information.program(capture)[0] == text
     assert information.told_of(1, first[:-1] + [last]) == (b"guide=EPG\nlawful=yes\nAI=1 MI=0 UI=1 LI=2 TI=4\n", b"")
     assert information.told_of(1, first[1:], b"n") == information.told_of(2, first, b"n") == (b"", b"lawful: n: ")
+    assert information.weighed(1, first[1:]).failure == information.NO_INFORMATION and not information.weighed(1, first).failure
     pair = both.Pair(1, 0xDF, 1, 2, 1)                  # the blocks of both streams are one list
     two = guide.cut(DESK, 0, 20, b"".join(first)) + guide.cut(DESK._replace(stream=2), 0, 20, b"".join(again) + last)
     assert information.program(two, pair)[0] == text.replace(b"TI=4", b"TI=5") and information.program(two)[0] == text
@@ -573,7 +575,30 @@ def lawful_said():
     message = cases.plain(information.MI, size=2047)    # its sum isn't judged
     large = [with_bytes(message, *enumerate(octet.images(guide.nibbles_of(n)), guide.HEAD + 8)) for n in range(1023)]
     assert sum(map(len, large)) > information.STORE and information.told_of(1, first[:1] + large) == (b"", b"lawful: standard input: ")
+    assert information.weighed(1, large).failure == information.TOO_MANY and information.weighed(1, large[1:]).failure == information.NO_INFORMATION
     assert information.told_of(1, first[:1] + large[:300] * 4)[0] == b"guide=EPG\nlawful=no\nrule=MI\nAI=1 MI=300 UI=0 LI=0 TI=0\n"
+
+
+def hotel_guide():
+    """The hotel's sample: every block of both streams is of its kind and counts, and the guide's own counts are those of its blocks. With any block more of a kind
+    that is at its limit it isn't lawful."""
+    first, second = samples.hotel_blocks()
+    own = information.information_of(information.read_information(1, first[0]).form)
+    came = [information.counted(1, block) for block in first + second]
+    assert [one.kind for one in came[:8]] == [information.AI, information.UI, information.MI, table.LI, table.TI, table.TI, menu.NI, menu.NI]
+    assert first[3] in second and len({information.block_of(block) for block in first + second}) == len(first) + len(second) - 1
+    values = own.service.values
+    for kind, name in ((menu.NI, "no_of_navigation_info"), (information.MI, "no_of_message_info")):
+        assert [sum(information.counts(1, block) == kind for block in blocks) for blocks in (first, second)] == [values[name], values[name + "_swo"]]
+    for at, network in enumerate(own.networks):
+        tables = [table.table_of(one.form) for one in set(came) if one.kind in (table.LI, table.TI)]
+        said = [sum(t.kind == kind and t.network == at for t in tables) for kind in (table.LI, table.TI)]
+        assert said == [network.values[name] for name in ("no_of_LI_structures", "no_of_TI_structures")] and network.values["prog_stop_no"] + 1 == network.values["prog_start_no"]
+    blocks = [block for block in first + second if block != first[3]] + [first[3]]
+    assert information.lawful(1, b"".join(blocks)).endswith(b"lawful=yes\n")
+    for more, rule in ((information_cases.guide_of(), b"AI"), (samples.update(6), b"UI"), (information_cases.table_record(table.LI, 2), b"LI"),
+                       (information_cases.table_record(table.TI, 0), b"TI")):
+        assert information.lawful(1, b"".join(blocks) + more).endswith(b"lawful=no\nrule=" + rule + b"\n")
 
 
 def hit_first(dice, record):
@@ -589,6 +614,7 @@ def information_vectors():
     for op, numbers in ((34, (0, 1, 10, 11, 12, 13, 14, 16, 23)), (35, (0, 1, 13, 15, 16)), (42, (0, 1, 13, 16, 24))):
         assert given[f"op={op}"] == {"unknown"} | {f"no={no}" for no in numbers}, op
     assert len(stdin) + len(stdout) <= 1_000_000
+    assert sum(map(len, vectors.make("menu"))) <= 1_000_000
 
 
 class Marked(guide.Reader):
@@ -1037,7 +1063,7 @@ def noise(rounds, most):
 def main():
     for check in (images, cases_a_to_f, case_g, cases_h_to_k, annex_l1, editions, lost_pes, pages, day_sheet, dropping, comparing, compared_faults,
                   the_new_form, smaller_numbers, adding_order, moving, the_other_form, sheet_vectors, menus, menu_levels,
-                  application_information, information_limits, counted_blocks, lawful_lists, lawful_said, information_vectors, joined_blocks, cut_line, side_by_side, untouched, two_said, desk_of_two, sheet_of_two, menus_of_two,
+                  application_information, information_limits, counted_blocks, lawful_lists, lawful_said, hotel_guide, information_vectors, joined_blocks, cut_line, side_by_side, untouched, two_said, desk_of_two, sheet_of_two, menus_of_two,
                   descriptors, descriptors_judged, descriptors_back):
         check()
         print(f"{check.__name__}: ok")

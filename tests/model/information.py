@@ -277,19 +277,42 @@ def kept(application, records):
     return {kind: list(those.values()) for kind, those in came.items()}
 
 
-def told_of(application, records, name=None):
-    """What goes to standard output and to standard error for the records that came; where a name is given, they were read by that. Of a
-    failure that isn't a verdict the line's beginning."""
-    title = b"" if name is None else b"file=" + told(name) + b"\n"
-    says = b"lawful: " + (b"standard input" if name is None else told(name)) + b": "
+class Weighed(NamedTuple):
+    verdicts: dict                  # as of `verdict`
+    counts: dict                    # of each kind that can fail, by its name
+    failure: str                    # why there is neither, if there isn't
+
+
+NO_INFORMATION, TOO_MANY = "no Application Information", "too many blocks"
+
+
+def weighed(application, records):
+    """The verdict over the records of a capture, and how many blocks count of each kind that can fail."""
     try:
         came = kept(application, records)
         verdicts = verdict(application, [record for those in came.values() for record in those])
-    except (Refused, TooMany):
+    except TooMany:
+        return Weighed({}, {}, TOO_MANY)
+    except Refused:
+        return Weighed({}, {}, NO_INFORMATION)
+    return Weighed(verdicts, {FAILING[kind]: len(those) for kind, those in came.items()}, "")
+
+
+def said_of(result, name=None):
+    """What goes to standard output and to standard error for a capture; where a name is given, it was read by that. Of a failure that isn't a
+    verdict the line's beginning."""
+    title = b"" if name is None else b"file=" + told(name) + b"\n"
+    says = b"lawful: " + (b"standard input" if name is None else told(name)) + b": "
+    if result.failure:
         return b"", says
-    counts_line = " ".join(f"{FAILING[kind]}={len(those)}" for kind, those in came.items())
-    text = "".join(line + "\n" for line in (*lines_of(verdicts), counts_line)).encode()
-    return title + text, b"".join(says + f"not lawful, by rule {rule}\n".encode() for rule in verdicts.values() if rule)
+    counts_line = " ".join(f"{rule}={count}" for rule, count in result.counts.items())
+    text = "".join(line + "\n" for line in (*lines_of(result.verdicts), counts_line)).encode()
+    return title + text, b"".join(says + f"not lawful, by rule {rule}\n".encode() for rule in result.verdicts.values() if rule)
+
+
+def told_of(application, records, name=None):
+    """The same of the records that came."""
+    return said_of(weighed(application, records), name)
 
 
 def program(data, setting=DESK, name=None):
