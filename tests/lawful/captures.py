@@ -5,6 +5,7 @@ name. A line in NAME.err that begins with `desk ` or `some ` has words that aren
 points to `./loader desk`. DIR/pes/hotel.pes is the hotel's guide in PES packets. In DIR/halves, 1.t42 and 2.t42 are the two parts of a capture, cut within its Application Information, and alike-1.t42 and
 alike-2.t42 two captures of which each is lawful and both in one aren't."""
 
+import functools
 import itertools
 import pathlib
 import sys
@@ -28,11 +29,17 @@ from model.survey import PIECE
 from model.table import LI, TI
 from samples import TWO, aired, aired_both, hotel, hotel_blocks, lawful_run, make, night_list, night_pes, packets_in, roughened, weathered
 
+plain = functools.cache(plain)
 UNSETTLED = {"": b"", NO_INFORMATION: b"desk ", TOO_MANY: b"some "}
 
 
 def sent(setting, records, k=20, index=3):
-    return guide.cut(setting, index, k, b"".join(records))
+    """The pages of a list; a long one is cut part by part, which takes less time."""
+    data = []
+    for at in range(0, len(records), 90):
+        data.append(guide.cut(setting, index, k, b"".join(records[at:at + 90])))
+        index = (index + len(data[-1]) // (PACKET * (k + 1))) % 16
+    return b"".join(data)
 
 
 def numbered(kind, number=0, size=12, application=DESK.application):
