@@ -5,6 +5,7 @@ name. A line in NAME.err that begins with `desk ` or `some ` has words that aren
 points to `./loader desk`. DIR/pes/hotel.pes is the hotel's guide in PES packets. In DIR/halves, 1.t42 and 2.t42 are the two parts of a capture, cut within its Application Information, and alike-1.t42 and
 alike-2.t42 two captures of which each is lawful and both in one aren't."""
 
+import functools
 import itertools
 import pathlib
 import sys
@@ -28,11 +29,17 @@ from model.survey import PIECE
 from model.table import LI, TI
 from samples import TWO, aired, aired_both, hotel, hotel_blocks, lawful_run, make, night_list, night_pes, packets_in, roughened, weathered
 
+plain = functools.cache(plain)
 UNSETTLED = {"": b"", NO_INFORMATION: b"desk ", TOO_MANY: b"some "}
 
 
 def sent(setting, records, k=20, index=3):
-    return guide.cut(setting, index, k, b"".join(records))
+    """The pages of a list; a long one is cut part by part, which takes less time."""
+    data = []
+    for at in range(0, len(records), 90):
+        data.append(guide.cut(setting, index, k, b"".join(records[at:at + 90])))
+        index = (index + len(data[-1]) // (PACKET * (k + 1))) % 16
+    return b"".join(data)
 
 
 def numbered(kind, number=0, size=12, application=DESK.application):
@@ -240,10 +247,30 @@ def large(number, size=guide.size_of(0xFFFF)):
     return with_bytes(plain(MI, size=size), *enumerate(octet.images(guide.nibbles_of(number)), HEAD + 8))
 
 
+def longest_messages(room):
+    """As many of them as fit."""
+    return [large(number) for number in range(room // 2051)]
+
+
+def smallest_messages(count):
+    """So many; again their sum isn't judged."""
+    places = [HEAD + at for at in (0, 1, 3, 7, 2)]
+    return [with_bytes(plain(MI), *zip(places, octet.images([*guide.nibbles_of(number), number >> 16]))) for number in range(count)]
+
+
+def largest_lawful():
+    """The largest guide that is lawful."""
+    most = [record_of(named_in_all(80, 7)), *(large(number) for number in range(255)), numbered(UI, 0, 2047)]
+    for kind, counts in ((LI, spread(329, 23)), (TI, spread(162, 35))):
+        most += [table_record(kind, network_no, block_no, counts) for network_no, block_no in (*((one, 0) for one in range(256)), (0, 0x8000))]
+    assert sum(map(len, most)) == 1_580_807
+    return most
+
+
 def full():
     """As many bytes as are kept, and one more; what takes no room; the largest guide that is lawful."""
     own = guide_of()
-    longest = [large(number) for number in range((STORE - len(own)) // 2051)]
+    longest = longest_messages(STORE - len(own))
     rest = STORE - len(own) - sum(map(len, longest))
     last, more = large(5000, rest - HEAD), large(5000, rest + 1 - HEAD)
     middle, passed = sent(DESK, longest), [numbered(2, 1, 2000), numbered(4, 1, 1000), listed(1, MENU), plain(LI, size=2000), numbered(MI, 9, 300, 2)]
@@ -259,13 +286,9 @@ def full():
     second = TWO.of(1)
     yield "full-two", "-s 1,2", TWO, sent(DESK, [own]) + middle + sent(second, [last, last, longest[0]]), [own, *longest, last]
     yield "full-two-over", "-s 2,1", TWO, sent(second, [own, more]) + middle, [own, more, *longest]
-    most = [record_of(named_in_all(80, 7)), *(large(number) for number in range(255)), numbered(UI, 0, 2047)]
-    for kind, counts in ((LI, spread(329, 23)), (TI, spread(162, 35))):
-        most += [table_record(kind, network_no, block_no, counts) for network_no, block_no in (*((one, 0) for one in range(256)), (0, 0x8000))]
-    assert sum(map(len, most)) == 1_580_807
+    most, crowd = largest_lawful(), smallest_messages(6000)
     yield "full-lawful", "", DESK, sent(DESK, most), most
-    crowd = [with_bytes(plain(MI), *zip((HEAD, HEAD + 1, HEAD + 3, HEAD + 7), octet.images(guide.nibbles_of(number)))) for number in range(6000)]
-    yield "crowd", "", DESK, sent(DESK, [own, *crowd, *crowd[::-1]]), [own, *crowd]     # of the smallest, each held against all before it
+    yield "crowd", "", DESK, sent(DESK, [own, *crowd, *crowd[::-1]]), [own, *crowd]     # each is held against all before it
 
 
 # --- files --------------------------------------------------------------------------------
@@ -316,4 +339,5 @@ def main(folder):
     write(folder / "halves" / ("n" * 200), "", lawful_run()[0], DESK)
 
 
-main(pathlib.Path(sys.argv[1]))
+if __name__ == "__main__":
+    main(pathlib.Path(sys.argv[1]))

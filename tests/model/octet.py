@@ -1,5 +1,7 @@
 """One protected byte (SCOPE 5), and the turning (SCOPE 6.6)."""
 
+import functools
+
 UNDECODABLE = 16  # in place of a nibble
 NO_FAULT = 8      # in place of a bit's place
 
@@ -8,6 +10,7 @@ def bit(number, place):
     return number >> place & 1
 
 
+@functools.cache
 def image(nibble):
     """From the lowest bit up: P1 D1 P2 D2 P3 D3 P4 D4 (SCOPE 5.1)."""
     d1, d2, d3, d4 = (bit(nibble, i) for i in range(4))
