@@ -5,10 +5,9 @@ use mathlib.Core.List.{List, [], _∷_, _++_, map}
 use Prim.Native.Nat.{ℕ}
 use Rattle.texts.specs.Texts.{beginsWith}
 use Rattle.fields.specs.Fields.{whole}
-use Rattle.forms.specs.Form.{spelled}
 use Rattle.forms.specs.Tables.{Descriptor, Table, TI, LI}
 use Rattle.text_lines.specs.Codes.{codes}
-use Rattle.text_lines.specs.Lines.{digitsIn, digit, hexed, letters, numberLine, languageOf, languageLine, pageLine}
+use Rattle.text_lines.specs.Lines.{digitsIn, digit, hexed, letters, numberLine, languageOf, languageLine, pageLine, wordBytes}
 use Rattle.listing.specs.Lines.{languageLines, subtitleLines, entryLines, descriptorLine, descriptorLines, descriptorLinesOf}
 use Rattle.listing_reader.specs.Lines.{numberFrom, numberAt, nibbleOf, hexWord, languageIn, languageAt, pageAt}
 use Rattle.listing_reader.specs.Many.{further, many}
@@ -65,14 +64,14 @@ print =
 
 overnight : printed evening morning ≡ print
 unfolding
-    printed changesOf changeLines keyLine keyName kindWord along upTo keyOf numberLine digitsIn digit hexed letters languageOf languageLine pageLine spelled
+    printed changesOf changeLines keyLine keyName kindWord along upTo keyOf numberLine digitsIn digit hexed letters languageOf languageLine pageLine wordBytes
     languageLines subtitleLines entryLines descriptorLine descriptorLines descriptorLinesOf beginsWith
 overnight = refl
 
 applies : applied print (map tableOf evening) ≡ map tableOf morning
 unfolding
     applied appliedIn nextTable isNew comesBefore newLong newTable newUnder newLine keyLine keyName kindWord numberLine digitsIn digit hexed letters languageOf
-    languageLine pageLine spelled languageLines subtitleLines entryLines descriptorLine descriptorLines descriptorLinesOf beginsWith numberFrom numberAt
+    languageLine pageLine wordBytes languageLines subtitleLines entryLines descriptorLine descriptorLines descriptorLinesOf beginsWith numberFrom numberAt
     nibbleOf hexWord whole languageIn languageAt pageAt further many withPage withLanguage wordsOf flat withWords withNumber descriptorsOf
 applies = refl
 

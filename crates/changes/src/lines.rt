@@ -72,12 +72,13 @@ fn put_front(name: &[u8], key: usize, line: &mut [u8]) -> usize
     ensures { λ r. ⌜ Put (now (line .entry)) 0 (frontOf (now (name .entry)) key) (now (line .exit)) r × (r ≤ 32) ⌝ }
 {
     let a = text_lines::put(name, line, 0);
-    let b = put_kind(key, line, a);
+    let b = put_word(key, line, a);
     let c = text_lines::put_number(b"", key / 65536 / 2, line, b);
     text_lines::put(b",", line, c - 1)
 }
 
-fn put_kind(key: usize, line: &mut [u8], q: usize) -> usize
+// The word of its kind, and the comma behind it.
+fn put_word(key: usize, line: &mut [u8], q: usize) -> usize
     requires { ⌜ q ≤ 8 ⌝ }
     ensures { λ r. ⌜ Put (now (line .entry)) q (kindWord (kindIn key)) (now (line .exit)) r × (r ≤ q + 3) ⌝ }
 {

@@ -145,6 +145,7 @@ use Rattle.changes.specs.declared.Compared.{Compared}
 use Rattle.changes.proofs.compare.Reads as changes·compare
 use Rattle.listing.proofs.list_table.Reads as listing·list-table
 use Rattle.listing.proofs.list_descriptors.Reads as listing·list-descriptors
+use Rattle.listing.proofs.put_kind.Reads as listing·put-kind
 use Rattle.table_writer.proofs.write_block.Reads as table-writer·write-block
 use Rattle.firmware.proofs.guide_decode.Reads as firmware·guide-decode
 use Rattle.vectors.proofs.start.Reads as vectors·start
@@ -450,6 +451,10 @@ listing·list-table-settled κs a x y s t p q = (same (p .0) (q .0), same (p .1)
 pub listing·list-descriptors-settled :
     (κs : _) (a : _) (x y : _) (s t : _) → listing·list-descriptors.Post κs a x s → listing·list-descriptors.Post κs a y t → (x ≡ y) × (now (s .1 .0) ≡ now (t .1 .0))
 listing·list-descriptors-settled κs a x y s t p q = (same (p .0) (q .0), same (p .1) (q .1))
+
+pub listing·put-kind-settled :
+    (κs : _) (a : _) (x y : _) (s t : _) → listing·put-kind.Post κs a x s → listing·put-kind.Post κs a y t → (x ≡ y) × (now (s .1 .0) ≡ now (t .1 .0))
+listing·put-kind-settled κs a x y s t p q = (same (p .0 .moved) (q .0 .moved), same (p .0 .stored) (q .0 .stored))
 
 pub dvb-descriptor·write-descriptor-settled :
     (κs : _) (a : _) (x y : _) (s t : _) → dvb-descriptor·write-descriptor.Post κs a x s → dvb-descriptor·write-descriptor.Post κs a y t → (x ≡ y) × (now (s .1 .0) ≡ now (t .1 .0))

@@ -14,9 +14,8 @@ use Rattle.laws.proofs.Tests.{both-true}
 use Rattle.laws.proofs.Eaches.{each-append}
 use Rattle.texts.specs.Texts.{emptyFrom, emptyLines}
 use Rattle.forms.specs.Tables.{TI, Descriptor}
-use Rattle.forms.specs.Form.{spelled}
 use Rattle.text_lines.specs.Codes.{codes}
-use Rattle.text_lines.specs.Lines.{digitsIn, decimal, digit, hexed, letter, letters, numberLine, languageOf, languageLine, pageLine}
+use Rattle.text_lines.specs.Lines.{digitsIn, decimal, digit, hexed, letter, letters, numberLine, languageOf, languageLine, pageLine, wordBytes}
 use Rattle.listing.specs.Lines.{kindLine, kindTI, kindLI, languageLines, subtitleLines, entryLines, descriptorLine, descriptorLines, descriptorLinesOf}
 use Rattle.sheet_entry.specs.Entries.{Entry, HeadLine, stampName, headValues, spelledBy, headLines, tableLines, emptyLine, entryText, mendedHead}
 use Rattle.day_sheet.specs.Entries.{sheetText}
@@ -78,11 +77,11 @@ letters-plain (b ∷ bytes) h =
 
 language-plain : (w : ℕ) → Each Plain (languageOf w)
 unfolding languageOf
-language-plain w = go (letters (spelled (w ∷ []))) refl
+language-plain w = go (letters (wordBytes w)) refl
   where
-    go : (t : Bool) → letters (spelled (w ∷ [])) ≡ t → Each Plain (pick t (spelled (w ∷ [])) (hexed (spelled (w ∷ []))))
-    go true e = letters-plain (spelled (w ∷ [])) e
-    go false e = hexed-plain (spelled (w ∷ []))
+    go : (t : Bool) → letters (wordBytes w) ≡ t → Each Plain (pick t (wordBytes w) (hexed (wordBytes w)))
+    go true e = letters-plain (wordBytes w) e
+    go false e = hexed-plain (wordBytes w)
 
 -- ---- lines, each with a byte before its end
 
@@ -114,7 +113,7 @@ language-full w = one-line 108 (codes "anguage=" ++ languageOf w) refl (each-app
 page-full : (w : ℕ) → Full (pageLine w)
 unfolding pageLine plain
 page-full w =
-    one-line 112 (codes "age=" ++ hexed (spelled (w ∷ []))) refl (each-append (all-plain (codes "age=") refl) (hexed-plain (spelled (w ∷ []))))
+    one-line 112 (codes "age=" ++ hexed (wordBytes w)) refl (each-append (all-plain (codes "age=") refl) (hexed-plain (wordBytes w)))
 
 kind-full : (kind : ℕ) → Full (kindLine kind)
 unfolding kindLine plain

@@ -14,11 +14,11 @@ use Rattle.answer.specs.declared.Answer.the-variants.{Done}
 use Rattle.answer.proofs.Steps.{done-every, first-holds, others-hold}
 use Rattle.fields.specs.Fields.{fitting}
 use Rattle.forms.specs.Tables.{Descriptor, Table, TI, loops, entire, fits}
-use Rattle.forms.specs.Form.{spelled, listed, form, tableIn}
+use Rattle.forms.specs.Form.{listed, form, tableIn}
 use Rattle.forms.specs.Writing.{formRules}
-use Rattle.forms.proofs.Measures.{length-spelled, length-listed, length-form}
+use Rattle.forms.proofs.Measures.{length-listed, length-form}
 use Rattle.forms.proofs.Sendable.{Sendable, parted}
-use Rattle.text_lines.specs.Lines.{digitMost, hexed, numberLine, letters, languageOf, languageLine, pageLine}
+use Rattle.text_lines.specs.Lines.{digitMost, hexed, numberLine, letters, languageOf, languageLine, pageLine, wordBytes}
 use Rattle.text_lines.proofs.Decimals.{digits-few}
 use Rattle.listing.specs.Lines.{blockName, networkName, mendedName, joinedName, joinedLine, descriptorName, kindLine, kindTI, kindLI, languageLines, subtitleLines}
 use Rattle.listing.specs.Lines.{entryLines, descriptorLine, descriptorLines, headLines, descriptorLinesOf, linesOf}
@@ -52,13 +52,17 @@ unfolding hexed
 length-hexed [] = refl
 length-hexed (b ∷ bs) = omega (arith, length-hexed bs)
 
+length-word : (w : ℕ) → length (wordBytes w) ≡ 3
+unfolding wordBytes
+length-word w = refl
+
 name-room : (w : ℕ) → length (languageOf w) ≤ 6
 unfolding languageOf
-name-room w = go (letters (spelled (w ∷ [])))
+name-room w = go (letters (wordBytes w))
   where
-    go : (t : Bool) → length (pick t (spelled (w ∷ [])) (hexed (spelled (w ∷ [])))) ≤ 6
-    go true = omega (arith, length-spelled (w ∷ []))
-    go false = omega (arith, length-hexed (spelled (w ∷ [])), length-spelled (w ∷ []))
+    go : (t : Bool) → length (pick t (wordBytes w) (hexed (wordBytes w))) ≤ 6
+    go true = omega (arith, length-word w)
+    go false = omega (arith, length-hexed (wordBytes w), length-word w)
 
 language-room : (w : ℕ) → length (languageLine w) ≤ 16
 unfolding languageLine
@@ -66,7 +70,7 @@ language-room w = simp length-append (omega (arith, name-room w))
 
 page-room : (w : ℕ) → length (pageLine w) ≤ 12
 unfolding pageLine
-page-room w = simp length-append (omega (arith, length-hexed (spelled (w ∷ [])), length-spelled (w ∷ [])))
+page-room w = simp length-append (omega (arith, length-hexed (wordBytes w), length-word w))
 
 -- ---- all
 

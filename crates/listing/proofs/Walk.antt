@@ -1,7 +1,7 @@
 -- The lines of a form, an entry or a descriptor at a time. Assumes nothing.
 use mathlib.Core.Path.{_≡_, _∙_, refl, ap, ap₂}
 use mathlib.Core.Bool.{Bool, true, false}
-use mathlib.Core.List.{List, [], _++_, append-nil}
+use mathlib.Core.List.{List, [], _∷_, _++_, append-nil}
 use Prim.Native.Nat.{ℕ, suc, _+_, _-_, _*_, _≤_, _<_}
 use native.Mathlib.Nat.{add-zero, mul-one, mul-zero}
 use native.Mathlib.Omega.{arith}
@@ -12,10 +12,15 @@ use lib.Seq.{drop-drop, getD-drop}
 use Rattle.laws.specs.Pick.{pick}
 use Rattle.laws.proofs.Countdown.{at-none, at-more}
 use Rattle.forms.specs.Tables.{TI, per}
-use Rattle.forms.specs.Form.{wordAt, wordsIn, descriptorsIn, tableIn}
+use Rattle.forms.specs.Form.{spelled, wordAt, wordsIn, descriptorsIn, tableIn}
 use Rattle.forms.proofs.Forms.{in-on, two-bytes}
-use Rattle.text_lines.specs.Lines.{numberLine, languageLine, pageLine}
+use Rattle.text_lines.specs.Lines.{wordBytes, numberLine, languageLine, pageLine}
 use Rattle.listing.specs.Lines.{kindLine, blockName, networkName, mendedName, joinedLine, headLines, languageLines, subtitleLines, entryLines, descriptorLine, descriptorLines}
+
+-- a word's bytes in a line are those that a table's form has of it
+pub word-spelled : (w : ℕ) → spelled (w ∷ []) ≡ wordBytes w
+unfolding spelled wordBytes
+word-spelled w = refl
 
 -- ---- entries
 

@@ -11,11 +11,12 @@ ghost use Rattle.forms.specs.Internal.{descriptorMost, formMost};
 ghost use Rattle.forms.specs.Writing.{formRules};
 ghost use Rattle.listing.specs.Lines.{kindLine, joinedLine, entryLines, descriptorLine, headLines, descriptorLinesOf, linesOf};
 ghost use Rattle.listing.specs.Internal.{linesFrom, headMost, joinedMost, entryMost, descriptorLinesMost};
-ghost use Rattle.text_lines.specs.Putting.{Put, reach};
+ghost use Rattle.text_lines.specs.Putting.{Put, reach, within};
 use answer::Answer;
 use answer::Refusal;
 use forms::OPENING;
 use forms::TI;
+use text_lines::REACH;
 
 // The lines of the table of this form, of whose block so many bytes were mended and whose record has this second byte, to the front of `out`.
 pub fn list_table(table: &[u8], mended: u16, second: u8, out: &mut [u8]) -> Answer
@@ -36,6 +37,19 @@ pub fn list_descriptors(table: &[u8], out: &mut [u8]) -> Answer
         ≡ left (formRules (now (table .entry))) (descriptorLinesOf (tableIn (now (table .entry)))) (now (out .entry)) ⌝ }
 {
     list(table, false, 0, 0, out)
+}
+
+// The line of a table's kind.
+pub fn put_kind(kind: usize, out: &mut [u8], q: usize) -> usize
+    ensures { λ r. ⌜ Put (now (out .entry)) q (within q (kindLine kind)) (now (out .exit)) r × (r ≤ q + 8) ⌝ }
+{
+    if q > REACH {
+        return q;
+    }
+    if kind == TI {
+        return text_lines::put(b"kind=TI\n", out, q);
+    }
+    text_lines::put(b"kind=LI\n", out, q)
 }
 
 // The lines of a table, with those of its head or without.
@@ -184,14 +198,4 @@ fn put_entry(table: &[u8], kind: usize, i: usize, out: &mut [u8], q: usize) -> u
         return at;
     }
     text_lines::put_page(forms::word_at(table, i + 3), out, at)
-}
-
-fn put_kind(kind: usize, out: &mut [u8], q: usize) -> usize
-    requires { ⌜ q + 8 ≤ reach ⌝ }
-    ensures { λ r. ⌜ Put (now (out .entry)) q (kindLine kind) (now (out .exit)) r × (r ≤ q + 8) ⌝ }
-{
-    if kind == TI {
-        return text_lines::put(b"kind=TI\n", out, q);
-    }
-    text_lines::put(b"kind=LI\n", out, q)
 }

@@ -13,9 +13,8 @@ use Rattle.laws.proofs.Whole.{all-at}
 use Rattle.laws.proofs.Tests.{both-true}
 use Rattle.fields.specs.Fields.{whole}
 use Rattle.texts.specs.Texts.{beginsWith}
-use Rattle.forms.specs.Form.{spelled}
 use Rattle.forms.specs.Tables.{TI, LI, known}
-use Rattle.text_lines.specs.Lines.{digitsIn, decimal, digit, hexed, letters, numberLine, languageName, languageOf, languageLine, pageLine}
+use Rattle.text_lines.specs.Lines.{digitsIn, decimal, digit, hexed, letters, numberLine, languageName, languageOf, languageLine, pageLine, wordBytes}
 use Rattle.text_lines.proofs.Decimals.{valued, decimal-valued, digits-few}
 use Rattle.listing.specs.Lines.{kindTI, kindLine}
 use Rattle.listing_reader.specs.declared.lines.Line.{Line}
@@ -167,7 +166,7 @@ word-of : (w : ℕ) → w < 2 ^ 24 → (w / 256 / 256 % 256 * 256 + w / 256 % 25
 word-of w h = omega arith
 
 page-value : (w : ℕ) (rest : List ℕ) → w < 2 ^ 24 → hexWord (pageLine w ++ rest) 5 ≡ w
-unfolding hexWord pageLine hexed spelled
+unfolding hexWord pageLine hexed wordBytes
 page-value w rest h =
     rw (byte-back (w / 256 / 256 % 256) (omega arith), byte-back (w / 256 % 256) (omega arith), byte-back (w % 256) (omega arith), word-of w h) (omega arith)
 
@@ -196,12 +195,12 @@ three :
 three a b c l m n = omega arith
 
 language-value : (w : ℕ) (rest : List ℕ) → w < 2 ^ 24 → languageIn (languageLine w ++ rest) 9 ≡ w
-unfolding languageIn languageLine languageOf hexWord hexed spelled whole
+unfolding languageIn languageLine languageOf hexWord hexed wordBytes whole
 language-value w rest h = go (letters (w / 256 / 256 % 256 ∷ w / 256 % 256 ∷ w % 256 ∷ []))
   where
     go :
         (b : Bool)
-        → languageIn (languageName ++ pick b (w / 256 / 256 % 256 ∷ w / 256 % 256 ∷ w % 256 ∷ []) (hexed (spelled (w ∷ []))) ++ (10 ∷ []) ++ rest) 9 ≡ w
+        → languageIn (languageName ++ pick b (w / 256 / 256 % 256 ∷ w / 256 % 256 ∷ w % 256 ∷ []) (hexed (wordBytes w)) ++ (10 ∷ []) ++ rest) 9 ≡ w
     go true =
         three (w / 256 / 256 % 256) (w / 256 % 256) (w % 256) (omega arith) (omega arith) (omega arith) ∙ word-of w h
     go false =

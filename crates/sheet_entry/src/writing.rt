@@ -98,7 +98,7 @@ fn put_head(form: Form, stamp: u32, mended: usize, table: &[u8], out: &mut [u8])
     let network = lent_bytes::byte_at(table, 4);
     let a = text_lines::put_number(b"stamp=", stamp as usize, out, 0);
     let b = put_mended(form, mended, out, a);
-    let c = put_kind(kind, out, b);
+    let c = listing::put_kind(kind, out, b);
     let d = text_lines::put_number(b"network=", network, out, c);
     text_lines::put_number(b"block=", block, out, d)
 }
@@ -112,16 +112,6 @@ fn put_mended(form: Form, mended: usize, out: &mut [u8], q: usize) -> usize
         Form::Old => q,
         Form::New => text_lines::put_number(b"mended=", mended, out, q),
     }
-}
-
-fn put_kind(kind: usize, out: &mut [u8], q: usize) -> usize
-    requires { ⌜ q ≤ 1000 ⌝ }
-    ensures { λ r. ⌜ Put (now (out .entry)) q (kindLine kind) (now (out .exit)) r × (r ≤ q + 8) ⌝ }
-{
-    if kind == forms::TI {
-        return text_lines::put(b"kind=TI\n", out, q);
-    }
-    text_lines::put(b"kind=LI\n", out, q)
 }
 
 // The table's lines from a place on, where there is room for them.

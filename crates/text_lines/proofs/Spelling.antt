@@ -4,19 +4,18 @@ use mathlib.Core.Bool.{true, false}
 use mathlib.Core.List.{[], _∷_}
 use Prim.Native.Nat.{ℕ, _/_, _%_}
 use Rattle.laws.proofs.Tests.{both-right}
-use Rattle.forms.specs.Form.{spelled}
-use Rattle.text_lines.specs.Lines.{letter, letters}
+use Rattle.text_lines.specs.Lines.{letter, letters, wordBytes}
 
 module _ (w : ℕ) where
-  pub letters-1 : letter (w / 256 / 256 % 256) ≡ false → letters (spelled (w ∷ [])) ≡ false
-  unfolding letters spelled
+  pub letters-1 : letter (w / 256 / 256 % 256) ≡ false → letters (wordBytes w) ≡ false
+  unfolding letters wordBytes
   letters-1 a = rw a
 
-  pub letters-2 : letter (w / 256 / 256 % 256) ≡ true → letter (w / 256 % 256) ≡ false → letters (spelled (w ∷ [])) ≡ false
-  unfolding letters spelled
+  pub letters-2 : letter (w / 256 / 256 % 256) ≡ true → letter (w / 256 % 256) ≡ false → letters (wordBytes w) ≡ false
+  unfolding letters wordBytes
   letters-2 a b = rw (a, b)
 
   pub letters-3 :
-      letter (w / 256 / 256 % 256) ≡ true → letter (w / 256 % 256) ≡ true → letters (spelled (w ∷ [])) ≡ letter (w % 256)
-  unfolding letters spelled
+      letter (w / 256 / 256 % 256) ≡ true → letter (w / 256 % 256) ≡ true → letters (wordBytes w) ≡ letter (w % 256)
+  unfolding letters wordBytes
   letters-3 a b = rw (a, b) (both-right (letter (w % 256)))

@@ -4,7 +4,6 @@ use mathlib.Core.List.{List, [], _∷_, _++_}
 use Prim.Native.Nat.{ℕ, zero, suc, _+_, _/_, _%_}
 use lib.Dec.{ltb, leb}
 use Rattle.laws.specs.Pick.{pick, both}
-use Rattle.forms.specs.Form.{spelled}
 use Rattle.text_lines.specs.Codes.{codes}
 
 -- ---- numbers
@@ -31,6 +30,10 @@ unfoldable pub hexed : List ℕ → List ℕ
 hexed [] = []
 hexed (b ∷ bs) = digit (b / 16) ∷ digit (b % 16) ∷ hexed bs
 
+-- the three bytes of a word, the highest first
+unfoldable pub wordBytes : ℕ → List ℕ
+wordBytes w = w / 256 / 256 % 256 ∷ w / 256 % 256 ∷ w % 256 ∷ []
+
 -- ---- a line each
 
 -- a name with its `=`, and a number
@@ -55,10 +58,10 @@ letters (b ∷ bs) = both (letter b) (letters bs)
 
 -- a language: its three letters, or six hex digits where one of them isn't a to z (SCOPE 13.4)
 unfoldable pub languageOf : ℕ → List ℕ
-languageOf w = pick (letters (spelled (w ∷ []))) (spelled (w ∷ [])) (hexed (spelled (w ∷ [])))
+languageOf w = pick (letters (wordBytes w)) (wordBytes w) (hexed (wordBytes w))
 
 unfoldable pub languageLine : ℕ → List ℕ
 languageLine w = languageName ++ languageOf w ++ (10 ∷ [])
 
 unfoldable pub pageLine : ℕ → List ℕ
-pageLine w = pageName ++ hexed (spelled (w ∷ [])) ++ (10 ∷ [])
+pageLine w = pageName ++ hexed (wordBytes w) ++ (10 ∷ [])

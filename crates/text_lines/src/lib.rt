@@ -10,12 +10,11 @@ ghost use mathlib.Core.Path.{_≡_};
 ghost use mathlib.Core.List.{_∷_, [], _++_};
 ghost use Prim.Native.Nat.{_+_, _^_, _≤_, _<_};
 ghost use lib.ListN.{length, drop};
-ghost use Rattle.forms.specs.Form.{spelled};
-ghost use Rattle.text_lines.specs.Lines.{digitMost, decimal, digit as Lines·digit, hexed, letter as Lines·letter, letters as Lines·letters, numberLine, languageOf, languageLine, pageLine};
+ghost use Rattle.text_lines.specs.Lines.{digitMost, decimal, digit as Lines·digit, hexed, wordBytes, letter as Lines·letter, letters as Lines·letters, numberLine, languageOf, languageLine, pageLine};
 ghost use Rattle.text_lines.specs.Putting.{Put, within};
 
 // No place that a list's lines take is further on.
-const REACH: usize = 4000000;
+pub const REACH: usize = 4000000;
 
 // The most digits that a number has.
 const DIGITS: usize = 20;
@@ -74,7 +73,7 @@ fn put_name(w: usize, out: &mut [u8], q: usize) -> usize
 
 // Whether the bytes of a word are three of a..z.
 fn letters(w: usize) -> bool
-    ensures { λ r. ⌜ r ≡ Lines·letters (spelled (w ∷ [])) ⌝ }
+    ensures { λ r. ⌜ r ≡ Lines·letters (wordBytes w) ⌝ }
 {
     if !letter(w / 256 / 256 % 256) {
         return false;
@@ -97,7 +96,7 @@ fn letter(b: usize) -> bool
 // A word as its six hex digits, and the end of the line.
 fn put_hex(w: usize, out: &mut [u8], q: usize) -> usize
     requires { ⌜ q + 7 < 2 ^ 64 ⌝ }
-    ensures { λ r. ⌜ Put (now (out .entry)) q (hexed (spelled (w ∷ [])) ++ (10 ∷ [])) (now (out .exit)) r × (r ≤ q + 7) ⌝ }
+    ensures { λ r. ⌜ Put (now (out .entry)) q (hexed (wordBytes w) ++ (10 ∷ [])) (now (out .exit)) r × (r ≤ q + 7) ⌝ }
 {
     let a = w / 256 / 256 % 256;
     let b = w / 256 % 256;

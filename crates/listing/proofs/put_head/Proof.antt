@@ -28,7 +28,7 @@ returns c =
     let whole =
     head-of f (k .result) (a .result) (b .result) (n .result) (s .args .mended) (s .args .second) (k .ensures .0) (a .ensures .0) (b .ensures .0) (n .ensures .0)
     (a .ensures .1) (b .ensures .1) in
-    let two = then (x .ensures .0) (put-there (search needs) (y .ensures .0)) in (
+    let two = then (put-there (search needs) (x .ensures .0)) (put-there (search needs) (y .ensures .0)) in (
       put-as whole
           (then (then (then two (put-there (search needs) (z .ensures .0))) (put-there (search needs) (w .ensures .0))) (v .ensures .0)),
       omega (arith, x .ensures .1, y .ensures .1, z .ensures .1, w .ensures .1, v .ensures .1),

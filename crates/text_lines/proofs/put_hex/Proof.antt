@@ -1,13 +1,12 @@
 -- `text_lines::put_hex` meets its contract: two digits for each of three bytes and the line's end, put at once. Assumes nothing.
 use borrow.Author.Needs.{needs}
-use Rattle.forms.specs.Form.{spelled}
 use Rattle.text_lines.proofs.Putting.{put-at}
-use Rattle.text_lines.specs.Lines.{hexed}
+use Rattle.text_lines.specs.Lines.{hexed, wordBytes}
 use Rattle.text_lines.proofs.put_hex.Statement.{statement}
 use Rattle.text_lines.proofs.put_hex.Tie as tie
 
 returns : tie.Need-returns
-unfolding hexed spelled
+unfolding hexed wordBytes
 returns c =
     let p = c .before .before .put in
     let f = c .before .before .before .before .before in

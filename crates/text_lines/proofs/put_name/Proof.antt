@@ -2,9 +2,8 @@
 use borrow.Author.Needs.{needs}
 use borrow.Author.Tests.{not-true, not-false}
 use mathlib.Core.Path.{_∙_, sym}
-use Rattle.forms.specs.Form.{spelled}
 use Rattle.text_lines.proofs.Putting.{put-at}
-use Rattle.text_lines.specs.Lines.{languageOf}
+use Rattle.text_lines.specs.Lines.{languageOf, wordBytes}
 use Rattle.text_lines.proofs.put_name.Statement.{statement}
 use Rattle.text_lines.proofs.put_name.Tie as tie
 
@@ -16,7 +15,7 @@ returns c =
     (rw (sym (l .before .letters .ensures) ∙ not-true _ (l .if1 .taken)) (p .ensures .0), p .ensures .1)
 
 returns-2 : tie.Need-returns-2
-unfolding languageOf spelled
+unfolding languageOf wordBytes
 returns-2 c =
     let p = c .before .before .put in
     let l = c .before .before .before .before .before in

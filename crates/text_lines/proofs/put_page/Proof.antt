@@ -1,8 +1,7 @@
 -- `text_lines::put_page` meets its contract: name, digits, end of line. Assumes nothing.
 use borrow.Author.Needs.{needs}
 use mathlib.Core.List.{[], _∷_}
-use Rattle.forms.specs.Form.{spelled}
-use Rattle.text_lines.specs.Lines.{pageLine, pageName, hexed}
+use Rattle.text_lines.specs.Lines.{pageLine, pageName, hexed, wordBytes}
 use Rattle.text_lines.proofs.Printed.{put-past, put-line}
 use Rattle.text_lines.proofs.put_page.Statement.{statement}
 use Rattle.text_lines.proofs.put_page.Tie as tie
@@ -16,7 +15,7 @@ returns-2 c =
     let b = c .before .before .put-hex in
     let a = c .before .before .before .before .before .before in
     let s = a .before .before .before .before .before in
-    (put-line pageName (hexed (spelled (s .args .w ∷ []))) (10 ∷ []) (search needs) (search needs) (a .put .ensures .0) (b .ensures .0), search needs)
+    (put-line pageName (hexed (wordBytes (s .args .w))) (10 ∷ []) (search needs) (search needs) (a .put .ensures .0) (b .ensures .0), search needs)
 
 pub put-page-spec : {M : Type 1} → statement M
 put-page-spec =

@@ -23,7 +23,7 @@ returns : tie.Need-returns
 returns c =
     let s = c .before .before .before .before .before .before .before .before .before .before .before .before .before .before .before .before .before .before .before .before in
     let p = c .before .before .before .before .before .before .before .before .before .before .before .before .before .before .before .before .put .ensures in
-    let o = c .before .before .before .before .before .before .before .before .before .before .before .before .put-kind .ensures in
+    let o = c .before .before .before .before .before .before .before .before .before .before .before .before .put-word .ensures in
     let n = c .before .before .before .before .before .before .before .put-number .ensures in
     let e = c .before .before .put2 .ensures in
     let line = put-there {xs = numberLine [] (s .args .key / 65536 / 2)} (search needs) (n .0) in

@@ -30,7 +30,7 @@ returns c =
     let h = head-of (s .args .form) (s .args .stamp) (s .args .mended) f (k .result) (a .result) (b .result) (n .result) (k .ensures .0) (a .ensures .0) (b .ensures .0) (n .ensures .0) (a .ensures .1) (b .ensures .1) in
     let p =
     put-as h
-    (then (put-there (search needs) (w .ensures .0)) (then (m .ensures .0) (then (x .ensures .0) (then (put-there (search needs) (y .ensures .0)) (put-as (sym (append-nil _)) (put-there (search needs) (z .ensures .0))))))) in
+    (then (put-there (search needs) (w .ensures .0)) (then (m .ensures .0) (then (put-there (search needs) (x .ensures .0)) (then (put-there (search needs) (y .ensures .0)) (put-as (sym (append-nil _)) (put-there (search needs) (z .ensures .0))))))) in
     let l = head-most (s .args .form) (s .args .stamp) (s .args .mended) (k .result) (n .result) (a .result + 256 * b .result) (search needs) (s .pre) (omega (arith, n .ensures .1)) (omega (arith, a .ensures .1, b .ensures .1)) in
     (p, omega (arith, p .moved, l, ap length h, head-short (s .args .form)))
 
