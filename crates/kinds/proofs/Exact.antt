@@ -35,8 +35,9 @@ use Rattle.blocks.specs.Outcome.{accepted, refused}
 use Rattle.blocks.proofs.Framed.{Framed, framed, frame-holds, part-most, header-of, headed, accepts}
 use Rattle.kinds.specs.Kind.{Kind, Content, Sent, sent, contentOf, sevens, format, fields, bits, control, fill, strings, size, fits}
 use Rattle.kinds.specs.Block.{nibbles, headBits, checksumOf, Says, Means}
-use Rattle.kinds.specs.Reading.{frontIn, codeOf, controlLength, controlPart, stringPart, frontRules, wholeRules, bodyRules, sumRules, mendedOf, carriedBy, carried, contentIn, lengthRules, readRules, readAs}
+use Rattle.kinds.specs.Reading.{frontIn, codeOf, controlLength, controlPart, stringPart, frontRules, wholeRules, bodyRules, sumRules, mendedOf, sentIn, carried, contentIn, lengthRules, readRules, readAs}
 use Rattle.kinds.proofs.Fronts.{Owed, format-lawful, bits-any, four, control-lt}
+use Rattle.kinds.proofs.Sendable.{Sendable, sendable, sends}
 use Rattle.kinds.proofs.Strings.{letters-again, codes-seven, codes-again, letters-odd}
 use Rattle.kinds.proofs.Parting.{Parted, parted, control-bytes, bytes-strings}
 use Rattle.kinds.proofs.Laying.{nibbles-long, nibbles-sound, sum-apart}
@@ -147,7 +148,7 @@ module _ {B : Type 0} (k : Kind B) (o : Owed k) (application : ℕ) (r : List �
     raw-long = omega (arith, length-drop 4 r, f .long, q .size-said)
 
     control-first : k .spoken ≡ true → frontIn (map nib (take 8 raw)) .control ≡ control k c
-    unfolding carriedBy frontIn
+    unfolding sentIn frontIn
     control-first e =
         control-bytes raw (controlLength raw) (omega arith)
         ∙ ap (λ (t : Bool). frontIn (map nib (controlPart t raw)) .control) (sym e)
@@ -167,11 +168,11 @@ module _ {B : Type 0} (k : Kind B) (o : Owed k) (application : ℕ) (r : List �
 
     -- its strings are all codes
     said-strings : cs ≡ strings k c
-    unfolding carriedBy
+    unfolding sentIn
     said-strings = begins-all cs (strings k c) (format-lawful k o .begins n cs) cs-long
 
     own-fields : format k .fields it ≡ fields k (it .0 .checksum) (control k c) c
-    unfolding carriedBy frontIn
+    unfolding sentIn frontIn
     own-fields = λ i.
         format k .fields (
           record {
@@ -187,7 +188,7 @@ module _ {B : Type 0} (k : Kind B) (o : Owed k) (application : ℕ) (r : List �
 
     -- laid again it is all that stood there
     all : n ≡ laid (fields k (it .0 .checksum) (control k c) c) filling
-    unfolding carriedBy
+    unfolding sentIn
     all = format-lawful k o .again n cs ∙ ap₂ laid own-fields (ap (λ (x : ℕ). n / 2 ^ x) (bits-any k it))
 
     own-nibbles : nibs ≡ nibbles k (it .0 .checksum) filling c
@@ -200,13 +201,13 @@ module _ {B : Type 0} (k : Kind B) (o : Owed k) (application : ℕ) (r : List �
         shr-lt (fill k c) (bits k c) (subst (λ (x : ℕ). n < 2 ^ x) wide (whole-lt 4 nibs))
 
     values-fit : fitting (fields k 0 (control k c) c) ≡ true
-    unfolding carriedBy fitting
+    unfolding sentIn fitting
     values-fit =
         both-true (ltb (it .0 .checksum) (2 ^ 8)) _ (ap fitting (sym own-fields) ∙ format-lawful k o .fits n cs) .1
 
     module _ (b : k .spoken ≡ true → Bytes r) where
       small : size k c < 2048
-      unfolding carriedBy frontIn
+      unfolding sentIn frontIn
       small = go (k .spoken) refl
         where
           go : (t : Bool) → k .spoken ≡ t → size k c < 2048
@@ -214,19 +215,23 @@ module _ {B : Type 0} (k : Kind B) (o : Owed k) (application : ℕ) (r : List �
           go false e = omega (arith, control-lt nibs, q .control-said, ap length (o .silent e c))
 
       can : fits k c ≡ true
-      unfolding fits carriedBy frontIn
+      unfolding sentIn frontIn
       can =
-          both-holds (k .asked (c .kind)) _ (q .kind)
-          (both-holds (k .fine (size k c) (c .body)) _ (subst (λ (x : ℕ). k .fine x (c .body) ≡ true) (q .size-said) (q .own))
-          (both-holds (fit (format k) (sent 0 (control k c) c)) _
-          (both-holds (format k .whole (sent 0 (control k c) c)) _ (format-lawful k o .entire n cs) values-fit)
-          (both-holds (sevens (strings k c)) (ltb (size k c) 2048) (ap sevens (sym said-strings) ∙ codes-seven tail) (lt-ltb (size k c) 2048 small))))
+          sends k c
+          (record {
+            asked = q .kind;
+            fine = subst (λ (x : ℕ). k .fine x (c .body) ≡ true) (q .size-said) (q .own);
+            entire = format-lawful k o .entire n cs;
+            fitted = values-fit;
+            seven = ap sevens (sym said-strings) ∙ codes-seven tail;
+            small = small;
+          })
 
       said-head : headOf r ≡ headBits k application c
       said-head = header-of application (size k c) (headOf r) (f .within) small (f .ours) (q .size-said)
 
       said-sum : it .0 .checksum ≡ checksumOf k application filling c
-      unfolding checksumOf carriedBy frontIn
+      unfolding checksumOf sentIn frontIn
       said-sum = q .agrees ∙ ap₂ checksum said-head own-nibbles ∙ sum-apart k (headBits k application c) (it .0 .checksum) 0 filling c
 
       says : Says k application r c filling
@@ -256,21 +261,8 @@ module _ {B : Type 0} (k : Kind B) (o : Owed k) (application : ℕ) (r : List �
   abbrev block : List ℕ
   block = drop 4 r
 
-  sent-parts :
-      (k .asked (c .kind) ≡ true)
-      × (k .fine (size k c) (c .body) ≡ true)
-      × (format k .whole (sent 0 (control k c) c) ≡ true)
-      × (fitting (fields k 0 (control k c) c) ≡ true)
-      × (sevens (strings k c) ≡ true)
-      × (size k c < 2048)
-  unfolding fits
-  sent-parts =
-      let p = both-true (k .asked (c .kind)) _ (said .sendable) in
-      let q = both-true (k .fine (size k c) (c .body)) _ (p .1) in
-      let t = both-true (fit (format k) (sent 0 (control k c) c)) _ (q .1) in
-      let u = both-true (format k .whole (sent 0 (control k c) c)) _ (t .0) in
-      let v = both-true (sevens (strings k c)) (ltb (size k c) 2048) (t .1) in
-      (p .0, q .0, u .0, u .1, v .0, ltb-true (size k c) 2048 (v .1))
+  can-send : Sendable k c
+  can-send = sendable k c (said .sendable)
 
   -- what it carries
   abbrev its-own : Sent B
@@ -278,7 +270,7 @@ module _ {B : Type 0} (k : Kind B) (o : Owed k) (application : ℕ) (r : List �
 
   sum-fits : fitting (format k .fields its-own) ≡ true
   unfolding fitting checksumOf
-  sum-fits = both-holds (ltb sum (2 ^ 8)) _ (lt-ltb sum (2 ^ 8) (checksum-lt _ _)) (sent-parts .3)
+  sum-fits = both-holds (ltb sum (2 ^ 8)) _ (lt-ltb sum (2 ^ 8) (checksum-lt _ _)) (can-send .fitted)
 
   -- its nibbles and its strings carry it
   read-back : format k .read (whole 4 ours) (strings k c) ≡ its-own
@@ -289,7 +281,7 @@ module _ {B : Type 0} (k : Kind B) (o : Owed k) (application : ℕ) (r : List �
       let below : laid-it < 2 ^ (2 * control k c * 4) =
       subst (λ (x : ℕ). laid-it < 2 ^ x) (ap (λ (x : ℕ). fill k c + x) (bits-any k its-own) ∙ wide) (laid-lt (format k .fields its-own) filling (fill k c) (said .filled)) in
       ap₂ (format k .read) (whole-parts 4 (2 * control k c) laid-it ∙ mod-eq-of-lt below) (sym (append-nil (strings k c)))
-      ∙ format-lawful k o .back its-own filling [] (sent-parts .2) sum-fits
+      ∙ format-lawful k o .back its-own filling [] (can-send .entire) sum-fits
 
   enough : 2 * control k c ≤ length block
   enough =
@@ -316,15 +308,15 @@ module _ {B : Type 0} (k : Kind B) (o : Owed k) (application : ℕ) (r : List �
   said-tail = said-parts .rest ∙ said .codes
 
   pub carried-said : carried k block ≡ its-own
-  unfolding carriedBy
-  carried-said = ap₂ (λ (ns cs : List ℕ). format k .read (whole 4 ns) cs) said-nibbles (ap (map codeOf) said-tail ∙ codes-again (strings k c) (sent-parts .4)) ∙ read-back
+  unfolding sentIn
+  carried-said = ap₂ (λ (ns cs : List ℕ). format k .read (whole 4 ns) cs) said-nibbles (ap (map codeOf) said-tail ∙ codes-again (strings k c) (can-send .seven)) ∙ read-back
 
   -- what is read is what was said
   pub content-said : contentIn k block ≡ c
   content-said = ap contentOf carried-said
 
   headed-said : (headOf r % 32 ≡ application) × (headOf r / 32 ≡ size k c)
-  headed-said = headed application (size k c) (headOf r) (said .within) (sent-parts .5) (said .head)
+  headed-said = headed application (size k c) (headOf r) (said .within) (can-send .small) (said .head)
 
   framed-said : Framed application r
   framed-said =
@@ -349,14 +341,14 @@ module _ {B : Type 0} (k : Kind B) (o : Owed k) (application : ℕ) (r : List �
       let front-said : frontIn ours ≡ its-own .0 = ap (λ (x : Sent B). x .0) read-back in
       let q : Bodied k (headOf r) ours (map letter (strings k c)) its-own =
       record {
-        kind = ap (λ (x : Sent B). k .asked (x .0 .kind)) read-back ∙ sent-parts .0;
+        kind = ap (λ (x : Sent B). k .asked (x .0 .kind)) read-back ∙ can-send .asked;
         clear = ap (λ (x : Sent B). x .0 .access) read-back;
         decodes = nibbles-sound k sum filling c;
-        odd = letters-odd (strings k c) (sent-parts .4);
+        odd = letters-odd (strings k c) (can-send .seven);
         agrees =
             ap (λ (x : Sent B). x .0 .checksum) read-back ∙ sum-apart k (headBits k application c) 0 sum filling c
             ∙ ap (λ (h : ℕ). checksum h ours) (sym (said .head));
-        own = subst (λ (x : ℕ). k .fine x (c .body) ≡ true) (sym (headed-said .1)) (sent-parts .1);
+        own = subst (λ (x : ℕ). k .fine x (c .body) ≡ true) (sym (headed-said .1)) (can-send .fine);
         control-said = refl;
         size-said = headed-said .1;
       } in
@@ -424,14 +416,19 @@ module _ {B : Type 0} (k : Kind B) (o : Owed k) (application : ℕ) (r : List �
   pub odd-all : odds (stringPart (k .spoken) (drop 4 r)) ≡ length (stringPart (k .spoken) (drop 4 r))
   odd-all = taken k application r e .1 .odd
 
+  -- there are twice as many control bytes as the control size of what is read says
+  pub control-read : length (controlPart (k .spoken) (drop 4 r)) ≡ 2 * control k (contentIn k (drop 4 r))
+  control-read =
+      let q = taken k application r e in
+      sym (length-map (controlPart (k .spoken) (drop 4 r)) nib) ∙ nibs-long k o application r (q .0) (q .1)
+
   -- a count is at most 5 and twice the greatest control size
   pub mended-most : mendedOf (k .spoken) r ≤ 2051
-  unfolding mendedOf carriedBy frontIn
+  unfolding mendedOf sentIn frontIn
   mended-most =
       let q = taken k application r e in
-      let long = nibs-long k o application r (q .0) (q .1) in
       let bytes = controlPart (k .spoken) (drop 4 r) in
-      omega (arith, part-most r (q .0 .in-range), harms-le bytes, long, length-map bytes nib, q .1 .control-said, control-lt (map nib bytes))
+      omega (arith, part-most r (q .0 .in-range), harms-le bytes, control-read, q .1 .control-said, control-lt (map nib bytes))
 
   -- the record has its head and eight bytes
   pub record-long : 12 ≤ length r

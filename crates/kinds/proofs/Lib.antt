@@ -1,5 +1,6 @@
 pub mod Places
 pub mod Fronts
+pub mod Sendable
 pub mod Strings
 pub mod Parting
 pub mod Laying
@@ -10,3 +11,4 @@ pub mod Noise
 pub mod Judging
 pub mod Counting
 pub mod Mending
+pub mod Taking

@@ -74,9 +74,13 @@ unfoldable pub mendedOf : Bool → List ℕ → ℕ
 mendedOf spoken r = partOf r + harms (controlPart spoken (drop headLength r))
 
 module _ {B : Type 0} (k : Kind B) where
+  -- what nibbles and codes carry; past their end both read as zeros
+  unfoldable pub sentIn : List ℕ → List ℕ → Sent B
+  sentIn ns codes = format k .read (whole 4 ns) codes
+
   -- what control bytes and string bytes carry
-  unfoldable pub carriedBy : List ℕ → List ℕ → Sent B
-  carriedBy bytes strings = format k .read (whole 4 (map nib bytes)) (map codeOf strings)
+  abbrev pub carriedBy : List ℕ → List ℕ → Sent B
+  carriedBy bytes strings = sentIn (map nib bytes) (map codeOf strings)
 
   -- what raw bytes carry
   abbrev pub carried : List ℕ → Sent B

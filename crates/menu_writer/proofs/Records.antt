@@ -21,12 +21,15 @@ use Rattle.octet.specs.Image.{image}
 use Rattle.octet.specs.Decoding.{nib}
 use Rattle.fields.specs.Fields.{width, laid, fitting, parts}
 use Rattle.blocks.specs.Sums.{checksum}
-use Rattle.blocks.proofs.Nibbles.{nibbles-back}
+use Rattle.blocks.specs.Block.{header}
+use Rattle.kinds.specs.Block.{checksumOf as Kind·checksumOf, blockWith as Kind·blockWith}
+use Rattle.kinds.proofs.Laying.{nibbles-again}
 use Rattle.parity.specs.Parity.{letter}
-use Rattle.menu_forms.specs.Menus.{Menu, zeros, fields, strings, control, size, fits, sevens}
+use Rattle.menu_forms.specs.Menus.{Menu, zeros, navigation, content, fields, strings, control, size, fits, sevens}
 use Rattle.menu_forms.specs.Form.{form, menuIn}
 use Rattle.menu_forms.specs.Writing.{formRules, writeRules}
-use Rattle.menu_forms.specs.Block.{inNibbles, nibbles, headBits, checksumOf, blockWith, recordOf}
+use Rattle.menu_forms.specs.Block.{inNibbles, nibbles, headBits, checksumOf, recordOf}
+use Rattle.menu_forms.proofs.Formats.{fits-by}
 use Rattle.menu_forms.proofs.Saying.{nibbles-long as spelled-long, sum-first}
 use Rattle.menu_writer.specs.declared.Tally.{Tally}
 use Rattle.menu_writer.specs.Internal.{Whole}
@@ -41,16 +44,20 @@ module _ (m : Menu) (c : ℕ) (whole : 8 * c ≡ width (fields 0 0 zeros m)) whe
   nibbles-long s = length-map (nibbles s zeros m) image ∙ spelled-long s zeros m ∙ ap (λ (x : ℕ). 2 * x) (sym control-is)
 
   pub record-long : (application : ℕ) → length (recordOf application m) ≡ 4 + (2 * c + length (strings m))
-  unfolding blockWith
+  unfolding Kind·blockWith strings
   record-long application =
       let s = checksumOf application zeros m in
       let l = length-append (map image (nibbles s zeros m)) (map letter (strings m)) in
       omega (arith, l, nibbles-long s, length-map (strings m) letter)
 
 -- the 16 bits
-pub head-is : (application : ℕ) (m : Menu) → application < 32 → size m < 2048 → application + 32 * size m ≡ headBits application m
+head-laid : (application n : ℕ) → application < 32 → n < 2048 → application + 32 * n ≡ laid (header application n) 0
 unfolding laid
-head-is application m la ls = rw (mod-eq-of-lt la, mod-eq-of-lt ls) (omega arith)
+head-laid application n la ls = rw (mod-eq-of-lt la, mod-eq-of-lt ls) (omega arith)
+
+pub head-is : (application : ℕ) (m : Menu) → application < 32 → size m < 2048 → application + 32 * size m ≡ headBits application zeros m
+unfolding fields strings
+head-is application m la ls = head-laid application (size m) la ls
 
 -- two bytes behind the head are put again
 resealed :
@@ -106,13 +113,13 @@ module _ (application c : ℕ) (m : Menu) (la : application < 32) (ls : size m <
       ∙ take-append-seam xs (ys ++ r)
 
   sum-is : checksum h (map nib (map image (nibbles 0 zeros m))) ≡ checksumOf application zeros m
-  unfolding checksumOf inNibbles
+  unfolding Kind·checksumOf
   sum-is =
-      ap (checksum h) (nibbles-back (width (fields 0 (control m) zeros m) / 4) (laid (fields 0 (control m) zeros m) 0))
+      ap (checksum h) (nibbles-again navigation 0 0 (content zeros m))
       ∙ ap (λ (x : ℕ). checksum x (nibbles 0 zeros m)) (head-is application m la ls)
 
   record-is : front (checksumOf application zeros m) ≡ recordOf application m
-  unfolding blockWith
+  unfolding Kind·blockWith strings
   record-is =
       ap (λ (x : ℕ). x % 256 ∷ x / 256 ∷ 0 ∷ 0 ∷ (map image (nibbles (checksumOf application zeros m) zeros m) ++ map letter (strings m))) (head-is application m la ls)
 
@@ -136,15 +143,6 @@ module _ (application c : ℕ) (m : Menu) (la : application < 32) (ls : size m <
       e4 ∙ ap₂ (λ (l : List ℕ) (x : ℕ). sets l 4 (map image (parts 4 2 x))) stored sum ∙ put-again (checksumOf application zeros m) ∙ ap (sets out 0) record-is
 
 -- ---- when a form is refused
-
-four : (a b c d : Bool) → both a (both b (both c d)) ≡ both (both a (both b c)) d
-four false b c d = refl
-four true false c d = refl
-four true true c d = refl
-
-pub fits-by : (m : Menu) → fits m ≡ both (both (fitting (fields 0 0 zeros m)) (both (ltb (m .headerSize) 3) (sevens (strings m)))) (ltb (size m) 2048)
-unfolding fits
-fits-by m = four (fitting (fields 0 0 zeros m)) (ltb (m .headerSize) 3) (sevens (strings m)) (ltb (size m) 2048)
 
 module _ (application : ℕ) (f : List ℕ) (a : Answer) where
   pub by-16 : 32 ≤ application → judged refused (writeRules application f) a ≡ refused 16 0
