@@ -30,7 +30,8 @@ use Rattle.blocks.proofs.frames.judge.Reads as blocks·frames-judge
 use Rattle.table.specs.Reading.{frontRules, wholeRules, readRules as Table·readRules}
 use Rattle.table.specs.Lengths.{lengthRules}
 use Rattle.menu_forms.specs.Writing.{formRules as Menu·formRules, writeRules as Menu·writeRules}
-use Rattle.menu_reader.specs.Reading.{frontRules as Menu·frontRules, wholeRules as Menu·wholeRules, lengthRules as Menu·lengthRules, readRules as Menu·readRules}
+use Rattle.kinds.specs.Reading.{frontRules as Kind·frontRules, wholeRules as Kind·wholeRules, lengthRules as Kind·lengthRules}
+use Rattle.menu_reader.specs.Reading.{readRules as Menu·readRules}
 use Rattle.menu_listing.specs.Listing.{listRules, levelsRules}
 use Rattle.menu_listing.specs.Kept.{keptRules}
 use Rattle.shelf.specs.Putting.{putRules}
@@ -67,7 +68,7 @@ unfolding allRefusing Menu·formRules
 writes-menu application f = refl
 
 pub reads-menu : (application : ℕ) (r : List ℕ) → allRefusing (Menu·readRules application r) ≡ true
-unfolding allRefusing frameRules Menu·frontRules Menu·wholeRules Menu·lengthRules
+unfolding allRefusing frameRules Kind·frontRules Kind·wholeRules Kind·lengthRules
 reads-menu application r = refl
 
 pub writes-descriptor : (f : List ℕ) → allRefusing (Descriptor·writeRules f) ≡ true

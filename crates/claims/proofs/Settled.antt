@@ -121,6 +121,8 @@ use Rattle.dvb_descriptor.proofs.write_descriptor.Reads as dvb-descriptor·writ
 use Rattle.dvb_descriptor.proofs.read_descriptor.Reads as dvb-descriptor·read-descriptor
 use Rattle.parity.proofs.letter.Reads as parity·letter
 use Rattle.parity.proofs.odds.Reads as parity·odds
+use Rattle.kinds.proofs.judge.Reads as kinds·judge
+use Rattle.kinds.proofs.mended_in.Reads as kinds·mended-in
 use Rattle.menu_forms.proofs.info_bytes.Reads as menu-forms·info-bytes
 use Rattle.menu_reader.proofs.read_menu.Reads as menu-reader·read-menu
 use Rattle.menu_writer.proofs.write_menu.Reads as menu-writer·write-menu
@@ -669,6 +671,12 @@ parity·letter-settled κs a x y s t p q = same p q
 
 pub parity·odds-settled : (κs : _) (a : _) (x y : _) (s t : _) → parity·odds.Post κs a x s → parity·odds.Post κs a y t → x ≡ y
 parity·odds-settled κs a x y s t p q = same p q
+
+pub kinds·judge-settled : (κs : _) (a : _) (x y : _) (s t : _) → kinds·judge.Post κs a x s → kinds·judge.Post κs a y t → x ≡ y
+kinds·judge-settled κs a x y s t p q = same p q
+
+pub kinds·mended-in-settled : (κs : _) (a : _) (x y : _) (s t : _) → kinds·mended-in.Post κs a x s → kinds·mended-in.Post κs a y t → x ≡ y
+kinds·mended-in-settled κs a x y s t p q = same p q
 
 pub menu-forms·info-bytes-settled : (κs : _) (a : _) (x y : _) (s t : _) → menu-forms·info-bytes.Post κs a x s → menu-forms·info-bytes.Post κs a y t → x ≡ y
 menu-forms·info-bytes-settled κs a x y s t p q = same (p .0) (q .0)

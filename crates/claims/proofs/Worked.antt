@@ -23,8 +23,10 @@ use Rattle.blocks.specs.Outcome.{accepted}
 use Rattle.table.specs.Reading.{readBlock}
 use Rattle.table.proofs.Back.{writes-back}
 use Rattle.parity.specs.Parity.{ones, letter}
-use Rattle.menu_forms.specs.Menus.{Menu, infoBytes, textFormat, eventFormat, fillUp, fields as Menu·fields, strings, sevens, fits as Menu·fits}
-use Rattle.menu_forms.specs.Block.{inNibbles, checksumOf as Menu·checksumOf, blockWith as Menu·blockWith, recordOf as Menu·recordOf}
+use Rattle.menu_forms.specs.Menus.{Menu, infoBytes, textFormat, eventFormat, fillUp, sevens, fits as Menu·fits}
+use Rattle.kinds.specs.Kind.{fits as Kind·fits}
+use Rattle.kinds.specs.Block.{nibbles as Kind·nibbles, checksumOf as Kind·checksumOf, blockWith as Kind·blockWith}
+use Rattle.menu_forms.specs.Block.{recordOf as Menu·recordOf}
 use Rattle.menu_reader.specs.Reading.{readMenu}
 use Rattle.menu_reader.proofs.Written.{writes-back as Menu·writes-back}
 
@@ -132,17 +134,15 @@ menuBytes =
 
 pub menu-written : Menu·recordOf 22 menu ≡ menuBytes
 unfolding
-    Menu·blockWith
-    Menu·checksumOf
+    Kind·blockWith
+    Kind·checksumOf
     checksum
     total
-    inNibbles
-    Menu·fields
+    Kind·nibbles
     textFormat
     eventFormat
     infoBytes
     fillUp
-    strings
     width
     laid
     parts
@@ -154,7 +154,7 @@ unfolding
 menu-written = refl
 
 menu-fits : Menu·fits menu ≡ true
-unfolding Menu·fits fitting Menu·fields textFormat eventFormat infoBytes fillUp strings sevens width
+unfolding Menu·fits Kind·fits fitting textFormat eventFormat infoBytes fillUp sevens width
 menu-fits = refl
 
 pub menu-read : readMenu 22 menuBytes ≡ accepted menu 0

@@ -17,8 +17,10 @@ use Rattle.fields.proofs.Laid.{fitting-append}
 use Rattle.codecs.proofs.Codes.{codes-back}
 use Rattle.answer.specs.Rules.{Every, none, more}
 use Rattle.menu_forms.specs.Rows.{each, inRow}
-use Rattle.menu_forms.specs.Menus.{Descriptor, Escape, Text, Attribute, Event, Menu, Sent, zeros, infoBytes, format, sent, fits}
-use Rattle.menu_forms.specs.Menus.{descriptorFields, escapeFields, attributeFields, textFields, eventFields, fillFields, fields, eventFormat, textFormat}
+use Rattle.menu_forms.specs.Menus.{Descriptor, Escape, Text, Attribute, Event, Menu, zeros, infoBytes, Body, navigation, content, menuSent, fits}
+use Rattle.menu_forms.specs.Menus.{descriptorFields, escapeFields, attributeFields, textFields, eventFields, fillFields, eventFormat, textFormat}
+use Rattle.kinds.specs.Kind.{Content, fields as Kind·fields, control as Kind·control}
+use Rattle.kinds.proofs.Sendable.{sendable}
 use Rattle.menu_forms.specs.Form.{highFirst, descriptorForm, escapeForm, attributeForm, textForm, eventForm, openingOf, form}
 use Rattle.menu_forms.specs.Form.{numberIn, codesIn, descriptorIn, escapeIn, attributeIn, textIn, eventIn, menuIn}
 use Rattle.menu_forms.specs.Writing.{formRules}
@@ -129,32 +131,31 @@ pub record Fitting (m : Menu) : Type 0 where
   pub fits-events : fitting (each eventFields (m .events)) ≡ true
 
 -- of what fits the format
-pub fitting-parts : (s : Sent) → fitting (format .fields s) ≡ true → Fitting (s .menu)
+pub fitting-parts : (sum control : ℕ) (c : Content Body) → fitting (Kind·fields navigation sum control c) ≡ true → Fitting (menuSent c)
 unfolding fitting
-fitting-parts s h =
-    let m = s .menu in
+fitting-parts sum control c h =
+    let m = menuSent c in
     let ds = each descriptorFields (m .descriptors) in
-    let fl = fillFields (length (m .descriptors)) (s .spare .second) in
+    let fl = fillFields (length (m .descriptors)) (c .body .second) in
     let tx = textFields (m .header) in
     let ev = each eventFields (m .events) in
-    let a₁ = both-second (ltb (s .checksum) 256) _ h in
-    let a₂ = both-second (ltb (s .control) 1024) _ a₁ in
-    let a₃ = both-second (ltb (s .kind) 64) _ a₂ in
-    let a₄ = both-second (ltb (s .access) 4) _ a₃ in
-    let c = both-true (ltb (m .copyright) 2) _ a₄ in
-    let r = both-second (ltb (s .spare .reserved) 2) _ (c .1) in
+    let a₁ = both-second (ltb sum 256) _ h in
+    let a₂ = both-second (ltb control 1024) _ a₁ in
+    let a₃ = both-second (ltb (c .kind) 64) _ a₂ in
+    let c₁ = both-true (ltb (m .copyright) 2) _ a₃ in
+    let r = both-second (ltb (c .reserved) 2) _ (c₁ .1) in
     let b = both-true (ltb (m .block) 65536) _ r in
     let d₁ = both-true (ltb (m .headerSize) 4) _ (b .1) in
     let d₂ = both-true (ltb (length (m .events)) 16) _ (d₁ .1) in
     let d₃ = both-true (ltb (m .messageSize) 8) _ (d₂ .1) in
-    let f = both-second (ltb (s .spare .first) 2) _ (d₃ .1) in
+    let f = both-second (ltb (c .body .first) 2) _ (d₃ .1) in
     let d₄ = both-true (ltb (length (m .descriptors)) 64) _ f in
     let e₁ = both-true (fitting ds) (fitting (fl ++ (tx ++ (8, m .message) ∷ ev))) (sym (fitting-append ds (fl ++ (tx ++ (8, m .message) ∷ ev))) ∙ d₄ .1) in
     let e₂ = both-second (fitting fl) (fitting (tx ++ (8, m .message) ∷ ev)) (sym (fitting-append fl (tx ++ (8, m .message) ∷ ev)) ∙ e₁ .1) in
     let e₃ = both-true (fitting tx) (fitting ((8, m .message) ∷ ev)) (sym (fitting-append tx ((8, m .message) ∷ ev)) ∙ e₂) in
     let e₄ = both-true (ltb (m .message) 256) (fitting ev) (e₃ .1) in
     record {
-      fits-copyright = ltb-true (m .copyright) 2 (c .0);
+      fits-copyright = ltb-true (m .copyright) 2 (c₁ .0);
       fits-lines = ltb-true (m .headerSize) 4 (d₁ .0);
       fits-count = ltb-true (length (m .events)) 16 (d₂ .0);
       fits-rows = ltb-true (m .messageSize) 8 (d₃ .0);
@@ -168,8 +169,9 @@ fitting-parts s h =
 
 -- and of a menu that can be sent
 pub fits-parts : (m : Menu) → fits m ≡ true → Fitting m
-unfolding fits fields
-fits-parts m h = fitting-parts (sent 0 0 zeros m) (both-first (fitting (fields 0 0 zeros m)) _ h)
+unfolding fits
+fits-parts m h =
+    let c = content zeros m in fitting-parts 0 (Kind·control navigation c) c (sendable navigation c h .fitted)
 
 -- the form of a menu that can be sent stands for it, whatever follows
 pub form-back-on : (m : Menu) → fits m ≡ true → (rest : List ℕ) → menuIn (form m ++ rest) ≡ m

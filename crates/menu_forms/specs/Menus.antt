@@ -1,12 +1,15 @@
 -- A menu as a value, and the format that table 19 has for it (SCOPE 23.1, 23.2).
 use mathlib.Core.Bool.{Bool, true}
-use mathlib.Core.List.{List, [], _∷_}
+use mathlib.Core.List.{List}
 use Prim.Native.Nat.{ℕ, _+_, _*_, _/_, _%_}
 use lib.Dec.{eqb, ltb}
 use lib.ListN.{length, take}
-use Rattle.laws.specs.Pick.{pick, both}
-use Rattle.fields.specs.Fields.{Field, width, fitting}
+use Rattle.laws.specs.Pick.{pick}
+use Rattle.fields.specs.Fields.{Field, width}
 use Rattle.codecs.specs.Codec.{Codec, number, filling, codes, then, row, seen, counted}
+use Rattle.kinds.specs.Kind.{Kind, Content, fields as Kind·fields, strings as Kind·strings, fits as Kind·fits}
+use Rattle.kinds.specs.Reading.{oneOf}
+unfoldable pub use Rattle.kinds.specs.Kind.{sevens}
 
 -- descriptor_type, descriptor_id, descriptor_eval
 pub record Descriptor : Type 0 where
@@ -99,61 +102,53 @@ pub record Spare : Type 0 where
 abbrev pub zeros : Spare
 zeros = record { reserved = 0; first = 0; second = 0 }
 
--- what a block of a menu carries: the menu, with what isn't its own
-pub record Sent : Type 0 where
-  pub checksum : ℕ
-  pub control : ℕ
-  pub kind : ℕ
-  pub access : ℕ
-  pub spare : Spare
-  pub menu : Menu
+-- what stands behind the opening fields: a menu's values but its copyright bit, with fill_up_1 and fill_up_2
+pub record Body : Type 0 where
+  pub block : ℕ
+  pub headerSize : ℕ
+  pub messageSize : ℕ
+  pub first : ℕ
+  pub descriptors : List Descriptor
+  pub second : ℕ
+  pub header : Text
+  pub message : ℕ
+  pub events : List Event
 
 -- its values in the order in which they stand, with the number of events: up to fill_up_1, and from there on
-abbrev pub Front : Type 0 → Type 0
-Front A = ℕ × (ℕ × (ℕ × (ℕ × (ℕ × (ℕ × (ℕ × (ℕ × (ℕ × (ℕ × (ℕ × A))))))))))
+abbrev pub Lead : Type 0 → Type 0
+Lead A = ℕ × (ℕ × (ℕ × (ℕ × (ℕ × A))))
 
 abbrev pub Rest : Type 0
 Rest = List Descriptor × (ℕ × (Text × (ℕ × List Event)))
 
 abbrev pub Ordered : Type 0
-Ordered = Front Rest
+Ordered = Lead Rest
 
-abbrev pub ordered : Sent → Ordered
-ordered s =
-    let m = s .menu in
-    let spare = s .spare in
-    let behind : Rest = (m .descriptors, (spare .second, (m .header, (m .message, m .events)))) in
-    let later : ℕ × (ℕ × (ℕ × (ℕ × (ℕ × Rest)))) = (m .block, (m .headerSize, (length (m .events), (m .messageSize, (spare .first, behind))))) in
-    (s .checksum, (s .control, (s .kind, (s .access, (m .copyright, (spare .reserved, later))))))
+abbrev pub ordered : Body → Ordered
+ordered b =
+    let rest : Rest = (b .descriptors, (b .second, (b .header, (b .message, b .events)))) in
+    (b .block, (b .headerSize, (length (b .events), (b .messageSize, (b .first, rest)))))
 
-abbrev pub named : Ordered → Sent
-named (checksum, (control, (kind, (access, (copyright, (reserved, (block, (headerSize, (count, (messageSize, (first, (descriptors, (second, (header, (message, events))))))))))))))) =
+abbrev pub named : Ordered → Body
+named (block, (headerSize, (count, (messageSize, (first, (descriptors, (second, (header, (message, events))))))))) =
     record {
-      checksum = checksum;
-      control = control;
-      kind = kind;
-      access = access;
-      spare = record { reserved = reserved; first = first; second = second };
-      menu =
-          record {
-            copyright = copyright;
-            block = block;
-            headerSize = headerSize;
-            messageSize = messageSize;
-            message = message;
-            descriptors = descriptors;
-            header = header;
-            events = events;
-          };
+      block = block;
+      headerSize = headerSize;
+      messageSize = messageSize;
+      first = first;
+      descriptors = descriptors;
+      second = second;
+      header = header;
+      message = message;
+      events = events;
     }
 
--- table 19 from checksum on (SCOPE 23.1, 23.2): checksum, control_block_size, datatype_id, CA_mode, copyright, reserved_for_future_use,
--- block_no, header_size, the number of events, message_size, fill_up_1, and what follows
-abbrev pub front : {A : Type 0} → (ℕ → Codec A) → Codec (Front A)
-front follows =
-    then (number 8) (λ checksum. then (number 10) (λ control. then (number 6) (λ kind. then (number 2) (λ access. then (number 1) (λ copyright.
-    then (number 1) (λ reserved. then (number 16) (λ block. then (number 2) (λ headerSize. then (number 4) (λ events. then (number 3) (λ messageSize.
-    then (number 1) (λ first. follows events)))))))))))
+-- table 19 behind the opening fields (SCOPE 23.1, 23.2): block_no, header_size, the number of events, message_size, fill_up_1, and what
+-- follows
+abbrev pub lead : {A : Type 0} → (ℕ → Codec A) → Codec (Lead A)
+lead follows =
+    then (number 16) (λ block. then (number 2) (λ headerSize. then (number 4) (λ events. then (number 3) (λ messageSize.
+    then (number 1) (λ first. follows events)))))
 
 -- the number of descriptors, these, fill_up_2, the header's string, message_attribute, the events. message_attribute, of which table 19
 -- prints no category, is control data. Behind it all stand the codes of the strings, in their order
@@ -162,23 +157,62 @@ rest events =
     then (counted 6 descriptorFormat) (λ descriptors. then (fillUp (length descriptors)) (λ second. then textFormat (λ header.
     then (number 8) (λ message. row eventFormat events))))
 
-abbrev pub layout : Codec Ordered
-layout = front rest
+abbrev pub behind : Codec Body
+behind = seen ordered named (lead rest)
 
-abbrev pub format : Codec Sent
-format = seen ordered named layout
+-- Navigation Information: strings follow its control data, and header_size is 0, 1 or 2, or it is 14 (SCOPE 23.6)
+abbrev pub navigation : Kind Body
+navigation =
+    record {
+      asked = oneOf NI NI;
+      spoken = true;
+      behind = λ kind. behind;
+      fine = λ blockSize b. ltb (b .headerSize) 3;
+      number = 14;
+    }
 
--- a menu with what isn't its own. CA_mode is 0: free to everyone
-abbrev pub sent : ℕ → ℕ → Spare → Menu → Sent
-sent checksum control spare m = record { checksum = checksum; control = control; kind = NI; access = 0; spare = spare; menu = m }
+-- a menu as it is sent, with any spare bits; and the menu that is sent
+abbrev pub content : Spare → Menu → Content Body
+content spare m =
+    record {
+      kind = NI;
+      copyright = m .copyright;
+      reserved = spare .reserved;
+      body =
+          record {
+            block = m .block;
+            headerSize = m .headerSize;
+            messageSize = m .messageSize;
+            first = spare .first;
+            descriptors = m .descriptors;
+            second = spare .second;
+            header = m .header;
+            message = m .message;
+            events = m .events;
+          };
+    }
+
+abbrev pub menuSent : Content Body → Menu
+menuSent c =
+    let b = c .body in
+    record {
+      copyright = c .copyright;
+      block = b .block;
+      headerSize = b .headerSize;
+      messageSize = b .messageSize;
+      message = b .message;
+      descriptors = b .descriptors;
+      header = b .header;
+      events = b .events;
+    }
 
 -- the fields that are laid for it, and those of its parts
 unfoldable pub fields : ℕ → ℕ → Spare → Menu → List Field
-fields checksum control spare m = format .fields (sent checksum control spare m)
+fields checksum control spare m = Kind·fields navigation checksum control (content spare m)
 
 -- those up to the descriptors
 abbrev pub openingFields : ℕ → ℕ → Spare → Menu → List Field
-openingFields checksum control spare m = take 12 (format .fields (sent checksum control spare m))
+openingFields checksum control spare m = take 12 (Kind·fields navigation checksum control (content spare m))
 
 abbrev pub descriptorFields : Descriptor → List Field
 descriptorFields d = descriptorFormat .fields d
@@ -200,26 +234,19 @@ fillFields count filling = fillUp count .fields filling
 
 -- the codes of all strings: the header's, then the events' in their order
 unfoldable pub strings : Menu → List ℕ
-strings m = format .strings (sent 0 0 zeros m)
+strings m = Kind·strings navigation (content zeros m)
 
 abbrev pub codesOf : Event → List ℕ
 codesOf e = e .text .codes
 
--- control_block_size counts whole bytes: the fields end on one
+-- control_block_size, as any kind has it: its fields end on a whole byte
 abbrev pub control : Menu → ℕ
-control m = width (fields 0 0 zeros m) / 8
+control m = (width (fields 0 0 zeros m) + 7) / 8
 
 -- block_size: two protected bytes for eight bits, and one byte for each code (SCOPE 23.4)
 abbrev pub size : Menu → ℕ
 size m = 2 * control m + length (strings m)
 
--- every code has seven bits
-unfoldable pub sevens : List ℕ → Bool
-sevens [] = true
-sevens (c ∷ cs) = both (ltb c 128) (sevens cs)
-
--- a menu that can be sent: its values fit their fields, header_size is 0, 1 or 2, codes have seven bits, and block_size fits its eleven;
--- control_block_size then fits its ten
+-- a menu that can be sent: its values fit their fields, header_size is 0, 1 or 2, codes have seven bits, and block_size fits its eleven
 unfoldable pub fits : Menu → Bool
-fits m =
-    both (fitting (fields 0 0 zeros m)) (both (ltb (m .headerSize) 3) (both (sevens (strings m)) (ltb (size m) 2048)))
+fits m = Kind·fits navigation (content zeros m)

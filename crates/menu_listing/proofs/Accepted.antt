@@ -1,34 +1,36 @@
 -- What is accepted as a menu: its form is no longer than its block, and its number stands where the search looks for it. Assumes nothing.
-use mathlib.Core.Path.{_≡_, _∙_, refl, ap}
+use mathlib.Core.Path.{_≡_, _∙_, refl, sym, ap}
 use mathlib.Core.Bool.{true}
 use mathlib.Core.List.{List, [], _∷_, _++_, map}
 use Prim.Native.Nat.{ℕ, _+_, _*_, _≤_}
 use native.Mathlib.Omega.{arith}
 use borrow.Author.Tests.{ltb-true}
 use lib.Dec.{ltb}
-use lib.ListN.{length, take, drop, length-append}
+use lib.ListN.{length, take, drop, length-append, length-take}
 use Rattle.laws.proofs.Maps.{map-take}
+use Rattle.laws.specs.Pick.{both}
 use Rattle.laws.proofs.Tests.{both-second}
 use Rattle.octet.specs.Decoding.{nib}
 use Rattle.answer.specs.Rules.{Every}
-use Rattle.answer.proofs.Judging.{passes}
 use Rattle.blocks.specs.Block.{headLength}
 use Rattle.laws.specs.Bytes.{Bytes}
 use Rattle.fields.specs.Fields.{Field, width, fitting, field}
 use Rattle.fields.specs.Compound.{compound}
 use Rattle.fields.proofs.Laid.{width-append}
-use Rattle.blocks.specs.Outcome.{accepted, refused}
 use Rattle.menu_forms.specs.Rows.{each}
-use Rattle.menu_forms.specs.Menus.{Descriptor, Escape, Text, Attribute, Event, Menu, zeros, infoBytes, descriptorFields, escapeFields, attributeFields, textFields, eventFields, fillFields, fields, codesOf, strings, control, size, sevens, fits, eventFormat, textFormat}
+use Rattle.menu_forms.specs.Menus.{Descriptor, Escape, Text, Attribute, Event, Menu, zeros, infoBytes, navigation, menuSent, descriptorFields, escapeFields, attributeFields, textFields, eventFields}
+use Rattle.menu_forms.specs.Menus.{fillFields, fields, codesOf, strings, control, size, sevens, fits, eventFormat, textFormat}
 use Rattle.menu_forms.specs.Block.{Says}
 use Rattle.menu_forms.specs.Form.{descriptorForm, escapeForm, attributeForm, textForm, eventForm, form}
 use Rattle.menu_forms.proofs.Forms.{high-length}
-use Rattle.menu_forms.proofs.Formats.{strings-are}
+use Rattle.kinds.specs.Reading.{controlLength, contentIn}
+use Rattle.kinds.proofs.Exact.{rules-mean, control-read}
+use Rattle.menu_forms.proofs.Formats.{owed, control-sent, fits-by, strings-are}
 use Rattle.menu_reader.specs.Internal.{bitsAt}
 use Rattle.menu_reader.proofs.Places.{bits-take}
 use Rattle.menu_reader.proofs.Walked.{block-at}
-use Rattle.menu_reader.proofs.Exact.{accepted-says, sent-ends}
-use Rattle.menu_reader.specs.Reading.{controlLength, menuRead, mendedControl, readRules, readMenu}
+use Rattle.menu_reader.proofs.Written.{said-fits}
+use Rattle.menu_reader.specs.Reading.{menuRead, readRules}
 
 -- ---- a form is no longer than its block: a byte of it comes from four bits of control data at least, or from a byte of a string
 
@@ -118,11 +120,9 @@ module _ (m : Menu) where
       omega (arith, control-wide, behind-wide, form-wide, strings-long, descriptors, text-most (m .header), events)
 
   pub form-fits : fits m ≡ true → length (form m) ≤ 2047
-  unfolding fits
   form-fits h =
-      let p = both-second (fitting (fields 0 0 zeros m)) _ h in
-      let q = both-second (ltb (m .headerSize) 3) _ p in
-      omega (arith, form-most, ltb-true (size m) 2048 (both-second (sevens (strings m)) _ q))
+      let q = both-second (both (fitting (fields 0 0 zeros m)) (both (ltb (m .headerSize) 3) (sevens (strings m)))) (ltb (size m) 2048) (sym (fits-by m) ∙ h) in
+      omega (arith, form-most, ltb-true (size m) 2048 q)
 
   pub control-least : 7 ≤ control m
   control-least = omega (arith, control-wide)
@@ -142,15 +142,21 @@ module _ (application : ℕ) (rec : List ℕ) (b : Bytes rec) (e : Every (readRu
 
   -- it says its menu
   said : Says application rec m
-  unfolding readMenu
-  said = accepted-says application rec m (mendedControl rec) b (passes refused (accepted m (mendedControl rec)) e) .0
+  said = rules-mean navigation owed menuSent application rec (λ t. b) e
 
   pub accepted-fits : fits m ≡ true
-  accepted-fits = said .sendable
+  accepted-fits = said-fits application rec m said
 
   pub accepted-form : length (form m) ≤ 2047
   accepted-form = form-fits m accepted-fits
 
   pub accepted-number : m .block ≡ field 28 16 (compound raw)
   accepted-number =
-      block-at _ _ ∙ bits-within 28 16 (controlLength raw) raw (omega (arith, sent-ends application rec m said, control-least m))
+      block-at _ _ ∙ bits-within 28 16 (controlLength raw) raw
+      (omega (
+        arith,
+        control-read navigation owed application rec e,
+        control-sent (contentIn navigation raw),
+        control-least m,
+        length-take (controlLength raw) raw,
+      ))

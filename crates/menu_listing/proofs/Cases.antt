@@ -17,8 +17,7 @@ use Rattle.menu_forms.specs.Menus.{infoBytes, fields, strings, eventFormat, fil
 use Rattle.menu_forms.specs.Form.{codesIn, textIn, eventIn, menuIn, textForm, eventForm}
 use Rattle.shelf.specs.Shelf.{three, numberIn, wayBack, placeOf}
 use Rattle.menu_forms.specs.Block.{inNibbles}
-use Rattle.menu_reader.specs.Control.{sentOf}
-use Rattle.menu_reader.specs.Reading.{frontRules, wholeRules, lengthRules}
+use Rattle.kinds.specs.Reading.{frontIn, sentIn, frontRules, wholeRules, lengthRules}
 use Rattle.text_lines.specs.Lines.{digitsIn, numberLine}
 use Rattle.menu_listing.specs.Lines.{shown, textLine, linkLine, eventLines, eventsLines, menuLines}
 use Rattle.menu_listing.specs.Listing.{isMenu, menusOf, linesOf, listing}
@@ -111,6 +110,6 @@ pub record Listed : Type 0 where
 
 pub case-listed : Listed
 unfolding bits number differing image withParity nib nibbleFrom blocksWithin width field whole laid parts ones isOdd letter odds total checksum sound frameRules
-    inRow infoBytes textFormat eventFormat fillUp fields strings codesIn inNibbles sentOf frontRules wholeRules lengthRules
+    inRow infoBytes textFormat eventFormat fillUp fields strings codesIn inNibbles frontIn sentIn frontRules wholeRules lengthRules
     digitsIn numberLine shown textLine linkLine eventLines eventsLines menuLines isMenu menusOf linesOf listing three numberIn wayBack placeOf textIn eventIn menuIn formAt keptMenus keptListing textForm eventForm
 case-listed = record { whole = refl; deepest = refl; highest = refl; on-shelf = refl; absent = refl }

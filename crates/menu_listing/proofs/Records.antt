@@ -25,10 +25,11 @@ use Rattle.laws.specs.Bytes.{Bytes}
 use Rattle.blocks.specs.Framing.{frameRules}
 use Rattle.blocks.specs.Values.{counted}
 use Rattle.blocks.specs.declared.Read.the-variants.{Taken, Refused}
-use Rattle.menu_forms.specs.Menus.{Menu}
+use Rattle.menu_forms.specs.Menus.{Menu, navigation}
 use Rattle.menu_forms.specs.Form.{form, menuIn}
 use Rattle.menu_forms.proofs.Forms.{form-back-on}
-use Rattle.menu_reader.specs.Reading.{readRules, bodyRules, menuRead}
+use Rattle.kinds.specs.Reading.{bodyRules, carried}
+use Rattle.menu_reader.specs.Reading.{lengthRules, readRules, menuRead}
 use Rattle.menu_listing.specs.Listing.{holding, isMenu, menusOf}
 use Rattle.menu_listing.specs.Internal.{Held, none, first, Judged}
 use Rattle.menu_listing.specs.Kept.{formMost}
@@ -60,7 +61,7 @@ module _ (application : ℕ) where
   same-record (a ∷ b ∷ c ∷ d ∷ g) h =
       let n = sizeOf (a + 256 * b) in
       let e : 4 + n ≡ suc (suc (suc (suc n))) = omega arith in
-      (rw e (sym (ap (λ (k : ℕ). frameRules application (length (a ∷ b ∷ c ∷ d ∷ take n g)) k c d ++ bodyRules k (take n g)) (head-again (a + 256 * b)))), rw e)
+      (rw e (sym (ap (λ (k : ℕ). (frameRules application (length (a ∷ b ∷ c ∷ d ∷ take n g)) k c d ++ bodyRules (navigation .asked) true k (take n g)) ++ lengthRules (sizeOf k) (carried navigation (take n g))) (head-again (a + 256 * b)))), rw e)
   same-record [] h = let k = begins-head [] h in absurd (omega arith)
   same-record (a ∷ []) h = let k = begins-head (a ∷ []) h in absurd (omega arith)
   same-record (a ∷ b ∷ []) h = let k = begins-head (a ∷ b ∷ []) h in absurd (omega arith)

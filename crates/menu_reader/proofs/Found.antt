@@ -14,7 +14,7 @@ use Rattle.menu_forms.specs.Block.{inNibbles}
 use Rattle.menu_forms.proofs.Spelling.{length-spelled, each-nibbled}
 use Rattle.menu_forms.proofs.Forms.{row-count}
 use Rattle.menu_forms.proofs.Formats.{strings-are}
-use Rattle.menu_forms.proofs.Nibbled.{text-nibbled, event-nibbled, fill-width, menu-bytes}
+use Rattle.menu_forms.proofs.Nibbled.{text-nibbled, event-nibbled, fill-width, menu-bytes, menu-whole}
 use Rattle.menu_reader.specs.Control.{menuOf}
 use Rattle.menu_reader.specs.Internal.{bitsAt, descriptorAt, descriptorNibbles, textAt, eventsAt, menuAt}
 use Rattle.menu_reader.specs.declared.Spot.{Spot}
@@ -146,7 +146,7 @@ spelled-all ns cs descriptors events behind escapes message d h r out₀ out₁ 
 -- what a inNibbles menu takes
 module _ {r : Spot} {m : Menu} {old new : List ℕ} (s : Spelled r m old new) where
   pub control-spelled : r .at / 2 ≡ control m
-  control-spelled = (omega (arith, s .passes))
+  control-spelled = omega (arith, s .passes, menu-whole 0 0 zeros m)
 
   pub size-spelled : 2 * (r .at / 2) + r .from ≡ size m
   size-spelled = ap₂ (λ (x y : ℕ). 2 * x + y) control-spelled (s .takes)

@@ -1,6 +1,5 @@
 pub mod Walked
 pub mod Places
-pub mod Strings
 pub mod Exact
 pub mod Written
 pub mod Calls
@@ -11,4 +10,3 @@ pub mod Texts
 pub mod Found
 pub mod Entries
 pub mod Judging
-pub mod Mending

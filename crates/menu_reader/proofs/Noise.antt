@@ -1,8 +1,8 @@
 -- What damage to a record's bytes can do. Control bytes that are mended change nothing but the count. A string byte with one flip is always
 -- refused; with two it may be another letter of right parity, and then a menu is read that was not sent: demand 3 can't be had for menus.
 -- Assumes nothing.
-use mathlib.Core.Path.{_≡_, _∙_, refl, sym, ap}
-use mathlib.Core.Bool.{Bool, true, false, true≢false}
+use mathlib.Core.Path.{_≡_, _∙_, refl, sym, ap, subst}
+use mathlib.Core.Bool.{Bool, true, false}
 use mathlib.Core.List.{List, [], _∷_, map}
 use Prim.Native.Nat.{ℕ, zero, suc, _+_, _*_, _/_, _%_, _<_}
 use native.Mathlib.Omega.{arith}
@@ -19,11 +19,14 @@ use Rattle.blocks.specs.Parts.{InRange}
 use Rattle.blocks.specs.Sums.{total, checksum}
 use Rattle.blocks.specs.Outcome.{accepted}
 use Rattle.parity.specs.Parity.{isOdd, ones, letter}
-use Rattle.parity.proofs.Letters.{odds-at}
-use Rattle.menu_forms.specs.Menus.{Menu, fields, strings, control, sevens, fits, fillUp, textFormat}
-use Rattle.menu_forms.specs.Block.{inNibbles, checksumOf, blockWith, recordOf, Says}
+use Rattle.kinds.specs.Kind.{control as Kind·control, fits as Kind·fits}
+use Rattle.kinds.specs.Block.{nibbles, checksumOf, blockWith}
+use Rattle.kinds.proofs.Noise as Kinds
+use Rattle.menu_forms.specs.Menus.{Menu, navigation, menuSent, control, sevens, fits, fillUp, textFormat, eventFormat}
+use Rattle.menu_forms.specs.Block.{recordOf, Says}
+use Rattle.menu_forms.proofs.Formats.{owed, control-sent}
 use Rattle.menu_reader.specs.Reading.{stringPart, mendedControl, readMenu}
-use Rattle.menu_reader.proofs.Exact.{odd-all, says-accepted}
+use Rattle.menu_reader.proofs.Exact.{says-accepted}
 use Rattle.menu_reader.proofs.Written.{writes-back}
 
 -- a record with the same 16 bits as one that says a menu, whose control bytes decode alike and whose string bytes are the same: the same
@@ -35,18 +38,17 @@ pub reads-alike :
     → Says application r′ m
     → readMenu application r ≡ accepted m (mendedControl r)
 reads-alike application r r′ m i h n l s =
+    let e : Kind·control navigation (s .content) ≡ control m = control-sent (s .content) ∙ ap control (s .meant) in
+    let at = sym (ap (λ (x : ℕ). 2 * x) e) in
     says-accepted application r m
     (record {
-      spare = s .spare;
-      within = s .within;
-      sendable = s .sendable;
-      ranged = i;
-      reserved = s .reserved;
-      first = s .first;
-      second = s .second;
-      head = h ∙ s .head;
-      body = n ∙ s .body;
-      codes = l ∙ s .codes;
+      content = s .content;
+      filling = s .filling;
+      says =
+          Kinds.says-alike navigation application r r′ (s .content) (s .filling) i h
+          (subst (λ (x : ℕ). map nib (take x (drop 4 r)) ≡ map nib (take x (drop 4 r′))) at n)
+          (subst (λ (x : ℕ). drop x (drop 4 r) ≡ drop x (drop 4 r′)) at l) (s .says);
+      meant = s .meant;
     })
 
 -- a record with a string byte of wrong parity is never accepted
@@ -54,8 +56,7 @@ pub parity-refused :
     (application k : ℕ) (r : List ℕ) (m : Menu) (c : ℕ) → k < length (stringPart (drop 4 r)) → isOdd (getD (stringPart (drop 4 r)) k 0) ≡ false
     → readMenu application r ≡ accepted m c
     → ⊥
-parity-refused application k r m c h b e =
-    true≢false (sym (odds-at (stringPart (drop 4 r)) k (odd-all application r m c e) h) ∙ b)
+parity-refused application k r m c h b e = Kinds.parity-refused navigation owed menuSent application k r m c e h b
 
 -- the ones of two numbers, and the bits in which they differ, are an even number
 even-in-all : (k a b : ℕ) → (ones k a + ones k b + differing k a b) % 2 ≡ 0
@@ -109,17 +110,17 @@ pub record Misread : Type 0 where
   pub differs : golf ≡ gold → ⊥
 
 gold-made : damaged ≡ recordOf 1 gold
-unfolding blockWith checksumOf checksum total inNibbles fields textFormat fillUp strings width laid parts letter ones image withParity number
+unfolding blockWith checksumOf checksum total nibbles textFormat fillUp width laid parts letter ones image withParity number
 gold-made = refl
 
 pub misread : Misread
 misread =
     record {
-      sent = writes-back 1 golf (omega arith) (unfold fits fitting fields textFormat fillUp strings sevens width in refl);
+      sent = writes-back 1 golf (omega arith) (unfold fits Kind·fits fitting textFormat eventFormat fillUp sevens width in refl);
       flipped =
-          unfold blockWith checksumOf checksum total inNibbles fields textFormat fillUp strings width laid parts letter ones differing in refl;
+          unfold blockWith checksumOf checksum total nibbles textFormat fillUp width laid parts letter ones differing in refl;
       heard =
           ap (readMenu 1) gold-made
-          ∙ writes-back 1 gold (omega arith) (unfold fits fitting fields textFormat fillUp strings sevens width in refl);
+          ∙ writes-back 1 gold (omega arith) (unfold fits Kind·fits fitting textFormat eventFormat fillUp sevens width in refl);
       differs = λ (e : golf ≡ gold). let n = ap (λ (m : Menu). getD (m .header .codes) 3 0) e in omega arith;
     }

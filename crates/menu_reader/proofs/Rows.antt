@@ -16,7 +16,7 @@ use Rattle.menu_forms.specs.Form.{highFirst, descriptorForm, escapeForm, attrib
 use Rattle.menu_forms.proofs.Spelling.{length-spelled}
 use Rattle.menu_forms.proofs.Forms.{row-count}
 use Rattle.menu_reader.specs.Internal.{bitsAt, descriptorAt, escapeAt, attributeAt, descriptorNibbles, escapeNibbles, attributeNibbles}
-use Rattle.menu_reader.specs.Reading.{codeOf}
+use Rattle.kinds.specs.Reading.{codeOf}
 use Rattle.menu_reader.specs.declared.Loop.{Loop}
 use Rattle.menu_reader.specs.declared.Loop.the-variants.{Descriptors, Escapes, Attributes}
 use Rattle.menu_reader.specs.Internal.{entryNibbles, entryForm, loopNibbles, loopForm}

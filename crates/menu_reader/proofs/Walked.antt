@@ -1,28 +1,33 @@
 -- Going along control data and strings finds the menu that the format reads, and where the numbers that it opens with stand. Assumes nothing.
 use mathlib.Core.Path.{_≡_, _∙_, refl, sym, ap, ap₂}
 use mathlib.Core.List.{List, _∷_}
-use Prim.Native.Nat.{ℕ, zero, suc, _+_, _*_, _/_, _%_, _^_, _<_}
+use Prim.Native.Nat.{ℕ, zero, suc, _+_, _*_, _/_, _%_, _^_}
 use native.Mathlib.Omega.{arith}
 use lib.ListN.{length, drop}
 use lib.Pow.{shr-shr}
 use lib.Seq.{drop-drop}
 use Rattle.fields.specs.Fields.{Field, width, field, whole}
-use Rattle.fields.proofs.Laid.{field-lt, field-past}
+use Rattle.fields.proofs.Laid.{field-past}
 use Rattle.codecs.specs.Codec.{Codec, past, left, rowRead}
 use Rattle.codecs.proofs.Codes.{each-none}
 use Rattle.codecs.proofs.Lawful.{row-length}
 use Rattle.menu_forms.specs.Rows.{each, inRow}
-use Rattle.menu_forms.specs.Menus.{Descriptor, Escape, Text, Attribute, Event, Menu, Sent, Ordered, named, front, rest, codesOf}
+use Rattle.menu_forms.specs.Menus.{Descriptor, Escape, Text, Attribute, Event, Menu, Ordered, named, lead, rest, menuSent, codesOf}
 use Rattle.menu_forms.specs.Menus.{descriptorFormat, escapeFormat, attributeFormat, textFormat, eventFormat, fillUp, descriptorFields, escapeFields, attributeFields, textFields, eventFields, fillFields}
 use Rattle.menu_forms.specs.Form.{codesIn}
 use Rattle.menu_forms.specs.Block.{inNibbles}
 use Rattle.menu_forms.proofs.Spelling.{each-nibbled, each-spelled}
 use Rattle.menu_forms.proofs.Forms.{row-count}
-use Rattle.menu_forms.proofs.Formats.{text-strings, event-strings, fill-lt}
+use Rattle.menu_forms.proofs.Formats.{text-strings, event-strings}
 use Rattle.menu_forms.proofs.Nibbled.{descriptor-nibbled, escape-nibbled, attribute-nibbled, text-nibbled, event-nibbled, fill-nibbled, fill-same}
+use Rattle.kinds.specs.Front.{Front}
+use Rattle.kinds.specs.Kind.{contentOf}
+use Rattle.kinds.specs.Reading.{frontIn, sentIn}
+use Rattle.kinds.proofs.Fronts.{front-at}
+use Rattle.kinds.proofs.Places.{whole-drop}
 use Rattle.menu_reader.specs.Control.{sentOf, menuOf}
 use Rattle.menu_reader.specs.Internal.{bitsAt, descriptorAt, escapeAt, attributeAt, descriptorNibbles, escapeNibbles, attributeNibbles, textAt, eventAt, eventsAt, menuAt}
-use Rattle.menu_reader.proofs.Places.{whole-drop, whole-behind}
+use Rattle.menu_reader.proofs.Places.{whole-behind}
 
 -- ---- entries
 
@@ -130,68 +135,17 @@ events-count k ns codes = ap length (sym (events-at k ns codes)) ∙ row-length 
 -- ---- the menu
 
 -- the numbers before the descriptors, each at its place
-front-at :
+lead-at :
     {B : Type 0} (d : ℕ → Codec B) (n : ℕ) (cs : List ℕ)
-    → front d .read n cs
-    ≡ (
-      field 0 8 n,
-      (
-        field 8 10 n,
-        (
-          field 18 6 n,
-          (
-            field 24 2 n,
-            (
-              field 26 1 n,
-              (
-                field 27 1 n,
-                (
-                  field 28 16 n,
-                  (
-                    field 44 2 n,
-                    (
-                      field 46 4 n,
-                      (
-                        field 50 3 n,
-                        (field 53 1 n, d (field 46 4 n) .read (n / 2 ^ 54) cs),
-                      ),
-                    ),
-                  ),
-                ),
-              ),
-            ),
-          ),
-        ),
-      ),
-    )
+    → lead d .read (n / 2 ^ 28) cs
+    ≡ (field 28 16 n, (field 44 2 n, (field 46 4 n, (field 50 3 n, (field 53 1 n, d (field 46 4 n) .read (n / 2 ^ 54) cs)))))
 unfolding width
-front-at d n cs = simp (shr-shr, field-past)
+lead-at d n cs = simp (shr-shr, field-past)
 
--- what a block opens with
-pub record Opened (ns : List ℕ) (s : Sent) : Type 0 where
-  pub checksum-at : s .checksum ≡ bitsAt 0 8 ns
-  pub control-at : s .control ≡ bitsAt 8 10 ns
-  pub kind-at : s .kind ≡ bitsAt 18 6 ns
-  pub access-at : s .access ≡ bitsAt 24 2 ns
-
-pub opened : (ns cs : List ℕ) → Opened ns (sentOf ns cs)
-unfolding sentOf
-opened ns cs =
-    let e = front-at rest (whole 4 ns) cs in
-    record {
-      checksum-at = ap (λ (r : Ordered). r .0) e;
-      control-at = ap (λ (r : Ordered). r .1 .0) e;
-      kind-at = ap (λ (r : Ordered). r .1 .1 .0) e;
-      access-at = ap (λ (r : Ordered). r .1 .1 .1 .0) e;
-    }
-
--- the spare bits fit their fields
-pub spare-lt :
-    (ns cs : List ℕ)
-    → let spare = sentOf ns cs .spare in
-    (spare .reserved < 2) × (spare .first < 2) × (spare .second < 16)
-unfolding sentOf
-spare-lt ns cs = (field-lt 0 1 _, field-lt 0 1 _, fill-lt _ _ _)
+-- the control size stands at bit 8
+pub control-at : (ns cs : List ℕ) → sentOf ns cs .0 .control ≡ bitsAt 8 10 ns
+unfolding sentIn frontIn
+control-at ns cs = ap (λ (f : Front). f .control) (front-at ns)
 
 module _ (ns cs : List ℕ) where
   abbrev n : ℕ
@@ -237,8 +191,8 @@ module _ (ns cs : List ℕ) where
   read-first :
       menuOf ns cs
       ≡ madeFrom read-ones (higher read-ones (fillUp (length read-ones) .read (above read-ones) cs)) (drop (length (each (descriptorFormat .strings) read-ones)) cs)
-  unfolding sentOf width fillUp
-  read-first = ap (λ (r : Ordered). named r .menu) (front-at rest n cs)
+  unfolding sentIn frontIn width fillUp
+  read-first = ap₂ (λ (f : Front) (r : Ordered). menuSent (contentOf (f, named r))) (front-at ns) (lead-at rest n cs)
 
   found-same : read-ones ≡ found
   found-same =

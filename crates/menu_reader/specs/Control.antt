@@ -2,13 +2,14 @@
 -- codes; past their end both read as zeros.
 use mathlib.Core.List.{List}
 use Prim.Native.Nat.{ℕ}
-use Rattle.fields.specs.Fields.{whole}
-use Rattle.menu_forms.specs.Menus.{Menu, Sent, format}
+use Rattle.kinds.specs.Kind.{Sent, contentOf}
+use Rattle.kinds.specs.Reading.{sentIn}
+use Rattle.menu_forms.specs.Menus.{Menu, Body, navigation, menuSent}
 
 -- what a block carries
-unfoldable pub sentOf : List ℕ → List ℕ → Sent
-sentOf ns codes = format .read (whole 4 ns) codes
+abbrev pub sentOf : List ℕ → List ℕ → Sent Body
+sentOf ns codes = sentIn navigation ns codes
 
 -- its menu
 abbrev pub menuOf : List ℕ → List ℕ → Menu
-menuOf ns codes = sentOf ns codes .menu
+menuOf ns codes = menuSent (contentOf (sentOf ns codes))

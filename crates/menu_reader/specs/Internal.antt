@@ -10,7 +10,7 @@ use Rattle.menu_forms.specs.Rows.{each, inRow}
 use Rattle.menu_forms.specs.Menus.{Descriptor, Escape, Text, Attribute, Event, Menu, NI, zeros, infoBytes, descriptorFields, escapeFields, attributeFields, textFields, eventFields, fillFields, fields, codesOf, strings}
 use Rattle.menu_forms.specs.Form.{codesIn, descriptorForm, escapeForm, attributeForm, textForm, eventForm, form}
 use Rattle.menu_forms.specs.Block.{inNibbles}
-use Rattle.menu_reader.specs.Reading.{codeOf}
+use Rattle.kinds.specs.Reading.{codeOf}
 use Rattle.menu_reader.specs.declared.Spot.{Spot}
 use Rattle.menu_reader.specs.declared.Loop.{Loop}
 use Rattle.menu_reader.specs.declared.Loop.the-variants.{Descriptors, Escapes, Attributes}

@@ -1,5 +1,5 @@
 -- A menu's record, part by part, and when a form is refused. Assumes nothing.
-use mathlib.Core.Path.{_≡_, _∙_, refl, sym, ap, ap₂}
+use mathlib.Core.Path.{_≡_, _∙_, sym, ap, ap₂}
 use mathlib.Core.Bool.{Bool, true, false}
 use mathlib.Core.List.{List, _∷_, _++_, map}
 use Prim.Native.Nat.{ℕ, _+_, _*_, _/_, _%_, _<_, _≤_}
@@ -17,16 +17,18 @@ use Rattle.answer.specs.Values.{refused}
 use Rattle.answer.proofs.Steps.{done-every, first-holds, others-hold}
 use Rattle.octet.specs.Image.{image}
 use Rattle.octet.specs.Decoding.{nib}
-use Rattle.fields.specs.Fields.{width, laid, fitting, parts}
+use Rattle.fields.specs.Fields.{width, fitting, parts}
 use Rattle.blocks.specs.Sums.{checksum}
 use Rattle.blocks.specs.Sealing.{headBytes, sealed}
-use Rattle.blocks.proofs.Nibbles.{nibbles-back}
 use Rattle.blocks.proofs.Sealing.{head-of, record-sealed}
+use Rattle.kinds.specs.Block.{checksumOf as Kind·checksumOf, blockWith as Kind·blockWith}
+use Rattle.kinds.proofs.Laying.{nibbles-again}
 use Rattle.parity.specs.Parity.{letter}
-use Rattle.menu_forms.specs.Menus.{Menu, zeros, fields, strings, control, size, fits, sevens}
+use Rattle.menu_forms.specs.Menus.{Menu, zeros, navigation, content, fields, strings, control, size, fits, sevens}
 use Rattle.menu_forms.specs.Form.{form, menuIn}
 use Rattle.menu_forms.specs.Writing.{formRules, writeRules}
-use Rattle.menu_forms.specs.Block.{inNibbles, nibbles, checksumOf, blockWith, recordOf}
+use Rattle.menu_forms.specs.Block.{inNibbles, nibbles, checksumOf, recordOf}
+use Rattle.menu_forms.proofs.Formats.{fits-by}
 use Rattle.menu_forms.proofs.Saying.{nibbles-long as spelled-long, sum-first}
 use Rattle.menu_writer.specs.declared.Tally.{Tally}
 use Rattle.menu_writer.specs.Internal.{Whole}
@@ -40,7 +42,7 @@ module _ (m : Menu) (c : ℕ) (whole : 8 * c ≡ width (fields 0 0 zeros m)) whe
   nibbles-long s = length-map (nibbles s zeros m) image ∙ spelled-long s zeros m ∙ ap (λ (x : ℕ). 2 * x) (sym control-is)
 
   pub record-long : (application : ℕ) → length (recordOf application m) ≡ 4 + (2 * c + length (strings m))
-  unfolding blockWith
+  unfolding Kind·blockWith strings
   record-long application =
       let s = checksumOf application zeros m in
       let l = length-append (map image (nibbles s zeros m)) (map letter (strings m)) in
@@ -57,8 +59,7 @@ split s m = sum-first s zeros m
 module _ (application c : ℕ) (m : Menu) (la : application < 32) (ls : size m < 2048) (whole : 8 * c ≡ width (fields 0 0 zeros m)) (out : List ℕ)
     (room : 4 + size m ≤ length out) where
   back : map nib (map image (nibbles 0 zeros m)) ≡ nibbles 0 zeros m
-  unfolding inNibbles
-  back = nibbles-back (width (fields 0 (control m) zeros m) / 4) (laid (fields 0 (control m) zeros m) 0)
+  back = nibbles-again navigation 0 0 (content zeros m)
 
   pub record-sent :
       (o1 o2 o3 o4 : List ℕ) (k head : ℕ) → k ≡ 2 * c → head ≡ application + 32 * size m → o1 ≡ sets out 0 (headBytes head)
@@ -66,7 +67,7 @@ module _ (application c : ℕ) (m : Menu) (la : application < 32) (ls : size m <
       → o3 ≡ sets o2 (4 + k) (map letter (strings m))
       → o4 ≡ sealed head k o3
       → o4 ≡ sets out 0 (recordOf application m)
-  unfolding blockWith checksumOf
+  unfolding Kind·blockWith Kind·checksumOf strings fields
   record-sent o1 o2 o3 o4 k head hk hh e1 e2 e3 e4 =
       let ys = map letter (strings m) in
       let xs = nibbles 0 zeros m in
@@ -78,15 +79,6 @@ module _ (application c : ℕ) (m : Menu) (la : application < 32) (ls : size m <
       ∙ ap (λ (x : ℕ). sets out 0 (x % 256 ∷ x / 256 ∷ 0 ∷ 0 ∷ (map image (nibbles (checksum x xs) zeros m) ++ ys))) (hh ∙ h .0)
 
 -- ---- when a form is refused
-
-four : (a b c d : Bool) → both a (both b (both c d)) ≡ both (both a (both b c)) d
-four false b c d = refl
-four true false c d = refl
-four true true c d = refl
-
-pub fits-by : (m : Menu) → fits m ≡ both (both (fitting (fields 0 0 zeros m)) (both (ltb (m .headerSize) 3) (sevens (strings m)))) (ltb (size m) 2048)
-unfolding fits
-fits-by m = four (fitting (fields 0 0 zeros m)) (ltb (m .headerSize) 3) (sevens (strings m)) (ltb (size m) 2048)
 
 module _ (application : ℕ) (f : List ℕ) (a : Answer) where
   pub by-16 : 32 ≤ application → judged refused (writeRules application f) a ≡ refused 16 0

@@ -9,9 +9,9 @@ use denote.Ref.{now}
 use Rattle.answer.specs.declared.Answer.the-variants.{Done}
 use Rattle.octet.specs.Decoding.{nib}
 use Rattle.menu_reader.specs.Control.{sentOf, menuOf}
-use Rattle.menu_reader.specs.Reading.{codeOf}
+use Rattle.kinds.specs.Reading.{codeOf}
 use Rattle.menu_reader.proofs.Found.{control-spelled, size-spelled, header-read}
-use Rattle.menu_reader.proofs.Walked.{opened}
+use Rattle.menu_reader.proofs.Walked.{control-at}
 use Rattle.menu_reader.proofs.Judging.{lengths-header, lengths-control, lengths-size, lengths-done}
 use Rattle.menu_reader.proofs.judge_lengths.Statement.{statement}
 use Rattle.menu_reader.proofs.judge_lengths.Tie as tie
@@ -34,7 +34,7 @@ returns-2 c =
     let lines = c .before .before .before .before .before .field-of .ensures .0 ∙ header-read ns cs in
     let few : menuOf ns cs .headerSize < 3 = subst (λ (x : ℕ). x < 3) lines (omega (arith, c .before .before .before .before .if1 .left)) in
     c .refuse2 .ensures
-    ∙ sym (lengths-control _ (sentOf ns cs) _ few (λ (e : _). c .before .if2 .taken (c .before .before .before .field-of2 .ensures .0 ∙ sym (opened ns cs .control-at) ∙ e ∙ sym (control-spelled s))))
+    ∙ sym (lengths-control _ (sentOf ns cs) _ few (λ (e : _). c .before .if2 .taken (c .before .before .before .field-of2 .ensures .0 ∙ sym (control-at ns cs) ∙ e ∙ sym (control-spelled s))))
 
 add-if3 : tie.Need-add-if3
 add-if3 c = omega (arith, c .before .before .before .before .before .before .before .before .spell .ensures .1)
@@ -47,7 +47,7 @@ returns-3 c =
     let s = c .before .before .before .before .before .before .before .before .before .before .spell .ensures .0 in
     let lines = c .before .before .before .before .before .before .before .before .field-of .ensures .0 ∙ header-read ns cs in
     let few : menuOf ns cs .headerSize < 3 = subst (λ (x : ℕ). x < 3) lines (omega (arith, c .before .before .before .before .before .before .before .if1 .left)) in
-    let said = opened ns cs .control-at ∙ sym (c .before .before .before .before .before .before .field-of2 .ensures .0) ∙ c .before .before .before .before .if2 .left ∙ control-spelled s in
+    let said = control-at ns cs ∙ sym (c .before .before .before .before .before .before .field-of2 .ensures .0) ∙ c .before .before .before .before .if2 .left ∙ control-spelled s in
     c .refuse3 .ensures ∙ sym (lengths-size _ (sentOf ns cs) _ few said (λ (e : _). c .before .if3 .taken (e ∙ sym (size-spelled s))))
 
 returns-4 : tie.Need-returns-4
@@ -58,7 +58,7 @@ returns-4 c =
     let s = c .before .before .before .before .before .before .before .before .before .spell .ensures .0 in
     let lines = c .before .before .before .before .before .before .before .field-of .ensures .0 ∙ header-read ns cs in
     let few : menuOf ns cs .headerSize < 3 = subst (λ (x : ℕ). x < 3) lines (omega (arith, c .before .before .before .before .before .before .if1 .left)) in
-    let said = opened ns cs .control-at ∙ sym (c .before .before .before .before .before .field-of2 .ensures .0) ∙ c .before .before .before .if2 .left ∙ control-spelled s in
+    let said = control-at ns cs ∙ sym (c .before .before .before .before .before .field-of2 .ensures .0) ∙ c .before .before .before .if2 .left ∙ control-spelled s in
     ap Done (s .fills) ∙ sym (lengths-done _ (sentOf ns cs) _ few said (c .if3 .left ∙ size-spelled s))
 
 pub judge-lengths-spec : {M : Type 1} → statement M

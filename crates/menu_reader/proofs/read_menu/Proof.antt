@@ -12,17 +12,8 @@ use Rattle.blocks.specs.Values.{counted}
 use Rattle.menu_forms.specs.Form.{form}
 use Rattle.menu_reader.specs.Reading.{readRules, menuRead, mendedControl}
 use Rattle.menu_reader.proofs.Exact.{mended-most}
-use Rattle.menu_reader.proofs.Mending.{record-long}
 use Rattle.menu_reader.proofs.read_menu.Statement.{statement}
 use Rattle.menu_reader.proofs.read_menu.Tie as tie
-
-mended-in-requires : tie.Need-mended-in-requires
-mended-in-requires c κs =
-    let a = c .before .before .before .before .before .before .before .before .before .args in
-    let r : List ℕ = now (a .rec) in
-    let d = sym (c .before .before .before .before .before .read-form .ensures .0) ∙ c .before .written .given .1 in
-    let all = lent-all (readRules (a .application) r) (form (menuRead (drop 4 r))) (now (a .out)) _ d in
-    record-long (a .application) r (all .0)
 
 cast-mended : tie.Need-cast-mended
 cast-mended c =
@@ -52,7 +43,7 @@ read-menu-spec =
     (λ c κs. search needs)
     (λ c. search needs)
     (λ c. search needs)
-    mended-in-requires
+    (λ c κs. search needs)
     cast-mended
     (λ c. search needs)
     returns

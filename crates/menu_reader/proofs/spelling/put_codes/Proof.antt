@@ -8,7 +8,7 @@ use lib.ListN.{length, drop}
 use lib.Seq.{sets}
 use denote.Ref.{now}
 use Rattle.menu_forms.specs.Form.{codesIn}
-use Rattle.menu_reader.specs.Reading.{codeOf}
+use Rattle.kinds.specs.Reading.{codeOf}
 use Rattle.menu_reader.proofs.Rows.{codes-on, codes-end}
 use Rattle.menu_reader.proofs.spelling.put_codes.Statement.{statement}
 use Rattle.menu_reader.proofs.spelling.put_codes.Tie as tie

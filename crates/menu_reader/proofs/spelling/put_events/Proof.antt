@@ -13,7 +13,7 @@ use Rattle.menu_forms.specs.Rows.{each}
 use Rattle.menu_forms.specs.Menus.{Event, eventFields, codesOf}
 use Rattle.menu_forms.specs.Form.{eventForm}
 use Rattle.menu_forms.specs.Block.{inNibbles}
-use Rattle.menu_reader.specs.Reading.{codeOf}
+use Rattle.kinds.specs.Reading.{codeOf}
 use Rattle.menu_reader.specs.Internal.{eventsFrom}
 use Rattle.menu_reader.proofs.Going.{Ahead, ahead-start, ahead-on, ahead-end}
 use Rattle.menu_reader.proofs.Texts.{events-nibbles, events-codes, events-form, events-none}

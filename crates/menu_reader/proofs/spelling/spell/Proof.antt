@@ -5,7 +5,7 @@ use mathlib.Core.List.{map}
 use native.Mathlib.Omega.{arith}
 use denote.Ref.{now}
 use Rattle.octet.specs.Decoding.{nib}
-use Rattle.menu_reader.specs.Reading.{codeOf}
+use Rattle.kinds.specs.Reading.{codeOf}
 use Rattle.menu_reader.proofs.Found.{spelled-all}
 use Rattle.menu_reader.proofs.spelling.spell.Statement.{statement}
 use Rattle.menu_reader.proofs.spelling.spell.Tie as tie

@@ -14,6 +14,7 @@ use Rattle.menu_forms.specs.Rows.{each}
 use Rattle.menu_forms.specs.Menus.{zeros, fields, openingFields, fillFields, textFields, eventFields}
 use Rattle.menu_forms.specs.Form.{textIn, menuIn}
 use Rattle.menu_forms.specs.Block.{inNibbles}
+use Rattle.menu_forms.proofs.Saying.{nibbles-are}
 use Rattle.menu_writer.specs.declared.Loop.the-variants.{Descriptors}
 use Rattle.menu_writer.specs.Internal.{loopBytes}
 use Rattle.menu_writer.proofs.Entries.{sent-length}
@@ -71,6 +72,7 @@ returns c =
     ∙ store-on O (D ++ (F ++ (H ++ (M ++ E)))) 4 19 (opening-long f (a .control)) (now (a .out)) (o .last .1 .1 .0) (o .ensures)
     ∙ ap (λ (l : List ℕ). sets (now (a .out)) 4 l) (sym sent)
     ∙ ap (λ (x : ℕ). sets (now (a .out)) 4 (map image (inNibbles (fields 0 x zeros (menuIn f))))) (c .before .before .before .before .before .before .before .before .before .before .before .before .before .before .before .before .before .before .before .before .before .before .before .before .before .before .before .before .before .before .pre)
+    ∙ ap (λ (l : List ℕ). sets (now (a .out)) 4 (map image l)) (sym (nibbles-are 0 zeros (menuIn f)))
 
 pub put-control-spec : {M : Type 1} → statement M
 put-control-spec =

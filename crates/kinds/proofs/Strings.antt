@@ -12,8 +12,8 @@ use Rattle.laws.proofs.Tests.{both-true, both-holds}
 use Rattle.laws.specs.Bytes.{Bytes}
 use Rattle.parity.specs.Parity.{isOdd, letter, odds}
 use Rattle.parity.proofs.Letters.{letter-odd, letter-code, odd-letter}
-use Rattle.menu_forms.specs.Menus.{sevens}
-use Rattle.menu_reader.specs.Reading.{codeOf}
+use Rattle.kinds.specs.Kind.{sevens}
+use Rattle.kinds.specs.Reading.{codeOf}
 
 -- bytes of right parity are those of their codes
 pub letters-again : (bs : List ℕ) → Bytes bs → odds bs ≡ length bs → map letter (map codeOf bs) ≡ bs

@@ -1,0 +1,14 @@
+pub mod Places
+pub mod Fronts
+pub mod Sendable
+pub mod Strings
+pub mod Parting
+pub mod Laying
+pub mod Exact
+pub mod Written
+pub mod Calls
+pub mod Noise
+pub mod Judging
+pub mod Counting
+pub mod Mending
+pub mod Taking
