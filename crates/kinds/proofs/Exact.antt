@@ -429,7 +429,3 @@ module _ {B : Type 0} (k : Kind B) (o : Owed k) (application : ℕ) (r : List �
       let q = taken k application r e in
       let bytes = controlPart (k .spoken) (drop 4 r) in
       omega (arith, part-most r (q .0 .in-range), harms-le bytes, control-read, q .1 .control-said, control-lt (map nib bytes))
-
-  -- the record has its head and eight bytes
-  pub record-long : 12 ≤ length r
-  record-long = let q = taken k application r e in omega (arith, q .0 .long, q .0 .eight)

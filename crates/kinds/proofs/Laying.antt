@@ -1,23 +1,18 @@
 -- The nibbles of a content's control data: how many there are, that they decode, and that its checksum leaves itself out. Assumes nothing.
 use mathlib.Core.Path.{_≡_, _∙_, sym, ap}
 use mathlib.Core.List.{List, map}
-use Prim.Native.Nat.{ℕ, suc, _+_, _-_, _*_, _/_, _%_, _^_}
+use Prim.Native.Nat.{ℕ, suc, _+_, _-_, _*_, _%_}
 use native.Mathlib.Omega.{arith}
 use lib.ListN.{length, drop}
-use lib.Pow.{shr-shr}
 use Rattle.octet.specs.Image.{image}
 use Rattle.octet.specs.Decoding.{nib}
 use Rattle.fields.specs.Fields.{laid, parts}
 use Rattle.fields.proofs.Laid.{laid-next, length-parts}
 use Rattle.blocks.specs.Sums.{total, checksum, sound}
-use Rattle.blocks.proofs.Nibbles.{parts-sound, nibbles-back}
+use Rattle.blocks.proofs.Nibbles.{parts-sound, drop-parts, nibbles-back}
 use Rattle.kinds.specs.Kind.{Kind, Content, fields, control}
 use Rattle.kinds.specs.Block.{nibbles}
 use Rattle.kinds.proofs.Fronts.{four}
-
-drop-parts : (k n : ℕ) → drop 2 (parts 4 (suc (suc k)) n) ≡ parts 4 k (n / 2 ^ 8)
-unfolding parts
-drop-parts k n = ap (parts 4 k) (shr-shr n 4 4)
 
 module _ {B : Type 0} (k : Kind B) (sum filling : ℕ) (c : Content B) where
   pub nibbles-long : length (nibbles k sum filling c) ≡ 2 * control k c

@@ -83,22 +83,6 @@ fill-fits d filling h = go (eqb (d % 2) 0)
     go true = rw (lt-ltb filling 16 h)
     go false = refl
 
-pub menu-nibbled : (sum control : ℕ) (spare : Spare) (m : Menu) → width (fields sum control spare m) % 4 ≡ 0
-unfolding fields width
-menu-nibbled sum control spare m =
-    let ds : List Field = each descriptorFields (m .descriptors) in
-    let fl = fillFields (length (m .descriptors)) (spare .second) in
-    let tx = textFields (m .header) in
-    let ev : List Field = each eventFields (m .events) in
-    rw (width-append ds (fl ++ (tx ++ (8, m .message) ∷ ev)), width-append fl (tx ++ (8, m .message) ∷ ev), width-append tx ((8, m .message) ∷ ev))
-    (omega (
-      arith,
-      each-nibbled descriptorFields descriptor-nibbled (m .descriptors),
-      fill-nibbled (length (m .descriptors)) (spare .second),
-      text-nibbled (m .header),
-      each-nibbled eventFields event-nibbled (m .events),
-    ))
-
 pub descriptors-width : (ds : List Descriptor) → width (each descriptorFields ds) ≡ 20 * length ds
 unfolding width
 descriptors-width [] = refl
