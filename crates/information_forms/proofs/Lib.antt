@@ -1,0 +1,4 @@
+pub mod Rowed
+pub mod Formats
+pub mod Forms
+pub mod Formed
