@@ -3,18 +3,18 @@
 use mathlib.Core.Path.{_≡_, _∙_, refl, sym, ap, ap₂, subst}
 use mathlib.Core.Bool.{Bool, true, false}
 use mathlib.Core.List.{List, [], _∷_, _++_, append-nil, append-assoc}
-use Prim.Native.Nat.{ℕ, zero, suc, _+_, _*_, _/_, _^_}
+use Prim.Native.Nat.{ℕ, zero, suc, _+_, _*_, _/_, _^_, _<_}
 use native.Mathlib.Nat.{add-zero, div-one, mod-eq-of-lt}
 use native.Mathlib.Omega.{arith}
 use borrow.Author.Tests.{ltb-true, lt-ltb, eqb-true, eq-eqb}
 use lib.Dec.{ltb, eqb}
-use lib.ListN.{length, drop}
+use lib.ListN.{length, getD, take, drop}
 use lib.Pow.{shr-shr}
 use lib.Seq.{drop-append-seam}
 use Rattle.laws.specs.Pick.{both}
 use Rattle.laws.proofs.Tests.{both-true, both-holds}
 use Rattle.fields.specs.Fields.{Field, alike, width, laid, fitting, field, parts}
-use Rattle.fields.proofs.Laid.{field-lt, field-first, laid-first, laid-next, laid-append, laid-drop, width-append, width-row, fitting-append, fitting-parts, length-parts, parts-laid, lay, lay-parts}
+use Rattle.fields.proofs.Laid.{field-lt, field-first, laid-first, laid-next, field-past, laid-append, laid-drop, width-append, width-row, fitting-append, fitting-parts, length-parts, parts-laid, lay, lay-parts}
 use Rattle.codecs.specs.Rows.{each, codesIn, rowed, valuesIn}
 use Rattle.codecs.specs.Codec.{Codec, past, left, number, filling, numbers, values, codes, then, rowRead, rowWhole, row, seen, counted}
 use Rattle.codecs.proofs.Codes.{Begins, begins-none, begins-append, begins-codes, codes-back, codes-count}
@@ -186,6 +186,14 @@ values-again (w ∷ ws) n =
     let gs : List Field = rowed ws (valuesIn ws (n / 2 ^ w)) in
     let wide : width fs ≡ w = unfold width in add-zero w in
     both-again n fs gs (number-lawful w .again n []) (rw wide (values-again ws (n / 2 ^ w)))
+
+-- the value i stands behind the bits of those before it
+pub value-at : (ws : List ℕ) (n i : ℕ) → i < length ws → getD (valuesIn ws n) i 0 ≡ field (width (rowed (take i ws) [])) (getD ws i 0) n
+unfolding valuesIn rowed width
+value-at [] n i h = absurd (omega arith)
+value-at (w ∷ ws) n zero h = refl
+value-at (w ∷ ws) n (suc i) h =
+    value-at ws (n / 2 ^ w) i (omega arith) ∙ field-past (width (rowed (take i ws) [])) (getD ws i 0) w n
 
 -- the widths alone say how many bits they take
 pub values-width : (ws us vs : List ℕ) → width (rowed ws us) ≡ width (rowed ws vs)

@@ -2,3 +2,4 @@ pub mod Rowed
 pub mod Formats
 pub mod Forms
 pub mod Formed
+pub mod Sizes

@@ -1,9 +1,10 @@
 -- Application Information as a value, and the format that tables 11 and 12 have for it (EN 300 707, clause 11.2).
 use mathlib.Core.Bool.{Bool, true}
-use mathlib.Core.List.{List, [], _∷_}
+use mathlib.Core.List.{List, [], _∷_, _++_}
 use Prim.Native.Nat.{ℕ, _%_}
 use lib.Dec.{eqb}
 use lib.ListN.{getD}
+use Rattle.codecs.specs.Rows.{each}
 use Rattle.codecs.specs.Codec.{Codec, number, filling, values, codes, then, row, seen}
 
 -- a network of the list: its values in table 11's order, and the codes of its name
@@ -68,3 +69,12 @@ behind =
 -- what is sent behind it for this information, with these bits of fill_up_1 and fill_up
 abbrev pub sentBehind : ℕ → ℕ → Information → Behind
 sentBehind first second i = (i .opening, (first, (i .name, (i .networks, second))))
+
+-- the information among it, which the bits that fill are no part of
+abbrev pub among : ℕ → Behind → Information
+among copyright (opening, (first, (name, (networks, second)))) =
+    record { copyright = copyright; opening = opening; name = name; networks = networks }
+
+-- the codes of all names, in the order in which they are sent: the service's, then the networks'
+abbrev pub names : Information → List ℕ
+names i = i .name ++ each (λ (n : Network). n .name) (i .networks)

@@ -1,0 +1,3 @@
+pub mod Walking
+pub mod Networks
+pub mod Holding
