@@ -1,0 +1,9 @@
+pub mod Places
+pub mod Fronts
+pub mod Strings
+pub mod Parting
+pub mod Laying
+pub mod Exact
+pub mod Written
+pub mod Calls
+pub mod Noise
