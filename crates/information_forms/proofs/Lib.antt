@@ -3,3 +3,4 @@ pub mod Formats
 pub mod Forms
 pub mod Formed
 pub mod Sizes
+pub mod Sending

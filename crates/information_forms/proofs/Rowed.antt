@@ -10,7 +10,7 @@ use borrow.Author.Tests.{ltb-true}
 use lib.Dec.{ltb}
 use lib.ListN.{length, getD, drop, length-append}
 use lib.Pow.{shl-exact}
-use lib.Seq.{drop-append-seam}
+use lib.Seq.{drop-append-seam, getD-drop}
 use Rattle.laws.specs.Bytes.{Bytes}
 use Rattle.laws.proofs.Byted.{bytes-drop}
 use Rattle.laws.proofs.Tests.{both-true}
@@ -85,3 +85,13 @@ row-begins (w ∷ ws) f h =
     let far : length xs ≡ k = length-parts 8 k (whole 8 (codesIn k f)) in
     begins-append f xs ys (subst (Begins f) (sym e) (begins-codes k f))
     (subst (λ (j : ℕ). Begins (drop j f) ys) (sym far) (row-begins ws (drop k f) (bytes-drop k f h)))
+
+-- each value of a row that fits is below its width's power of two
+pub row-fits : (ws vs : List ℕ) (k : ℕ) → k < length ws → fitting (rowed ws vs) ≡ true → getD vs k 0 < 2 ^ getD ws k 0
+unfolding rowed fitting
+row-fits [] vs k l h = absurd (omega arith)
+row-fits (w ∷ ws) vs zero l h = ltb-true (getD vs 0 0) (2 ^ w) (both-true (ltb (getD vs 0 0) (2 ^ w)) _ h .0)
+row-fits (w ∷ ws) vs (suc k) l h =
+    let e : 1 + k ≡ suc k = omega arith in
+    subst (λ (x : ℕ). x < 2 ^ getD ws k 0) (getD-drop 1 vs k 0 ∙ ap (λ (j : ℕ). getD vs j 0) e)
+    (row-fits ws (drop 1 vs) k (omega arith) (both-true (ltb (getD vs 0 0) (2 ^ w)) _ h .1))
