@@ -80,7 +80,7 @@ module _ {A : Type 0} (f : ℕ → ℕ → A) (application len head part second 
 -- ---- the frame, then what follows it
 
 -- the frame's answer as one that would write nothing yet
-abbrev asAnswer : Frame → Answer
+abbrev pub asAnswer : Frame → Answer
 asAnswer (Head head) = Done head
 asAnswer (Frame·Refused w) = Refused w
 
@@ -89,21 +89,21 @@ as-judged [] n = refl
 as-judged (r ∷ rs) n = agree asAnswer (λ a. a) (r .holds) (as-judged rs n) refl
 
 module _ (rs : List Rule) (n : ℕ) {first : Frame} (judges : first ≡ judged refusedFrame rs (Head n)) where
-  same : asAnswer first ≡ judged refused rs (Done n)
-  same = ap asAnswer judges ∙ as-judged rs n
+  pub frame-same : asAnswer first ≡ judged refused rs (Done n)
+  frame-same = ap asAnswer judges ∙ as-judged rs n
 
   pub head-every : {m : ℕ} → first ≡ Head m → Every rs
-  head-every {m} e = done-every rs n m (sym same ∙ ap asAnswer e)
+  head-every {m} e = done-every rs n m (sym frame-same ∙ ap asAnswer e)
 
   pub head-value : {m : ℕ} → first ≡ Head m → m ≡ n
-  head-value {m} e = done-value rs n m (sym same ∙ ap asAnswer e)
+  head-value {m} e = done-value rs n m (sym frame-same ∙ ap asAnswer e)
 
   module _ (qs : List Rule) (bytes old : List ℕ) where
     pub frame-refused :
         {w : Refusal} → first ≡ Frame·Refused w → (Refused w ≡ answered (rs ++ qs) bytes old) × (old ≡ left (rs ++ qs) bytes old)
-    frame-refused e = lent-refused (rs ++ qs) bytes old n (ends rs qs n same (Done n) (ap asAnswer e)) refl
+    frame-refused e = lent-refused (rs ++ qs) bytes old n (ends rs qs n frame-same (Done n) (ap asAnswer e)) refl
 
     pub frame-taken : {m : ℕ} → first ≡ Head m → answered qs bytes old ≡ answered (rs ++ qs) bytes old
     frame-taken e =
-        goes-on rs (qs ++ room bytes old ∷ []) n same (Done (length bytes)) (ap asAnswer e)
+        goes-on rs (qs ++ room bytes old ∷ []) n frame-same (Done (length bytes)) (ap asAnswer e)
         ∙ ap (λ (l : List Rule). judged refused l (Done (length bytes))) (sym (append-assoc rs qs (room bytes old ∷ [])))

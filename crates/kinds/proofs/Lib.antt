@@ -7,3 +7,6 @@ pub mod Exact
 pub mod Written
 pub mod Calls
 pub mod Noise
+pub mod Judging
+pub mod Counting
+pub mod Mending

@@ -4,3 +4,4 @@ pub mod Front
 pub mod Kind
 pub mod Block
 pub mod Reading
+pub mod Internal

@@ -38,6 +38,10 @@ controlPart spoken raw = pick spoken (take (controlLength raw) raw) raw
 abbrev pub stringPart : Bool → List ℕ → List ℕ
 stringPart spoken raw = pick spoken (drop (controlLength raw) raw) []
 
+-- one of two datatype_ids
+abbrev pub oneOf : ℕ → ℕ → ℕ → Bool
+oneOf first second kind = either (eqb kind first) (eqb kind second)
+
 -- 10 in its first eight bytes, 12 for kind and access, 13 for an odd size where there are no strings: what can be said of a block before it
 -- is read whole
 unfoldable pub frontRules : (ℕ → Bool) → Bool → ℕ → List ℕ → List Rule
