@@ -37,7 +37,7 @@ module _ (control strings : List ℕ) (count name : ℕ) (ec : count ≡ field 1
   abbrev opening : List ℕ
   opening = valuesIn openingWidths (n / 2 ^ 28)
 
-  count-at : networkCount opening ≡ count
+  pub count-at : networkCount opening ≡ count
   unfolding rowed width
   count-at = value-at openingWidths (n / 2 ^ 28) 8 (omega arith) ∙ field-past 108 8 28 n ∙ sym ec
 

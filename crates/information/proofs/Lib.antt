@@ -1,3 +1,5 @@
 pub mod Walking
 pub mod Networks
 pub mod Holding
+pub mod Lengths
+pub mod Parts
