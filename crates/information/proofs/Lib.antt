@@ -3,3 +3,4 @@ pub mod Networks
 pub mod Holding
 pub mod Lengths
 pub mod Parts
+pub mod Exact
