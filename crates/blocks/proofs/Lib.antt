@@ -3,6 +3,7 @@ pub mod Walking
 pub mod Round
 pub mod Clearing
 pub mod Summing
+pub mod Sealing
 pub mod Nibbles
 pub mod Cases
 pub mod Mending

@@ -5,6 +5,7 @@ pub mod Sizes
 pub mod Parts
 pub mod Place
 pub mod Sums
+pub mod Sealing
 pub mod Framing
 pub mod Outcome
 pub mod Values

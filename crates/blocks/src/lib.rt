@@ -4,8 +4,11 @@ pub mod frames;
 pub mod sums;
 
 ghost use mathlib.Core.Path.{_≡_};
+ghost use Prim.Native.Nat.{_+_, _-_, _≤_, min};
+ghost use lib.Seq.{sets};
 ghost use Rattle.blocks.specs.Block.{secondOf};
 ghost use Rattle.blocks.specs.Place.{foundAt, afterAt};
+ghost use Rattle.blocks.specs.Sealing.{headBytes, sealed};
 use answer::Refusal;
 
 // How many bytes of a record stand before its raw bytes.
@@ -90,4 +93,41 @@ pub fn after(records: &[u8], place: usize) -> usize
         Found::End => records.len(),
         Found::Broken => records.len(),
     }
+}
+
+// A record's head, to the front of `out`: a block's 16 bits, then a part and a second byte of 0, since what is written was not mended and spans
+// no pages (SCOPE 19.3, 26.1). What has no room is left out.
+pub fn put_head(head: usize, out: &mut [u8])
+    ensures { λ _. ⌜ now (out .exit) ≡ sets (now (out .entry)) 0 (headBytes head) ⌝ }
+{
+    lent_bytes::put((head % 256) as u8, out, 0);
+    lent_bytes::put((head / 256 % 256) as u8, out, 1);
+    lent_bytes::put(0, out, 2);
+    lent_bytes::put(0, out, 3);
+}
+
+// Puts the checksum into the record at the front of `out`, whose checksum is 0 and whose control data is so many raw bytes. What has no
+// room is left out.
+pub fn seal(head: usize, control: usize, out: &mut [u8])
+    ensures { λ _. ⌜ now (out .exit) ≡ sealed head control (now (out .entry)) ⌝ }
+{
+    if out.len() < HEAD {
+        return;
+    }
+    let end = control_end(control, out.len());
+    let sum = sums::checksum(head, &out[HEAD..end]);
+    lent_bytes::put(octet::image((sum % 16) as u8), out, HEAD);
+    lent_bytes::put(octet::image((sum / 16 % 16) as u8), out, HEAD + 1);
+}
+
+// Where so many raw bytes of a record end that is so long.
+fn control_end(control: usize, long: usize) -> usize
+    requires { ⌜ 4 ≤ long ⌝ }
+    ensures { λ r. ⌜ r ≡ 4 + min control (long - 4) ⌝ }
+{
+    let room = long - HEAD;
+    if room < control {
+        return long;
+    }
+    HEAD + control
 }

@@ -99,6 +99,9 @@ use Rattle.reader.proofs.feed.Reads as reader·feed
 use Rattle.reader.proofs.many.feed_all.Reads as reader·feed-all
 use Rattle.reader.proofs.two.feed.Reads as reader·two-feed
 use Rattle.reader.proofs.two.feed_all.Reads as reader·two-feed-all
+use Rattle.fields.proofs.pen.lay.Reads as fields·pen-lay
+use Rattle.blocks.proofs.put_head.Reads as blocks·put-head
+use Rattle.blocks.proofs.seal.Reads as blocks·seal
 use Rattle.blocks.proofs.frames.judge.Reads as blocks·frames-judge
 use Rattle.table.proofs.read_block.Reads as table·read-block
 use Rattle.forms.proofs.judge_form.Reads as forms·judge-form
@@ -380,6 +383,18 @@ pub reader·two-feed-all-settled :
     (κs : _) (a : _) (x y : _) (s t : _) → reader·two-feed-all.Post κs a x s → reader·two-feed-all.Post κs a y t
     → (x .heard ≡ y .heard) × (x .readers ≡ y .readers) × (now (s .1 .1 .1 .0) ≡ now (t .1 .1 .1 .0))
 reader·two-feed-all-settled κs a x y s t p q = (same (p .0) (q .0), same (p .1 .0) (q .1 .0), same (p .1 .1) (q .1 .1))
+
+pub fields·pen-lay-settled :
+    (κs : _) (a : _) (x y : _) (s t : _) → fields·pen-lay.Post κs a x s → fields·pen-lay.Post κs a y t → (x ≡ y) × (now (s .1 .1 .1 .0) ≡ now (t .1 .1 .1 .0))
+fields·pen-lay-settled κs a x y s t p q = (same (p .0) (q .0), same (p .1) (q .1))
+
+pub blocks·put-head-settled :
+    (κs : _) (a : _) (x y : _) (s t : _) → blocks·put-head.Post κs a x s → blocks·put-head.Post κs a y t → now (s .1 .0) ≡ now (t .1 .0)
+blocks·put-head-settled κs a x y s t p q = same p q
+
+pub blocks·seal-settled :
+    (κs : _) (a : _) (x y : _) (s t : _) → blocks·seal.Post κs a x s → blocks·seal.Post κs a y t → now (s .1 .1 .0) ≡ now (t .1 .1 .0)
+blocks·seal-settled κs a x y s t p q = same p q
 
 pub blocks·frames-judge-settled : (κs : _) (a : _) (x y : _) (s t : _) → blocks·frames-judge.Post κs a x s → blocks·frames-judge.Post κs a y t → x ≡ y
 blocks·frames-judge-settled κs a x y s t p q = same p q

@@ -1,4 +1,5 @@
 pub mod Laid
 pub mod Bits
+pub mod Inking
 mod Landing
 mod Moves

@@ -1,5 +1,7 @@
-// Fields of some bits each, out of protected bytes (SCOPE 12.1, 12.11). The definitions are in specs/,
-// and the laws that other crates cite in proofs/Laid.antt.
+// Fields of some bits each, out of protected bytes (SCOPE 12.1, 12.11) and, by the pen, into them. The definitions are in specs/,
+// and the laws that other crates cite in proofs/Laid.antt and proofs/Inking.antt.
+pub mod pen;
+
 ghost use mathlib.Core.Path.{_≡_};
 ghost use mathlib.Core.List.{map};
 ghost use Prim.Native.Nat.{_+_, _-_, _/_, _%_, _^_, _≤_, _<_, min};
@@ -142,7 +144,7 @@ fn opened(
 }
 
 // The place w bits further on; the last one where there is none so far.
-fn further(at: usize, w: usize) -> usize
+pub(crate) fn further(at: usize, w: usize) -> usize
     ensures { λ r. ⌜ r ≡ min (at + w) (2 ^ 64 - 1) ⌝ }
 {
     if LAST - at < w { LAST } else { at + w }

@@ -10,7 +10,7 @@ use Rattle.laws.proofs.Runs.{sets-run}
 
 -- ---- what goes past the end
 
-sets-out : (d : List ℕ) (o : ℕ) (xs : List ℕ) → length d ≤ o → sets d o xs ≡ d
+pub sets-out : (d : List ℕ) (o : ℕ) (xs : List ℕ) → length d ≤ o → sets d o xs ≡ d
 sets-out d o [] h = refl
 sets-out d o (x ∷ xs) h = ap (λ (m : List ℕ). sets m (suc o) xs) (set-out d o x h) ∙ sets-out d (suc o) xs (omega arith)
 

@@ -1,19 +1,22 @@
 -- One entry of a form: whether its values fit, and the number that its fields make. Assumes nothing.
-use mathlib.Core.Path.{_≡_, _∙_, ap}
+use mathlib.Core.Path.{_≡_, _∙_, refl, sym, ap}
 use mathlib.Core.List.{List, [], _∷_, map}
-use Prim.Native.Nat.{ℕ, zero, suc, _+_, _*_, _/_, _%_, _^_, _≤_, _<_}
+use Prim.Native.Nat.{ℕ, zero, suc, _+_, _*_, _/_, _%_, _^_, _≤_, _<_, min}
 use native.Mathlib.Nat.{add-zero, zero-add, zero-mul, mod-eq-of-lt, lt-of-lt-of-le}
 use native.Mathlib.Omega.{arith}
 use borrow.Author.Tests.{lt-ltb}
 use lib.Dec.{ltb}
 use lib.ListN.{length, getD, drop, length-map}
 use lib.Pow.{pow-pos, pow-add, pow-mono}
-use lib.Seq.{getD-drop, drop-drop}
+use lib.Seq.{sets, getD-drop, drop-drop}
 use Rattle.laws.specs.Pick.{both}
 use Rattle.laws.proofs.Tests.{both-right}
 use Rattle.octet.specs.Image.{image}
-use Rattle.fields.specs.Fields.{width, laid, fitting, parts, whole}
+use Rattle.fields.specs.Fields.{Field, width, laid, fitting, parts, whole}
+use Rattle.fields.specs.Pens.{last, inked, moved, begun}
+use Rattle.fields.specs.declared.pen.Pen.{Pen}
 use Rattle.fields.proofs.Laid.{length-parts}
+use Rattle.fields.proofs.Inking.{begun-inked, on-inked}
 use Rattle.menu_forms.specs.Menus.{infoBytes, descriptorFields, escapeFields, attributeFields}
 use Rattle.menu_forms.specs.Form.{numberIn, descriptorIn, escapeIn, attributeIn}
 use Rattle.menu_forms.specs.Block.{inNibbles}
@@ -77,14 +80,28 @@ unfolding inNibbles width laid
 escape-number f at a b m e ha hb hm he la lb le =
     rw (byte-front at f, getD-drop at f 1 0, getD-drop at f 2 0, getD-drop at f 3 0, ← ha, ← hb, ← hm, ← he, low-high a b la lb, mod-eq-of-lt le, zero-mul, zero-add)
 
-pub attribute-number :
-    (f : List ℕ) (at kind k info : ℕ) → kind ≡ getD f at 0 → k ≡ infoBytes kind → info ≡ numberIn k (drop (at + 1) f) → kind < 256
-    → inNibbles (attributeFields (attributeIn (drop at f))) ≡ parts 4 (2 + 2 * k) (info * 256 + kind)
-unfolding inNibbles width laid
-attribute-number f at kind k info h hk hi l =
-    let small : info < 2 ^ (8 * k) = rw hi (number-lt k (drop (at + 1) f)) in
-    let e : (8 + (8 * k + 0)) / 4 ≡ 2 + 2 * k = omega arith in
-    rw (byte-front at f, ← h, ← hk, drop-drop 1 at f, ← hi, mod-eq-of-lt small, mod-eq-of-lt l, zero-mul, zero-add, e)
-
 pub sent-length : (k n : ℕ) → length (map image (parts 4 k n)) ≡ k
 sent-length k n = length-map (parts 4 k n) image ∙ length-parts 4 k n
+
+-- an attribute is sent in two fields, its kind and its information
+pub attribute-sent :
+    (f : List ℕ) (at to kind k info : ℕ) (out o₁ o₂ : List ℕ) {p : Pen} → kind ≡ getD f at 0 → k ≡ infoBytes kind → k ≤ 4
+    → info ≡ numberIn k (drop (at + 1) f)
+    → length out ≤ last
+    → p ≡ moved (begun to) ((8, kind) ∷ [])
+    → o₁ ≡ inked (begun to) ((8, kind) ∷ []) out
+    → o₂ ≡ inked p ((min (8 * k) 32, info) ∷ []) o₁
+    → (2 + 2 * k ≡ length (map image (inNibbles (attributeFields (attributeIn (drop at f))))))
+    × (o₂ ≡ sets out to (map image (inNibbles (attributeFields (attributeIn (drop at f))))))
+unfolding inNibbles
+attribute-sent f at to kind k info out o₁ o₂ {p} h hk few hi l m e₁ e₂ =
+    let fs : List Field = (8, kind) ∷ (8 * k, info) ∷ [] in
+    let row : attributeFields (attributeIn (drop at f)) ≡ fs = rw (byte-front at f, ← h, ← hk, drop-drop 1 at f, ← hi) in
+    let wide : width fs / 4 ≡ 2 + 2 * k = unfold width in (omega arith) in
+    let all : min (8 * k) 32 ≡ 8 * k = omega arith in (
+      sym (ap (λ (gs : List Field). length (map image (parts 4 (width gs / 4) (laid gs 0)))) row ∙ sent-length (width fs / 4) (laid fs 0) ∙ wide),
+      e₂ ∙ ap (λ (w : ℕ). inked p ((w, info) ∷ []) o₁) all
+          ∙ on-inked (begun to) ((8, kind) ∷ []) ((8 * k, info) ∷ []) fs refl m out l e₁
+          ∙ begun-inked to fs out
+          ∙ ap (λ (gs : List Field). sets out to (map image (parts 4 (width gs / 4) (laid gs 0)))) (sym row),
+    )

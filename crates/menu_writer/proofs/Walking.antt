@@ -1,17 +1,15 @@
 -- One entry on in a loop of a form. Assumes nothing.
 use mathlib.Core.Path.{_≡_, _∙_, sym, ap}
 use mathlib.Core.Bool.{true}
-use mathlib.Core.List.{List, [], _++_, map}
-use Prim.Native.Nat.{ℕ, _+_, _-_, _*_, _/_, _%_, _≤_, _<_}
+use mathlib.Core.List.{List, [], _++_}
+use Prim.Native.Nat.{ℕ, _+_, _-_, _*_, _≤_, _<_}
 use native.Mathlib.Nat.{add-assoc, add-zero, mod-eq-of-lt}
 use native.Mathlib.Numerals.{add-one}
-use lib.ListN.{length, getD, drop, set, length-append}
+use lib.ListN.{length, getD, drop, length-append}
 use lib.Seq.{sets, drop-drop, getD-drop}
 use Rattle.laws.specs.Pick.{both}
 use Rattle.laws.proofs.Countdown.{at-none, at-more}
 use Rattle.laws.proofs.Stores.{sets-next}
-use Rattle.octet.specs.Image.{image}
-use Rattle.fields.specs.Fields.{parts}
 use Rattle.menu_forms.specs.Form.{numberIn}
 use Rattle.menu_writer.specs.declared.Loop.{Loop}
 use Rattle.menu_writer.specs.Internal.{entryLength, entryFine, entryBytes, loopLength, loopFine, loopBytes}
@@ -62,16 +60,3 @@ module _ (what : Loop) (f : List ℕ) (at left : ℕ) (none : left ≤ 0) where
 pub number-on : (i at n b : ℕ) (f : List ℕ) → b ≡ getD f (at + i) 0 → b < 256 → n ≡ numberIn i (drop at f) → n * 256 + b ≡ numberIn (i + 1) (drop at f)
 unfolding numberIn
 number-on i at n b f e l h = rw (add-one i, getD-drop at f i 0, ← e, ← h, mod-eq-of-lt l)
-
--- one nibble on
-pub nibble-on :
-    (left q bits : ℕ) (out out′ whole : List ℕ) (x : ℕ) → 0 < left → x ≡ image (bits % 16) → out′ ≡ set out q x
-    → sets out q (map image (parts 4 left bits)) ≡ whole
-    → sets out′ (q + 1) (map image (parts 4 (left - 1) (bits / 16))) ≡ whole
-unfolding parts
-nibble-on left q bits out out′ whole x some ex eo inv =
-    rw (eo, ex, add-one q) (sym (at-more (λ (k : ℕ). sets out q (map image (parts 4 k bits))) left some) ∙ inv)
-
-pub nibble-end : (left q bits : ℕ) (out whole : List ℕ) → left ≤ 0 → sets out q (map image (parts 4 left bits)) ≡ whole → out ≡ whole
-unfolding parts
-nibble-end left q bits out whole none inv = sym (at-none (λ (k : ℕ). sets out q (map image (parts 4 k bits))) left none) ∙ inv

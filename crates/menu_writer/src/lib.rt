@@ -119,32 +119,8 @@ fn write_record(application: u8, form: &[u8], whole: Tally, out: &mut [u8])
 {
     let control = 2 * whole.control;
     let head = application as usize + 32 * (control + whole.strings);
-    put_head(head, out);
+    blocks::put_head(head, out);
     putting::put_control(form, whole.control, out);
     putting::put_all_strings(form, out, HEAD + control);
-    seal(head, control, out);
-}
-
-// A record's head: the 16 bits, then a part and a second byte of 0.
-fn put_head(head: usize, out: &mut [u8])
-    requires { ⌜ head < 65536 ⌝ }
-    ensures { λ _. ⌜ now (out .exit) ≡ sets (now (out .entry)) 0 (head % 256 ∷ head / 256 ∷ 0 ∷ 0 ∷ []) ⌝ }
-{
-    lent_bytes::put((head % 256) as u8, out, 0);
-    lent_bytes::put((head / 256) as u8, out, 1);
-    lent_bytes::put(0, out, 2);
-    lent_bytes::put(0, out, 3);
-}
-
-// Puts the checksum into a record of so many control bytes whose checksum is 0.
-fn seal(head: usize, control: usize, out: &mut [u8])
-    requires { ⌜ (control < 4096) × (4 + control ≤ length (now out)) ⌝ }
-    ensures { λ _.
-        ⌜ now (out .exit)
-        ≡ sets (now (out .entry)) 4
-        (map image (parts 4 2 (checksum head (map nib (take control (drop 4 (now (out .entry)))))))) ⌝ }
-{
-    let end = HEAD + control;
-    let sum = blocks::sums::checksum(head, &out[HEAD..end]);
-    loops::put_nibbles(sum, 2, out, HEAD);
+    blocks::seal(head, control, out);
 }

@@ -1,13 +1,13 @@
 // The loops of a form, entry by entry: what an entry takes, whether its values fit, and what is sent for it.
 ghost use mathlib.Core.Bool.{true};
 ghost use mathlib.Core.Path.{_≡_};
-ghost use mathlib.Core.List.{map};
-ghost use Prim.Native.Nat.{_+_, _*_, _<_, _≤_, _^_};
+ghost use mathlib.Core.List.{_∷_, []};
+ghost use Prim.Native.Nat.{_+_, _*_, _<_, _≤_, _^_, min};
 ghost use lib.ListN.{length, drop};
 ghost use lib.Seq.{sets};
 ghost use Rattle.laws.specs.Pick.{both as Pick·both};
-ghost use Rattle.octet.specs.Image.{image};
-ghost use Rattle.fields.specs.Fields.{parts, fitting};
+ghost use Rattle.fields.specs.Fields.{fitting};
+ghost use Rattle.fields.specs.Pens.{inked, begun};
 ghost use Rattle.menu_forms.specs.Menus.{descriptorFields, escapeFields};
 ghost use Rattle.menu_forms.specs.Form.{numberIn, descriptorIn, escapeIn};
 ghost use Rattle.menu_writer.specs.declared.Loop.the-variants.{Codes, Descriptors, Escapes, Attributes};
@@ -15,6 +15,8 @@ ghost use Rattle.menu_writer.specs.Internal.{entryLength, entryFine, ent
 use crate::Loop;
 use crate::Passed;
 use crate::Spot;
+use fields::pen;
+use fields::pen::Pen;
 
 // Passes over so many entries: the place behind them, and whether their values fit.
 pub(crate) fn pass(what: Loop, form: &[u8], from: usize, count: usize) -> Passed
@@ -153,7 +155,7 @@ fn put_descriptor(form: &[u8], at: usize, out: &mut [u8], to: usize) -> usize
     let which = lent_bytes::byte_at(form, at) % 64;
     let id = lent_bytes::byte_at(form, at + 1) % 64;
     let eval = lent_bytes::byte_at(form, at + 2);
-    put_nibbles((eval * 64 + id) * 64 + which, 5, out, to);
+    put_field((eval * 64 + id) * 64 + which, 20, out, to);
     5
 }
 
@@ -166,7 +168,7 @@ fn put_escape(form: &[u8], at: usize, out: &mut [u8], to: usize) -> usize
     let position = (lent_bytes::byte_at(form, at) + 256 * lent_bytes::byte_at(form, at + 1)) % 1024;
     let mode = lent_bytes::byte_at(form, at + 2) % 64;
     let content = lent_bytes::byte_at(form, at + 3);
-    put_nibbles((content * 64 + mode) * 1024 + position, 6, out, to);
+    put_field((content * 64 + mode) * 1024 + position, 24, out, to);
     6
 }
 
@@ -180,7 +182,17 @@ fn put_attribute(form: &[u8], at: usize, out: &mut [u8], to: usize) -> usize
     let kind = lent_bytes::byte_at(form, at);
     let k = menu_forms::info_bytes(kind);
     let info = number_at(form, at + 1, k);
-    put_nibbles(info * 256 + kind, 2 + 2 * k, out, to);
+    let p = pen::lay(
+        Pen {
+            at: to,
+            held: 0,
+            bits: 0,
+        },
+        8,
+        kind,
+        out,
+    );
+    pen::lay(p, 8 * k, info, out);
     2 + 2 * k
 }
 
@@ -198,20 +210,20 @@ fn number_at(form: &[u8], at: usize, k: usize) -> usize
     n
 }
 
-// The k lowest nibbles of a number, each as its image, the lowest first.
-pub(crate) fn put_nibbles(v: usize, k: usize, out: &mut [u8], to: usize)
-    requires { ⌜ (k ≤ 16) × (to < 6000000) ⌝ }
-    ensures { λ _. ⌜ now (out .exit) ≡ sets (now (out .entry)) to (map image (parts 4 k v)) ⌝ }
+// A field of w bits, at most 32, that is whole nibbles, from a place of the output on.
+pub(crate) fn put_field(v: usize, w: usize, out: &mut [u8], to: usize)
+    ensures { λ _. ⌜ now (out .exit) ≡ inked (begun to) ((min w 32, v) ∷ []) (now (out .entry)) ⌝ }
 {
-    let mut bits = v;
-    let mut q = to;
-    let mut left = k;
-    while 0 < left {
-        lent_bytes::put(octet::image((bits % 16) as u8), out, q);
-        bits /= 16;
-        q += 1;
-        left -= 1;
-    }
+    pen::lay(
+        Pen {
+            at: to,
+            held: 0,
+            bits: 0,
+        },
+        w,
+        v,
+        out,
+    );
 }
 
 // Whether both hold.

@@ -35,7 +35,7 @@ pub(crate) fn put_control(form: &[u8], control: usize, out: &mut [u8])
     );
     let filled = put_fill(descriptors, out, s.to);
     let t = put_text(form, s.at, out, filled);
-    loops::put_nibbles(lent_bytes::byte_at(form, 6), 2, out, t.to);
+    loops::put_field(lent_bytes::byte_at(form, 6), 8, out, t.to);
     put_events(form, t.at, events, out, t.to + 2);
 }
 
@@ -53,8 +53,8 @@ fn put_opening(form: &[u8], control: usize, out: &mut [u8])
     let descriptors = lent_bytes::byte_at(form, 7) % 64;
     let events = lent_bytes::byte_at(form, 8) % 16;
     let second = (((descriptors * 16 + message) * 16 + events) * 4 + header) * 65536 + block;
-    loops::put_nibbles(first, 7, out, HEAD);
-    loops::put_nibbles(second, 8, out, HEAD + 7);
+    loops::put_field(first, 28, out, HEAD);
+    loops::put_field(second, 32, out, HEAD + 7);
 }
 
 // fill_up_2, where the number of descriptors is even: the place behind it.
@@ -66,7 +66,7 @@ fn put_fill(descriptors: usize, out: &mut [u8], to: usize) -> usize
         × (now (out .exit) ≡ sets (now (out .entry)) to (map image (inNibbles (fillFields descriptors 0)))) ⌝ }
 {
     if descriptors % 2 == 0 {
-        loops::put_nibbles(0, 1, out, to);
+        loops::put_field(0, 4, out, to);
         return to + 1;
     }
     to
@@ -96,9 +96,9 @@ pub(crate) fn put_text(form: &[u8], at: usize, out: &mut [u8], to: usize) -> Spo
 {
     let escapes = lent_bytes::byte_at(form, at);
     let codes = lent_bytes::byte_at(form, at + 1);
-    loops::put_nibbles(escapes, 2, out, to);
+    loops::put_field(escapes, 8, out, to);
     let s = loops::put_entries(Loop::Escapes, form, at + 2, escapes, out, to + 2);
-    loops::put_nibbles(codes, 2, out, s.to);
+    loops::put_field(codes, 8, out, s.to);
     Spot {
         at: s.at + codes,
         to: s.to + 2,
@@ -120,7 +120,7 @@ fn put_event(form: &[u8], at: usize, out: &mut [u8], to: usize) -> Spot
     let kind = lent_bytes::byte_at(form, at + 2);
     let count = lent_bytes::byte_at(form, at + 3);
     let heading = ((count % 16 * 16 + kind % 16) * 256 + high) * 256 + low;
-    loops::put_nibbles(heading, 6, out, to);
+    loops::put_field(heading, 24, out, to);
     let s = loops::put_entries(Loop::Attributes, form, at + 4, count, out, to + 6);
     put_text(form, s.at, out, s.to)
 }

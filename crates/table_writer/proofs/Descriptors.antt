@@ -3,14 +3,13 @@ use mathlib.Core.Path.{_≡_, _∙_, refl, sym, ap, ap₂}
 use mathlib.Core.Bool.{true}
 use mathlib.Core.List.{List, [], _∷_, _++_}
 use Prim.Native.Nat.{ℕ, _+_, _-_, _*_, _≤_, _<_}
-use native.Mathlib.Omega.{arith}
-use lib.ListN.{getD, drop}
+use lib.ListN.{length, getD, drop}
 use Rattle.fields.specs.Fields.{Field, alike, width, laid, fitting}
+use Rattle.fields.specs.Pens.{last, inked, moved, Fine}
+use Rattle.fields.specs.declared.pen.Pen.{Pen}
+use Rattle.fields.proofs.Inking.{length-inked, on-moved, on-inked, on-fine, pressed-moved, pressed-inked}
 use Rattle.forms.specs.Tables.{per, loops}
 use Rattle.forms.specs.Form.{wordsIn, descriptorsIn}
-use Rattle.table_writer.specs.declared.Pen.{Pen}
-use Rattle.table_writer.specs.Internal.{ready, inked, moved, Fine}
-use Rattle.table_writer.proofs.Inking.{room-first, room-on, on-moved, on-inked, on-fine, pressed-moved, pressed-inked, pressed-ready}
 use Rattle.table_writer.proofs.Looped.{heading, heading-laid, heading-width, loops-on, fits-now}
 
 -- a descriptor is left, its id, its number of entries and their words are read, and what is left fits
@@ -39,9 +38,6 @@ module _ {kind left i id c words : ℕ} {f : List ℕ} (a : Ahead kind left i id
   unfolding rest
   small = fits-now kind left i id c words f (a .some) (a .its-id) (a .its-entries) (a .its-words) (a .fit)
 
-  pub heading-lt : c * 64 + id < 1024
-  heading-lt = omega (arith, small .0, small .1)
-
   pub few-words : c < 16
   few-words = small .1
 
@@ -53,45 +49,32 @@ module _ {kind left i id c words : ℕ} {f : List ℕ} (a : Ahead kind left i id
   one =
       ap₂ (λ (w v : ℕ). (w, v) ∷ []) (sym (heading-width id c)) (heading-laid id c (small .0) (small .1))
 
-  module _ (p : Pen) (room : ℕ) (enough : p .at + ready p (loops kind (descriptorsIn (per kind) left (drop i f))) ≤ room) where
-    pub room-heading : p .at + ready p ((10, c * 64 + id) ∷ []) ≤ room
-    unfolding all
-    room-heading =
-        let r = room-first p (heading id c) (words-laid ++ rest) room (rw (← split) enough) in
-        rw (ap (ready p) one ∙ pressed-ready p (heading id c)) r
+  module _ (p : Pen) {q : Pen} (m : q ≡ moved p ((10, c * 64 + id) ∷ [])) where
+    laid-heading : q ≡ moved p (heading id c)
+    laid-heading = m ∙ ap (moved p) one ∙ pressed-moved p (heading id c)
 
-    module _ {q : Pen} (m : q ≡ moved p ((10, c * 64 + id) ∷ [])) where
-      laid-heading : q ≡ moved p (heading id c)
-      laid-heading = m ∙ ap (moved p) one ∙ pressed-moved p (heading id c)
+    pub fine-heading : Fine q
+    fine-heading = on-fine p (heading id c) (words-laid ++ rest) all split laid-heading
 
-      pub fine-heading : Fine q
-      fine-heading = on-fine p (heading id c) (words-laid ++ rest) all split laid-heading
+    module _ {r : Pen} (m′ : r ≡ moved q (alike 24 (wordsIn words (drop (i + 2) f)))) where
+      pub fine-descriptor : Fine r
+      unfolding words-laid
+      fine-descriptor = on-fine q words-laid rest (words-laid ++ rest) refl m′
 
-      on-heading : moved q (words-laid ++ rest) ≡ moved p all
-      on-heading = on-moved p (heading id c) (words-laid ++ rest) all split laid-heading
+      pub on-descriptor :
+          moved r (loops kind (descriptorsIn (per kind) (left - 1) (drop (i + (2 + 3 * words)) f)))
+          ≡ moved p (loops kind (descriptorsIn (per kind) left (drop i f)))
+      unfolding words-laid rest all
+      on-descriptor =
+          on-moved q words-laid rest (words-laid ++ rest) refl m′ ∙ on-moved p (heading id c) (words-laid ++ rest) all split laid-heading
 
-      pub room-words : q .at + ready q (alike 24 (wordsIn words (drop (i + 2) f))) ≤ room
-      unfolding words-laid all
-      room-words = room-first q words-laid rest room (room-on q p (words-laid ++ rest) all room on-heading enough)
-
-      module _ {r : Pen} (m′ : r ≡ moved q (alike 24 (wordsIn words (drop (i + 2) f)))) where
-        pub fine-descriptor : Fine r
-        unfolding words-laid
-        fine-descriptor = on-fine q words-laid rest (words-laid ++ rest) refl m′
-
-        pub on-descriptor :
-            moved r (loops kind (descriptorsIn (per kind) (left - 1) (drop (i + (2 + 3 * words)) f)))
-            ≡ moved p (loops kind (descriptorsIn (per kind) left (drop i f)))
-        unfolding words-laid rest all
-        on-descriptor = on-moved q words-laid rest (words-laid ++ rest) refl m′ ∙ on-heading
-
-        pub inked-descriptor :
-            (out : List ℕ) {out₁ out₂ : List ℕ} → out₁ ≡ inked p ((10, c * 64 + id) ∷ []) out
-            → out₂ ≡ inked q (alike 24 (wordsIn words (drop (i + 2) f))) out₁
-            → inked r (loops kind (descriptorsIn (per kind) (left - 1) (drop (i + (2 + 3 * words)) f))) out₂
-            ≡ inked p (loops kind (descriptorsIn (per kind) left (drop i f))) out
-        unfolding words-laid rest all
-        inked-descriptor out {out₁} {out₂} k k′ =
-            on-inked q words-laid rest (words-laid ++ rest) refl m′ out₁ k′
-            ∙ on-inked p (heading id c) (words-laid ++ rest) all split laid-heading out
-            (k ∙ ap (λ (l : List Field). inked p l out) one ∙ pressed-inked p (heading id c) out)
+      pub inked-descriptor :
+          (out : List ℕ) {out₁ out₂ : List ℕ} → length out ≤ last → out₁ ≡ inked p ((10, c * 64 + id) ∷ []) out
+          → out₂ ≡ inked q (alike 24 (wordsIn words (drop (i + 2) f))) out₁
+          → inked r (loops kind (descriptorsIn (per kind) (left - 1) (drop (i + (2 + 3 * words)) f))) out₂
+          ≡ inked p (loops kind (descriptorsIn (per kind) left (drop i f))) out
+      unfolding words-laid rest all
+      inked-descriptor out {out₁} {out₂} l k k′ =
+          on-inked q words-laid rest (words-laid ++ rest) refl m′ out₁ (rw (k, length-inked) l) k′
+          ∙ on-inked p (heading id c) (words-laid ++ rest) all split laid-heading out l
+          (k ∙ ap (λ (l : List Field). inked p l out) one ∙ pressed-inked p (heading id c) out)

@@ -1,4 +1,3 @@
-pub mod Inking
 pub mod Looped
 pub mod Descriptors
 pub mod Whole

@@ -1,31 +1,29 @@
 -- A record whose checksum is put in last is the table's record. Assumes nothing.
 use mathlib.Core.Path.{_≡_, _∙_, refl, sym, ap, ap₂, subst}
 use mathlib.Core.Bool.{true}
-use mathlib.Core.List.{List, [], _∷_, _++_, map, append-assoc}
-use Prim.Native.Nat.{ℕ, suc, _+_, _-_, _*_, _/_, _%_, _≤_, _<_}
+use mathlib.Core.List.{List, [], _∷_, _++_, map, append-nil}
+use Prim.Native.Nat.{ℕ, suc, _+_, _-_, _/_, _%_, _≤_, _<_}
 use native.Mathlib.Omega.{arith}
 use borrow.Author.Tests.{ltb-true}
-use lib.ListN.{length, take, drop, set, length-map, length-set}
-use lib.Seq.{sets, sets-eq, set-comm, set-set, take-at, drop-at, length-take-le}
-use Rattle.laws.proofs.Runs.{set-sets}
+use lib.ListN.{length, drop, length-map}
+use lib.Seq.{sets}
 use Rattle.answer.specs.Rules.{judged}
 use Rattle.answer.specs.Values.{refused}
 use Rattle.answer.specs.declared.Answer.the-variants.{Done}
 use Rattle.answer.proofs.Steps.{done-every, first-holds, others-hold}
 use Rattle.octet.specs.Image.{image}
-use Rattle.octet.specs.Decoding.{nib}
 use Rattle.fields.specs.Fields.{Field, laid, parts}
 use Rattle.fields.proofs.Laid.{length-parts}
 use Rattle.forms.specs.Tables.{Table, fields, control, size, fits}
 use Rattle.blocks.specs.Block.{header}
 use Rattle.forms.specs.Block.{nibbles, checksumOf, blockWith, recordOf}
 use Rattle.blocks.specs.Sums.{checksum}
+use Rattle.blocks.specs.Sealing.{headBytes, sealed}
 use Rattle.forms.specs.Writing.{formRules, writeRules}
 use Rattle.forms.specs.Form.{tableIn}
 use Rattle.forms.proofs.Measures.{bits-of}
 use Rattle.forms.proofs.Blocks.{behind-sum, nibbles-again}
-use Rattle.blocks.proofs.Summing.{checksum-lt}
-use Rattle.table_writer.specs.Internal.{sumIn, sealed}
+use Rattle.blocks.proofs.Sealing.{record-sealed}
 
 length-nibbles : (sum reserved filling : ℕ) (t : Table) → length (map image (nibbles sum reserved filling t)) ≡ size t
 unfolding nibbles
@@ -58,69 +56,18 @@ nibbles-split sum reserved filling t h =
     ∙ ap₂ (λ (a b : ℕ). a ∷ b ∷ drop 2 (nibbles sum reserved filling t)) (low .0) (low .1)
     ∙ ap (λ (l : List ℕ). sum % 16 ∷ sum / 16 % 16 ∷ l) same
 
--- the bytes of a run of stores
-stored : (l : List ℕ) (vs : List ℕ) → 4 + length vs ≤ length l → take (length vs) (drop 4 (sets l 4 vs)) ≡ vs
-stored l vs h =
-    let rest = drop (4 + length vs) l in
-    let four : length (take 4 l) ≡ 4 = length-take-le 4 l (omega arith) in
-    ap (λ (x : List ℕ). take (length vs) (drop 4 x)) (sets-eq vs l 4 h ∙ append-assoc (take 4 l) vs rest)
-    ∙ ap (take (length vs)) (drop-at (take 4 l) (vs ++ rest) 4 four)
-    ∙ take-at vs rest (length vs) refl
-
--- two stores over two
-two-over : (l : List ℕ) (z x y : ℕ) → set (set (set (set l 4 z) 5 z) 4 x) 5 y ≡ set (set l 4 x) 5 y
-two-over l z x y =
-    ap (λ (m : List ℕ). set m 5 y) (set-comm (set l 4 z) 5 4 z x (λ e. omega arith))
-    ∙ set-set (set (set l 4 z) 4 x) 5 z y
-    ∙ ap (λ (m : List ℕ). set m 5 y) (set-set l 4 z x)
-
-module _ (application head : ℕ) (t : Table) (out : List ℕ) (e : head ≡ laid (header application (size t)) 0) (room : 4 + size t ≤ length out) where
-  ns : List ℕ
-  ns = nibbles 0 0 0 t
-
-  sum : ℕ
-  sum = checksumOf application 0 0 t
-
-  begun : List ℕ
-  begun = sets out 0 (head % 256 ∷ head / 256 ∷ 0 ∷ 0 ∷ [])
-
-  long : length (map image ns) ≡ size t
-  unfolding ns
-  long = length-nibbles 0 0 0 t
-
-  summed : sumIn head (size t) (sets begun 4 (map image ns)) ≡ sum
-  unfolding ns sum begun checksumOf
-  summed =
-      let fits : 4 + length (map image ns) ≤ length begun = simp length-set (omega (arith, long)) in
-      let body : take (size t) (drop 4 (sets begun 4 (map image ns))) ≡ map image ns =
-      ap (λ (k : ℕ). take k (drop 4 (sets begun 4 (map image ns)))) (sym long) ∙ stored begun (map image ns) fits in
-      ap (λ (l : List ℕ). checksum head (map nib l)) body ∙ ap₂ checksum e (nibbles-again 0 0 0 t)
-
-  sum-small : sum < 256
-  unfolding sum checksumOf
-  sum-small = checksum-lt (laid (header application (size t)) 0) (nibbles 0 0 0 t)
-
-  pub record-stored :
-      {out₁ out₂ : List ℕ}
-      → out₁ ≡ sets (sets out 0 (head % 256 ∷ head / 256 ∷ 0 ∷ 0 ∷ [])) 4 (map image (nibbles 0 0 0 t))
-      → out₂ ≡ sealed head (size t) out₁
-      → out₂ ≡ sets out 0 (recordOf application t)
-  unfolding sealed begun ns blockWith sum
-  record-stored {out₁} {out₂} k₁ k₂ =
-      let x = image (sum % 16) in
-      let y = image (sum / 16 % 16) in
-      let rest = map image (drop 2 ns) in
-      let zero-first : map image ns ≡ image 0 ∷ image 0 ∷ rest = ap (map image) (nibbles-split 0 0 0 t (omega arith)) in
-      let sum-first : map image (nibbles sum 0 0 t) ≡ x ∷ y ∷ rest = ap (map image) (nibbles-split sum 0 0 t sum-small) in
-      let z = image 0 in
-      k₂ ∙ ap (sealed head (size t)) k₁
-      ∙ ap (λ (s : ℕ). set (set (sets begun 4 (map image ns)) 4 (image (s % 16))) 5 (image (s / 16 % 16))) summed
-      ∙ ap (λ (l : List ℕ). set (set (sets begun 4 l) 4 x) 5 y) zero-first
-      ∙ ap (λ (l : List ℕ). set l 5 y) (set-sets (set (set begun 4 z) 5 z) 4 6 x rest (omega arith))
-      ∙ set-sets (set (set (set begun 4 z) 5 z) 4 x) 5 6 y rest (omega arith)
-      ∙ ap (λ (l : List ℕ). sets l 6 rest) (two-over begun z x y)
-      ∙ ap (sets begun 4) (sym sum-first)
-      ∙ ap (λ (h : ℕ). sets (sets out 0 (h % 256 ∷ h / 256 ∷ 0 ∷ 0 ∷ [])) 4 (map image (nibbles sum 0 0 t))) e
+pub record-stored :
+    (application head : ℕ) (t : Table) (out : List ℕ) → head ≡ laid (header application (size t)) 0 → head < 65536 → 4 + size t ≤ length out
+    → {o₁ o₂ o₃ : List ℕ} → o₁ ≡ sets out 0 (headBytes head) → o₂ ≡ sets o₁ 4 (map image (nibbles 0 0 0 t)) → o₃ ≡ sealed head (size t) o₂
+    → o₃ ≡ sets out 0 (recordOf application t)
+unfolding blockWith checksumOf
+record-stored application head t out e small room e₁ e₂ e₃ =
+    let control : ℕ → List ℕ = λ (s : ℕ). nibbles s 0 0 t in
+    let long : size t ≡ length (control 0) = sym (length-nibbles 0 0 0 t) ∙ length-map (control 0) image in
+    let fits : length (map image (control 0) ++ []) ≡ size t = rw append-nil (length-nibbles 0 0 0 t) in
+    record-sealed head control [] out (drop 2 (control 0)) (λ s h. nibbles-split s 0 0 t h) small (nibbles-again 0 0 0 t) (omega (arith, fits, room)) (size t) long e₁ e₂ refl e₃
+    ∙ ap (λ (l : List ℕ). sets out 0 (head % 256 ∷ head / 256 ∷ 0 ∷ 0 ∷ l)) (append-nil (map image (control (checksum head (control 0)))))
+    ∙ ap (λ (h : ℕ). sets out 0 (h % 256 ∷ h / 256 ∷ 0 ∷ 0 ∷ map image (nibbles (checksum h (nibbles 0 0 0 t)) 0 0 t))) e
 
 -- ---- what the rules of writing say
 
@@ -137,10 +84,3 @@ writable application f n m e =
       ltb-true application 32 (first-holds all),
       first-holds (others-hold (others-hold (others-hold (others-hold (others-hold all))))),
     )
-
--- the head as the code adds it up
-pub head-of :
-    (application blockSize : ℕ) → application < 32 → blockSize < 2048
-    → application + 32 * blockSize ≡ laid (header application blockSize) 0
-unfolding laid
-head-of application blockSize a b = omega arith

@@ -5,13 +5,14 @@ ghost use mathlib.Core.List.{map, _∷_, []};
 ghost use Prim.Native.Nat.{_+_, _-_, _*_, _/_, _%_, _^_, _<_, _≤_};
 ghost use lib.ListN.{length, drop};
 ghost use Rattle.fields.specs.Fields.{alike, laid, fitting};
+ghost use Rattle.fields.specs.Pens.{inked, moved, Fine};
 ghost use Rattle.forms.specs.Tables.{loops, size, fits, bits as Tables·bits};
 ghost use Rattle.forms.specs.Form.{wordsIn, tableIn};
 ghost use Rattle.forms.specs.Internal.{formMost};
 ghost use Rattle.forms.specs.Block.{nibbles, recordOf};
 ghost use Rattle.octet.specs.Image.{image};
 ghost use lib.Seq.{sets};
-ghost use Rattle.table_writer.specs.Internal.{ready, inked, moved, Fine, sealed, firstFields, secondFields};
+ghost use Rattle.table_writer.specs.Internal.{firstFields, secondFields};
 ghost use Rattle.answer.specs.Rules.{judged};
 ghost use Rattle.answer.specs.Values.{refused};
 ghost use Rattle.answer.specs.Writing.{answered, left};
@@ -20,16 +21,11 @@ ghost use Rattle.forms.specs.Writing.{writeRules};
 use answer::Answer;
 use answer::Refusal;
 use blocks::HEAD;
+use fields::pen;
+use fields::pen::Pen;
 use forms::HEADING;
 use forms::OPENING;
 use forms::WORD;
-
-// Where the next nibble goes, and the bits, fewer than four, that don't make one yet.
-struct Pen {
-    at: usize,
-    held: usize,
-    bits: usize,
-}
 
 // The record of a table of this application, from the table's form, to the front of `out`. It holds
 // nothing but counters and the bits of one field.
@@ -67,8 +63,7 @@ fn judge(application: u8, table: &[u8]) -> Answer
     forms::judge_form(table)
 }
 
-// The record of a form whose values fit. What is written was not mended, so its part and its second byte
-// are 0 (SCOPE 19.3).
+// The record of a form whose values fit.
 fn write_record(application: u8, table: &[u8], bits: usize, out: &mut [u8])
     requires { ⌜ (application < 32)
         × (fits (tableIn (now table)) ≡ true)
@@ -78,40 +73,20 @@ fn write_record(application: u8, table: &[u8], bits: usize, out: &mut [u8])
 {
     let size = 2 * ((bits + 7) / 8);
     let head = application as usize + 32 * size;
-    let low = (head % 256) as u8;
-    let high = (head / 256) as u8;
-    out[0] = low;
-    out[1] = high;
-    out[2] = 0;
-    out[3] = 0;
+    blocks::put_head(head, out);
     write_fields(table, bits, out);
-    seal(head, size, out);
-}
-
-// Puts the checksum into a record whose checksum is 0.
-fn seal(head: usize, size: usize, out: &mut [u8])
-    requires { ⌜ (2 ≤ size) × (4 + size ≤ length (now out)) ⌝ }
-    ensures { λ _. ⌜ now (out .exit) ≡ sealed head size (now (out .entry)) ⌝ }
-{
-    let end = HEAD + size;
-    let sum = blocks::sums::checksum(head, &out[HEAD..end]);
-    let low = octet::image((sum % 16) as u8);
-    let high = octet::image((sum / 16 % 16) as u8);
-    out[HEAD] = low;
-    out[HEAD + 1] = high;
+    blocks::seal(head, size, out);
 }
 
 // Lays all fields behind the head, the checksum's as zeros.
 fn write_fields(table: &[u8], bits: usize, out: &mut [u8])
-    requires { ⌜ (fits (tableIn (now table)) ≡ true)
-        × (bits ≡ Tables·bits (tableIn (now table)))
-        × (4 + size (tableIn (now table)) ≤ length (now out)) ⌝ }
+    requires { ⌜ (fits (tableIn (now table)) ≡ true) × (bits ≡ Tables·bits (tableIn (now table))) ⌝ }
     ensures { λ _. ⌜ now (out .exit) ≡ sets (now (out .entry)) 4 (map image (nibbles 0 0 0 (tableIn (now (table .entry))))) ⌝ }
 {
     let control = (bits + 7) / 8;
     let first = first_fields(table, control);
     let second = second_fields(table);
-    let a = put(
+    let a = pen::lay(
         Pen {
             at: HEAD,
             held: 0,
@@ -121,9 +96,9 @@ fn write_fields(table: &[u8], bits: usize, out: &mut [u8])
         first,
         out,
     );
-    let b = put(a, 30, second, out);
+    let b = pen::lay(a, 30, second, out);
     let c = put_descriptors(table, b, out);
-    put(c, 8 * control - bits, 0, out);
+    pen::lay(c, 8 * control - bits, 0, out);
 }
 
 // The first six fields of a block but for its checksum, as one of 28 bits.
@@ -150,8 +125,7 @@ fn second_fields(table: &[u8]) -> usize
 // Lays the descriptors of a form whose values fit.
 fn put_descriptors(table: &[u8], pen: Pen, out: &mut [u8]) -> Pen
     requires { ⌜ Fine pen
-        × (fitting (loops (tableIn (now table) .kind) (tableIn (now table) .descriptors)) ≡ true)
-        × (pen .at + ready pen (loops (tableIn (now table) .kind) (tableIn (now table) .descriptors)) ≤ length (now out)) ⌝ }
+        × (fitting (loops (tableIn (now table) .kind) (tableIn (now table) .descriptors)) ≡ true) ⌝ }
     ensures { λ r.
         ⌜ (r ≡ moved pen (loops (tableIn (now (table .entry)) .kind) (tableIn (now (table .entry)) .descriptors)))
         × (now (out .exit)
@@ -165,7 +139,7 @@ fn put_descriptors(table: &[u8], pen: Pen, out: &mut [u8]) -> Pen
         let id = lent_bytes::byte_at(table, i);
         let entries = lent_bytes::byte_at(table, i + 1);
         let words = forms::words_of(kind, entries);
-        let q = put(p, HEADING, entries * 64 + id, out);
+        let q = pen::lay(p, HEADING, entries * 64 + id, out);
         p = put_words(table, i + 2, words, q, out);
         i += 2 + 3 * words;
         left -= 1;
@@ -176,8 +150,7 @@ fn put_descriptors(table: &[u8], pen: Pen, out: &mut [u8]) -> Pen
 // Lays the k words from a place of the form on.
 fn put_words(table: &[u8], from: usize, k: usize, pen: Pen, out: &mut [u8]) -> Pen
     requires { ⌜ Fine pen
-        × (from + 3 * k ≤ formMost)
-        × (pen .at + ready pen (alike 24 (wordsIn k (drop from (now table)))) ≤ length (now out)) ⌝ }
+        × (from + 3 * k ≤ formMost) ⌝ }
     ensures { λ r.
         ⌜ (r ≡ moved pen (alike 24 (wordsIn k (drop from (now (table .entry))))))
         × (now (out .exit) ≡ inked pen (alike 24 (wordsIn k (drop from (now (table .entry))))) (now (out .entry))) ⌝ }
@@ -186,26 +159,9 @@ fn put_words(table: &[u8], from: usize, k: usize, pen: Pen, out: &mut [u8]) -> P
     let mut i = from;
     let mut left = k;
     while 0 < left {
-        p = put(p, WORD, forms::word_at(table, i), out);
+        p = pen::lay(p, WORD, forms::word_at(table, i), out);
         i += 3;
         left -= 1;
     }
     p
-}
-
-// Lays one field of at most 32 bits.
-fn put(pen: Pen, w: usize, v: usize, out: &mut [u8]) -> Pen
-    requires { ⌜ Fine pen × (w ≤ 32) × (v < 2 ^ w) × (pen .at + ready pen ((w, v) ∷ []) ≤ length (now out)) ⌝ }
-    ensures { λ r. ⌜ (r ≡ moved pen ((w, v) ∷ [])) × (now (out .exit) ≡ inked pen ((w, v) ∷ []) (now (out .entry))) ⌝ }
-{
-    let mut at = pen.at;
-    let mut held = pen.held + w;
-    let mut bits = pen.bits + (v << pen.held);
-    while 4 <= held {
-        out[at] = octet::image((bits % 16) as u8);
-        bits /= 16;
-        held -= 4;
-        at += 1;
-    }
-    Pen { at, held, bits }
 }

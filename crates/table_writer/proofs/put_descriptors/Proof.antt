@@ -5,19 +5,18 @@ use mathlib.Core.Path.{_≡_, _∙_, refl, sym, ap}
 use mathlib.Core.Bool.{true}
 use mathlib.Core.List.{List}
 use Prim.Native.Nat.{ℕ, _+_, _*_, _≤_}
-use native.Mathlib.Nat.{le-trans, le-of-eq}
 use native.Mathlib.Omega.{arith}
 use lib.ListN.{length, drop}
 use denote.Ref.{now}
 use Rattle.laws.proofs.Countdown.{at-none}
 use Rattle.fields.specs.Fields.{Field, fitting}
+use Rattle.fields.specs.Pens.{inked, moved, Fine}
+use Rattle.fields.proofs.Inking.{none-left, none-inked}
 use Rattle.forms.specs.Tables.{per, loops}
 use Rattle.forms.specs.Form.{descriptorsIn, tableIn}
 use Rattle.forms.specs.Internal.{descriptorMost, formMost}
 use Rattle.forms.proofs.Measures.{words-counted}
-use Rattle.table_writer.specs.Internal.{inked, moved, Fine}
-use Rattle.table_writer.proofs.Inking.{room-on, none-left, none-inked}
-use Rattle.table_writer.proofs.Descriptors.{Ahead, heading-lt, few-words, fit-on, room-heading, fine-heading, room-words, fine-descriptor, on-descriptor, inked-descriptor}
+use Rattle.table_writer.proofs.Descriptors.{Ahead, few-words, fit-on, fine-heading, fine-descriptor, on-descriptor, inked-descriptor}
 use Rattle.table_writer.proofs.put_descriptors.Statement.{statement}
 use Rattle.table_writer.proofs.put_descriptors.Tie as tie
 
@@ -39,37 +38,11 @@ loop-holds c =
     let n = c .byte-at2 .ensures .0 in
     (s .pre .0, refl, omega (arith, c .byte-at2 .ensures .1), rw (e, n) (s .pre .1), rw (e, n) refl, rw (e, n) refl)
 
-mul-put : tie.Need-mul-put Inv-loop μ-loop
-mul-put c = omega (arith, c .before .byte-at4 .ensures .1)
+mul-lay : tie.Need-mul-lay Inv-loop μ-loop
+mul-lay c = omega (arith, c .before .byte-at4 .ensures .1)
 
-add-put : tie.Need-add-put Inv-loop μ-loop
-add-put c = omega (arith, c .before .byte-at4 .ensures .1, c .before .before .byte-at3 .ensures .1)
-
-put-requires : tie.Need-put-requires Inv-loop μ-loop
-put-requires c κs =
-    let l = c .before .before .before .before .before .loop in
-    let s = c .before .before .before .before .before .before .before .before .before .before in
-    let f : List ℕ = now (s .args .table) in
-    let kind = c .before .before .before .before .before .before .before .byte-at .result in
-    let d = c .before .before .before .byte-at3 in
-    let n = c .before .before .byte-at4 in
-    let w = c .before .words-of in
-    let ahead : Ahead kind (l .left) (l .i) (d .result) (n .result) (w .result) f =
-    record {
-      some = search needs;
-      its-id = d .ensures .0;
-      its-entries = n .ensures .0;
-      its-words = words-counted _ _ _ _ (w .ensures .0) (n .ensures .1) refl;
-      fit = l .inv .3;
-    } in
-    let room =
-    room-on (l .p) (s .args .pen) (loops kind (descriptorsIn (per kind) (l .left) (drop (l .i) f)))
-    (loops (tableIn f .kind) (tableIn f .descriptors)) (length (now (s .args .out))) (l .inv .4) (s .pre .2) in (
-      l .inv .0,
-      search needs,
-      heading-lt ahead,
-      room-heading ahead (l .p) _ (rw (l .inv .1) room),
-    )
+add-lay : tie.Need-add-lay Inv-loop μ-loop
+add-lay c = omega (arith, c .before .byte-at4 .ensures .1, c .before .before .byte-at3 .ensures .1)
 
 add-put-words : tie.Need-add-put-words Inv-loop μ-loop
 add-put-words c = omega (arith, c .before .before .before .before .before .before .before .before .loop .inv .2)
@@ -83,7 +56,7 @@ put-words-requires c κs =
     let d = c .before .before .before .before .before .before .before .byte-at3 in
     let n = c .before .before .before .before .before .before .byte-at4 in
     let w = c .before .before .before .before .before .words-of in
-    let q = c .before .before .before .put in
+    let q = c .before .before .before .lay in
     let ahead : Ahead kind (l .left) (l .i) (d .result) (n .result) (w .result) f =
     record {
       some = c .before .before .before .before .before .before .before .before .loop-test .taken;
@@ -91,15 +64,9 @@ put-words-requires c κs =
       its-entries = n .ensures .0;
       its-words = words-counted _ _ _ _ (w .ensures .0) (n .ensures .1) refl;
       fit = l .inv .3;
-    } in
-    let room =
-    room-on (l .p) (s .args .pen) (loops kind (descriptorsIn (per kind) (l .left) (drop (l .i) f)))
-    (loops (tableIn f .kind) (tableIn f .descriptors)) (length (now (s .args .out))) (l .inv .4) (s .pre .2) in (
-      fine-heading ahead (l .p) _ room (q .ensures .0),
+    } in (
+      fine-heading ahead (l .p) (q .ensures .0),
       omega (arith, l .inv .2, w .ensures .1, n .ensures .1),
-      le-trans
-          (room-words ahead (l .p) _ room (q .ensures .0))
-          (le-of-eq (sym (q .kept .1 .1 .1 .0 ∙ l .inv .1))),
     )
 
 mul-i : tie.Need-mul-i Inv-loop μ-loop
@@ -125,7 +92,7 @@ loop-again c =
     let d = c .before .before .before .before .before .before .before .before .before .before .byte-at3 in
     let n = c .before .before .before .before .before .before .before .before .before .byte-at4 in
     let w = c .before .before .before .before .before .before .before .before .words-of in
-    let q = c .before .before .before .before .before .before .put in
+    let q = c .before .before .before .before .before .before .lay in
     let r = c .before .before .put-words in
     let ahead : Ahead kind (l .left) (l .i) (d .result) (n .result) (w .result) f =
     record {
@@ -134,16 +101,13 @@ loop-again c =
       its-entries = n .ensures .0;
       its-words = words-counted _ _ _ _ (w .ensures .0) (n .ensures .1) refl;
       fit = l .inv .3;
-    } in
-    let room =
-    room-on (l .p) (s .args .pen) (loops kind (descriptorsIn (per kind) (l .left) (drop (l .i) f)))
-    (loops (tableIn f .kind) (tableIn f .descriptors)) (length (now (s .args .out))) (l .inv .4) (s .pre .2) in (
-      fine-descriptor ahead (l .p) _ room (q .ensures .0) (r .ensures .0),
+    } in (
+      fine-descriptor ahead (l .p) (q .ensures .0) (r .ensures .0),
       r .kept .1 .1 .1 .1 .0 ∙ q .kept .1 .1 .1 .0 ∙ l .inv .1,
       omega (arith, l .inv .2, w .ensures .1, few-words ahead),
       fit-on ahead,
-      on-descriptor ahead (l .p) _ room (q .ensures .0) (r .ensures .0) ∙ l .inv .4,
-      inked-descriptor ahead (l .p) _ room (q .ensures .0) (r .ensures .0) (l .out) (q .ensures .1) (r .ensures .1) ∙ l .inv .5,
+      on-descriptor ahead (l .p) (q .ensures .0) (r .ensures .0) ∙ l .inv .4,
+      inked-descriptor ahead (l .p) (q .ensures .0) (r .ensures .0) (l .out) (omega (arith, l .inv .1, s .good .1 .1 .0 .0)) (q .ensures .1) (r .ensures .1) ∙ l .inv .5,
     )
 
 same-length : tie.Need-same-length Inv-loop μ-loop
@@ -174,9 +138,9 @@ put-descriptors-spec =
     (λ c. search needs)
     (λ c κs. search needs)
     (λ c κs. search needs)
-    mul-put
-    add-put
-    put-requires
+    mul-lay
+    add-lay
+    (λ c κs. search needs)
     add-put-words
     put-words-requires
     mul-i

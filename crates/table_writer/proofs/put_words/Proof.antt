@@ -4,14 +4,15 @@ use borrow.Author.Needs.{needs}
 use mathlib.Core.Path.{_≡_, _∙_, refl, sym, ap}
 use mathlib.Core.List.{List, [], _∷_}
 use Prim.Native.Nat.{ℕ, _+_, _-_, _*_, _≤_}
+use native.Mathlib.Omega.{arith}
 use lib.ListN.{length, drop}
 use denote.Ref.{now}
 use Rattle.laws.proofs.Countdown.{at-none}
 use Rattle.fields.specs.Fields.{Field, alike}
+use Rattle.fields.specs.Pens.{inked, moved, Fine}
+use Rattle.fields.proofs.Inking.{on-moved, on-inked, on-fine, none-left, none-inked}
 use Rattle.forms.specs.Form.{wordsIn}
 use Rattle.forms.specs.Internal.{formMost}
-use Rattle.table_writer.specs.Internal.{inked, moved, Fine}
-use Rattle.table_writer.proofs.Inking.{room-first, room-on, on-moved, on-inked, on-fine, none-left, none-inked}
 use Rattle.table_writer.proofs.Looped.{alike-on}
 use Rattle.table_writer.proofs.put_words.Statement.{statement}
 use Rattle.table_writer.proofs.put_words.Tie as tie
@@ -28,22 +29,6 @@ abbrev μ-loop : tie.MeasureT-loop
 loop-holds : tie.Need-loop-holds Inv-loop μ-loop
 loop-holds c = (c .before .before .pre .0, refl, search needs, refl, refl)
 
-put-requires : tie.Need-put-requires Inv-loop μ-loop
-put-requires c κs =
-    let l = c .before .before .before .loop in
-    let s = c .before .before .before .before .before .before in
-    let f : List ℕ = now (s .args .table) in
-    let w = c .before .word-at in
-    let rest : List Field = alike 24 (wordsIn (l .left - 1) (drop (l .i + 3) f)) in
-    let now-left : List Field = alike 24 (wordsIn (l .left) (drop (l .i) f)) in
-    let e = alike-on (l .left) (l .i) (w .result) f (search needs) (w .ensures .0) in
-    let room = room-on (l .p) (s .args .pen) now-left (alike 24 (wordsIn (s .args .k) (drop (s .args .from) f))) (length (now (s .args .out))) (l .inv .3) (s .pre .2) in (
-      l .inv .0,
-      search needs,
-      w .ensures .1,
-      room-first (l .p) ((24, w .result) ∷ []) rest _ (rw (← e) (rw (l .inv .1) room)),
-    )
-
 loop-less : tie.Need-loop-less Inv-loop μ-loop
 loop-less c = search needs
 
@@ -53,7 +38,7 @@ loop-again c =
     let s = c .before .before .before .before .before .before .before .before .before in
     let f : List ℕ = now (s .args .table) in
     let w = c .before .before .before .before .word-at in
-    let d = c .before .before .put in
+    let d = c .before .before .lay in
     let rest : List Field = alike 24 (wordsIn (l .left - 1) (drop (l .i + 3) f)) in
     let now-left : List Field = alike 24 (wordsIn (l .left) (drop (l .i) f)) in
     let e = alike-on (l .left) (l .i) (w .result) f (search needs) (w .ensures .0) in (
@@ -61,7 +46,7 @@ loop-again c =
       d .kept .1 .1 .1 .0 ∙ l .inv .1,
       search needs,
       on-moved (l .p) ((24, w .result) ∷ []) rest now-left e (d .ensures .0) ∙ l .inv .3,
-      on-inked (l .p) ((24, w .result) ∷ []) rest now-left e (d .ensures .0) (l .out) (d .ensures .1) ∙ l .inv .4,
+      on-inked (l .p) ((24, w .result) ∷ []) rest now-left e (d .ensures .0) (l .out) (omega (arith, l .inv .1, s .good .1 .1 .1 .1 .0 .0)) (d .ensures .1) ∙ l .inv .4,
     )
 
 same-length : tie.Need-same-length Inv-loop μ-loop
@@ -86,7 +71,7 @@ put-words-spec =
     μ-loop
     loop-holds
     (λ c κs. search needs)
-    put-requires
+    (λ c κs. search needs)
     (λ c. search needs)
     (λ c. search needs)
     loop-less

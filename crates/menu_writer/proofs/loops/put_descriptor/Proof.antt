@@ -6,6 +6,7 @@ use Prim.Native.Nat.{ℕ}
 use lib.Seq.{sets}
 use denote.Ref.{now}
 use Rattle.octet.specs.Image.{image}
+use Rattle.fields.proofs.Inking.{run-inked}
 use Rattle.menu_writer.proofs.Entries.{descriptor-number}
 use Rattle.menu_writer.proofs.loops.put_descriptor.Statement.{statement}
 use Rattle.menu_writer.proofs.loops.put_descriptor.Tie as tie
@@ -17,7 +18,7 @@ returns c =
     let i = c .before .before .before .before .before .byte-at2 in
     let e = c .before .before .before .before .byte-at3 in
     let n = descriptor-number (now (a .form)) (a .at) (w .result) (i .result) (e .result) (w .ensures .0) (i .ensures .0) (e .ensures .0) (e .ensures .1) in
-    (refl, c .before .before .put-nibbles .ensures ∙ ap (λ (l : List ℕ). sets (now (a .out)) (a .to) (map image l)) (sym n))
+    (refl, c .before .before .put-field .ensures ∙ run-inked _ 5 _ _ ∙ ap (λ (l : List ℕ). sets (now (a .out)) (a .to) (map image l)) (sym n))
 
 pub put-descriptor-spec : {M : Type 1} → statement M
 put-descriptor-spec =

@@ -6,6 +6,7 @@ use Prim.Native.Nat.{ℕ}
 use lib.Seq.{sets}
 use denote.Ref.{now}
 use Rattle.octet.specs.Image.{image}
+use Rattle.fields.proofs.Inking.{run-inked}
 use Rattle.menu_writer.proofs.Entries.{escape-number}
 use Rattle.menu_writer.proofs.loops.put_escape.Statement.{statement}
 use Rattle.menu_writer.proofs.loops.put_escape.Tie as tie
@@ -20,7 +21,7 @@ returns c =
     let n =
     escape-number (now (a .form)) (a .at) (x .result) (y .result) (m .result) (e .result) (x .ensures .0) (y .ensures .0) (m .ensures .0) (e .ensures .0)
     (x .ensures .1) (y .ensures .1) (e .ensures .1) in
-    (refl, c .before .before .put-nibbles .ensures ∙ ap (λ (l : List ℕ). sets (now (a .out)) (a .to) (map image l)) (sym n))
+    (refl, c .before .before .put-field .ensures ∙ run-inked _ 6 _ _ ∙ ap (λ (l : List ℕ). sets (now (a .out)) (a .to) (map image l)) (sym n))
 
 pub put-escape-spec : {M : Type 1} → statement M
 put-escape-spec =

@@ -9,6 +9,7 @@ use lib.Seq.{sets}
 use denote.Ref.{now}
 use Rattle.octet.specs.Image.{image}
 use Rattle.fields.specs.Fields.{parts}
+use Rattle.fields.proofs.Inking.{run-inked}
 use Rattle.menu_forms.specs.Rows.{each}
 use Rattle.menu_forms.specs.Menus.{zeros, fields, openingFields, fillFields, textFields, eventFields}
 use Rattle.menu_forms.specs.Form.{textIn, menuIn}
@@ -35,7 +36,7 @@ put-events-requires c κs =
 
 same-length : tie.Need-same-length
 same-length c =
-    c .before .before .put-events .kept .1 .1 .1 .0 ∙ c .before .before .before .before .before .before .before .put-nibbles .kept .1 .1 .0 ∙ c .before .before .before .before .before .before .before .before .before .before .before .before .put-text .kept .1 .1 .0 ∙ c .before .before .before .before .before .before .before .before .before .before .before .before .before .before .before .before .put-fill .kept .1 .0
+    c .before .before .put-events .kept .1 .1 .1 .0 ∙ c .before .before .before .before .before .before .before .put-field .kept .1 .1 .0 ∙ c .before .before .before .before .before .before .before .before .before .before .before .before .put-text .kept .1 .1 .0 ∙ c .before .before .before .before .before .before .before .before .before .before .before .before .before .before .before .before .put-fill .kept .1 .0
     ∙ c .before .before .before .before .before .before .before .before .before .before .before .before .before .before .before .before .before .before .before .before .put-entries .kept .1 .1 .1 .1 .0
     ∙ c .before .before .before .before .before .before .before .before .before .before .before .before .before .before .before .before .before .before .before .before .before .before .before .before .put-opening .kept .1 .1 .0
 
@@ -50,7 +51,7 @@ returns c =
     let w = c .before .before .before .before .before .before .before .before .before .before .before .before .before .before .before .before .put-fill in
     let t = c .before .before .before .before .before .before .before .before .before .before .before .before .put-text in
     let g = c .before .before .before .before .before .before .before .before .before .byte-at3 in
-    let m = c .before .before .before .before .before .before .before .put-nibbles in
+    let m = c .before .before .before .before .before .before .before .put-field in
     let e = c .before .before .put-events in
     let O = map image (inNibbles (openingFields 0 (a .control) zeros (menuIn f))) in
     let D = loopBytes Descriptors (d .result) (drop 9 f) in
@@ -63,7 +64,7 @@ returns c =
     ∙ ap (λ (x : ℕ). O ++ (D ++ (F ++ (H ++ (map image (parts 4 2 x) ++ E))))) (sym (g .ensures .0)) in
     let last : t .result .to + 2 ≡ t .result .to + length M = ap (λ (k : ℕ). t .result .to + k) (sym (sent-length 2 (g .result))) in
     e .ensures .1
-    ∙ store-on M E (t .result .to) (t .result .to + 2) last (t .last .1 .1 .0) (m .last .1 .1 .0) (m .ensures)
+    ∙ store-on M E (t .result .to) (t .result .to + 2) last (t .last .1 .1 .0) (m .last .1 .1 .0) (m .ensures ∙ run-inked _ 2 _ _)
     ∙ store-on H (M ++ E) (w .result) (t .result .to) (t .ensures .1) (w .last .1 .0) (t .last .1 .1 .0) (t .ensures .4)
     ∙ store-on F (H ++ (M ++ E)) (s .result .to) (w .result) (w .ensures .0) (s .last .1 .1 .1 .1 .0) (w .last .1 .0) (w .ensures .2)
     ∙ store-on D (F ++ (H ++ (M ++ E))) 19 (s .result .to) (s .ensures .1) (o .last .1 .1 .0) (s .last .1 .1 .1 .1 .0) (s .ensures .4)

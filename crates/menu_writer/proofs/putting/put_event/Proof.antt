@@ -9,6 +9,7 @@ use lib.Seq.{sets}
 use denote.Ref.{now}
 use Rattle.octet.specs.Image.{image}
 use Rattle.fields.specs.Fields.{parts}
+use Rattle.fields.proofs.Inking.{run-inked}
 use Rattle.menu_forms.specs.Menus.{textFields}
 use Rattle.menu_forms.specs.Form.{textIn}
 use Rattle.menu_forms.specs.Block.{inNibbles}
@@ -46,7 +47,7 @@ returns c =
       omega (arith, s .ensures .2, t .ensures .2, n .ensures .1),
       omega (arith, s .ensures .3, t .ensures .3, n .ensures .1),
       two-stores (xs ++ ys) zs (a .to) (s .result .to) q (now (a .out)) (s .last .1 .1 .1 .1 .0) _
-          (two-stores xs ys (a .to) (a .to + 6) first (now (a .out)) (c .before .before .before .before .before .before .before .before .before .before .put-nibbles .last .1 .1 .0) _ (c .before .before .before .before .before .before .before .before .before .before .put-nibbles .ensures) (s .ensures .4))
+          (two-stores xs ys (a .to) (a .to + 6) first (now (a .out)) (c .before .before .before .before .before .before .before .before .before .before .put-field .last .1 .1 .0) _ (c .before .before .before .before .before .before .before .before .before .before .put-field .ensures ∙ run-inked _ 6 _ _) (s .ensures .4))
           (t .ensures .4)
           ∙ ap (λ (l : List ℕ). sets (now (a .out)) (a .to) l) (grouped ∙ sym sent),
     )

@@ -7,6 +7,7 @@ use native.Mathlib.Nat.{add-zero}
 use lib.ListN.{length}
 use lib.Seq.{sets}
 use denote.Ref.{now}
+use Rattle.fields.proofs.Inking.{run-inked}
 use Rattle.menu_writer.proofs.Entries.{sent-length}
 use Rattle.menu_writer.proofs.Wholes.{even-fill, odd-fill}
 use Rattle.menu_writer.proofs.putting.put_fill.Statement.{statement}
@@ -18,7 +19,7 @@ returns c =
     let s = even-fill (a .descriptors) (c .before .before .before .before .if1 .taken) in (
       sym (ap (λ (l : List ℕ). a .to + length l) s ∙ ap (λ (k : ℕ). a .to + k) (sent-length 1 0)),
       search needs,
-      c .before .before .put-nibbles .ensures ∙ ap (λ (l : List ℕ). sets (now (a .out)) (a .to) l) (sym s),
+      c .before .before .put-field .ensures ∙ run-inked _ 1 _ _ ∙ ap (λ (l : List ℕ). sets (now (a .out)) (a .to) l) (sym s),
     )
 
 returns-2 : tie.Need-returns-2

@@ -8,6 +8,7 @@ use lib.Seq.{sets}
 use denote.Ref.{now}
 use Rattle.octet.specs.Image.{image}
 use Rattle.fields.specs.Fields.{parts}
+use Rattle.fields.proofs.Inking.{run-inked}
 use Rattle.menu_writer.proofs.Entries.{sent-length}
 use Rattle.menu_writer.proofs.Storing.{two-stores}
 use Rattle.menu_writer.proofs.Wholes.{opening-numbers}
@@ -31,7 +32,7 @@ returns c =
     let xs = map image (parts 4 7 first) in
     let ys = map image (parts 4 8 second) in
     let place : 11 ≡ 4 + length xs = ap (λ (k : ℕ). 4 + k) (sym (sent-length 7 first)) in
-    two-stores xs ys 4 11 place (now (a .out)) (c .before .before .before .before .before .before .put-nibbles .last .1 .1 .0) _ (c .before .before .before .before .before .before .put-nibbles .ensures) (c .before .before .put-nibbles2 .ensures)
+    two-stores xs ys 4 11 place (now (a .out)) (c .before .before .before .before .before .before .put-field .last .1 .1 .0) _ (c .before .before .before .before .before .before .put-field .ensures ∙ run-inked _ 7 _ _) (c .before .before .put-field2 .ensures ∙ run-inked _ 8 _ _)
     ∙ ap (λ (l : List ℕ). sets (now (a .out)) 4 l)
     (sym
     (opening-numbers f (a .control) (v .result) (x .result) (y .result) (h .result) (m .result) (d .result) (n .result) (v .ensures .0) (x .ensures .0) (y .ensures .0)

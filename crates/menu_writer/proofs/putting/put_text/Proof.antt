@@ -9,6 +9,7 @@ use lib.Seq.{sets}
 use denote.Ref.{now}
 use Rattle.octet.specs.Image.{image}
 use Rattle.fields.specs.Fields.{parts}
+use Rattle.fields.proofs.Inking.{run-inked}
 use Rattle.menu_writer.specs.declared.Loop.the-variants.{Escapes}
 use Rattle.menu_writer.specs.Internal.{loopBytes}
 use Rattle.menu_writer.proofs.Entries.{sent-length}
@@ -38,8 +39,8 @@ returns c =
       omega (arith, s .ensures .2, e .ensures .1, n .ensures .1),
       omega (arith, s .ensures .3, e .ensures .1),
       two-stores (xs ++ ys) zs (a .to) (s .result .to) q (now (a .out)) (s .last .1 .1 .1 .1 .0) _
-          (two-stores xs ys (a .to) (a .to + 2) first (now (a .out)) (c .before .before .before .before .before .before .before .before .before .before .before .before .put-nibbles .last .1 .1 .0) _ (c .before .before .before .before .before .before .before .before .before .before .before .before .put-nibbles .ensures) (s .ensures .4))
-          (c .before .before .before .before .put-nibbles2 .ensures)
+          (two-stores xs ys (a .to) (a .to + 2) first (now (a .out)) (c .before .before .before .before .before .before .before .before .before .before .before .before .put-field .last .1 .1 .0) _ (c .before .before .before .before .before .before .before .before .before .before .before .before .put-field .ensures ∙ run-inked _ 2 _ _) (s .ensures .4))
+          (c .before .before .before .before .put-field2 .ensures ∙ run-inked _ 2 _ _)
           ∙ ap (λ (l : List ℕ). sets (now (a .out)) (a .to) l) (grouped ∙ sym sent),
     )
 
