@@ -13,7 +13,7 @@ use Rattle.fields.proofs.Laid.{width-append}
 use Rattle.codecs.specs.Rows.{each, rowed}
 use Rattle.codecs.proofs.Codes.{each-alike}
 use Rattle.codecs.proofs.Lawful.{values-width}
-use Rattle.kinds.specs.Kind.{Content, control, strings, size}
+use Rattle.kinds.specs.Kind.{Content, bits, control, strings, size}
 use Rattle.kinds.proofs.Fronts.{bits-of}
 use Rattle.information_forms.specs.Rows.{rowBytes, rowForm}
 use Rattle.information_forms.specs.Information.{Network, Information, openingWidths, networkWidths, networkCount, networkFormat, fillUp, Behind, behind, names}
@@ -76,6 +76,13 @@ module _ (c : Content Behind) where
   control-of h =
       let even : (25 * count + count % 2) % 2 ≡ 0 = omega arith in
       let own : networkCount (c .body .0) % 2 ≡ count % 2 = ap (λ (x : ℕ). x % 2) (sym h) in
+      omega (arith, bits-of information c, behind-width (c .body), own, even)
+
+  -- whose fields are all of it
+  pub bits-whole : count ≡ networkCount (value c .opening) → bits information c ≡ 8 * control information c
+  bits-whole h =
+      let own : networkCount (c .body .0) % 2 ≡ count % 2 = ap (λ (x : ℕ). x % 2) (sym h) in
+      let even : (25 * count + count % 2) % 2 ≡ 0 = omega arith in
       omega (arith, bits-of information c, behind-width (c .body), own, even)
 
   -- all codes: the service's name, then the networks' in their order
