@@ -1,22 +1,22 @@
--- What is laid is read back, and what is read fits and is laid again as it was: for a number, for bits that fill, for numbers in a row,
--- for a string, for one thing behind another, for a row, for a value that another stands for, for a row with its count. Assumes nothing.
+-- What is laid is read back, and what is read fits and is laid again as it was: for a number, for bits that fill, for numbers in a row, of
+-- one width or of given widths, for a string, for one thing behind another, for a row, for a value that another stands for, for a row with its count. Assumes nothing.
 use mathlib.Core.Path.{_≡_, _∙_, refl, sym, ap, ap₂, subst}
 use mathlib.Core.Bool.{Bool, true, false}
 use mathlib.Core.List.{List, [], _∷_, _++_, append-nil, append-assoc}
-use Prim.Native.Nat.{ℕ, zero, suc, _+_, _*_, _/_, _^_}
-use native.Mathlib.Nat.{div-one, mod-eq-of-lt}
+use Prim.Native.Nat.{ℕ, zero, suc, _+_, _*_, _/_, _^_, _<_}
+use native.Mathlib.Nat.{add-zero, div-one, mod-eq-of-lt}
 use native.Mathlib.Omega.{arith}
 use borrow.Author.Tests.{ltb-true, lt-ltb, eqb-true, eq-eqb}
 use lib.Dec.{ltb, eqb}
-use lib.ListN.{length, drop}
+use lib.ListN.{length, getD, take, drop}
 use lib.Pow.{shr-shr}
 use lib.Seq.{drop-append-seam}
 use Rattle.laws.specs.Pick.{both}
 use Rattle.laws.proofs.Tests.{both-true, both-holds}
 use Rattle.fields.specs.Fields.{Field, alike, width, laid, fitting, field, parts}
-use Rattle.fields.proofs.Laid.{field-lt, field-first, laid-first, laid-append, laid-drop, width-append, width-row, fitting-append, fitting-parts, length-parts, parts-laid, lay, lay-parts}
-use Rattle.codecs.specs.Rows.{each, codesIn}
-use Rattle.codecs.specs.Codec.{Codec, past, left, number, filling, numbers, codes, then, rowRead, rowWhole, row, seen, counted}
+use Rattle.fields.proofs.Laid.{field-lt, field-first, laid-first, laid-next, field-past, laid-append, laid-drop, width-append, width-row, fitting-append, fitting-parts, length-parts, parts-laid, lay, lay-parts}
+use Rattle.codecs.specs.Rows.{each, codesIn, rowed, valuesIn}
+use Rattle.codecs.specs.Codec.{Codec, past, left, number, filling, numbers, values, codes, then, rowRead, rowWhole, row, seen, counted}
 use Rattle.codecs.proofs.Codes.{Begins, begins-none, begins-append, begins-codes, codes-back, codes-count}
 
 pub record Lawful {A : Type 0} (c : Codec A) : Type 0 where
@@ -152,6 +152,64 @@ module _ {A B : Type 0} {c : Codec A} {d : A → Codec B} (p : Lawful c) (q : (a
           ap₂ (d (x .0) .read) (above-first p (x .0) gs ss rest more (w .0) h) (behind-first p (x .0) gs ss rest more (w .0) h)
           ∙ q (x .0) .back (x .1) rest more (w .1) (parted p (x .0) gs ss rest more (w .0) h .1) in
           ap (λ (r : A). (r, d r .read (past c m cs) (left c m cs))) first ∙ ap (λ (y : B). (x .0, y)) second
+
+-- ---- numbers of given widths
+
+values-back :
+    (ws vs : List ℕ) (rest : ℕ) → length vs ≡ length ws → fitting (rowed ws vs) ≡ true → valuesIn ws (laid (rowed ws vs) rest) ≡ vs
+unfolding valuesIn rowed fitting
+values-back [] [] rest e h = refl
+values-back [] (v ∷ vs) rest e h = absurd (omega arith)
+values-back (w ∷ ws) [] rest e h = absurd (omega arith)
+values-back (w ∷ ws) (v ∷ vs) rest e h =
+    let p = both-true (ltb v (2 ^ w)) (fitting (rowed ws vs)) h in
+    let fs : List Field = rowed ws vs in
+    ap₂ (λ (x : ℕ) (xs : List ℕ). x ∷ xs)
+    (field-first w _ ∙ laid-first (w, v) fs rest ∙ mod-eq-of-lt (ltb-true v (2 ^ w) (p .0)))
+    (ap (valuesIn ws) (laid-next (w, v) fs rest) ∙ values-back ws vs rest (omega arith) (p .1))
+
+pub values-count : (ws : List ℕ) (n : ℕ) → length (valuesIn ws n) ≡ length ws
+unfolding valuesIn
+values-count [] n = refl
+values-count (w ∷ ws) n = ap suc (values-count ws (n / 2 ^ w))
+
+values-fit : (ws : List ℕ) (n : ℕ) → fitting (rowed ws (valuesIn ws n)) ≡ true
+unfolding valuesIn rowed fitting
+values-fit [] n = refl
+values-fit (w ∷ ws) n = rw (lt-ltb (field 0 w n) (2 ^ w) (field-lt 0 w n)) (values-fit ws (n / 2 ^ w))
+
+values-again : (ws : List ℕ) (n : ℕ) → n ≡ laid (rowed ws (valuesIn ws n)) (n / 2 ^ width (rowed ws (valuesIn ws n)))
+unfolding valuesIn rowed
+values-again [] n = none-again n
+values-again (w ∷ ws) n =
+    let fs : List Field = (w, field 0 w n) ∷ [] in
+    let gs : List Field = rowed ws (valuesIn ws (n / 2 ^ w)) in
+    let wide : width fs ≡ w = unfold width in add-zero w in
+    both-again n fs gs (number-lawful w .again n []) (rw wide (values-again ws (n / 2 ^ w)))
+
+-- the value i stands behind the bits of those before it
+pub value-at : (ws : List ℕ) (n i : ℕ) → i < length ws → getD (valuesIn ws n) i 0 ≡ field (width (rowed (take i ws) [])) (getD ws i 0) n
+unfolding valuesIn rowed width
+value-at [] n i h = absurd (omega arith)
+value-at (w ∷ ws) n zero h = refl
+value-at (w ∷ ws) n (suc i) h =
+    value-at ws (n / 2 ^ w) i (omega arith) ∙ field-past (width (rowed (take i ws) [])) (getD ws i 0) w n
+
+-- the widths alone say how many bits they take
+pub values-width : (ws us vs : List ℕ) → width (rowed ws us) ≡ width (rowed ws vs)
+unfolding rowed width
+values-width [] us vs = refl
+values-width (w ∷ ws) us vs = ap (λ (x : ℕ). w + x) (values-width ws (drop 1 us) (drop 1 vs))
+
+pub values-lawful : (ws : List ℕ) → Lawful (values ws)
+values-lawful ws =
+    record {
+      back = λ l rest more e h. values-back ws l rest (eqb-true (length l) (length ws) e) h;
+      entire = λ n cs. eq-eqb (length (valuesIn ws n)) (length ws) (values-count ws n);
+      fits = λ n cs. values-fit ws n;
+      again = λ n cs. values-again ws n;
+      begins = λ n cs. begins-none cs;
+    }
 
 -- ---- a row
 

@@ -7,7 +7,7 @@ use lib.Dec.{eqb}
 use lib.ListN.{length, drop}
 use Rattle.laws.specs.Pick.{pick, both, either}
 use Rattle.fields.specs.Fields.{Field, alike, width, fitting, field, parts}
-use Rattle.codecs.specs.Rows.{each, codesIn}
+use Rattle.codecs.specs.Rows.{each, codesIn, rowed, valuesIn}
 
 pub record Codec (A : Type 0) : Type 0 where
   pub fields : A → List Field
@@ -42,6 +42,11 @@ filling is w =
 -- k numbers of w bits each
 abbrev pub numbers : ℕ → ℕ → Codec (List ℕ)
 numbers w k = record { fields = alike w; strings = λ l. []; read = λ n cs. parts w k n; whole = λ l. eqb (length l) k }
+
+-- a number of each of these widths, one behind the other
+abbrev pub values : List ℕ → Codec (List ℕ)
+values ws =
+    record { fields = rowed ws; strings = λ l. []; read = λ n cs. valuesIn ws n; whole = λ l. eqb (length l) (length ws) }
 
 -- a string of k codes
 abbrev pub codes : ℕ → Codec (List ℕ)

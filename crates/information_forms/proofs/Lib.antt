@@ -1,0 +1,6 @@
+pub mod Rowed
+pub mod Formats
+pub mod Forms
+pub mod Formed
+pub mod Sizes
+pub mod Sending

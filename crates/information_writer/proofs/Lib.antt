@@ -1,0 +1,5 @@
+pub mod Along
+pub mod Listed
+pub mod Fits
+pub mod Penned
+pub mod Recorded

@@ -1,0 +1,2 @@
+-- Writing Application Information: what only its private calls cite.
+pub mod Internal
