@@ -26,6 +26,11 @@ pub(crate) const PLACES: usize = 2369;
 // A count goes no further: the greatest that a rule asks for is one less.
 const MOST: u16 = 256;
 
+// So many blocks of a kind a network may have, and so many this channel.
+const EACH: u16 = 1;
+
+const HERE: u16 = 2;
+
 // Tallies what a record counts as.
 pub(crate) fn count(tally: &mut [u16], seen: Seen)
     ensures { λ _. ⌜ now (tally .exit) ≡ Internal·tally (now (tally .entry)) seen ⌝ }
@@ -113,7 +118,7 @@ fn limit(network: u8, channel: u8) -> u16
     ensures { λ r. ⌜ r ≡ Lawful·limit 1 2 channel network ⌝ }
 {
     if network == channel {
-        return 2;
+        return HERE;
     }
-    1
+    EACH
 }

@@ -3,6 +3,7 @@ use borrow.Author.Needs.{needs}
 use mathlib.Core.Path.{_∙_, sym, ap}
 use mathlib.Core.List.{List, map}
 use Prim.Native.Nat.{ℕ}
+use native.Mathlib.Omega.{arith}
 use denote.Ref.{now}
 use lib.Dec.{eqb}
 use Rattle.broadcast.proofs.Counted.{kindless-high, kindless-cut, kindless-other, kindless-short, kind-sound}
@@ -21,13 +22,13 @@ returns-3 : tie.Need-returns-3
 returns-3 c =
     let b = c .before .before in
     let s = b .before .before .before .args in
-    kindless-other (s .application) (now (s .rec)) (b .before .if1 .left) (b .head-of .ensures .0) (c .before .if2 .left) (c .if3 .taken)
+    kindless-other (s .application) (now (s .rec)) (b .before .if1 .left) (b .head-of .ensures .0) (c .before .if2 .left) (λ e. omega (arith, c .if3 .taken, e))
 
 returns-4 : tie.Need-returns-4
 returns-4 c =
     let b = c .before .before .before in
     let s = b .before .before .before .args in
-    kindless-short (s .application) (now (s .rec)) (b .before .if1 .left) (b .head-of .ensures .0) (c .before .before .if2 .left) (c .before .if3 .left)
+    kindless-short (s .application) (now (s .rec)) (b .before .if1 .left) (b .head-of .ensures .0) (c .before .before .if2 .left) (omega (arith, c .before .if3 .left))
     (c .if4 .taken)
 
 returns-5 : tie.Need-returns-5
@@ -36,7 +37,7 @@ returns-5 c =
     let s = b .before .before .before .args in
     ap (λ (n : ℕ). eqb n 8) (c .sound .ensures)
     ∙ kind-sound (s .application) (now (s .rec)) (b .before .if1 .left) (b .head-of .ensures .0) (c .before .before .before .before .if2 .left)
-    (c .before .before .before .if3 .left)
+    (omega (arith, c .before .before .before .if3 .left))
     (c .before .before .if4 .left)
 
 pub has-kind-spec : {M : Type 1} → statement M

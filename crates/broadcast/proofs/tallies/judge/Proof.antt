@@ -14,15 +14,14 @@ returns : tie.Need-returns
 unfolding countsBy
 returns c =
     let s = c .before .before .before .args in
-    judged-ai (countsBy (now (s .tally)) (s .channel)) (λ e. c .if1 .taken (c .before .tallied-at .ensures ∙ e))
+    judged-ai (countsBy (now (s .tally)) (s .channel)) (λ e. omega (arith, c .before .tallied-at .ensures, c .if1 .taken, e))
 
 returns-2 : tie.Need-returns-2
 unfolding countsBy
 returns-2 c =
     let b = c .before .before in
     let s = b .before .before .before .args in
-    let ai = sym (b .before .tallied-at .ensures) ∙ b .if1 .left in
-    judged-mi (countsBy (now (s .tally)) (s .channel)) ai (omega (arith, c .before .tallied-at2 .ensures, c .if2 .taken))
+    judged-mi (countsBy (now (s .tally)) (s .channel)) (omega (arith, b .before .tallied-at .ensures, b .if1 .left)) (omega (arith, c .before .tallied-at2 .ensures, c .if2 .taken))
 
 returns-3 : tie.Need-returns-3
 unfolding countsBy
@@ -30,8 +29,7 @@ returns-3 c =
     let m = c .before .before in
     let b = m .before .before in
     let s = b .before .before .before .args in
-    let ai = sym (b .before .tallied-at .ensures) ∙ b .if1 .left in
-    judged-ui (countsBy (now (s .tally)) (s .channel)) ai (omega (arith, m .before .tallied-at2 .ensures, m .if2 .left))
+    judged-ui (countsBy (now (s .tally)) (s .channel)) (omega (arith, b .before .tallied-at .ensures, b .if1 .left)) (omega (arith, m .before .tallied-at2 .ensures, m .if2 .left))
     (omega (arith, c .before .tallied-at3 .ensures, c .if3 .taken))
 
 returns-4 : tie.Need-returns-4
@@ -41,8 +39,7 @@ returns-4 c =
     let m = u .before .before in
     let b = m .before .before in
     let s = b .before .before .before .args in
-    let ai = sym (b .before .tallied-at .ensures) ∙ b .if1 .left in
-    judged-li (countsBy (now (s .tally)) (s .channel)) ai (omega (arith, m .before .tallied-at2 .ensures, m .if2 .left))
+    judged-li (countsBy (now (s .tally)) (s .channel)) (omega (arith, b .before .tallied-at .ensures, b .if1 .left)) (omega (arith, m .before .tallied-at2 .ensures, m .if2 .left))
     (omega (arith, u .before .tallied-at3 .ensures, u .if3 .left))
     (sym (c .before .is-met .ensures) ∙ not-true _ (c .if4 .taken))
 
@@ -54,8 +51,7 @@ returns-5 c =
     let m = u .before .before in
     let b = m .before .before in
     let s = b .before .before .before .args in
-    let ai = sym (b .before .tallied-at .ensures) ∙ b .if1 .left in
-    judged-ti (countsBy (now (s .tally)) (s .channel)) ai (omega (arith, m .before .tallied-at2 .ensures, m .if2 .left))
+    judged-ti (countsBy (now (s .tally)) (s .channel)) (omega (arith, b .before .tallied-at .ensures, b .if1 .left)) (omega (arith, m .before .tallied-at2 .ensures, m .if2 .left))
     (omega (arith, u .before .tallied-at3 .ensures, u .if3 .left))
     (sym (l .before .is-met .ensures) ∙ not-false _ (l .if4 .left))
     (sym (c .before .is-met2 .ensures) ∙ not-true _ (c .if5 .taken))
@@ -68,8 +64,7 @@ returns-6 c =
     let m = u .before .before in
     let b = m .before .before in
     let s = b .before .before .before .args in
-    let ai = sym (b .before .tallied-at .ensures) ∙ b .if1 .left in
-    judged-lawful (countsBy (now (s .tally)) (s .channel)) ai (omega (arith, m .before .tallied-at2 .ensures, m .if2 .left))
+    judged-lawful (countsBy (now (s .tally)) (s .channel)) (omega (arith, b .before .tallied-at .ensures, b .if1 .left)) (omega (arith, m .before .tallied-at2 .ensures, m .if2 .left))
     (omega (arith, u .before .tallied-at3 .ensures, u .if3 .left))
     (sym (l .before .is-met .ensures) ∙ not-false _ (l .if4 .left))
     (sym (c .before .is-met2 .ensures) ∙ not-false _ (c .if5 .left))
