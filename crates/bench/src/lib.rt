@@ -1,7 +1,7 @@
 // What bench/measure.c times: our calls in the shape in which C can call them on many bytes at once.
 // No product links this crate.
 use answer::Answer;
-use frames::Read;
+use blocks::Read;
 use packet::PACKET;
 use packet::Setting;
 use packet::two::Streams;
@@ -14,11 +14,11 @@ ghost use Rattle.packet.specs.Packet.{packetLength};
 ghost use Rattle.answer.specs.Values.{writtenOf};
 ghost use Rattle.answer.specs.Writing.{answered, left};
 ghost use Rattle.forms.specs.Form.{form};
-ghost use Rattle.frames.specs.Values.{counted, writtenOf as Frames·writtenOf};
+ghost use Rattle.blocks.specs.Values.{counted, writtenOf as Frames·writtenOf};
 ghost use Rattle.octet.specs.Decoding.{nib};
 ghost use Rattle.octet.specs.Turning.{turned};
 ghost use Rattle.pes.specs.Reading.{readRules, recordsOf};
-ghost use Rattle.sums.specs.Block.{mendedIn};
+ghost use Rattle.blocks.specs.Parts.{mendedIn};
 ghost use Rattle.table.specs.Reading.{readRules as Table·readRules, tableRead};
 ghost use Rattle.bench.specs.Mixing.{mixed};
 ghost use Rattle.bench.specs.Feeding.{desk, desks, start, bothStart, wrap, added, eachCount, eachOut, blocksOf};

@@ -1,3 +1,11 @@
 pub mod Placing
 pub mod Walking
 pub mod Round
+pub mod Clearing
+pub mod Summing
+pub mod Nibbles
+pub mod Cases
+pub mod Mending
+pub mod Judging
+pub mod Counting
+pub mod Framed

@@ -1,10 +1,12 @@
 -- A block, the record that carries it, and a list of records.
 use mathlib.Core.Bool.{Bool}
-use mathlib.Core.List.{List, [], _∷_, _++_}
+use mathlib.Core.List.{List, [], _∷_, _++_, map}
 use Prim.Native.Nat.{ℕ, zero, suc, _+_, _*_, _/_, _%_}
 use lib.Dec.{eqb, leb}
 use lib.ListN.{length, getD, take, drop}
 use Rattle.laws.specs.Pick.{pick, both, either}
+use Rattle.octet.specs.Decoding.{nib}
+use Rattle.fields.specs.Fields.{Field}
 
 -- a block: its 16 bits; how many of its start and header bytes came other than as the image of their nibble (its part, SCOPE 19.3); a
 -- second byte, 1 where its bytes span pages (SCOPE 26.1); and its raw bytes
@@ -14,7 +16,11 @@ pub record Block : Type 0 where
   pub second : ℕ
   pub raw : List ℕ
 
--- of the 16 bits the five lowest are application_id, and the eleven above them block_size, which counts the raw bytes (SCOPE 9.7)
+-- table 5, the Overall Data Header: application_id, and block_size, which counts the raw bytes (SCOPE 9.7)
+abbrev pub header : ℕ → ℕ → List Field
+header application size = (5, application) ∷ (11, size) ∷ []
+
+-- the two as a block's 16 bits hold them: `headed` and `header-of` (proofs/Framed) tie them to table 5
 abbrev pub applicationOf : ℕ → ℕ
 applicationOf head = head % 32
 
@@ -44,6 +50,10 @@ partOf l = getD l 2 0
 
 abbrev pub secondOf : List ℕ → ℕ
 secondOf l = getD l 3 0
+
+-- what the raw bytes of the record that l is decode to
+unfoldable pub nibblesOf : List ℕ → List ℕ
+nibblesOf l = map nib (drop headLength l)
 
 -- how many bytes the record is long that l begins with, going by its 16 bits
 abbrev pub recordLength : List ℕ → ℕ

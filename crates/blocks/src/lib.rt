@@ -1,8 +1,12 @@
 // Blocks as they go between the calls: a record has a block's 16 bits in two bytes, the low one first, its part (SCOPE 19.3),
-// a second byte (SCOPE 26.1), and its raw bytes (SCOPE 10.3). The reader hands out records, one after the other; the writer and block reading take them.
+// a second byte (SCOPE 26.1), and its raw bytes (SCOPE 10.3). The reader hands out records, one after the other; the writer and block reading take them. Nothing here knows what a block holds.
+pub mod frames;
+pub mod sums;
+
 ghost use mathlib.Core.Path.{_≡_};
 ghost use Rattle.blocks.specs.Block.{secondOf};
 ghost use Rattle.blocks.specs.Place.{foundAt, afterAt};
+use answer::Refusal;
 
 // How many bytes of a record stand before its raw bytes.
 pub const HEAD: usize = 4;
@@ -16,6 +20,21 @@ pub enum Found {
     Record { head: u16, raw: usize, next: usize },
     // Something else: what is left isn't a whole record, or the place is past the end.
     Broken,
+}
+
+// What reading a block answers.
+pub enum Read {
+    // Accepted: so many bytes, the form of what the block holds, stand at the front of the output, and the rest of it is as
+    // before; and so many of the block's bytes were mended.
+    Taken { written: usize, mended: u16 },
+    Refused(Refusal),
+}
+
+// What is said of the frame of a record.
+pub enum Frame {
+    // The record is taken as it is lent: its head's 16 bits.
+    Head(usize),
+    Refused(Refusal),
 }
 
 // What stands at a place of a list of records. To walk a list, start at 0 and go on at each next.

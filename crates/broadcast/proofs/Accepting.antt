@@ -16,8 +16,8 @@ use Rattle.answer.specs.declared.Answer.the-variants.{Done}
 use Rattle.answer.proofs.Judging.{passes, refuses, decided, first-append}
 use Rattle.answer.proofs.Steps.{judged-append}
 use Rattle.blocks.specs.Block.{headOf, sizeOf, headLength}
-use Rattle.frames.specs.Framing.{frameRules}
-use Rattle.frames.specs.Values.{counted}
+use Rattle.blocks.specs.Framing.{frameRules}
+use Rattle.blocks.specs.Values.{counted}
 use Rattle.table.specs.Reading.{readRules as tableRules, frontRules as tableFront, wholeRules as tableWhole}
 use Rattle.table.specs.Lengths.{lengthRules as tableLengths}
 use Rattle.menu_reader.specs.Reading.{readRules as menuRules, frontRules as menuFront, wholeRules as menuWhole, lengthRules as menuLengths}

@@ -12,11 +12,10 @@ use Rattle.laws.proofs.Tests.{both-first, both-second}
 use Rattle.octet.specs.Decoding.{nib}
 use Rattle.fields.specs.Fields.{field}
 use Rattle.fields.specs.Compound.{compound}
-use Rattle.blocks.specs.Block.{headLength, headOf, applicationOf, sizeOf, recordLength}
-use Rattle.sums.specs.Sums.{sound}
+use Rattle.blocks.specs.Block.{nibblesOf, headLength, headOf, applicationOf, sizeOf, recordLength}
+use Rattle.blocks.specs.Sums.{sound}
 use Rattle.forms.specs.Kinds.{LI, known}
 use Rattle.fields.specs.declared.Opening.{Opening}
-use Rattle.sums.specs.Block.{nibblesOf}
 use Rattle.table.specs.Control.{tableOf}
 use Rattle.table.proofs.Places.{opening-at}
 use Rattle.menu_forms.specs.Menus.{NI}

@@ -11,7 +11,7 @@ use Rattle.fields.specs.Fields.{field}
 use Rattle.fields.specs.Compound.{compound}
 use Rattle.forms.specs.Kinds.{TI, LI, known}
 use Rattle.blocks.specs.Block.{Block, headLength, headOf, applicationOf, sizeOf, recordLength, recordOf}
-use Rattle.sums.specs.Sums.{sound}
+use Rattle.blocks.specs.Sums.{sound}
 use Rattle.menu_forms.specs.Menus.{NI}
 use Rattle.table.specs.Reading.{readRules as tableRules}
 use Rattle.menu_reader.specs.Reading.{readRules as menuRules}

@@ -7,8 +7,8 @@ use lib.Dec.{eqb, ltb}
 use lib.ListN.{getD, set}
 use Rattle.laws.specs.Pick.{pick}
 use Rattle.text_lines.specs.Codes.{codes}
-use Rattle.frames.specs.declared.Read.{Read}
-use Rattle.frames.specs.declared.Read.the-variants.{Taken, Refused}
+use Rattle.blocks.specs.declared.Read.{Read}
+use Rattle.blocks.specs.declared.Read.the-variants.{Taken, Refused}
 use Rattle.broadcast.specs.declared.seeing.Seen.{Seen}
 use Rattle.broadcast.specs.Lawful.{Counts, line, verdictLines}
 

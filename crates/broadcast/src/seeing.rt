@@ -1,7 +1,7 @@
 // What a record counts as (SCOPE 31).
 use answer::Refusal;
 use blocks::HEAD;
-use frames::Read;
+use blocks::Read;
 ghost use mathlib.Core.Path.{_≡_};
 ghost use Prim.Native.Nat.{_<_};
 ghost use lib.Dec.{eqb};
@@ -77,14 +77,14 @@ fn has_kind(application: u8, rec: &[u8]) -> bool
     if head / 32 < 8 {
         return false;
     }
-    sums::sound(&rec[HEAD..12]) == 8
+    blocks::sums::sound(&rec[HEAD..12]) == 8
 }
 
 // The 16 bits of a record's head.
 pub(crate) fn head_of(rec: &[u8]) -> usize
     ensures { λ r. ⌜ (r ≡ headOf (now (rec .entry))) × (r < 65536) ⌝ }
 {
-    forms::byte_at(rec, 0) + 256 * forms::byte_at(rec, 1)
+    lent_bytes::byte_at(rec, 0) + 256 * lent_bytes::byte_at(rec, 1)
 }
 
 // The place of the network that a kind speaks of: this_operator_network_no, or netwop_no.

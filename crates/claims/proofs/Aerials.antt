@@ -10,15 +10,14 @@ use lib.Dec.{ltb}
 use lib.ListN.{length, getD, set, take, drop, take-append-drop}
 use Rattle.laws.specs.Pick.{pick}
 use Rattle.packet.specs.declared.Setting.{Setting}
-use Rattle.packet.specs.Packet.{packetLength}
+use Rattle.packet.specs.Packet.{packetLength, packetZero, packetOf}
 use Rattle.aerials.specs.Better.{judgedBytes, addressLength, brokenIn, betterOf}
 use Rattle.octet.specs.Bits.{bits, number, differing}
 use Rattle.octet.specs.Image.{image, withParity}
 use Rattle.octet.specs.Decoding.{nib, nibbleFrom}
 use Rattle.octet.specs.Hearing.{harm, harms}
-use Rattle.blocks.specs.Block.{blocksWithin}
+use Rattle.blocks.specs.Block.{blocksWithin, nibblesOf}
 use Rattle.fields.specs.Fields.{alike, width, laid, parts, field, whole}
-use Rattle.packet.specs.Packet.{packetZero, packetOf}
 use Rattle.packet.specs.Address.{addressOf, decodes}
 use Rattle.symbols.specs.Stream.{symbols, cellsOf, streamOf, grab, beforeStart}
 use Rattle.writer.specs.Cutting.{dataPackets, pages, packets}
@@ -26,11 +25,12 @@ use Rattle.pages.specs.Headers.{seeZero}
 use Rattle.pages.specs.Seen.{see, seeY, seenAs}
 use Rattle.walk.specs.Mode.{goesOn, continues, emitted, ends, gives, spoiled, spoils, step}
 use Rattle.state.specs.Acting.{act, handed}
-use Rattle.sums.specs.Sums.{total, checksum, sound}
-use Rattle.sums.specs.Block.{nibbles, nibblesOf, mendedIn, checksumOf, blockWith}
+use Rattle.blocks.specs.Sums.{total, checksum, sound}
+use Rattle.forms.specs.Block.{nibbles, checksumOf, blockWith}
+use Rattle.blocks.specs.Parts.{mendedIn}
 use Rattle.table.specs.Control.{descriptorsOf, tableOf}
 use Rattle.table.specs.Lengths.{lengthRules}
-use Rattle.frames.specs.Framing.{frameRules}
+use Rattle.blocks.specs.Framing.{frameRules}
 use Rattle.table.specs.Reading.{frontRules, wholeRules, readBlock}
 use Rattle.forms.specs.Tables.{Table, loops, fields}
 use Rattle.forms.specs.Kinds.{TI, LI, per}
@@ -39,8 +39,7 @@ use Rattle.state.specs.State.{freshState}
 use Rattle.claims.specs.Carrying.{heardBlocks}
 use Rattle.claims.specs.Tables.{recordsOf, sent as Tables·sent, tablesOf}
 use Rattle.claims.specs.Noise.{Near, Aired, ended, sent, between}
-use Rattle.claims.specs.Twice.{glued, Both, of-first, of-second, Twice}
-use Rattle.claims.specs.Twice.{ended as Twice·ended, sent as Twice·sent, between as Twice·between}
+use Rattle.claims.specs.Twice.{glued, Both, of-first, of-second, Twice, ended as Twice·ended, sent as Twice·sent, between as Twice·between}
 use Rattle.claims.proofs.Losing.{near-length, near-append, near-drop, near-take}
 
 -- ---- the packet that goes on

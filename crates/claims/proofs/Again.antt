@@ -17,12 +17,13 @@ use Rattle.forms.specs.Tables.{fill}
 use Rattle.forms.specs.Form.{form, tableIn}
 use Rattle.forms.specs.Writing.{writeRules}
 use Rattle.laws.specs.Bytes.{Bytes}
-use Rattle.sums.specs.Block.{mendedIn, recordOf, Says}
-use Rattle.frames.specs.declared.Read.{Read}
-use Rattle.frames.specs.declared.Read.the-variants.{Taken}
-use Rattle.frames.specs.Values.{counted}
-use Rattle.frames.proofs.Counting.{counted-takes}
-use Rattle.frames.proofs.Framed.{accepts}
+use Rattle.blocks.specs.Parts.{mendedIn}
+use Rattle.forms.specs.Block.{recordOf, Says}
+use Rattle.blocks.specs.declared.Read.{Read}
+use Rattle.blocks.specs.declared.Read.the-variants.{Taken}
+use Rattle.blocks.specs.Values.{counted}
+use Rattle.blocks.proofs.Counting.{counted-takes}
+use Rattle.blocks.proofs.Framed.{accepts}
 use Rattle.table.specs.Reading.{readRules, tableRead, readBlock}
 use Rattle.table.proofs.Back.{says-with, writes-back-form}
 use Rattle.table.proofs.Calls.{call-says}

@@ -35,18 +35,18 @@ use Rattle.state.proofs.Ranging.{sound-fresh}
 use Rattle.forms.specs.Tables.{Table, fits}
 use Rattle.forms.specs.Form.{form, tableIn}
 use Rattle.forms.specs.Writing.{writeRules}
-use Rattle.sums.specs.Block.{mendedIn, recordOf}
+use Rattle.blocks.specs.Parts.{mendedIn}
+use Rattle.forms.specs.Block.{recordOf}
 use Rattle.table.specs.Reading.{Outcome, accepted as Reading·accepted, refused as Reading·refused, readRules, tableRead, readBlock}
-use Rattle.frames.specs.declared.Read.{Read}
-use Rattle.frames.specs.Values.{counted}
+use Rattle.blocks.specs.declared.Read.{Read}
+use Rattle.blocks.specs.Values.{counted}
 use Rattle.table.proofs.Back.{writes-back, accepted-writable}
 use Rattle.claims.specs.Noise.{Flipped, Aired, Came}
 use Rattle.claims.specs.Damage.{streamIn, Sending, sendings, damage, Counted, damaged}
 use Rattle.claims.specs.Lists.{Among}
 use Rattle.claims.specs.Feeding.{packetsOf}
 use Rattle.claims.specs.Tables.{recordsOf, sent, sentDamaged, taken, tablesOf}
-use Rattle.claims.specs.Calls.{Writes, write-block, Cuts, cut-pages, cut, Starts, fresh, Reads, read-block, reported, accepted}
-use Rattle.claims.specs.Calls.{Written, no-table, table, ReadOut, no-block, block, Made, MadeWhole, ReadAgain, countedForms, Through, Delivers}
+use Rattle.claims.specs.Calls.{Writes, write-block, Cuts, cut-pages, cut, Starts, fresh, Reads, read-block, reported, accepted, Written, no-table, table, ReadOut, no-block, block, Made, MadeWhole, ReadAgain, countedForms, Through, Delivers}
 use Rattle.claims.proofs.Losing.{came-each, came-map, came-exactly, came-among, among-map}
 use Rattle.claims.proofs.Blocks.{range, aired-long}
 use Rattle.claims.proofs.Tables.{tableBlock, all-fit, all-sized, records-same, blocks-written}

@@ -31,8 +31,9 @@ use Rattle.reader.specs.Two.{feedHeardOfTwo, feedReadersOfTwo, feedOutOfTwo}
 use Rattle.forms.specs.Tables.{Table, fits}
 use Rattle.forms.specs.Form.{form, tableIn}
 use Rattle.forms.specs.Writing.{writeRules}
-use Rattle.sums.specs.Block.{mendedIn, recordOf}
-use Rattle.frames.specs.Values.{counted}
+use Rattle.blocks.specs.Parts.{mendedIn}
+use Rattle.forms.specs.Block.{recordOf}
+use Rattle.blocks.specs.Values.{counted}
 use Rattle.table.specs.Reading.{readRules, tableRead}
 use Rattle.claims.specs.Noise.{Aired}
 use Rattle.claims.specs.Damage.{Counted}

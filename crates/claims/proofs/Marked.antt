@@ -10,8 +10,8 @@ use Rattle.writer.proofs.Cases.{CaseF, case-f, CaseG, recordG, case-g}
 use Rattle.pes_writer.proofs.Cases.{CaseJ, case-j, CaseK, case-k}
 use Rattle.fields.specs.Fields.{alike, width, laid, parts}
 use Rattle.forms.specs.Tables.{per, loops, fields, bits, fill, size}
-use Rattle.sums.specs.Sums.{total, checksum}
-use Rattle.sums.specs.Block.{nibbles, checksumOf, blockWith, recordOf}
+use Rattle.blocks.specs.Sums.{total, checksum}
+use Rattle.forms.specs.Block.{nibbles, checksumOf, blockWith, recordOf}
 use Rattle.forms.specs.Form.{form}
 use Rattle.forms.specs.Writing.{writeRules}
 use Rattle.table.proofs.Cases.{G, H, I, case-G, case-H, case-I}

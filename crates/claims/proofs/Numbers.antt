@@ -23,10 +23,10 @@ use Rattle.reader.specs.declared.many.HeardAll.{HeardAll}
 use Rattle.reader.specs.Values.{numberOf, offsetOf, numberOfAll, offsetOfAll}
 use Rattle.reader.specs.Feeding.{feedRules, refusedHeard}
 use Rattle.reader.specs.Many.{feedAllRules, refusedAll}
-use Rattle.frames.specs.declared.Frame.the-variants.{Head}
-use Rattle.frames.specs.Framing.{frameRules, framing}
-use Rattle.frames.specs.Values.{numberOfFrame, offsetOfFrame, headOfFrame, refusedFrame}
-use Rattle.frames.proofs.judge.Reads as frames·judge
+use Rattle.blocks.specs.declared.Frame.the-variants.{Head}
+use Rattle.blocks.specs.Framing.{frameRules, framing}
+use Rattle.blocks.specs.Values.{numberOfFrame, offsetOfFrame, headOfFrame, refusedFrame}
+use Rattle.blocks.proofs.frames.judge.Reads as blocks·frames-judge
 use Rattle.table.specs.Reading.{frontRules, wholeRules, readRules as Table·readRules}
 use Rattle.table.specs.Lengths.{lengthRules}
 use Rattle.menu_forms.specs.Writing.{formRules as Menu·formRules, writeRules as Menu·writeRules}
@@ -171,7 +171,7 @@ feed-all-judges (feed-all κs a x t post) = judges numberOfAll offsetOfAll refus
 
 -- the frame of a record; where it is taken, the 16 bits of its head
 pub frame-judges :
-    (κs : _) (a : _) (x : _) (t : _) → frames·judge.Post κs a x t
+    (κs : _) (a : _) (x : _) (t : _) → blocks·frames-judge.Post κs a x t
     → Judges (framing (a .0) (now (a .1 .0))) (numberOfFrame x) (offsetOfFrame x)
     × (Every (framing (a .0) (now (a .1 .0))) → headOfFrame x ≡ headOf (now (a .1 .0)))
 unfolding allRefusing frameRules

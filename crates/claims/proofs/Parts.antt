@@ -3,25 +3,23 @@
 use mathlib.Core.Path.{_≡_, refl, sym, ap, subst}
 use mathlib.Core.Bool.{Bool, true, false}
 use mathlib.Core.List.{List, [], _∷_}
-use Prim.Native.Nat.{ℕ, _≤_, _<_}
+use Prim.Native.Nat.{ℕ, _<_}
 use native.Mathlib.Omega.{arith}
-use lib.Dec.{leb}
-use borrow.Author.Tests.{lt-ltb, le-leb}
+use borrow.Author.Tests.{lt-ltb}
 use Rattle.laws.specs.Each.{Each, nil, and}
-use Rattle.laws.specs.Pick.{pick, both}
+use Rattle.laws.specs.Pick.{pick}
 use Rattle.answer.specs.Rules.{Rule, judged}
 use Rattle.blocks.specs.Block.{Block, recordOf}
-use Rattle.blocks.specs.Parts.{Parted}
+use Rattle.blocks.specs.Parts.{Parted, mendedIn}
 use Rattle.packet.specs.declared.Setting.{Setting}
 use Rattle.packet.specs.Setting.{inRange}
 use Rattle.writer.specs.Cutting.{FortyTwo}
 use Rattle.state.specs.Acting.{State}
 use Rattle.state.specs.State.{readerOf, Sound}
 use Rattle.state.proofs.Handing.{handed-parted}
-use Rattle.frames.specs.Framing.{frameRules}
+use Rattle.blocks.specs.Framing.{frameRules}
 use Rattle.forms.specs.Tables.{Table}
 use Rattle.table.specs.Reading.{Outcome, accepted, refused, frontRules, wholeRules, readRules, tableRead, readBlock}
-use Rattle.sums.specs.Block.{mendedIn}
 use Rattle.table.specs.Lengths.{lengthRules}
 use Rattle.claims.specs.Feeding.{Call, packetsOf, comesOut}
 use Rattle.claims.proofs.Fed.{heard-each, fed-blocks}
@@ -46,15 +44,14 @@ not-sixteen (q ∷ rs) a z (and h r) e = go (q .holds) (λ n. h n) (λ n. not-si
     go false f g n = let w : false ≡ true = f n in let y : _≡_ {A = ℕ} 0 1 = cc in omega arith
 
 pub never-sixteen :
-    (application : ℕ) (b : Block) (offset : ℕ) → application < 32 → b .part ≤ 5 → b .second ≤ 1
+    (application : ℕ) (b : Block) (offset : ℕ) → application < 32 → Parted b
     → readBlock application (recordOf b) ≡ refused 16 offset → ⊥
 unfolding readBlock frameRules frontRules wholeRules lengthRules
-never-sixteen application b offset a p s e =
-    let ranged : both (leb (b .part) 5) (leb (b .second) 1) ≡ true = rw (le-leb (b .part) 5 p) (le-leb (b .second) 1 s) in
+never-sixteen application b offset a p e =
     not-sixteen (readRules application (recordOf b)) (accepted (tableRead (recordOf b)) (mendedIn (recordOf b))) refl
     (and (λ n. lt-ltb application 32 a)
     (and (λ (n : _≡_ {A = ℕ} 13 16). absurd (omega arith))
-    (and (λ n. ranged)
+    (and (λ n. p)
     (and (λ (n : _≡_ {A = ℕ} 12 16). absurd (omega arith))
     (and (λ (n : _≡_ {A = ℕ} 13 16). absurd (omega arith))
     (and (λ (n : _≡_ {A = ℕ} 10 16). absurd (omega arith))

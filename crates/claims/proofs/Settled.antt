@@ -85,6 +85,8 @@ use Rattle.packet.proofs.passes_by.Reads as packet·passes-by
 use Rattle.packet.proofs.two.is_in_range.Reads as packet·two-is-in-range
 use Rattle.packet.proofs.two.first.Reads as packet·two-first
 use Rattle.packet.proofs.two.second.Reads as packet·two-second
+use Rattle.lent_bytes.proofs.byte_at.Reads as lent-bytes·byte-at
+use Rattle.lent_bytes.proofs.put.Reads as lent-bytes·put
 use Rattle.lent_bytes.proofs.copy.Reads as lent-bytes·copy
 use Rattle.lent_bytes.proofs.clear.Reads as lent-bytes·clear
 use Rattle.state.proofs.fresh.Reads as state·fresh
@@ -97,17 +99,16 @@ use Rattle.reader.proofs.feed.Reads as reader·feed
 use Rattle.reader.proofs.many.feed_all.Reads as reader·feed-all
 use Rattle.reader.proofs.two.feed.Reads as reader·two-feed
 use Rattle.reader.proofs.two.feed_all.Reads as reader·two-feed-all
-use Rattle.frames.proofs.judge.Reads as frames·judge
+use Rattle.blocks.proofs.frames.judge.Reads as blocks·frames-judge
 use Rattle.table.proofs.read_block.Reads as table·read-block
 use Rattle.forms.proofs.judge_form.Reads as forms·judge-form
-use Rattle.sums.proofs.Summing.{one-sum}
-use Rattle.sums.proofs.mended_in.Reads as sums·mended-in
-use Rattle.sums.proofs.checksum.Reads as sums·checksum
-use Rattle.sums.proofs.sound.Reads as sums·sound
-use Rattle.sums.proofs.sum_of.Reads as sums·sum-of
+use Rattle.blocks.proofs.Summing.{one-sum}
+use Rattle.blocks.proofs.sums.mended_in.Reads as blocks·sums-mended-in
+use Rattle.blocks.proofs.sums.checksum.Reads as blocks·sums-checksum
+use Rattle.blocks.proofs.sums.sound.Reads as blocks·sums-sound
+use Rattle.blocks.proofs.sums.sum_of.Reads as blocks·sums-sum-of
 use Rattle.forms.proofs.items.known.Reads as forms·known
 use Rattle.forms.proofs.items.numbered.Reads as forms·numbered
-use Rattle.forms.proofs.items.byte_at.Reads as forms·byte-at
 use Rattle.forms.proofs.items.word_at.Reads as forms·word-at
 use Rattle.text_lines.proofs.puts.put.Reads as text-lines·put
 use Rattle.text_lines.proofs.put_number.Reads as text-lines·put-number
@@ -320,6 +321,13 @@ packet·two-first-settled κs a x y s t p q = same p q
 pub packet·two-second-settled : (κs : _) (a : _) (x y : _) (s t : _) → packet·two-second.Post κs a x s → packet·two-second.Post κs a y t → x ≡ y
 packet·two-second-settled κs a x y s t p q = same p q
 
+pub lent-bytes·byte-at-settled : (κs : _) (a : _) (x y : _) (s t : _) → lent-bytes·byte-at.Post κs a x s → lent-bytes·byte-at.Post κs a y t → x ≡ y
+lent-bytes·byte-at-settled κs a x y s t p q = same (p .0) (q .0)
+
+pub lent-bytes·put-settled :
+    (κs : _) (a : _) (x y : _) (s t : _) → lent-bytes·put.Post κs a x s → lent-bytes·put.Post κs a y t → now (s .1 .0) ≡ now (t .1 .0)
+lent-bytes·put-settled κs a x y s t p q = same p q
+
 pub lent-bytes·copy-settled :
     (κs : _) (a : _) (x y : _) (s t : _) → lent-bytes·copy.Post κs a x s → lent-bytes·copy.Post κs a y t → now (s .1 .1 .1 .0) ≡ now (t .1 .1 .1 .0)
 lent-bytes·copy-settled κs a x y s t p q = same p q
@@ -373,8 +381,8 @@ pub reader·two-feed-all-settled :
     → (x .heard ≡ y .heard) × (x .readers ≡ y .readers) × (now (s .1 .1 .1 .0) ≡ now (t .1 .1 .1 .0))
 reader·two-feed-all-settled κs a x y s t p q = (same (p .0) (q .0), same (p .1 .0) (q .1 .0), same (p .1 .1) (q .1 .1))
 
-pub frames·judge-settled : (κs : _) (a : _) (x y : _) (s t : _) → frames·judge.Post κs a x s → frames·judge.Post κs a y t → x ≡ y
-frames·judge-settled κs a x y s t p q = same p q
+pub blocks·frames-judge-settled : (κs : _) (a : _) (x y : _) (s t : _) → blocks·frames-judge.Post κs a x s → blocks·frames-judge.Post κs a y t → x ≡ y
+blocks·frames-judge-settled κs a x y s t p q = same p q
 
 pub table·read-block-settled :
     (κs : _) (a : _) (x y : _) (s t : _) → table·read-block.Post κs a x s → table·read-block.Post κs a y t → (x ≡ y) × (now (s .1 .1 .0) ≡ now (t .1 .1 .0))
@@ -383,26 +391,23 @@ table·read-block-settled κs a x y s t p q = (same (p .0) (q .0), same (p .1) (
 pub forms·judge-form-settled : (κs : _) (a : _) (x y : _) (s t : _) → forms·judge-form.Post κs a x s → forms·judge-form.Post κs a y t → x ≡ y
 forms·judge-form-settled κs a x y s t p q = same p q
 
-pub sums·mended-in-settled : (κs : _) (a : _) (x y : _) (s t : _) → sums·mended-in.Post κs a x s → sums·mended-in.Post κs a y t → x ≡ y
-sums·mended-in-settled κs a x y s t p q = same p q
+pub blocks·sums-mended-in-settled : (κs : _) (a : _) (x y : _) (s t : _) → blocks·sums-mended-in.Post κs a x s → blocks·sums-mended-in.Post κs a y t → x ≡ y
+blocks·sums-mended-in-settled κs a x y s t p q = same p q
 
-pub sums·checksum-settled : (κs : _) (a : _) (x y : _) (s t : _) → sums·checksum.Post κs a x s → sums·checksum.Post κs a y t → x ≡ y
-sums·checksum-settled κs a x y s t p q = same p q
+pub blocks·sums-checksum-settled : (κs : _) (a : _) (x y : _) (s t : _) → blocks·sums-checksum.Post κs a x s → blocks·sums-checksum.Post κs a y t → x ≡ y
+blocks·sums-checksum-settled κs a x y s t p q = same p q
 
-pub sums·sound-settled : (κs : _) (a : _) (x y : _) (s t : _) → sums·sound.Post κs a x s → sums·sound.Post κs a y t → x ≡ y
-sums·sound-settled κs a x y s t p q = same p q
+pub blocks·sums-sound-settled : (κs : _) (a : _) (x y : _) (s t : _) → blocks·sums-sound.Post κs a x s → blocks·sums-sound.Post κs a y t → x ≡ y
+blocks·sums-sound-settled κs a x y s t p q = same p q
 
-pub sums·sum-of-settled : (κs : _) (a : _) (x y : _) (s t : _) → sums·sum-of.Post κs a x s → sums·sum-of.Post κs a y t → x ≡ y
-sums·sum-of-settled κs a x y s t p q = one-sum _ _ _ x y (p .0) (p .1 .0) (p .1 .1) (q .0) (q .1 .0) (q .1 .1)
+pub blocks·sums-sum-of-settled : (κs : _) (a : _) (x y : _) (s t : _) → blocks·sums-sum-of.Post κs a x s → blocks·sums-sum-of.Post κs a y t → x ≡ y
+blocks·sums-sum-of-settled κs a x y s t p q = one-sum _ _ _ x y (p .0) (p .1 .0) (p .1 .1) (q .0) (q .1 .0) (q .1 .1)
 
 pub forms·known-settled : (κs : _) (a : _) (x y : _) (s t : _) → forms·known.Post κs a x s → forms·known.Post κs a y t → x ≡ y
 forms·known-settled κs a x y s t p q = same p q
 
 pub forms·numbered-settled : (κs : _) (a : _) (x y : _) (s t : _) → forms·numbered.Post κs a x s → forms·numbered.Post κs a y t → x ≡ y
 forms·numbered-settled κs a x y s t p q = same p q
-
-pub forms·byte-at-settled : (κs : _) (a : _) (x y : _) (s t : _) → forms·byte-at.Post κs a x s → forms·byte-at.Post κs a y t → x ≡ y
-forms·byte-at-settled κs a x y s t p q = same (p .0) (q .0)
 
 pub forms·word-at-settled : (κs : _) (a : _) (x y : _) (s t : _) → forms·word-at.Post κs a x s → forms·word-at.Post κs a y t → x ≡ y
 forms·word-at-settled κs a x y s t p q = same (p .0) (q .0)

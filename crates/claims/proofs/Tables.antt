@@ -7,24 +7,27 @@ use mathlib.Core.List.{List, [], _∷_, _++_, map}
 use Prim.Native.Nat.{ℕ, zero, suc, _+_, _/_, _%_, _≤_, _<_}
 use native.Mathlib.Omega.{arith}
 use lib.ListN.{length, length-map, getD, drop, take}
+use borrow.Author.Tests.{le-leb}
 use Rattle.laws.specs.Each.{Each, nil, and}
 use Rattle.laws.proofs.Eaches.{each-all, each-map}
+use Rattle.laws.proofs.Tests.{both-holds}
 use Rattle.octet.specs.Image.{image}
 use Rattle.octet.specs.Decoding.{nib, undecodable}
 use Rattle.octet.specs.Hearing.{harms}
 use Rattle.octet.proofs.Hearing.{harm-sent}
 use Rattle.symbols.specs.Stream.{symbols}
-use Rattle.blocks.specs.Block.{Block, blocks, recordOf as Block·recordOf, recordsOf as Block·recordsOf}
+use Rattle.blocks.specs.Block.{Block, blocks, recordOf as Block·recordOf, recordsOf as Block·recordsOf, nibblesOf}
 use Rattle.blocks.specs.Sizes.{Sized}
 use Rattle.blocks.proofs.Round.{blocks-records}
 use Rattle.fields.specs.Fields.{parts}
 use Rattle.fields.proofs.Laid.{length-parts}
 use Rattle.forms.specs.Tables.{Table, fits, size}
-use Rattle.sums.specs.Block.{nibblesOf, mendedIn, nibbles, checksumOf, blockWith, recordOf}
+use Rattle.blocks.specs.Parts.{partMost, mendedIn}
+use Rattle.forms.specs.Block.{nibbles, checksumOf, blockWith, recordOf}
 use Rattle.table.specs.Reading.{Outcome, accepted, refused, readBlock}
 use Rattle.forms.proofs.Sendable.{sendable}
-use Rattle.sums.proofs.Nibbles.{nibbles-again}
-use Rattle.frames.proofs.Framed.{header-lt, header-size}
+use Rattle.forms.proofs.Blocks.{nibbles-again}
+use Rattle.blocks.proofs.Framed.{header-lt, header-size}
 use Rattle.table.proofs.Back.{writes-back}
 use Rattle.table.proofs.Noise.{reads-alike, broken-refused}
 use Rattle.claims.specs.Noise.{Hears, Near, none, more, Came, over, kept, lost, Fits}
@@ -145,7 +148,7 @@ module _ (R : ℕ → ℕ → Type 0) (L : Type 0) (hears : Hears R L) where
         go (right e) =
             itself
             (reads-alike application (Block·recordOf (landed x)) (recordOf application t) t 0
-            (record { part = lead-five x; second = second-one x }) refl (again e) (writes-back application t a f)
+            (both-holds _ _ (le-leb _ partMost (lead-five x)) (le-leb _ 1 (second-one x))) refl (again e) (writes-back application t a f)
             ∙ ap (accepted t) (counts e))
 
   not-taken : (o : Outcome Table) → ((u : Table) (c : ℕ) → o ≡ accepted u c → ⊥) → taken o ≡ []

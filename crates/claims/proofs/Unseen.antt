@@ -9,7 +9,7 @@ use Rattle.octet.specs.Bits.{bits, number, differing}
 use Rattle.octet.specs.Image.{image, withParity}
 use Rattle.octet.specs.Decoding.{nib, nibbleFrom}
 use Rattle.octet.specs.Hearing.{harm, harms}
-use Rattle.blocks.specs.Block.{Block, blocksWithin}
+use Rattle.blocks.specs.Block.{Block, blocksWithin, nibblesOf}
 use Rattle.fields.specs.Fields.{alike, width, laid, parts, field, whole}
 use Rattle.packet.specs.Packet.{packetZero, packetOf}
 use Rattle.packet.specs.Address.{addressOf, decodes}
@@ -19,11 +19,12 @@ use Rattle.pages.specs.Headers.{seeZero}
 use Rattle.pages.specs.Seen.{see, seeY, seenAs}
 use Rattle.walk.specs.Mode.{goesOn, continues, emitted, ends, gives, spoiled, spoils, step}
 use Rattle.state.specs.Acting.{act, handed}
-use Rattle.sums.specs.Sums.{total, checksum, sound}
-use Rattle.sums.specs.Block.{nibbles, nibblesOf, mendedIn, checksumOf, blockWith}
+use Rattle.blocks.specs.Sums.{total, checksum, sound}
+use Rattle.forms.specs.Block.{nibbles, checksumOf, blockWith}
+use Rattle.blocks.specs.Parts.{mendedIn}
 use Rattle.table.specs.Control.{descriptorsOf, tableOf}
 use Rattle.table.specs.Lengths.{lengthRules}
-use Rattle.frames.specs.Framing.{frameRules}
+use Rattle.blocks.specs.Framing.{frameRules}
 use Rattle.table.specs.Reading.{frontRules, wholeRules, readBlock}
 use Rattle.forms.specs.Tables.{Table, loops, fields}
 use Rattle.forms.specs.Kinds.{LI, per}

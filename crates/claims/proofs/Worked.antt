@@ -17,9 +17,9 @@ use Rattle.pages.specs.Headers.{ours, packetY, seeZero}
 use Rattle.pages.specs.Seen.{seeY, seenAs, see}
 use Rattle.fields.specs.Fields.{alike, width, laid, parts, fitting}
 use Rattle.forms.specs.Tables.{Table, TI, per, loops, fields, entire, fits}
-use Rattle.sums.specs.Sums.{total, checksum}
-use Rattle.sums.specs.Block.{nibbles, checksumOf, blockWith, recordOf}
-use Rattle.frames.specs.Outcome.{accepted}
+use Rattle.blocks.specs.Sums.{total, checksum}
+use Rattle.forms.specs.Block.{nibbles, checksumOf, blockWith, recordOf}
+use Rattle.blocks.specs.Outcome.{accepted}
 use Rattle.table.specs.Reading.{readBlock}
 use Rattle.table.proofs.Back.{writes-back}
 use Rattle.parity.specs.Parity.{ones, letter}

@@ -46,12 +46,12 @@ use Rattle.state.proofs.Beside.{dropped-beside}
 use Rattle.reader.specs.Feeding.{feedHeard, feedOut}
 use Rattle.reader.specs.Two.{feedHeardOfTwo, feedOutOfTwo}
 use Rattle.forms.specs.Tables.{Table, per, loops, fields, fits, entire}
-use Rattle.sums.specs.Sums.{total, checksum}
-use Rattle.sums.specs.Block.{nibbles, checksumOf, blockWith}
+use Rattle.blocks.specs.Sums.{total, checksum}
+use Rattle.forms.specs.Block.{nibbles, checksumOf, blockWith}
 use Rattle.table.proofs.Cases.{G, H}
 use Rattle.claims.specs.Noise.{Flipped, Near, none, more, Aired, ended, sent as Aired·sent}
 use Rattle.claims.specs.Carrying.{heardBlocks}
-use Rattle.claims.specs.Feeding.{Call, packetsOf, writtenOf, countOf, comesOut, droppedOf}
+use Rattle.claims.specs.Feeding.{Call, packetsOf, writtenOf, countOf, comesOut, droppedOf, feederFor}
 use Rattle.claims.specs.Damage.{unlike, carriedIn, sendings, Counted, damaged}
 use Rattle.claims.specs.Tables.{recordsOf, sent, sentDamaged, tablesOf, received}
 use Rattle.claims.specs.Carries.{Carries}
@@ -59,7 +59,6 @@ use Rattle.claims.specs.March
 use Rattle.claims.specs.Tells.{Tells}
 use Rattle.claims.proofs.Noise.{flips-self}
 use Rattle.claims.proofs.Demands.{exactly, all-sent}
-use Rattle.claims.specs.Feeding.{feederFor}
 use Rattle.claims.specs.Two.{feederForTwo, EitherRuns, TellsOfTwo}
 use Rattle.claims.proofs.Rows as Rows
 use Rattle.claims.proofs.Rows.{callFor, callsFor, packets-of-calls, call-tells}

@@ -18,15 +18,15 @@ use Rattle.reader.specs.declared.Heard.{Heard}
 use Rattle.reader.specs.declared.many.HeardAll.{HeardAll}
 use Rattle.forms.specs.Tables.{Table}
 use Rattle.forms.specs.Form.{form}
-use Rattle.sums.specs.Block.{recordOf}
+use Rattle.forms.specs.Block.{recordOf}
 use Rattle.table_writer.proofs.write_block.Reads as table-writer·write-block
 use Rattle.writer.proofs.cut.Reads as writer·cut
 use Rattle.writer.proofs.cut_pages.Reads as writer·cut-pages
 use Rattle.state.proofs.fresh.Reads as reader·fresh
 use Rattle.reader.proofs.feed.Reads as reader·feed
 use Rattle.reader.proofs.many.feed_all.Reads as reader·feed-all
-use Rattle.frames.specs.declared.Read.{Read}
-use Rattle.frames.specs.declared.Read.the-variants.{Taken, Refused as Read·Refused}
+use Rattle.blocks.specs.declared.Read.{Read}
+use Rattle.blocks.specs.declared.Read.the-variants.{Taken, Refused as Read·Refused}
 use Rattle.table.proofs.read_block.Reads as table·read-block
 use Rattle.menu_reader.proofs.read_menu.Reads as menu-reader·read-menu
 use Rattle.menu_writer.proofs.write_menu.Reads as menu-writer·write-menu

@@ -7,7 +7,7 @@ use Rattle.writer.specs.Cutting.{packets}
 use Rattle.state.specs.State.{freshState, readerOf}
 use Rattle.forms.specs.Tables.{Table}
 use Rattle.table.specs.Reading.{Outcome, accepted, refused, readBlock}
-use Rattle.sums.specs.Block.{recordOf}
+use Rattle.forms.specs.Block.{recordOf}
 use Rattle.claims.specs.Damage.{streamIn, sendings, Counted, damaged}
 use Rattle.claims.specs.Feeding.{Call, comesOut}
 

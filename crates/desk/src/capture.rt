@@ -2,11 +2,11 @@
 // they count in, so that no proof here has to know the room's definitions; a count that doesn't fit never comes.
 use crate::says;
 use answer::Answer;
+use blocks::Read;
 use captures::Came;
 use captures::Course;
 use captures::PIECE;
 use captures::RECORDS;
-use frames::Read;
 use packet::two::Streams;
 use sight::PAGES;
 ghost use mathlib.Core.Path.{_≡_};

@@ -2,12 +2,12 @@
 // the space that they count in, so that no proof here has to know the room's definitions; a count that doesn't fit never comes.
 use crate::says;
 use answer::Answer;
+use blocks::Read;
 use captures::Came;
 use captures::PIECE;
 use captures::RECORDS;
 use dvb_descriptor::LONGEST;
 use forms::TI;
-use frames::Read;
 use packet::two::Streams;
 
 // More than the longest table form.
@@ -119,7 +119,7 @@ fn list_record(
 
 // A table; one of languages alone is passed over.
 fn list_form(tally: Tally, name: &[u8], form: &[u8]) -> Tally {
-    if forms::byte_at(form, 0) != TI {
+    if lent_bytes::byte_at(form, 0) != TI {
         return tally;
     }
     let mut descriptor = [0u8; LONGEST];
@@ -153,11 +153,11 @@ fn one_more(count: u64) -> u64 {
 }
 
 fn network(form: &[u8]) -> u64 {
-    forms::byte_at(form, 4) as u64
+    lent_bytes::byte_at(form, 4) as u64
 }
 
 fn block(form: &[u8]) -> u64 {
-    (forms::byte_at(form, 2) + 256 * forms::byte_at(form, 3)) as u64
+    (lent_bytes::byte_at(form, 2) + 256 * lent_bytes::byte_at(form, 3)) as u64
 }
 
 // The capture has ended, or nothing more is read of it.

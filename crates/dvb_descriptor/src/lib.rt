@@ -110,10 +110,10 @@ fn is_other(table: &[u8]) -> bool
     if table.len() < OPENING {
         return false;
     }
-    if !forms::numbered(forms::byte_at(table, 2) + 256 * forms::byte_at(table, 3)) {
+    if !forms::numbered(lent_bytes::byte_at(table, 2) + 256 * lent_bytes::byte_at(table, 3)) {
         return false;
     }
-    forms::byte_at(table, 0) != TI
+    lent_bytes::byte_at(table, 0) != TI
 }
 
 // How many subtitles a form has, by its length: two bytes of each descriptor are its own.
@@ -121,7 +121,7 @@ fn count(table: &[u8]) -> usize
     requires { ⌜ (getD (now table) 0 0 ≡ Tables·TI) × (length (now table) ≡ length (form (tableIn (now table)))) ⌝ }
     ensures { λ r. ⌜ r ≡ length (subtitlesOf (tableIn (now (table .entry)))) ⌝ }
 {
-    (table.len() - OPENING - 2 * forms::byte_at(table, 5)) / 6
+    (table.len() - OPENING - 2 * lent_bytes::byte_at(table, 5)) / 6
 }
 
 // The entries of a form, behind tag and length.
@@ -129,11 +129,11 @@ fn put_descriptors(table: &[u8], out: &mut [u8])
     requires { ⌜ getD (now table) 0 0 ≡ Tables·TI ⌝ }
     ensures { λ _. ⌜ now (out .exit) ≡ sets (now (out .entry)) 2 (fives subtitleType (subtitlesOf (tableIn (now (table .entry))))) ⌝ }
 {
-    let mut left = forms::byte_at(table, 5);
+    let mut left = lent_bytes::byte_at(table, 5);
     let mut i = OPENING;
     let mut to = 2;
     while 0 < left {
-        let entries = forms::byte_at(table, i + 1);
+        let entries = lent_bytes::byte_at(table, i + 1);
         put_entries(table, i + 2, entries, out, to);
         i += 2 + 6 * entries;
         to += 5 * entries;
@@ -183,8 +183,8 @@ fn judge_bytes(bytes: &[u8]) -> Answer
         ⌜ (r ≡ judged refused (readRules (now (bytes .entry))) (Done (countIn (now (bytes .entry)))))
         × (countIn (now (bytes .entry)) ≤ most) ⌝ }
 {
-    let long = forms::byte_at(bytes, 1);
-    if forms::byte_at(bytes, 0) != TAG {
+    let long = lent_bytes::byte_at(bytes, 1);
+    if lent_bytes::byte_at(bytes, 0) != TAG {
         return answer::refuse(27, 0);
     }
     if long % 5 != 0 {
@@ -231,7 +231,7 @@ fn put_subtitle(bytes: &[u8], i: usize, out: &mut [u8], to: usize) -> usize
         × (r ≤ to + 5)
         × (now (out .exit) ≡ sets (now (out .entry)) to (fives 0 (keptIn 1 (drop i (now (bytes .entry)))))) ⌝ }
 {
-    if forms::byte_at(bytes, i + 3) / 8 != SUBTITLE {
+    if lent_bytes::byte_at(bytes, i + 3) / 8 != SUBTITLE {
         return to;
     }
     put_five(0, subtitle_at(bytes, i), out, to);
@@ -244,8 +244,8 @@ fn subtitle_at(bytes: &[u8], i: usize) -> Subtitle
     ensures { λ r. ⌜ (r ≡ subtitleIn (drop i (now (bytes .entry)))) × (r .magazine < 8) × (r .page < 256) ⌝ }
 {
     let language = forms::word_at(bytes, i);
-    let magazine = forms::byte_at(bytes, i + 3) % 8;
-    let page = forms::byte_at(bytes, i + 4);
+    let magazine = lent_bytes::byte_at(bytes, i + 3) % 8;
+    let page = lent_bytes::byte_at(bytes, i + 4);
     Subtitle {
         language,
         magazine,

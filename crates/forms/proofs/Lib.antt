@@ -4,3 +4,4 @@ pub mod Forms
 pub mod Judging
 mod Words
 pub mod Formats
+pub mod Blocks

@@ -1,8 +1,7 @@
-// What the bytes of a table's form say one by one: a byte, a word, whether the kind and the block number are ones that are read, and how
+// What the bytes of a table's form say one by one: a word, whether the kind and the block number are ones that are read, and how
 // many words its entries have.
 ghost use mathlib.Core.Path.{_≡_};
 ghost use Prim.Native.Nat.{_*_, _%_, _^_, _<_, _≤_};
-ghost use lib.ListN.{getD};
 ghost use Rattle.forms.specs.Kinds.{per, known as Kinds·known, numbered as Kinds·numbered};
 ghost use Rattle.forms.specs.Words.{wordAt};
 
@@ -49,18 +48,8 @@ pub fn word_at(table: &[u8], i: usize) -> usize
     if table.len() <= i {
         return 0;
     }
-    let high = byte_at(table, i);
-    let middle = byte_at(table, i + 1);
-    let low = byte_at(table, i + 2);
+    let high = lent_bytes::byte_at(table, i);
+    let middle = lent_bytes::byte_at(table, i + 1);
+    let low = lent_bytes::byte_at(table, i + 2);
     (high * 256 + middle) * 256 + low
-}
-
-// The byte i; 0 past the end.
-pub fn byte_at(s: &[u8], i: usize) -> usize
-    ensures { λ r. ⌜ (r ≡ getD (now (s .entry)) i 0) × (r < 256) ⌝ }
-{
-    if i < s.len() {
-        return s[i] as usize;
-    }
-    0
 }

@@ -3,7 +3,6 @@
 pub mod items;
 
 pub use items::TI;
-pub use items::byte_at;
 pub use items::known;
 pub use items::numbered;
 pub use items::word_at;
@@ -48,7 +47,7 @@ pub fn judge_form(table: &[u8]) -> Answer
     if table.len() < OPENING {
         return answer::refuse(13, 0);
     }
-    if !items::known(items::byte_at(table, 0)) {
+    if !items::known(lent_bytes::byte_at(table, 0)) {
         return answer::refuse(15, 0);
     }
     if table.len() != form_size(table) {
@@ -64,18 +63,18 @@ fn is_numbered(table: &[u8]) -> bool
     if table.len() < 4 {
         return true;
     }
-    items::numbered(items::byte_at(table, 2) + 256 * items::byte_at(table, 3))
+    items::numbered(lent_bytes::byte_at(table, 2) + 256 * lent_bytes::byte_at(table, 3))
 }
 
 // The length of a form by its counts as they stand.
 fn form_size(table: &[u8]) -> usize
     ensures { λ r. ⌜ (r ≡ length (form (tableIn (now (table .entry))))) × (r ≤ formMost) ⌝ }
 {
-    let kind = items::byte_at(table, 0);
-    let mut left = items::byte_at(table, 5);
+    let kind = lent_bytes::byte_at(table, 0);
+    let mut left = lent_bytes::byte_at(table, 5);
     let mut at = OPENING;
     while 0 < left {
-        at += 2 + 3 * items::words_of(kind, items::byte_at(table, at + 1));
+        at += 2 + 3 * items::words_of(kind, lent_bytes::byte_at(table, at + 1));
         left -= 1;
     }
     at
@@ -91,8 +90,8 @@ fn judge_values(table: &[u8]) -> Answer
         ⌜ r
         ≡ judged refused (rule (fits (tableIn (now (table .entry)))) 15 0 ∷ []) (Done (bits (tableIn (now (table .entry))))) ⌝ }
 {
-    let count = items::byte_at(table, 5);
-    if 1 < items::byte_at(table, 1) {
+    let count = lent_bytes::byte_at(table, 5);
+    if 1 < lent_bytes::byte_at(table, 1) {
         return answer::refuse(15, 0);
     }
     if 63 < count {
@@ -113,12 +112,12 @@ fn loops_fit(table: &[u8]) -> bool
     ensures { λ r.
         ⌜ r ≡ fitting (loops (tableIn (now (table .entry)) .kind) (tableIn (now (table .entry)) .descriptors)) ⌝ }
 {
-    let kind = items::byte_at(table, 0);
-    let mut left = items::byte_at(table, 5);
+    let kind = lent_bytes::byte_at(table, 0);
+    let mut left = lent_bytes::byte_at(table, 5);
     let mut at = OPENING;
     while 0 < left {
-        let entries = items::byte_at(table, at + 1);
-        if 63 < items::byte_at(table, at) {
+        let entries = lent_bytes::byte_at(table, at + 1);
+        if 63 < lent_bytes::byte_at(table, at) {
             return false;
         }
         if 15 < entries {

@@ -13,10 +13,10 @@ use Rattle.laws.specs.Bytes.{Bytes}
 use Rattle.answer.specs.Rules.{Every, more}
 use Rattle.answer.specs.Writing.{answered, left}
 use Rattle.answer.proofs.Steps.{first-holds, others-hold}
-use Rattle.frames.specs.Outcome.{accepted}
-use Rattle.frames.specs.declared.Read.{Read}
-use Rattle.frames.specs.declared.Read.the-variants.{Taken}
-use Rattle.frames.specs.Values.{counted}
+use Rattle.blocks.specs.Outcome.{accepted}
+use Rattle.blocks.specs.declared.Read.{Read}
+use Rattle.blocks.specs.declared.Read.the-variants.{Taken}
+use Rattle.blocks.specs.Values.{counted}
 use Rattle.kinds.specs.Kind.{Content, fill, fits as sendable}
 use Rattle.kinds.specs.Block.{recordWith}
 use Rattle.kinds.proofs.Exact as Kinds

@@ -15,11 +15,11 @@ use Rattle.codecs.specs.Codec.{rowRead}
 use Rattle.codecs.specs.Rows.{each, codesIn, rowed, valuesIn}
 use Rattle.codecs.proofs.Codes.{codes-count}
 use Rattle.codecs.proofs.Lawful.{value-at, values-width}
-use Rattle.information_forms.specs.Rows.{rowBytes}
+use Rattle.information_forms.specs.Rows.{cut, rowBytes}
 use Rattle.information_forms.specs.Information.{Network, Information, AI, openingWidths, networkCount, nameLength, networkFormat, names}
 use Rattle.information_forms.specs.Form.{networkForm, form}
 use Rattle.information_forms.proofs.Rowed.{row-long}
-use Rattle.information.specs.Internal.{cut, rowAt, spoken, networksFrom, named, held}
+use Rattle.information.specs.Internal.{rowAt, spoken, networksFrom, named, held}
 
 -- two bytes of the form: its kind and copyright
 pub two-bytes : (c : ℕ) → c < 2 → parts 8 2 (1 + 256 * c) ≡ 1 ∷ c ∷ []

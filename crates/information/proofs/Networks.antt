@@ -16,12 +16,12 @@ use Rattle.codecs.specs.Codec.{rowRead}
 use Rattle.codecs.specs.Rows.{each, codesIn, rowed, valuesIn}
 use Rattle.codecs.proofs.Codes.{codes-count}
 use Rattle.codecs.proofs.Lawful.{value-at, values-width}
-use Rattle.information_forms.specs.Rows.{rowBytes, rowForm}
+use Rattle.information_forms.specs.Rows.{cut, rowBytes, rowForm}
 use Rattle.information_forms.specs.Information.{Network, networkWidths, networkName, networkFormat}
 use Rattle.information_forms.specs.Form.{networkForm}
 use Rattle.information_forms.proofs.Rowed.{row-long}
 use Rattle.information_forms.proofs.Sizes.{network-long, network-width, network-strings}
-use Rattle.information.specs.Internal.{cut, rowAt, spoken, networksFrom, networkFrom, named}
+use Rattle.information.specs.Internal.{rowAt, spoken, networksFrom, networkFrom, named}
 
 -- the length of a name stands behind 29 bits
 name-at : (n at : ℕ) → networkName (valuesIn networkWidths (n / 2 ^ at)) ≡ field (at + 29) 5 n

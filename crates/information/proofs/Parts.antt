@@ -16,8 +16,8 @@ use Rattle.answer.specs.declared.Refusal.{Refusal}
 use Rattle.answer.proofs.Steps.{done-every, done-value, ends, goes-on}
 use Rattle.answer.proofs.Lent.{front-holds}
 use Rattle.blocks.specs.Block.{headOf, sizeOf}
-use Rattle.frames.specs.Framing.{framing}
-use Rattle.frames.proofs.Framed.{framed}
+use Rattle.blocks.specs.Framing.{framing}
+use Rattle.blocks.proofs.Framed.{framed}
 use Rattle.kinds.specs.Reading.{oneOf, controlPart, stringPart, controlLength, bodyRules, sumRules, carriedBy, carried, lengthRules}
 use Rattle.kinds.specs.Kind.{contentOf}
 use Rattle.kinds.proofs.Counting.{cut-control, cut-strings}

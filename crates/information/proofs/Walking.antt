@@ -13,8 +13,8 @@ use Rattle.laws.proofs.Lists.{sets-append}
 use Rattle.fields.specs.Fields.{field, parts}
 use Rattle.fields.proofs.Laid.{length-parts, field-past}
 use Rattle.codecs.specs.Rows.{codesIn, valuesIn}
-use Rattle.information_forms.specs.Rows.{bytesOf, rowForm}
-use Rattle.information.specs.Internal.{cut, rowAt, spoken}
+use Rattle.information_forms.specs.Rows.{cut, bytesOf, rowForm}
+use Rattle.information.specs.Internal.{rowAt, spoken}
 
 -- the k lowest bytes of a number
 pub value-bytes : (v k : ℕ) → k ≤ 3 → take k (v % 256 ∷ v / 256 % 256 ∷ v / 256 / 256 % 256 ∷ []) ≡ parts 8 k v

@@ -1,18 +1,13 @@
 -- What only private calls cite; nothing here needs to be believed. The walk that spells information: what stands at its places.
-use mathlib.Core.List.{List, [], _∷_, map}
-use Prim.Native.Nat.{ℕ, _+_, _*_, _/_, _%_, _^_, min}
+use mathlib.Core.List.{List, map}
+use Prim.Native.Nat.{ℕ, _+_, _*_, _/_, _%_, _^_}
 use lib.ListN.{length, drop}
 use Rattle.fields.specs.Fields.{field}
 use Rattle.fields.specs.Compound.{compound}
 use Rattle.codecs.specs.Codec.{rowRead}
 use Rattle.codecs.specs.Rows.{each, valuesIn}
-use Rattle.information_forms.specs.Rows.{rowForm}
+use Rattle.information_forms.specs.Rows.{cut, rowForm}
 use Rattle.information_forms.specs.Information.{Network, Information, networkFormat, behind, among}
-
--- widths as far as the bit reader goes
-unfoldable pub cut : List ℕ → List ℕ
-cut [] = []
-cut (w ∷ ws) = min w 24 ∷ cut ws
 
 -- the row of these widths that a number begins with, as a form has it
 abbrev pub rowAt : List ℕ → ℕ → List ℕ

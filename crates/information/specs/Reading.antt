@@ -3,7 +3,7 @@ use mathlib.Core.Bool.{true}
 use mathlib.Core.List.{List}
 use Prim.Native.Nat.{ℕ}
 use Rattle.answer.specs.Rules.{Rule}
-use Rattle.frames.specs.Outcome.{Outcome}
+use Rattle.blocks.specs.Outcome.{Outcome}
 use Rattle.kinds.specs.Reading.{mendedOf, contentIn, readAs, readRules as rulesOf}
 use Rattle.information_forms.specs.Information.{Information}
 use Rattle.information_forms.specs.Kind.{information, value}

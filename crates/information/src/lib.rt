@@ -10,7 +10,7 @@ ghost use Rattle.answer.specs.Values.{refused};
 ghost use Rattle.answer.specs.Writing.{answered, left};
 ghost use Rattle.answer.specs.declared.Answer.the-variants.{Done};
 ghost use Rattle.blocks.specs.Block.{headLength};
-ghost use Rattle.frames.specs.Values.{counted};
+ghost use Rattle.blocks.specs.Values.{counted};
 ghost use Rattle.kinds.specs.Reading.{carriedBy, lengthRules};
 ghost use Rattle.information_forms.specs.Kind.{information};
 ghost use Rattle.information_forms.specs.Form.{form};
@@ -18,7 +18,7 @@ ghost use Rattle.information.specs.Reading.{readRules, informationRead, 
 ghost use Rattle.information.specs.Internal.{held};
 use answer::Answer;
 use blocks::HEAD;
-use frames::Read;
+use blocks::Read;
 use information_forms::NETWORK;
 use information_forms::OPENING;
 

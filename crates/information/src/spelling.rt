@@ -2,8 +2,8 @@
 // the end of the lent bytes isn't written, so that the walk measures where it is lent no room.
 ghost use mathlib.Core.Path.{_≡_};
 ghost use mathlib.Core.List.{_∷_};
-ghost use Prim.Native.Nat.{_+_, _*_, _/_, _^_, _≤_, min};
-ghost use lib.ListN.{length, getD, drop, set};
+ghost use Prim.Native.Nat.{_+_, _*_, _/_, _^_, _≤_};
+ghost use lib.ListN.{length, drop};
 ghost use lib.Seq.{sets};
 ghost use Rattle.fields.specs.Fields.{field, parts};
 ghost use Rattle.fields.specs.Compound.{compound};
@@ -99,7 +99,7 @@ fn put_codes(strings: &[u8], from: usize, count: usize, out: &mut [u8], to: usiz
     let mut q = to;
     let mut left = count;
     while 0 < left {
-        put((forms::byte_at(strings, i) % 128) as u8, out, q);
+        lent_bytes::put((lent_bytes::byte_at(strings, i) % 128) as u8, out, q);
         i += 1;
         q += 1;
         left -= 1;
@@ -116,21 +116,13 @@ fn put_row(control: &[u8], at: usize, widths: &[u8], out: &mut [u8], to: usize)
     let mut p = at;
     let mut q = to;
     while i < widths.len() {
-        let w = width_at(widths, i);
+        let w = information_forms::width_at(widths, i);
         let k = (w + 7) / 8;
         put_value(fields::field_of(control, p, w), k, out, q);
         p += w;
         q += k;
         i += 1;
     }
-}
-
-// The width at a place, as far as the bit reader goes.
-fn width_at(widths: &[u8], i: usize) -> usize
-    ensures { λ r. ⌜ (r ≡ min (getD (now (widths .entry)) i 0) 24) × (r ≤ 24) ⌝ }
-{
-    let w = forms::byte_at(widths, i);
-    if 24 < w { 24 } else { w }
 }
 
 // The k lowest bytes of a number, the lowest first.
@@ -144,14 +136,4 @@ fn put_value(v: usize, k: usize, out: &mut [u8], to: usize)
         (v / 256 / 256 % 256) as u8,
     ];
     lent_bytes::copy(&bytes, 0, k, out, to);
-}
-
-// One byte at a place of `out`, where there is one.
-fn put(b: u8, out: &mut [u8], to: usize)
-    ensures { λ _. ⌜ now (out .exit) ≡ set (now (out .entry)) to b ⌝ }
-{
-    if out.len() <= to {
-        return;
-    }
-    out[to] = b;
 }

@@ -8,9 +8,9 @@ use native.Mathlib.Nat.{mul-one, mod-eq-of-lt}
 use native.Mathlib.Omega.{arith}
 use borrow.Author.Tests.{ltb-true}
 use lib.Dec.{ltb}
-use lib.ListN.{length, getD, drop, length-append}
+use lib.ListN.{length, getD, take, drop, length-append}
 use lib.Pow.{shl-exact}
-use lib.Seq.{drop-append-seam, getD-drop}
+use lib.Seq.{drop-drop, drop-append-seam, getD-drop}
 use Rattle.laws.specs.Bytes.{Bytes}
 use Rattle.laws.proofs.Byted.{bytes-drop}
 use Rattle.laws.proofs.Tests.{both-true}
@@ -95,3 +95,13 @@ row-fits (w ∷ ws) vs (suc k) l h =
     let e : 1 + k ≡ suc k = omega arith in
     subst (λ (x : ℕ). x < 2 ^ getD ws k 0) (getD-drop 1 vs k 0 ∙ ap (λ (j : ℕ). getD vs j 0) e)
     (row-fits ws (drop 1 vs) k (omega arith) (both-true (ltb (getD vs 0 0) (2 ^ w)) _ h .1))
+
+-- the value i of a row in bytes stands behind those of the values before it
+pub row-at :
+    (ws f : List ℕ) (i : ℕ) → i < length ws → getD (rowIn ws f) i 0 ≡ whole 8 (codesIn (bytesOf (getD ws i 0)) (drop (rowBytes (take i ws)) f))
+unfolding rowIn rowBytes
+row-at [] f i h = absurd (omega arith)
+row-at (w ∷ ws) f zero h = refl
+row-at (w ∷ ws) f (suc i) h =
+    row-at ws (drop (bytesOf w) f) i (omega arith)
+    ∙ ap (λ (l : List ℕ). whole 8 (codesIn (bytesOf (getD ws i 0)) l)) (drop-drop (rowBytes (take i ws)) (bytesOf w) f)

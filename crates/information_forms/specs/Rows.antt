@@ -1,6 +1,6 @@
 -- A row of values in lent bytes: each as many whole bytes as its width needs, the lowest first.
 use mathlib.Core.List.{List, [], _∷_, _++_}
-use Prim.Native.Nat.{ℕ, _+_, _/_}
+use Prim.Native.Nat.{ℕ, _+_, _/_, min}
 use lib.ListN.{getD, drop}
 use Rattle.fields.specs.Fields.{parts, whole}
 use Rattle.codecs.specs.Rows.{codesIn}
@@ -22,3 +22,8 @@ rowForm (w ∷ ws) vs = parts 8 (bytesOf w) (getD vs 0 0) ++ rowForm ws (drop 1 
 unfoldable pub rowIn : List ℕ → List ℕ → List ℕ
 rowIn [] f = []
 rowIn (w ∷ ws) f = whole 8 (codesIn (bytesOf w) f) ∷ rowIn ws (drop (bytesOf w) f)
+
+-- widths as far as the bit reader and the pen go; those of tables 11 and 12 are within it
+unfoldable pub cut : List ℕ → List ℕ
+cut [] = []
+cut (w ∷ ws) = min w 24 ∷ cut ws

@@ -7,10 +7,10 @@ use Prim.Native.Nat.{ℕ, _^_, _≤_, _<_}
 use lib.ListN.{length, drop}
 use Rattle.laws.specs.Bytes.{Bytes}
 use Rattle.answer.specs.Writing.{answered, left}
-use Rattle.frames.specs.declared.Read.{Read}
-use Rattle.frames.specs.declared.Read.the-variants.{Taken}
-use Rattle.frames.specs.Values.{counted}
-use Rattle.frames.proofs.Counting.{counted-takes, counted-all}
+use Rattle.blocks.specs.declared.Read.{Read}
+use Rattle.blocks.specs.declared.Read.the-variants.{Taken}
+use Rattle.blocks.specs.Values.{counted}
+use Rattle.blocks.proofs.Counting.{counted-takes, counted-all}
 use Rattle.kinds.specs.Kind.{Kind, Content, fill, fits}
 use Rattle.kinds.specs.Block.{recordWith, Means}
 use Rattle.kinds.specs.Reading.{mendedOf, contentIn, readRules}

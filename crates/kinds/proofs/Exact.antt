@@ -27,12 +27,12 @@ use Rattle.fields.specs.Fields.{Field, laid, fitting, parts, whole}
 use Rattle.fields.proofs.Laid.{laid-lt, whole-lt, whole-parts}
 use Rattle.codecs.specs.Codec.{fit}
 use Rattle.codecs.proofs.Codes.{begins-all}
-use Rattle.sums.specs.Sums.{checksum, sound}
-use Rattle.sums.proofs.Nibbles.{sound-parts, sound-take}
-use Rattle.sums.proofs.Summing.{checksum-lt}
-use Rattle.frames.specs.Framing.{framing}
-use Rattle.frames.specs.Outcome.{accepted, refused}
-use Rattle.frames.proofs.Framed.{Framed, framed, frame-holds, header-of, headed, accepts}
+use Rattle.blocks.specs.Sums.{checksum, sound}
+use Rattle.blocks.proofs.Nibbles.{sound-parts, sound-take}
+use Rattle.blocks.proofs.Summing.{checksum-lt}
+use Rattle.blocks.specs.Framing.{framing}
+use Rattle.blocks.specs.Outcome.{accepted, refused}
+use Rattle.blocks.proofs.Framed.{Framed, framed, frame-holds, part-most, header-of, headed, accepts}
 use Rattle.kinds.specs.Kind.{Kind, Content, Sent, sent, contentOf, sevens, format, fields, bits, control, fill, strings, size, fits}
 use Rattle.kinds.specs.Block.{nibbles, headBits, checksumOf, Says, Means}
 use Rattle.kinds.specs.Reading.{frontIn, codeOf, controlLength, controlPart, stringPart, frontRules, wholeRules, bodyRules, sumRules, mendedOf, carriedBy, carried, contentIn, lengthRules, readRules, readAs}
@@ -431,7 +431,7 @@ module _ {B : Type 0} (k : Kind B) (o : Owed k) (application : ℕ) (r : List �
       let q = taken k application r e in
       let long = nibs-long k o application r (q .0) (q .1) in
       let bytes = controlPart (k .spoken) (drop 4 r) in
-      omega (arith, q .0 .in-range .part, harms-le bytes, long, length-map bytes nib, q .1 .control-said, control-lt (map nib bytes))
+      omega (arith, part-most r (q .0 .in-range), harms-le bytes, long, length-map bytes nib, q .1 .control-said, control-lt (map nib bytes))
 
   -- the record has its head and eight bytes
   pub record-long : 12 ≤ length r

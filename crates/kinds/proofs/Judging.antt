@@ -11,7 +11,7 @@ use Rattle.answer.specs.Rules.{judged}
 use Rattle.answer.specs.declared.Answer.{Answer}
 use Rattle.answer.specs.Values.{refused}
 use Rattle.parity.specs.Parity.{odds}
-use Rattle.sums.specs.Sums.{checksum, sound}
+use Rattle.blocks.specs.Sums.{checksum, sound}
 use Rattle.kinds.specs.Reading.{frontIn, frontRules, wholeRules}
 
 -- ---- the front

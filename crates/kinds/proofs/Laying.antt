@@ -9,8 +9,8 @@ use Rattle.octet.specs.Image.{image}
 use Rattle.octet.specs.Decoding.{nib}
 use Rattle.fields.specs.Fields.{laid, parts}
 use Rattle.fields.proofs.Laid.{laid-next, length-parts}
-use Rattle.sums.specs.Sums.{total, checksum, sound}
-use Rattle.sums.proofs.Nibbles.{parts-sound, nibbles-back}
+use Rattle.blocks.specs.Sums.{total, checksum, sound}
+use Rattle.blocks.proofs.Nibbles.{parts-sound, nibbles-back}
 use Rattle.kinds.specs.Kind.{Kind, Content, fields, control}
 use Rattle.kinds.specs.Block.{nibbles}
 use Rattle.kinds.proofs.Fronts.{four}

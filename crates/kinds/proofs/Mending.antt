@@ -7,7 +7,7 @@ use native.Mathlib.Omega.{arith}
 use lib.ListN.{length, getD, take, drop, length-drop}
 use lib.Seq.{getD-take, take-add, take-all, drop-at, length-take-le}
 use Rattle.octet.specs.Hearing.{harms}
-use Rattle.sums.specs.Block.{mendedIn}
+use Rattle.blocks.specs.Parts.{mendedIn}
 use Rattle.kinds.specs.Reading.{controlLength, controlPart, mendedOf}
 use Rattle.kinds.proofs.Counting.{cut-control}
 

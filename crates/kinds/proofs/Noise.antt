@@ -11,10 +11,10 @@ use Rattle.octet.specs.Decoding.{nib}
 use Rattle.parity.specs.Parity.{isOdd}
 use Rattle.parity.proofs.Letters.{odds-at}
 use Rattle.blocks.specs.Block.{headOf}
-use Rattle.sums.specs.Block.{InRange}
-use Rattle.sums.proofs.Nibbles.{sound-at}
-use Rattle.frames.specs.Outcome.{accepted}
-use Rattle.frames.proofs.Framed.{accepts}
+use Rattle.blocks.specs.Parts.{InRange}
+use Rattle.blocks.proofs.Nibbles.{sound-at}
+use Rattle.blocks.specs.Outcome.{accepted}
+use Rattle.blocks.proofs.Framed.{accepts}
 use Rattle.kinds.specs.Kind.{Kind, Content, control}
 use Rattle.kinds.specs.Block.{Says}
 use Rattle.kinds.specs.Reading.{controlPart, stringPart, mendedOf, contentIn, readRules, readAs}

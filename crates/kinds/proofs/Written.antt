@@ -12,7 +12,7 @@ use Rattle.octet.specs.Decoding.{nib}
 use Rattle.octet.specs.Hearing.{harms}
 use Rattle.octet.proofs.Hearing.{harms-images}
 use Rattle.parity.specs.Parity.{letter}
-use Rattle.frames.specs.Outcome.{accepted}
+use Rattle.blocks.specs.Outcome.{accepted}
 use Rattle.kinds.specs.Kind.{Kind, Content, control, fill, strings, fits}
 use Rattle.kinds.specs.Block.{nibbles, checksumOf, blockWith, recordWith, Says, Means}
 use Rattle.kinds.specs.Reading.{mendedOf, readAs}
@@ -46,7 +46,7 @@ module _ {B : Type 0} (k : Kind B) (application filling : ℕ) (c : Content B) w
         within = a;
         sendable = f;
         filled = h;
-        ranged = record { part = omega arith; second = omega arith };
+        ranged = refl;
         head = omega arith;
         body = ap (map nib) taken-images ∙ nibbles-again k sum filling c;
         codes = ap (λ (n : ℕ). drop n (xs ++ ys)) images-long ∙ drop-append-seam xs ys;

@@ -7,10 +7,10 @@ use lib.ListN.{take, drop}
 use Rattle.octet.specs.Decoding.{nib}
 use Rattle.octet.specs.Image.{image}
 use Rattle.parity.specs.Parity.{letter}
-use Rattle.blocks.specs.Block.{Block, headLength, headOf, recordOf as carried}
+use Rattle.blocks.specs.Block.{Block, header, headLength, headOf, recordOf as carried}
 use Rattle.fields.specs.Fields.{laid, parts}
-use Rattle.sums.specs.Sums.{checksum}
-use Rattle.sums.specs.Block.{header, InRange}
+use Rattle.blocks.specs.Sums.{checksum}
+use Rattle.blocks.specs.Parts.{InRange}
 use Rattle.kinds.specs.Kind.{Kind, Content, fields, control, fill, strings, size, fits}
 
 module _ {B : Type 0} (k : Kind B) where

@@ -12,9 +12,9 @@ use Rattle.octet.specs.Hearing.{harms}
 use Rattle.parity.specs.Parity.{odds}
 use Rattle.blocks.specs.Block.{headLength, headOf, sizeOf, partOf}
 use Rattle.fields.specs.Fields.{whole}
-use Rattle.sums.specs.Sums.{checksum, sound}
-use Rattle.frames.specs.Framing.{framing}
-use Rattle.frames.specs.Outcome.{Outcome, accepted, refused}
+use Rattle.blocks.specs.Sums.{checksum, sound}
+use Rattle.blocks.specs.Framing.{framing}
+use Rattle.blocks.specs.Outcome.{Outcome, accepted, refused}
 use Rattle.kinds.specs.Front.{Front, front}
 use Rattle.kinds.specs.Kind.{Kind, Content, Sent, contentOf, format, control, size}
 

@@ -14,8 +14,8 @@ ghost use Rattle.octet.specs.Decoding.{nib};
 ghost use Rattle.kinds.specs.Reading.{frontIn, oneOf, controlPart, frontRules, wholeRules, bodyRules, sumRules, mendedOf};
 ghost use Rattle.kinds.specs.Internal.{partRules};
 use answer::Answer;
+use blocks::Frame;
 use blocks::HEAD;
-use frames::Frame;
 
 // The first bytes of a block, which are control bytes whatever the control size is.
 const FIRST: usize = 8;
@@ -33,7 +33,7 @@ pub fn judge(application: u8, first: u8, second: u8, spoken: bool, rec: &[u8]) -
         ≡ judged refused (sumRules (oneOf first second) spoken application (now (rec .entry)))
         (Done (length (controlPart spoken (drop headLength (now (rec .entry)))))) ⌝ }
 {
-    match frames::judge(application, rec) {
+    match blocks::frames::judge(application, rec) {
         Frame::Refused(why) => Answer::Refused(why),
         Frame::Head(head) => judge_body(head, first, second, spoken, &rec[HEAD..]),
     }
@@ -44,13 +44,13 @@ pub fn mended_in(spoken: bool, rec: &[u8]) -> usize
     ensures { λ r. ⌜ r ≡ mendedOf spoken (now (rec .entry)) ⌝ }
 {
     if !spoken {
-        return sums::mended_in(rec);
+        return blocks::sums::mended_in(rec);
     }
     if rec.len() < HEAD + FIRST {
-        return sums::mended_in(rec);
+        return blocks::sums::mended_in(rec);
     }
     let end = HEAD + control_length(spoken, &rec[HEAD..]);
-    sums::mended_in(&rec[..end])
+    blocks::sums::mended_in(&rec[..end])
 }
 
 // What follows the frame, cut into control bytes and string bytes.
@@ -125,7 +125,7 @@ fn judge_front(
     ensures { λ r.
         ⌜ r ≡ judged refused (frontRules (oneOf first second) spoken size (map nib (now (control .entry)))) (Done 0) ⌝ }
 {
-    let good = sums::sound(&control[..FIRST]);
+    let good = blocks::sums::sound(&control[..FIRST]);
     if good != FIRST {
         return answer::refuse(10, HEAD + good);
     }
@@ -169,9 +169,9 @@ fn judge_whole(head: usize, said: usize, control: &[u8], strings: &[u8]) -> Answ
         ≡ judged refused (wholeRules head (map nib (now (control .entry))) (now (strings .entry)))
         (Done (length (now (control .entry)))) ⌝ }
 {
-    let sum = sums::sum_of(head, control);
+    let sum = blocks::sums::sum_of(head, control);
     if 255 < sum {
-        return answer::refuse(10, HEAD + sums::sound(control));
+        return answer::refuse(10, HEAD + blocks::sums::sound(control));
     }
     let odd = parity::odds(strings);
     if odd != strings.len() {

@@ -1,9 +1,29 @@
-// Bytes of lent memory, many at a time: copied to a place, filled, or made zero. What doesn't lie within the
-// slices is left out.
+// Bytes of lent memory: one read or stored, many copied to a place, filled, or made zero. What doesn't lie within the
+// slices reads as zero and is left out.
 ghost use mathlib.Core.Path.{_≡_};
-ghost use Prim.Native.Nat.{_-_, min};
-ghost use lib.ListN.{take, drop, replicate};
+ghost use Prim.Native.Nat.{_-_, _<_, min};
+ghost use lib.ListN.{getD, take, drop, set, replicate};
 ghost use lib.Seq.{sets};
+
+// The byte i; 0 past the end.
+pub fn byte_at(s: &[u8], i: usize) -> usize
+    ensures { λ r. ⌜ (r ≡ getD (now (s .entry)) i 0) × (r < 256) ⌝ }
+{
+    if i < s.len() {
+        return s[i] as usize;
+    }
+    0
+}
+
+// One byte at a place of `out`, where there is one.
+pub fn put(b: u8, out: &mut [u8], to: usize)
+    ensures { λ _. ⌜ now (out .exit) ≡ set (now (out .entry)) to b ⌝ }
+{
+    if out.len() <= to {
+        return;
+    }
+    out[to] = b;
+}
 
 // So many bytes of `src` from `from` on go to `dst` from `to` on.
 pub fn copy(src: &[u8], from: usize, n: usize, dst: &mut [u8], to: usize)

@@ -93,9 +93,9 @@ fn put_head(table: &[u8], mended: u16, second: u8, out: &mut [u8]) -> usize
     ensures { λ r.
         ⌜ Put (now (out .entry)) 0 (headLines mended second (tableIn (now (table .entry)))) (now (out .exit)) r × (r ≤ headMost) ⌝ }
 {
-    let kind = forms::byte_at(table, 0);
-    let block = forms::byte_at(table, 2) + 256 * forms::byte_at(table, 3);
-    let network = forms::byte_at(table, 4);
+    let kind = lent_bytes::byte_at(table, 0);
+    let block = lent_bytes::byte_at(table, 2) + 256 * lent_bytes::byte_at(table, 3);
+    let network = lent_bytes::byte_at(table, 4);
     let a = put_kind(kind, out, 0);
     let b = text_lines::put_number(b"block=", block, out, a);
     let c = text_lines::put_number(b"network=", network, out, b);
@@ -119,12 +119,12 @@ fn put_descriptors(table: &[u8], out: &mut [u8], q: usize) -> usize
     requires { ⌜ q ≤ headMost ⌝ }
     ensures { λ r. ⌜ Put (now (out .entry)) q (descriptorLinesOf (tableIn (now (table .entry)))) (now (out .exit)) r ⌝ }
 {
-    let kind = forms::byte_at(table, 0);
-    let mut left = forms::byte_at(table, 5);
+    let kind = lent_bytes::byte_at(table, 0);
+    let mut left = lent_bytes::byte_at(table, 5);
     let mut i = OPENING;
     let mut p = q;
     while 0 < left {
-        let entries = forms::byte_at(table, i + 1);
+        let entries = lent_bytes::byte_at(table, i + 1);
         p = put_descriptor(table, kind, i, entries, out, p);
         i += 2 + 3 * forms::words_of(kind, entries);
         left -= 1;
@@ -148,7 +148,7 @@ fn put_descriptor(
         (now (out .exit)) r
         × (r ≤ q + descriptorLinesMost) ⌝ }
 {
-    let id = forms::byte_at(table, i);
+    let id = lent_bytes::byte_at(table, i);
     let at = text_lines::put_number(b"descriptor=", id, out, q);
     put_entries(table, kind, i + 2, entries, out, at)
 }

@@ -116,7 +116,7 @@ fn number_from(sheet: &[u8], from: usize) -> usize
         if sheet.len() <= from + seen {
             return n;
         }
-        let b = forms::byte_at(sheet, from + seen);
+        let b = lent_bytes::byte_at(sheet, from + seen);
         if b < 48 {
             return n;
         }
@@ -134,7 +134,7 @@ fn language_in(sheet: &[u8], i: usize) -> usize
     requires { ⌜ i ≤ placeMost ⌝ }
     ensures { λ r. ⌜ r ≡ languageIn (now (sheet .entry)) i ⌝ }
 {
-    if forms::byte_at(sheet, i + 3) == 10 {
+    if lent_bytes::byte_at(sheet, i + 3) == 10 {
         return forms::word_at(sheet, i);
     }
     hex_word(sheet, i)
@@ -156,7 +156,7 @@ fn hex_byte(sheet: &[u8], i: usize) -> usize
     requires { ⌜ i ≤ placeMost + 4 ⌝ }
     ensures { λ r. ⌜ (r ≡ hexByte (now (sheet .entry)) i) × (r < 65536) ⌝ }
 {
-    nibble_of(forms::byte_at(sheet, i)) * 16 + nibble_of(forms::byte_at(sheet, i + 1))
+    nibble_of(lent_bytes::byte_at(sheet, i)) * 16 + nibble_of(lent_bytes::byte_at(sheet, i + 1))
 }
 
 // A hex digit's value; of any other byte, some number.

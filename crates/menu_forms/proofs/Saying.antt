@@ -9,8 +9,8 @@ use lib.Seq.{take-append-seam, drop-append-seam}
 use Rattle.octet.specs.Image.{image}
 use Rattle.octet.specs.Decoding.{nib}
 use Rattle.fields.specs.Fields.{width, laid, parts}
-use Rattle.sums.specs.Sums.{total, checksum}
-use Rattle.sums.proofs.Nibbles.{nibbles-back}
+use Rattle.blocks.specs.Sums.{total, checksum}
+use Rattle.blocks.proofs.Nibbles.{nibbles-back}
 use Rattle.parity.specs.Parity.{letter}
 use Rattle.menu_forms.specs.Menus.{Menu, Spare, fields, strings, control, fits}
 use Rattle.menu_forms.specs.Block.{Says, inNibbles, nibbles, checksumOf, blockWith, recordWith}
@@ -53,7 +53,7 @@ module _ (application : ℕ) (spare : Spare) (m : Menu) where
         spare = spare;
         within = la;
         sendable = h;
-        ranged = record { part = omega arith; second = omega arith };
+        ranged = refl;
         reserved = r;
         first = f;
         second = s;

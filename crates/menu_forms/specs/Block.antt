@@ -6,10 +6,10 @@ use Prim.Native.Nat.{ℕ, _*_, _/_, _<_}
 use lib.ListN.{take, drop}
 use Rattle.octet.specs.Decoding.{nib}
 use Rattle.octet.specs.Image.{image}
-use Rattle.blocks.specs.Block.{Block, headLength, headOf, recordOf as carried}
+use Rattle.blocks.specs.Block.{Block, headLength, headOf, recordOf as carried, header}
 use Rattle.fields.specs.Fields.{Field, width, laid, parts}
-use Rattle.sums.specs.Sums.{checksum}
-use Rattle.sums.specs.Block.{header, InRange}
+use Rattle.blocks.specs.Sums.{checksum}
+use Rattle.blocks.specs.Parts.{InRange}
 use Rattle.parity.specs.Parity.{letter}
 use Rattle.menu_forms.specs.Menus.{Menu, Spare, zeros, fields, strings, control, size, fits}
 

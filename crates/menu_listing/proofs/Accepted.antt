@@ -17,10 +17,9 @@ use Rattle.laws.specs.Bytes.{Bytes}
 use Rattle.fields.specs.Fields.{Field, width, fitting, field}
 use Rattle.fields.specs.Compound.{compound}
 use Rattle.fields.proofs.Laid.{width-append}
-use Rattle.frames.specs.Outcome.{accepted, refused}
+use Rattle.blocks.specs.Outcome.{accepted, refused}
 use Rattle.menu_forms.specs.Rows.{each}
-use Rattle.menu_forms.specs.Menus.{Descriptor, Escape, Text, Attribute, Event, Menu, zeros, infoBytes, descriptorFields, escapeFields, attributeFields, textFields, eventFields}
-use Rattle.menu_forms.specs.Menus.{fillFields, fields, codesOf, strings, control, size, sevens, fits, eventFormat, textFormat}
+use Rattle.menu_forms.specs.Menus.{Descriptor, Escape, Text, Attribute, Event, Menu, zeros, infoBytes, descriptorFields, escapeFields, attributeFields, textFields, eventFields, fillFields, fields, codesOf, strings, control, size, sevens, fits, eventFormat, textFormat}
 use Rattle.menu_forms.specs.Block.{Says}
 use Rattle.menu_forms.specs.Form.{descriptorForm, escapeForm, attributeForm, textForm, eventForm, form}
 use Rattle.menu_forms.proofs.Forms.{high-length}

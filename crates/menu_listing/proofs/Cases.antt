@@ -10,8 +10,8 @@ use Rattle.octet.specs.Decoding.{nib, nibbleFrom}
 use Rattle.blocks.specs.Block.{blocksWithin}
 use Rattle.fields.specs.Fields.{width, field, whole, laid, parts}
 use Rattle.parity.specs.Parity.{ones, isOdd, letter, odds}
-use Rattle.sums.specs.Sums.{total, checksum, sound}
-use Rattle.frames.specs.Framing.{frameRules}
+use Rattle.blocks.specs.Sums.{total, checksum, sound}
+use Rattle.blocks.specs.Framing.{frameRules}
 use Rattle.menu_forms.specs.Rows.{inRow}
 use Rattle.menu_forms.specs.Menus.{infoBytes, fields, strings, eventFormat, fillUp, textFormat}
 use Rattle.menu_forms.specs.Form.{codesIn, textIn, eventIn, menuIn, textForm, eventForm}

@@ -22,9 +22,9 @@ use Rattle.blocks.proofs.Walking.{Standing, begins-head, blocks-at, blocks-not,
 use Rattle.fields.specs.Fields.{field}
 use Rattle.fields.specs.Compound.{compound}
 use Rattle.laws.specs.Bytes.{Bytes}
-use Rattle.frames.specs.Framing.{frameRules}
-use Rattle.frames.specs.Values.{counted}
-use Rattle.frames.specs.declared.Read.the-variants.{Taken, Refused}
+use Rattle.blocks.specs.Framing.{frameRules}
+use Rattle.blocks.specs.Values.{counted}
+use Rattle.blocks.specs.declared.Read.the-variants.{Taken, Refused}
 use Rattle.menu_forms.specs.Menus.{Menu}
 use Rattle.menu_forms.specs.Form.{form, menuIn}
 use Rattle.menu_forms.proofs.Forms.{form-back-on}

@@ -10,7 +10,7 @@ use crate::FORM;
 use crate::Source;
 use blocks::Found;
 use blocks::HEAD;
-use frames::Read;
+use blocks::Read;
 
 // The place of the block number in control data, and its width, in bits.
 const NUMBER: usize = 28;

@@ -172,7 +172,7 @@ fn walk_menu(
         return lines::put_line(b"missing=", number, out, q);
     }
     let level = levels - below;
-    let mut left = forms::byte_at(&form, 8);
+    let mut left = lent_bytes::byte_at(&form, 8);
     let mut i = lines::events_place(&form);
     let mut p = lines::put_head(&form, level, number, out, q);
     while 0 < left {
@@ -207,7 +207,7 @@ fn walk_event(
         × (r ≤ room + beyond) ⌝ }
 {
     let p = lines::put_event(form, i, levels - below, out, q);
-    if forms::byte_at(form, i + 2) != TO_MENU {
+    if lent_bytes::byte_at(form, i + 2) != TO_MENU {
         return p;
     }
     let link = lines::link_at(form, i);

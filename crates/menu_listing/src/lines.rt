@@ -7,8 +7,7 @@ ghost use Rattle.menu_forms.specs.Form.{codesIn};
 ghost use Rattle.text_lines.specs.Lines.{numberLine};
 ghost use Rattle.text_lines.specs.Put.{Put, last};
 ghost use Rattle.menu_listing.specs.Lines.{shown as Lines·shown, textLine, linkLine};
-ghost use Rattle.menu_listing.specs.Internal.{codesAt, stringLength, textPlace, eventLength, linkAt, ownLinesAt};
-ghost use Rattle.menu_listing.specs.Internal.{headerPlace, eventsPlace, headLinesAt, numberMost, textMost, beyond, placeMost, eventMost};
+ghost use Rattle.menu_listing.specs.Internal.{codesAt, stringLength, textPlace, eventLength, linkAt, ownLinesAt, headerPlace, eventsPlace, headLinesAt, numberMost, textMost, beyond, placeMost, eventMost};
 use menu_forms::OPENING;
 
 // Room for a line of a name and a number.
@@ -31,7 +30,7 @@ pub(crate) fn put_event(form: &[u8], i: usize, level: usize, out: &mut [u8], q: 
     ensures { λ r.
         ⌜ Put (now (out .entry)) q (ownLinesAt level (drop i (now (form .entry)))) (now (out .exit)) r × (r ≤ q + 350) ⌝ }
 {
-    let kind = forms::byte_at(form, i + 2);
+    let kind = lent_bytes::byte_at(form, i + 2);
     let link = link_at(form, i);
     let a = put_line(b"level=", level, out, q);
     let b = put_text(b"event=", form, text_place(form, i), out, a);
@@ -69,8 +68,8 @@ fn put_text(name: &[u8], form: &[u8], at: usize, out: &mut [u8], q: usize) -> us
         ⌜ Put (now (out .entry)) q (textLine (now (name .entry)) (codesAt (drop at (now (form .entry))))) (now (out .exit)) r
         × (r ≤ q + length (now (name .entry)) + 256) ⌝ }
 {
-    let escapes = forms::byte_at(form, at);
-    let count = forms::byte_at(form, at + 1);
+    let escapes = lent_bytes::byte_at(form, at);
+    let count = lent_bytes::byte_at(form, at + 1);
     let a = text_lines::put(name, out, q);
     let b = put_codes(form, at + (2 + 4 * escapes), count, out, a);
     text_lines::put(b"\n", out, b)
@@ -87,7 +86,7 @@ fn put_codes(form: &[u8], from: usize, count: usize, out: &mut [u8], q: usize) -
     let mut left = count;
     let mut p = q;
     while 0 < left {
-        let code = [shown(forms::byte_at(form, i))];
+        let code = [shown(lent_bytes::byte_at(form, i))];
         p = text_lines::put(&code, out, p);
         i += 1;
         left -= 1;
@@ -114,14 +113,14 @@ pub(crate) fn link_at(form: &[u8], i: usize) -> usize
     requires { ⌜ i ≤ placeMost ⌝ }
     ensures { λ r. ⌜ (r ≡ linkAt (drop i (now (form .entry)))) × (r < 65536) ⌝ }
 {
-    forms::byte_at(form, i) + 256 * forms::byte_at(form, i + 1)
+    lent_bytes::byte_at(form, i) + 256 * lent_bytes::byte_at(form, i + 1)
 }
 
 // The place of a form's header.
 fn header_place(form: &[u8]) -> usize
     ensures { λ r. ⌜ (r ≡ headerPlace (now (form .entry))) × (r ≤ 774) ⌝ }
 {
-    OPENING + 3 * forms::byte_at(form, 7)
+    OPENING + 3 * lent_bytes::byte_at(form, 7)
 }
 
 // The place of its first event.
@@ -146,10 +145,10 @@ fn text_place(form: &[u8], i: usize) -> usize
     requires { ⌜ i ≤ placeMost ⌝ }
     ensures { λ r. ⌜ (r ≡ i + textPlace (drop i (now (form .entry)))) × (r ≤ i + 1279) ⌝ }
 {
-    let mut left = forms::byte_at(form, i + 3);
+    let mut left = lent_bytes::byte_at(form, i + 3);
     let mut at = i + 4;
     while 0 < left {
-        at += 1 + menu_forms::info_bytes(forms::byte_at(form, at));
+        at += 1 + menu_forms::info_bytes(lent_bytes::byte_at(form, at));
         left -= 1;
     }
     at
@@ -160,5 +159,5 @@ fn string_length(form: &[u8], at: usize) -> usize
     requires { ⌜ at ≤ placeMost + eventMost ⌝ }
     ensures { λ r. ⌜ (r ≡ stringLength (drop at (now (form .entry)))) × (r ≤ 1277) ⌝ }
 {
-    2 + 4 * forms::byte_at(form, at) + forms::byte_at(form, at + 1)
+    2 + 4 * lent_bytes::byte_at(form, at) + lent_bytes::byte_at(form, at + 1)
 }

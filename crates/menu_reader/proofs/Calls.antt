@@ -9,11 +9,11 @@ use Rattle.answer.specs.Rules.{Every}
 use Rattle.answer.specs.Writing.{answered, left}
 use Rattle.answer.proofs.Judging.{passes}
 use Rattle.laws.specs.Bytes.{Bytes}
-use Rattle.frames.specs.Outcome.{accepted, refused}
-use Rattle.frames.specs.declared.Read.{Read}
-use Rattle.frames.specs.declared.Read.the-variants.{Taken}
-use Rattle.frames.specs.Values.{counted}
-use Rattle.frames.proofs.Counting.{counted-takes, counted-all}
+use Rattle.blocks.specs.Outcome.{accepted, refused}
+use Rattle.blocks.specs.declared.Read.{Read}
+use Rattle.blocks.specs.declared.Read.the-variants.{Taken}
+use Rattle.blocks.specs.Values.{counted}
+use Rattle.blocks.proofs.Counting.{counted-takes, counted-all}
 use Rattle.menu_forms.specs.Menus.{Menu, zeros}
 use Rattle.menu_forms.specs.Form.{form, menuIn}
 use Rattle.menu_forms.specs.Block.{recordOf, Says}

@@ -26,12 +26,12 @@ use Rattle.fields.proofs.Laid.{laid-lt, field-lt, length-parts, whole-lt, whole
 use Rattle.codecs.proofs.Codes.{begins-all}
 use Rattle.laws.specs.Bytes.{Bytes}
 use Rattle.laws.proofs.Byted.{bytes-drop}
-use Rattle.sums.specs.Sums.{checksum, sound}
-use Rattle.sums.proofs.Nibbles.{sound-parts, parts-sound, sound-take}
-use Rattle.sums.proofs.Summing.{checksum-lt}
-use Rattle.frames.specs.Framing.{framing}
-use Rattle.frames.specs.Outcome.{accepted, refused}
-use Rattle.frames.proofs.Framed.{Framed, framed, frame-holds, header-of, headed, accepts}
+use Rattle.blocks.specs.Sums.{checksum, sound}
+use Rattle.blocks.proofs.Nibbles.{sound-parts, parts-sound, sound-take}
+use Rattle.blocks.proofs.Summing.{checksum-lt}
+use Rattle.blocks.specs.Framing.{framing}
+use Rattle.blocks.specs.Outcome.{accepted, refused}
+use Rattle.blocks.proofs.Framed.{Framed, framed, frame-holds, part-most, header-of, headed, accepts}
 use Rattle.parity.specs.Parity.{letter, odds}
 use Rattle.menu_forms.specs.Menus.{Menu, Sent, NI, zeros, format, sent, fillUp, fields, strings, control, size, sevens, fits}
 use Rattle.menu_forms.specs.Block.{inNibbles, nibbles, headBits, checksumOf, Says}
@@ -388,7 +388,7 @@ pub mended-most : (application : ℕ) (r : List ℕ) → Every (readRules applic
 unfolding mendedControl
 mended-most application r e =
     let raw = drop 4 r in
-    let part = taken application r e .0 .in-range .part in
+    let part = part-most r (taken application r e .0 .in-range) in
     let small : sentHeld (take 8 raw) [] .control < 1024 = subst (λ (x : ℕ). x < 1024) (sym (opened (map nib (take 8 raw)) [] .control-at)) (field-lt 8 10 _) in
     omega (arith, part, small, harms-le (controlPart raw), length-take (controlLength raw) raw)
 

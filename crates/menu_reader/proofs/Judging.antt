@@ -8,7 +8,7 @@ use Rattle.answer.specs.Rules.{judged}
 use Rattle.answer.specs.declared.Answer.{Answer}
 use Rattle.answer.specs.Values.{refused}
 use Rattle.parity.specs.Parity.{odds}
-use Rattle.sums.specs.Sums.{checksum, sound}
+use Rattle.blocks.specs.Sums.{checksum, sound}
 use Rattle.menu_forms.specs.Menus.{Menu, Sent, control, size}
 use Rattle.menu_reader.specs.Control.{sentOf}
 use Rattle.menu_reader.specs.Reading.{frontRules, wholeRules, lengthRules}

@@ -9,9 +9,9 @@ use Rattle.answer.specs.Rules.{Every}
 use Rattle.answer.proofs.Lent.{front-holds}
 use Rattle.octet.specs.Hearing.{harms}
 use Rattle.blocks.specs.Block.{headOf}
-use Rattle.sums.specs.Block.{mendedIn}
-use Rattle.frames.specs.Framing.{framing}
-use Rattle.frames.proofs.Framed.{framed}
+use Rattle.blocks.specs.Parts.{mendedIn}
+use Rattle.blocks.specs.Framing.{framing}
+use Rattle.blocks.proofs.Framed.{framed}
 use Rattle.menu_reader.specs.Reading.{controlLength, bodyRules, readRules, mendedControl}
 
 pub mended-part :

@@ -15,9 +15,9 @@ use Rattle.octet.specs.Decoding.{nib}
 use Rattle.octet.specs.Bits.{flips, differing, number}
 use Rattle.octet.specs.Image.{image, withParity}
 use Rattle.fields.specs.Fields.{width, laid, fitting, parts}
-use Rattle.sums.specs.Block.{InRange}
-use Rattle.sums.specs.Sums.{total, checksum}
-use Rattle.frames.specs.Outcome.{accepted}
+use Rattle.blocks.specs.Parts.{InRange}
+use Rattle.blocks.specs.Sums.{total, checksum}
+use Rattle.blocks.specs.Outcome.{accepted}
 use Rattle.parity.specs.Parity.{isOdd, ones, letter}
 use Rattle.parity.proofs.Letters.{odds-at}
 use Rattle.menu_forms.specs.Menus.{Menu, fields, strings, control, sevens, fits, fillUp, textFormat}

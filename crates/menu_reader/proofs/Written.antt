@@ -14,7 +14,7 @@ use Rattle.octet.specs.Image.{image}
 use Rattle.octet.specs.Hearing.{harms}
 use Rattle.octet.proofs.Hearing.{harms-images}
 use Rattle.laws.specs.Bytes.{Bytes}
-use Rattle.frames.specs.Outcome.{accepted}
+use Rattle.blocks.specs.Outcome.{accepted}
 use Rattle.parity.specs.Parity.{letter}
 use Rattle.menu_forms.specs.Menus.{Menu, Spare, NI, zeros, strings, fits}
 use Rattle.menu_forms.specs.Form.{form, menuIn}

@@ -9,9 +9,9 @@ use Rattle.blocks.specs.Block.{headLength, headOf, sizeOf, partOf}
 use Rattle.octet.specs.Decoding.{nib}
 use Rattle.octet.specs.Hearing.{harms}
 use Rattle.parity.specs.Parity.{odds}
-use Rattle.sums.specs.Sums.{checksum, sound}
-use Rattle.frames.specs.Framing.{framing}
-use Rattle.frames.specs.Outcome.{Outcome, accepted, refused}
+use Rattle.blocks.specs.Sums.{checksum, sound}
+use Rattle.blocks.specs.Framing.{framing}
+use Rattle.blocks.specs.Outcome.{Outcome, accepted, refused}
 use Rattle.menu_forms.specs.Menus.{Menu, Sent, NI, control, size}
 use Rattle.menu_reader.specs.Control.{sentOf, menuOf}
 

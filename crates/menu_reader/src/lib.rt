@@ -12,13 +12,13 @@ ghost use Rattle.answer.specs.Writing.{answered, left};
 ghost use Rattle.answer.specs.declared.Answer.the-variants.{Done};
 ghost use Rattle.blocks.specs.Block.{headLength};
 ghost use Rattle.octet.specs.Decoding.{nib};
-ghost use Rattle.frames.specs.Values.{counted};
+ghost use Rattle.blocks.specs.Values.{counted};
 ghost use Rattle.menu_forms.specs.Form.{form};
 ghost use Rattle.menu_reader.specs.Reading.{controlLength, frontRules, wholeRules, partRules, bodyRules, lengthRules, readRules, sentHeld, menuHeld, menuRead, mendedControl};
 use answer::Answer;
+use blocks::Frame;
 use blocks::HEAD;
-use frames::Frame;
-use frames::Read;
+use blocks::Read;
 use menu_forms::NI;
 
 // The first bytes of a block, which are control bytes whatever the control size is.
@@ -65,7 +65,7 @@ fn read_form(application: u8, rec: &[u8], out: &mut [u8]) -> Answer
         ⌜ now (out .exit)
         ≡ left (readRules application (now (rec .entry))) (form (menuRead (drop headLength (now (rec .entry))))) (now (out .entry)) ⌝ }
 {
-    match frames::judge(application, rec) {
+    match blocks::frames::judge(application, rec) {
         Frame::Refused(why) => Answer::Refused(why),
         Frame::Head(head) => read_body(head, &rec[HEAD..], out),
     }
@@ -77,7 +77,7 @@ fn mended_in(rec: &[u8]) -> usize
     ensures { λ r. ⌜ r ≡ mendedControl (now (rec .entry)) ⌝ }
 {
     let end = HEAD + control_length(&rec[HEAD..]);
-    sums::mended_in(&rec[..end])
+    blocks::sums::mended_in(&rec[..end])
 }
 
 // How many of a block's bytes are control bytes.
@@ -153,7 +153,7 @@ fn judge_front(control: &[u8]) -> Answer
     requires { ⌜ 8 ≤ length (now control) ⌝ }
     ensures { λ r. ⌜ r ≡ judged refused (frontRules (map nib (now (control .entry))) (sentHeld (now (control .entry)) [])) (Done 0) ⌝ }
 {
-    let good = sums::sound(&control[..FIRST]);
+    let good = blocks::sums::sound(&control[..FIRST]);
     if good != FIRST {
         return answer::refuse(10, HEAD + good);
     }
@@ -174,9 +174,9 @@ fn judge_whole(head: usize, control: &[u8], strings: &[u8]) -> Answer
         ≡ judged refused
         (wholeRules head (map nib (now (control .entry))) (now (strings .entry)) (sentHeld (now (control .entry)) (now (strings .entry)))) (Done 0) ⌝ }
 {
-    let sum = sums::sum_of(head, control);
+    let sum = blocks::sums::sum_of(head, control);
     if 255 < sum {
-        return answer::refuse(10, HEAD + sums::sound(control));
+        return answer::refuse(10, HEAD + blocks::sums::sound(control));
     }
     let odd = parity::odds(strings);
     if odd != strings.len() {

@@ -3,15 +3,14 @@
 ghost use mathlib.Core.Path.{_≡_};
 ghost use mathlib.Core.List.{map};
 ghost use Prim.Native.Nat.{_+_, _*_, _^_, _<_, _≤_};
-ghost use lib.ListN.{drop, set};
+ghost use lib.ListN.{drop};
 ghost use lib.Seq.{sets};
 ghost use Rattle.octet.specs.Decoding.{nib};
 ghost use Rattle.fields.specs.Fields.{parts};
 ghost use Rattle.menu_forms.specs.Form.{highFirst, codesIn};
 ghost use Rattle.menu_reader.specs.Reading.{codeOf, menuHeld};
 ghost use Rattle.menu_reader.specs.declared.Loop.the-variants.{Descriptors, Escapes, Attributes};
-ghost use Rattle.menu_reader.specs.Internal.{bitsAt, Went, Spelled, Below, Within, PutText, PutEvent, PutEvents, textFrom, eventFrom, eventsFrom};
-ghost use Rattle.menu_reader.specs.Internal.{entryNibbles, entryForm, loopNibbles, loopForm, openingBytes};
+ghost use Rattle.menu_reader.specs.Internal.{bitsAt, Went, Spelled, Below, Within, PutText, PutEvent, PutEvents, textFrom, eventFrom, eventsFrom, entryNibbles, entryForm, loopNibbles, loopForm, openingBytes};
 use crate::Loop;
 use crate::Spot;
 use menu_forms::NI;
@@ -164,7 +163,7 @@ fn put_codes(strings: &[u8], from: usize, count: usize, out: &mut [u8], to: usiz
     let mut q = to;
     let mut left = count;
     while 0 < left {
-        put((forms::byte_at(strings, i) % 128) as u8, out, q);
+        lent_bytes::put((lent_bytes::byte_at(strings, i) % 128) as u8, out, q);
         i += 1;
         q += 1;
         left -= 1;
@@ -267,7 +266,7 @@ fn put_info(control: &[u8], at: usize, k: usize, out: &mut [u8], to: usize)
     let mut q = to;
     let mut left = k;
     while 0 < left {
-        put(info_at(control, at, left), out, q);
+        lent_bytes::put(info_at(control, at, left), out, q);
         q += 1;
         left -= 1;
     }
@@ -298,19 +297,9 @@ fn put_bytes(v: usize, k: usize, out: &mut [u8], to: usize)
     let mut q = to;
     let mut left = k;
     while 0 < left {
-        put((rest % 256) as u8, out, q);
+        lent_bytes::put((rest % 256) as u8, out, q);
         rest /= 256;
         q += 1;
         left -= 1;
     }
-}
-
-// One byte at a place of `out`, where there is one.
-fn put(b: u8, out: &mut [u8], to: usize)
-    ensures { λ _. ⌜ now (out .exit) ≡ set (now (out .entry)) to b ⌝ }
-{
-    if out.len() <= to {
-        return;
-    }
-    out[to] = b;
 }

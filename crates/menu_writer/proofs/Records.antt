@@ -20,8 +20,8 @@ use Rattle.answer.proofs.Steps.{done-every, first-holds, others-hold}
 use Rattle.octet.specs.Image.{image}
 use Rattle.octet.specs.Decoding.{nib}
 use Rattle.fields.specs.Fields.{width, laid, fitting, parts}
-use Rattle.sums.specs.Sums.{checksum}
-use Rattle.sums.proofs.Nibbles.{nibbles-back}
+use Rattle.blocks.specs.Sums.{checksum}
+use Rattle.blocks.proofs.Nibbles.{nibbles-back}
 use Rattle.parity.specs.Parity.{letter}
 use Rattle.menu_forms.specs.Menus.{Menu, zeros, fields, strings, control, size, fits, sevens}
 use Rattle.menu_forms.specs.Form.{form, menuIn}

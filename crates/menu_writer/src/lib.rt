@@ -15,7 +15,7 @@ ghost use Rattle.answer.specs.Values.{refused};
 ghost use Rattle.answer.specs.Writing.{answered, left};
 ghost use Rattle.answer.specs.declared.Answer.the-variants.{Done};
 ghost use Rattle.fields.specs.Fields.{parts};
-ghost use Rattle.sums.specs.Sums.{checksum};
+ghost use Rattle.blocks.specs.Sums.{checksum};
 ghost use Rattle.menu_forms.specs.Menus.{size};
 ghost use Rattle.menu_forms.specs.Form.{menuIn};
 ghost use Rattle.menu_forms.specs.Block.{recordOf};
@@ -96,7 +96,7 @@ fn judge(application: u8, form: &[u8], whole: Tally) -> Answer
     if form.len() < OPENING {
         return answer::refuse(13, 0);
     }
-    if forms::byte_at(form, 0) != NI {
+    if lent_bytes::byte_at(form, 0) != NI {
         return answer::refuse(15, 0);
     }
     if form.len() != whole.end {
@@ -130,10 +130,10 @@ fn put_head(head: usize, out: &mut [u8])
     requires { ⌜ head < 65536 ⌝ }
     ensures { λ _. ⌜ now (out .exit) ≡ sets (now (out .entry)) 0 (head % 256 ∷ head / 256 ∷ 0 ∷ 0 ∷ []) ⌝ }
 {
-    loops::put((head % 256) as u8, out, 0);
-    loops::put((head / 256) as u8, out, 1);
-    loops::put(0, out, 2);
-    loops::put(0, out, 3);
+    lent_bytes::put((head % 256) as u8, out, 0);
+    lent_bytes::put((head / 256) as u8, out, 1);
+    lent_bytes::put(0, out, 2);
+    lent_bytes::put(0, out, 3);
 }
 
 // Puts the checksum into a record of so many control bytes whose checksum is 0.
@@ -145,6 +145,6 @@ fn seal(head: usize, control: usize, out: &mut [u8])
         (map image (parts 4 2 (checksum head (map nib (take control (drop 4 (now (out .entry)))))))) ⌝ }
 {
     let end = HEAD + control;
-    let sum = sums::checksum(head, &out[HEAD..end]);
+    let sum = blocks::sums::checksum(head, &out[HEAD..end]);
     loops::put_nibbles(sum, 2, out, HEAD);
 }

@@ -3,7 +3,7 @@ ghost use mathlib.Core.Bool.{true};
 ghost use mathlib.Core.Path.{_≡_};
 ghost use mathlib.Core.List.{map};
 ghost use Prim.Native.Nat.{_+_, _*_, _<_, _≤_, _^_};
-ghost use lib.ListN.{length, drop, set};
+ghost use lib.ListN.{length, drop};
 ghost use lib.Seq.{sets};
 ghost use Rattle.laws.specs.Pick.{both as Pick·both};
 ghost use Rattle.octet.specs.Image.{image};
@@ -71,7 +71,7 @@ fn entry_length(what: Loop, form: &[u8], at: usize) -> usize
         Loop::Codes => 1,
         Loop::Descriptors => 3,
         Loop::Escapes => 4,
-        Loop::Attributes => 1 + menu_forms::info_bytes(forms::byte_at(form, at)),
+        Loop::Attributes => 1 + menu_forms::info_bytes(lent_bytes::byte_at(form, at)),
     }
 }
 
@@ -81,10 +81,10 @@ fn entry_fine(what: Loop, form: &[u8], at: usize) -> bool
     ensures { λ r. ⌜ r ≡ entryFine what (drop at (now (form .entry))) ⌝ }
 {
     match what {
-        Loop::Codes => forms::byte_at(form, at) < 128,
+        Loop::Codes => lent_bytes::byte_at(form, at) < 128,
         Loop::Descriptors => descriptor_fine(form, at),
         Loop::Escapes => escape_fine(form, at),
-        Loop::Attributes => forms::byte_at(form, at) < 256,
+        Loop::Attributes => lent_bytes::byte_at(form, at) < 256,
     }
 }
 
@@ -92,11 +92,11 @@ fn descriptor_fine(form: &[u8], at: usize) -> bool
     requires { ⌜ at < 2000000 ⌝ }
     ensures { λ r. ⌜ r ≡ fitting (descriptorFields (descriptorIn (drop at (now (form .entry))))) ⌝ }
 {
-    let eval = forms::byte_at(form, at + 2);
-    if 63 < forms::byte_at(form, at) {
+    let eval = lent_bytes::byte_at(form, at + 2);
+    if 63 < lent_bytes::byte_at(form, at) {
         return false;
     }
-    if 63 < forms::byte_at(form, at + 1) {
+    if 63 < lent_bytes::byte_at(form, at + 1) {
         return false;
     }
     eval < 256
@@ -106,12 +106,12 @@ fn escape_fine(form: &[u8], at: usize) -> bool
     requires { ⌜ at < 2000000 ⌝ }
     ensures { λ r. ⌜ r ≡ fitting (escapeFields (escapeIn (drop at (now (form .entry))))) ⌝ }
 {
-    let content = forms::byte_at(form, at + 3);
-    let position = forms::byte_at(form, at) + 256 * forms::byte_at(form, at + 1);
+    let content = lent_bytes::byte_at(form, at + 3);
+    let position = lent_bytes::byte_at(form, at) + 256 * lent_bytes::byte_at(form, at + 1);
     if 1023 < position {
         return false;
     }
-    if 63 < forms::byte_at(form, at + 2) {
+    if 63 < lent_bytes::byte_at(form, at + 2) {
         return false;
     }
     content < 256
@@ -139,8 +139,8 @@ fn put_code(form: &[u8], at: usize, out: &mut [u8], to: usize) -> usize
         ⌜ (r ≡ 1)
         × (now (out .exit) ≡ sets (now (out .entry)) to (entryBytes Codes (drop at (now (form .entry))))) ⌝ }
 {
-    let code = (forms::byte_at(form, at) % 256) as u8;
-    put(parity::letter(code), out, to);
+    let code = (lent_bytes::byte_at(form, at) % 256) as u8;
+    lent_bytes::put(parity::letter(code), out, to);
     1
 }
 
@@ -150,9 +150,9 @@ fn put_descriptor(form: &[u8], at: usize, out: &mut [u8], to: usize) -> usize
         ⌜ (r ≡ 5)
         × (now (out .exit) ≡ sets (now (out .entry)) to (entryBytes Descriptors (drop at (now (form .entry))))) ⌝ }
 {
-    let which = forms::byte_at(form, at) % 64;
-    let id = forms::byte_at(form, at + 1) % 64;
-    let eval = forms::byte_at(form, at + 2);
+    let which = lent_bytes::byte_at(form, at) % 64;
+    let id = lent_bytes::byte_at(form, at + 1) % 64;
+    let eval = lent_bytes::byte_at(form, at + 2);
     put_nibbles((eval * 64 + id) * 64 + which, 5, out, to);
     5
 }
@@ -163,9 +163,9 @@ fn put_escape(form: &[u8], at: usize, out: &mut [u8], to: usize) -> usize
         ⌜ (r ≡ 6)
         × (now (out .exit) ≡ sets (now (out .entry)) to (entryBytes Escapes (drop at (now (form .entry))))) ⌝ }
 {
-    let position = (forms::byte_at(form, at) + 256 * forms::byte_at(form, at + 1)) % 1024;
-    let mode = forms::byte_at(form, at + 2) % 64;
-    let content = forms::byte_at(form, at + 3);
+    let position = (lent_bytes::byte_at(form, at) + 256 * lent_bytes::byte_at(form, at + 1)) % 1024;
+    let mode = lent_bytes::byte_at(form, at + 2) % 64;
+    let content = lent_bytes::byte_at(form, at + 3);
     put_nibbles((content * 64 + mode) * 1024 + position, 6, out, to);
     6
 }
@@ -177,7 +177,7 @@ fn put_attribute(form: &[u8], at: usize, out: &mut [u8], to: usize) -> usize
         × (r ≤ 10)
         × (now (out .exit) ≡ sets (now (out .entry)) to (entryBytes Attributes (drop at (now (form .entry))))) ⌝ }
 {
-    let kind = forms::byte_at(form, at);
+    let kind = lent_bytes::byte_at(form, at);
     let k = menu_forms::info_bytes(kind);
     let info = number_at(form, at + 1, k);
     put_nibbles(info * 256 + kind, 2 + 2 * k, out, to);
@@ -192,7 +192,7 @@ fn number_at(form: &[u8], at: usize, k: usize) -> usize
     let mut n: usize = 0;
     let mut i = 0;
     while i < k {
-        n = n * 256 + forms::byte_at(form, at + i);
+        n = n * 256 + lent_bytes::byte_at(form, at + i);
         i += 1;
     }
     n
@@ -207,7 +207,7 @@ pub(crate) fn put_nibbles(v: usize, k: usize, out: &mut [u8], to: usize)
     let mut q = to;
     let mut left = k;
     while 0 < left {
-        put(octet::image((bits % 16) as u8), out, q);
+        lent_bytes::put(octet::image((bits % 16) as u8), out, q);
         bits /= 16;
         q += 1;
         left -= 1;
@@ -222,14 +222,4 @@ pub(crate) fn both(a: bool, b: bool) -> bool
         return b;
     }
     false
-}
-
-// One byte at a place of `out`, where there is one.
-pub(crate) fn put(b: u8, out: &mut [u8], to: usize)
-    ensures { λ _. ⌜ now (out .exit) ≡ set (now (out .entry)) to b ⌝ }
-{
-    if out.len() <= to {
-        return;
-    }
-    out[to] = b;
 }

@@ -15,8 +15,8 @@ use menu_forms::OPENING;
 pub(crate) fn measure(form: &[u8]) -> Tally
     ensures { λ r. ⌜ Whole r (now (form .entry)) × (r .control ≤ 600000) × (r .strings ≤ 70000) ⌝ }
 {
-    let descriptors = forms::byte_at(form, 7);
-    let events = forms::byte_at(form, 8);
+    let descriptors = lent_bytes::byte_at(form, 7);
+    let events = lent_bytes::byte_at(form, 8);
     let d = loops::pass(Loop::Descriptors, form, OPENING, descriptors);
     let h = measure_text(form, d.end);
     let e = measure_events(form, h.end, events);
@@ -35,9 +35,18 @@ pub(crate) fn measure(form: &[u8]) -> Tally
 fn opening_fine(form: &[u8]) -> bool
     ensures { λ r. ⌜ r ≡ openingFine (now (form .entry)) ⌝ }
 {
-    let lines = loops::both(forms::byte_at(form, 4) < 3, forms::byte_at(form, 5) < 8);
-    let counts = loops::both(forms::byte_at(form, 7) < 64, forms::byte_at(form, 8) < 16);
-    let rest = loops::both(forms::byte_at(form, 1) < 2, forms::byte_at(form, 6) < 256);
+    let lines = loops::both(
+        lent_bytes::byte_at(form, 4) < 3,
+        lent_bytes::byte_at(form, 5) < 8,
+    );
+    let counts = loops::both(
+        lent_bytes::byte_at(form, 7) < 64,
+        lent_bytes::byte_at(form, 8) < 16,
+    );
+    let rest = loops::both(
+        lent_bytes::byte_at(form, 1) < 2,
+        lent_bytes::byte_at(form, 6) < 256,
+    );
     loops::both(lines, loops::both(counts, rest))
 }
 
@@ -51,8 +60,8 @@ pub(crate) fn measure_text(form: &[u8], at: usize) -> Tally
         × (r .control ≤ 1022)
         × (r .strings ≤ 255) ⌝ }
 {
-    let escapes = forms::byte_at(form, at);
-    let codes = forms::byte_at(form, at + 1);
+    let escapes = lent_bytes::byte_at(form, at);
+    let codes = lent_bytes::byte_at(form, at + 1);
     let a = loops::pass(Loop::Escapes, form, at + 2, escapes);
     let b = loops::pass(Loop::Codes, form, a.end, codes);
     Tally {
@@ -73,8 +82,8 @@ fn measure_event(form: &[u8], at: usize) -> Tally
         × (r .control ≤ 2300)
         × (r .strings ≤ 255) ⌝ }
 {
-    let kind = forms::byte_at(form, at + 2);
-    let count = forms::byte_at(form, at + 3);
+    let kind = lent_bytes::byte_at(form, at + 2);
+    let count = lent_bytes::byte_at(form, at + 3);
     let a = loops::pass(Loop::Attributes, form, at + 4, count);
     let t = measure_text(form, a.end);
     Tally {

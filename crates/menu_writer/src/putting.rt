@@ -22,8 +22,8 @@ pub(crate) fn put_control(form: &[u8], control: usize, out: &mut [u8])
     requires { ⌜ control ≡ Menus·control (menuIn (now form)) ⌝ }
     ensures { λ _. ⌜ now (out .exit) ≡ sets (now (out .entry)) 4 (map image (nibbles 0 zeros (menuIn (now (form .entry))))) ⌝ }
 {
-    let descriptors = forms::byte_at(form, 7);
-    let events = forms::byte_at(form, 8);
+    let descriptors = lent_bytes::byte_at(form, 7);
+    let events = lent_bytes::byte_at(form, 8);
     put_opening(form, control, out);
     let s = loops::put_entries(
         Loop::Descriptors,
@@ -35,7 +35,7 @@ pub(crate) fn put_control(form: &[u8], control: usize, out: &mut [u8])
     );
     let filled = put_fill(descriptors, out, s.to);
     let t = put_text(form, s.at, out, filled);
-    loops::put_nibbles(forms::byte_at(form, 6), 2, out, t.to);
+    loops::put_nibbles(lent_bytes::byte_at(form, 6), 2, out, t.to);
     put_events(form, t.at, events, out, t.to + 2);
 }
 
@@ -45,13 +45,13 @@ fn put_opening(form: &[u8], control: usize, out: &mut [u8])
         ⌜ now (out .exit)
         ≡ sets (now (out .entry)) 4 (map image (inNibbles (openingFields 0 control zeros (menuIn (now (form .entry)))))) ⌝ }
 {
-    let copyright = forms::byte_at(form, 1) % 2;
+    let copyright = lent_bytes::byte_at(form, 1) % 2;
     let first = ((copyright * 256 + NI) * 1024 + control % 1024) * 256;
-    let block = forms::byte_at(form, 2) + 256 * forms::byte_at(form, 3);
-    let header = forms::byte_at(form, 4) % 4;
-    let message = forms::byte_at(form, 5) % 8;
-    let descriptors = forms::byte_at(form, 7) % 64;
-    let events = forms::byte_at(form, 8) % 16;
+    let block = lent_bytes::byte_at(form, 2) + 256 * lent_bytes::byte_at(form, 3);
+    let header = lent_bytes::byte_at(form, 4) % 4;
+    let message = lent_bytes::byte_at(form, 5) % 8;
+    let descriptors = lent_bytes::byte_at(form, 7) % 64;
+    let events = lent_bytes::byte_at(form, 8) % 16;
     let second = (((descriptors * 16 + message) * 16 + events) * 4 + header) * 65536 + block;
     loops::put_nibbles(first, 7, out, HEAD);
     loops::put_nibbles(second, 8, out, HEAD + 7);
@@ -77,8 +77,8 @@ pub(crate) fn put_all_strings(form: &[u8], out: &mut [u8], to: usize)
     requires { ⌜ to < 7000 ⌝ }
     ensures { λ _. ⌜ now (out .exit) ≡ sets (now (out .entry)) to (map letter (strings (menuIn (now (form .entry))))) ⌝ }
 {
-    let descriptors = forms::byte_at(form, 7);
-    let events = forms::byte_at(form, 8);
+    let descriptors = lent_bytes::byte_at(form, 7);
+    let events = lent_bytes::byte_at(form, 8);
     let d = loops::pass(Loop::Descriptors, form, OPENING, descriptors);
     let h = put_string(form, d.end, out, to);
     put_strings(form, h.at, events, out, h.to);
@@ -94,8 +94,8 @@ pub(crate) fn put_text(form: &[u8], at: usize, out: &mut [u8], to: usize) -> Spo
         × (r .to ≤ to + 2554)
         × (now (out .exit) ≡ sets (now (out .entry)) to (map image (inNibbles (textFields (textIn (drop at (now (form .entry)))))))) ⌝ }
 {
-    let escapes = forms::byte_at(form, at);
-    let codes = forms::byte_at(form, at + 1);
+    let escapes = lent_bytes::byte_at(form, at);
+    let codes = lent_bytes::byte_at(form, at + 1);
     loops::put_nibbles(escapes, 2, out, to);
     let s = loops::put_entries(Loop::Escapes, form, at + 2, escapes, out, to + 2);
     loops::put_nibbles(codes, 2, out, s.to);
@@ -115,10 +115,10 @@ fn put_event(form: &[u8], at: usize, out: &mut [u8], to: usize) -> Spot
         × (r .to ≤ to + 5110)
         × (now (out .exit) ≡ sets (now (out .entry)) to (map image (inNibbles (eventFields (eventIn (drop at (now (form .entry)))))))) ⌝ }
 {
-    let low = forms::byte_at(form, at);
-    let high = forms::byte_at(form, at + 1);
-    let kind = forms::byte_at(form, at + 2);
-    let count = forms::byte_at(form, at + 3);
+    let low = lent_bytes::byte_at(form, at);
+    let high = lent_bytes::byte_at(form, at + 1);
+    let kind = lent_bytes::byte_at(form, at + 2);
+    let count = lent_bytes::byte_at(form, at + 3);
     let heading = ((count % 16 * 16 + kind % 16) * 256 + high) * 256 + low;
     loops::put_nibbles(heading, 6, out, to);
     let s = loops::put_entries(Loop::Attributes, form, at + 4, count, out, to + 6);
@@ -152,8 +152,8 @@ pub(crate) fn put_string(form: &[u8], at: usize, out: &mut [u8], to: usize) -> S
         × (r .to ≤ to + 2550)
         × (now (out .exit) ≡ sets (now (out .entry)) to (map letter (textIn (drop at (now (form .entry))) .codes))) ⌝ }
 {
-    let escapes = forms::byte_at(form, at);
-    let codes = forms::byte_at(form, at + 1);
+    let escapes = lent_bytes::byte_at(form, at);
+    let codes = lent_bytes::byte_at(form, at + 1);
     let a = loops::pass(Loop::Escapes, form, at + 2, escapes);
     loops::put_entries(Loop::Codes, form, a.end, codes, out, to)
 }
@@ -168,7 +168,7 @@ pub(crate) fn put_strings(form: &[u8], from: usize, count: usize, out: &mut [u8]
     let mut p = Spot { at: from, to };
     let mut left = count;
     while 0 < left {
-        let count = forms::byte_at(form, p.at + 3);
+        let count = lent_bytes::byte_at(form, p.at + 3);
         let a = loops::pass(Loop::Attributes, form, p.at + 4, count);
         p = put_string(form, a.end, out, p.to);
         left -= 1;

@@ -9,10 +9,10 @@ use crate::kept::NUMBERS;
 use crate::kept::SHELF;
 use crate::says;
 use answer::Answer;
+use blocks::Read;
 use captures::Came;
 use captures::PIECE;
 use captures::RECORDS;
-use frames::Read;
 use packet::two::Streams;
 use shelf::HEADS;
 

@@ -107,7 +107,7 @@ fn with_table(form: Form, sheet: &[u8], at: usize, least: usize, head: Head) -> 
     if !fine {
         return stopped(false, end);
     }
-    if forms::byte_at(sheet, at + end) != LINE_END {
+    if lent_bytes::byte_at(sheet, at + end) != LINE_END {
         return stopped(false, end);
     }
     if !counts_fit(kind, head.block, table) {

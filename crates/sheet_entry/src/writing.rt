@@ -93,9 +93,9 @@ fn put_head(form: Form, stamp: u32, mended: usize, table: &[u8], out: &mut [u8])
     ensures { λ r.
         ⌜ Put (now (out .entry)) 0 (headLines form (stamped stamp mended (now (table .entry)))) (now (out .exit)) r × (r ≤ headRoom) ⌝ }
 {
-    let kind = forms::byte_at(table, 0);
-    let block = forms::byte_at(table, 2) + 256 * forms::byte_at(table, 3);
-    let network = forms::byte_at(table, 4);
+    let kind = lent_bytes::byte_at(table, 0);
+    let block = lent_bytes::byte_at(table, 2) + 256 * lent_bytes::byte_at(table, 3);
+    let network = lent_bytes::byte_at(table, 4);
     let a = text_lines::put_number(b"stamp=", stamp as usize, out, 0);
     let b = put_mended(form, mended, out, a);
     let c = put_kind(kind, out, b);

@@ -110,7 +110,7 @@ fn number_at(list: &[u8], at: usize) -> usize
     requires { ⌜ at ≤ shelfMost + 2 ⌝ }
     ensures { λ r. ⌜ r ≡ numberIn (drop at (now (list .entry))) ⌝ }
 {
-    forms::byte_at(list, at + 2) + 256 * forms::byte_at(list, at + 3)
+    lent_bytes::byte_at(list, at + 2) + 256 * lent_bytes::byte_at(list, at + 3)
 }
 
 // Three bytes at a place, low byte first.
@@ -118,9 +118,9 @@ fn three(list: &[u8], at: usize) -> usize
     requires { ⌜ at ≤ shelfMost ⌝ }
     ensures { λ r. ⌜ (r ≡ Shelf·three (now (list .entry)) at) × (r ≤ shelfMost) ⌝ }
 {
-    let low = forms::byte_at(list, at);
-    let middle = forms::byte_at(list, at + 1);
-    let high = forms::byte_at(list, at + 2);
+    let low = lent_bytes::byte_at(list, at);
+    let middle = lent_bytes::byte_at(list, at + 1);
+    let high = lent_bytes::byte_at(list, at + 2);
     low + 256 * middle + 65536 * high
 }
 

@@ -7,7 +7,7 @@ use Prim.Native.Nat.{ℕ, suc, _+_, _*_, _≤_, _<_}
 use native.Mathlib.Omega.{arith}
 use lib.Dec.{eqb, leb, ltb}
 use lib.ListN.{length, length-append, take, drop}
-use borrow.Author.Tests.{leb-true, leb-false}
+use borrow.Author.Tests.{leb-true, leb-false, le-leb}
 use Rattle.laws.specs.Pick.{pick}
 use Rattle.laws.specs.Each.{Each, nil, and}
 use Rattle.laws.proofs.Eaches.{each-append}
@@ -16,7 +16,7 @@ use Rattle.octet.specs.Hearing.{harm}
 use Rattle.octet.proofs.Hearing.{harm-le}
 use Rattle.blocks.specs.Block.{Block, sizeOf}
 use Rattle.blocks.specs.Sizes.{Sized}
-use Rattle.blocks.specs.Parts.{Parted}
+use Rattle.blocks.specs.Parts.{partMost, Parted}
 use Rattle.walk.specs.Mode.{Mode, off, scan, heading, body, shifted, full, blockWith, step, emitted, gives, continues, Good}
 use Rattle.walk.specs.Reading.{dropIf, spanning, ended, readBlocks}
 use Rattle.walk.proofs.Along.{Along, good-along, drop-good, continues-along, step-along}
@@ -132,7 +132,7 @@ handed-sized = handed-each Sized (λ j h part l e p. e)
 
 -- and each has a part of at most 5 and a second byte of at most 1
 pub handed-parted : (st : State) (x : Seen) → Sound st → Each Parted (handed st x)
-handed-parted = handed-each Parted (λ j h part l e p. (p, one j))
+handed-parted = handed-each Parted (λ j h part l e p. rw (le-leb part partMost p) (le-leb _ 1 (one j)))
   where
     one : (j : Bool) → pick j 1 0 ≤ 1
     one true = omega arith

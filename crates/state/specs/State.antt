@@ -7,6 +7,7 @@ use lib.Dec.{eqb, leb}
 use lib.ListN.{drop}
 use Rattle.laws.specs.Pick.{both}
 use Rattle.blocks.specs.Block.{sizeOf}
+use Rattle.blocks.specs.Parts.{partMost}
 use Rattle.pages.specs.declared.headers.Page.{Page}
 use Rattle.pages.specs.declared.headers.Page.the-variants.{Shut, Open}
 use Rattle.walk.specs.declared.Run.{Run}
@@ -44,7 +45,7 @@ pageInRange (Open n last) = both (leb n 25) (leb last n)
 abbrev pub runInRange : Run → Bool
 runInRange Idle = true
 runInRange (Head got bits part) = both (leb got 3) (both (leb part (suc got)) (eqb (bits % 16 ^ (4 - got)) 0))
-runInRange (Body head part held) = both (leb part 5) (leb held (sizeOf head))
+runInRange (Body head part held) = both (leb part partMost) (leb held (sizeOf head))
 
 abbrev pub joinedInRange : Bool → Run → Bool
 joinedInRange joined Idle = not joined

@@ -2,7 +2,7 @@
 use mathlib.Core.Path.{_≡_, _∙_, refl, sym, ap}
 use mathlib.Core.Bool.{true}
 use mathlib.Core.List.{List}
-use Prim.Native.Nat.{ℕ, _^_, _<_, zero-le}
+use Prim.Native.Nat.{ℕ, _^_, _<_}
 use native.Mathlib.Nat.{zero-add}
 use native.Mathlib.Omega.{arith}
 use borrow.Author.Tests.{ltb-true, lt-ltb, le-leb, eqb-true, eq-eqb}
@@ -13,13 +13,15 @@ use Rattle.answer.proofs.Steps.{first-holds, others-hold}
 use Rattle.octet.proofs.Hearing.{harms-images}
 use Rattle.forms.specs.Tables.{Table, known, numbered, fill, fits}
 use Rattle.forms.specs.Form.{form, openingOf, tableIn}
-use Rattle.sums.specs.Block.{nibblesOf, mendedIn, InRange, nibbles, checksumOf, Says, blockWith, recordWith, recordOf}
+use Rattle.blocks.specs.Block.{nibblesOf}
+use Rattle.blocks.specs.Parts.{mendedIn, InRange}
+use Rattle.forms.specs.Block.{nibbles, checksumOf, Says, blockWith, recordWith, recordOf}
 use Rattle.table.specs.Reading.{accepted, readBlock}
 use Rattle.forms.specs.Writing.{formRules, writeRules}
 use Rattle.forms.proofs.Judging.{form-said}
 use Rattle.forms.proofs.Sendable.{sendable}
 use Rattle.forms.proofs.Measures.{length-form}
-use Rattle.sums.proofs.Nibbles.{nibbles-again}
+use Rattle.forms.proofs.Blocks.{nibbles-again}
 use Rattle.table.proofs.Exact.{accepted-says, reads-exactly}
 use Rattle.laws.specs.Bytes.{Bytes}
 use Rattle.forms.proofs.Forms.{form-in, in-form}
@@ -48,7 +50,7 @@ says-with application reserved filling t a f b h =
 -- its two new bytes are in range, and none of its bytes is mended
 with-range : (application reserved filling : ℕ) (t : Table) → InRange (recordWith application reserved filling t)
 unfolding blockWith
-with-range application reserved filling t = record { part = zero-le; second = zero-le }
+with-range application reserved filling t = refl
 
 with-none : (application reserved filling : ℕ) (t : Table) → mendedIn (recordWith application reserved filling t) ≡ 0
 unfolding blockWith mendedIn

@@ -8,13 +8,14 @@ use Rattle.answer.specs.Writing.{answered, left}
 use Rattle.answer.proofs.Judging.{passes}
 use Rattle.forms.specs.Tables.{Table}
 use Rattle.forms.specs.Form.{form}
-use Rattle.sums.specs.Block.{mendedIn, InRange, Says}
-use Rattle.frames.specs.declared.Read.{Read}
-use Rattle.frames.specs.declared.Read.the-variants.{Taken}
-use Rattle.frames.specs.Values.{counted}
-use Rattle.frames.proofs.Counting.{counted-takes, counted-all}
+use Rattle.blocks.specs.Parts.{mendedIn, InRange}
+use Rattle.forms.specs.Block.{Says}
+use Rattle.blocks.specs.declared.Read.{Read}
+use Rattle.blocks.specs.declared.Read.the-variants.{Taken}
+use Rattle.blocks.specs.Values.{counted}
+use Rattle.blocks.proofs.Counting.{counted-takes, counted-all}
 use Rattle.table.specs.Reading.{accepted, refused, readRules, tableRead, readBlock}
-use Rattle.frames.proofs.Framed.{accepts}
+use Rattle.blocks.proofs.Framed.{accepts}
 use Rattle.table.proofs.Exact.{accepted-says, says-accepted}
 
 module _ (application : ℕ) (r : List ℕ) (old : List ℕ) where

@@ -24,16 +24,19 @@ use Rattle.fields.proofs.Laid.{laid-lt, field-lt, length-parts, whole-lt, whole
 use Rattle.codecs.specs.Codec.{fit}
 use Rattle.forms.specs.Tables.{Table, Sent, known, numbered, format, sentIn, sent, fields, bits, control, fill, size}
 use Rattle.forms.proofs.Formats.{format-lawful, sent-back}
-use Rattle.sums.specs.Block.{header, headOf, nibblesOf, mendedIn, InRange, nibbles, checksumOf, Says}
-use Rattle.sums.specs.Sums.{checksum, sound}
+use Rattle.blocks.specs.Block.{header, headOf, nibblesOf}
+use Rattle.blocks.specs.Parts.{mendedIn, InRange}
+use Rattle.forms.specs.Block.{nibbles, checksumOf, Says}
+use Rattle.blocks.specs.Sums.{checksum, sound}
 use Rattle.table.specs.Control.{tableOf}
-use Rattle.frames.specs.Framing.{framing}
-use Rattle.frames.proofs.Framed.{Framed, framed, frame-holds, header-of, headed, accepts}
+use Rattle.blocks.specs.Framing.{framing}
+use Rattle.blocks.proofs.Framed.{Framed, framed, frame-holds, part-most, header-of, headed, accepts}
 use Rattle.table.specs.Reading.{accepted, refused, frontRules, wholeRules, bodyRules, readRules, tableRead, readBlock}
 use Rattle.table.specs.Lengths.{blockNumbered, lengthRules}
 use Rattle.forms.proofs.Sendable.{Sendable, fit-sendable, sendable, sent-fits, sends}
-use Rattle.sums.proofs.Summing.{checksum-lt}
-use Rattle.sums.proofs.Nibbles.{sound-parts, parts-sound, sound-take, sum-apart}
+use Rattle.blocks.proofs.Summing.{checksum-lt}
+use Rattle.blocks.proofs.Nibbles.{sound-parts, parts-sound, sound-take}
+use Rattle.forms.proofs.Blocks.{sum-apart}
 use Rattle.forms.proofs.Measures.{bits-of}
 
 -- ---- accepted: every rule holds
@@ -259,7 +262,7 @@ mended-most application r e =
     let k = taken application r e in
     let harmed = harms-le (drop 4 r) in
     let c : control (carried r .table) < 1024 = subst (λ (x : ℕ). x < 1024) (k .control-said) (field-lt 0 10 _) in
-    omega (arith, harmed, length-drop 4 r, k .frame .long, k .size-said, k .frame .in-range .part)
+    omega (arith, harmed, length-drop 4 r, k .frame .long, k .size-said, part-most r (k .frame .in-range))
 
 -- in particular each of its bytes decodes
 pub decodes-all :

@@ -9,7 +9,7 @@ use Rattle.answer.specs.Rules.{judged}
 use Rattle.answer.specs.declared.Answer.{Answer}
 use Rattle.answer.specs.Values.{refused}
 use Rattle.forms.specs.Tables.{Sent, known}
-use Rattle.sums.specs.Sums.{checksum, sound}
+use Rattle.blocks.specs.Sums.{checksum, sound}
 use Rattle.table.specs.Reading.{frontRules, wholeRules}
 
 -- ---- the front, with what it is judged by: how many of the first 8 bytes decode, the kind, the access

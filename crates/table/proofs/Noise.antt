@@ -6,9 +6,10 @@ use Prim.Native.Nat.{ℕ, _≤_, _<_}
 use native.Mathlib.Omega.{arith}
 use lib.ListN.{length, getD}
 use Rattle.forms.specs.Tables.{Table}
-use Rattle.sums.specs.Block.{headOf, nibblesOf, mendedIn, InRange}
+use Rattle.blocks.specs.Block.{headOf, nibblesOf}
+use Rattle.blocks.specs.Parts.{mendedIn, InRange}
 use Rattle.table.specs.Reading.{accepted, readBlock}
-use Rattle.sums.proofs.Nibbles.{sound-at}
+use Rattle.blocks.proofs.Nibbles.{sound-at}
 use Rattle.table.proofs.Exact.{accepted-says, says-accepted, decodes-all}
 
 -- a record with the same 16 bits as one that is accepted, each byte behind its head decoding alike: the same table, with its own count

@@ -5,15 +5,15 @@ use lib.Dec.{eqb}
 use lib.ListN.{length, take}
 use Rattle.laws.specs.Pick.{both}
 use Rattle.answer.specs.Rules.{Rule, rule, judged}
-use Rattle.blocks.specs.Block.{sizeOf}
+use Rattle.blocks.specs.Block.{sizeOf, headLength, headOf, nibblesOf}
 use Rattle.fields.specs.Fields.{whole}
 use Rattle.forms.specs.Tables.{Table, Sent, known, sentIn}
 use Rattle.table.specs.Control.{tableOf}
 use Rattle.table.specs.Lengths.{lengthRules}
-use Rattle.sums.specs.Sums.{checksum, sound}
-use Rattle.sums.specs.Block.{headLength, headOf, nibblesOf, mendedIn}
-use Rattle.frames.specs.Framing.{framing}
-pub use Rattle.frames.specs.Outcome.{Outcome, accepted, refused}
+use Rattle.blocks.specs.Sums.{checksum, sound}
+use Rattle.blocks.specs.Parts.{mendedIn}
+use Rattle.blocks.specs.Framing.{framing}
+pub use Rattle.blocks.specs.Outcome.{Outcome, accepted, refused}
 
 -- 10 in its first eight bytes, 12 for kind and access, 13 for an odd size: what can be said of a block before it is read whole
 unfoldable pub frontRules : ℕ → List ℕ → Sent → List Rule

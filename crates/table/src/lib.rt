@@ -15,16 +15,16 @@ ghost use Rattle.octet.specs.Decoding.{nib};
 ghost use Rattle.forms.specs.Form.{form};
 ghost use Rattle.forms.specs.Tables.{sentIn};
 ghost use Rattle.fields.specs.Compound.{compound};
-ghost use Rattle.sums.specs.Block.{mendedIn};
-ghost use Rattle.frames.specs.Values.{counted};
+ghost use Rattle.blocks.specs.Parts.{mendedIn};
+ghost use Rattle.blocks.specs.Values.{counted};
 ghost use Rattle.table.specs.Reading.{frontRules, wholeRules, bodyRules, readRules, tableRead};
 ghost use Rattle.table.specs.Control.{tableOf};
 ghost use Rattle.table.specs.Internal.{openingBy};
 use answer::Answer;
+use blocks::Frame;
 use blocks::HEAD;
+use blocks::Read;
 use fields::Opening;
-use frames::Frame;
-use frames::Read;
 
 // The table of a block of this application: its form is written to the front of `out`. Each protected
 // byte is decoded at most six times: for the tests that it can be, for the sum, for the count, and for
@@ -41,7 +41,7 @@ pub fn read_block(application: u8, rec: &[u8], out: &mut [u8]) -> Read
     match read_form(application, rec, out) {
         Answer::Refused(why) => Read::Refused(why),
         Answer::Done(written) => {
-            let mended = sums::mended_in(rec) as u16;
+            let mended = blocks::sums::mended_in(rec) as u16;
             Read::Taken { written, mended }
         }
     }
@@ -55,7 +55,7 @@ fn read_form(application: u8, rec: &[u8], out: &mut [u8]) -> Answer
         ⌜ now (out .exit)
         ≡ left (readRules application (now (rec .entry))) (form (tableRead (now (rec .entry)))) (now (out .entry)) ⌝ }
 {
-    match frames::judge(application, rec) {
+    match blocks::frames::judge(application, rec) {
         Frame::Refused(why) => Answer::Refused(why),
         Frame::Head(head) => read_body(head, &rec[HEAD..], out),
     }
@@ -108,7 +108,7 @@ fn judge_front(size: usize, opening: Opening, body: &[u8]) -> Answer
     requires { ⌜ (8 ≤ length (now body)) × (opening ≡ openingBy (sentIn (compound (now body)))) ⌝ }
     ensures { λ r. ⌜ r ≡ judged refused (frontRules size (map nib (now (body .entry))) (sentIn (compound (now (body .entry))))) (Done 0) ⌝ }
 {
-    let good = sums::sound(&body[..8]);
+    let good = blocks::sums::sound(&body[..8]);
     if good != 8 {
         return answer::refuse(10, HEAD + good);
     }
@@ -129,9 +129,9 @@ fn judge_whole(head: usize, opening: Opening, body: &[u8]) -> Answer
     requires { ⌜ opening ≡ openingBy (sentIn (compound (now body))) ⌝ }
     ensures { λ r. ⌜ r ≡ judged refused (wholeRules head (map nib (now (body .entry))) (sentIn (compound (now (body .entry))))) (Done 0) ⌝ }
 {
-    let sum = sums::sum_of(head, body);
+    let sum = blocks::sums::sum_of(head, body);
     if 255 < sum {
-        return answer::refuse(10, HEAD + sums::sound(body));
+        return answer::refuse(10, HEAD + blocks::sums::sound(body));
     }
     if opening.checksum as usize != sum {
         return answer::refuse(11, 0);

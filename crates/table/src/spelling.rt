@@ -2,7 +2,6 @@
 ghost use mathlib.Core.Path.{_≡_};
 ghost use mathlib.Core.List.{_∷_, []};
 ghost use Prim.Native.Nat.{_+_, _*_, _/_, _%_, _^_, _<_, _≤_};
-ghost use lib.ListN.{set};
 ghost use lib.Seq.{sets};
 ghost use Rattle.fields.specs.Fields.{field, parts};
 ghost use Rattle.fields.specs.Compound.{compound};
@@ -41,12 +40,12 @@ fn write_opening(opening: Opening, out: &mut [u8])
 {
     let low = (opening.block % 256) as u8;
     let high = (opening.block / 256) as u8;
-    put(opening.kind, out, 0);
-    put(opening.copyright, out, 1);
-    put(low, out, 2);
-    put(high, out, 3);
-    put(opening.network, out, 4);
-    put(opening.count, out, 5);
+    lent_bytes::put(opening.kind, out, 0);
+    lent_bytes::put(opening.copyright, out, 1);
+    lent_bytes::put(low, out, 2);
+    lent_bytes::put(high, out, 3);
+    lent_bytes::put(opening.network, out, 4);
+    lent_bytes::put(opening.count, out, 5);
 }
 
 // So many descriptors of a kind, behind the opening.
@@ -83,8 +82,8 @@ fn write_descriptor(body: &[u8], kind: usize, at: usize, out: &mut [u8], q: usiz
     let id = fields::field_of(body, at, 6);
     let entries = fields::field_of(body, at + 6, 4);
     let words = forms::words_of(kind, entries);
-    put((id % 256) as u8, out, q);
-    put((entries % 256) as u8, out, q + 1);
+    lent_bytes::put((id % 256) as u8, out, q);
+    lent_bytes::put((entries % 256) as u8, out, q + 1);
     write_words(body, at + HEADING, words, out, q + 2);
     words
 }
@@ -115,17 +114,7 @@ fn write_word(w: usize, out: &mut [u8], q: usize)
     let high = (w / 256 / 256 % 256) as u8;
     let middle = (w / 256 % 256) as u8;
     let low = (w % 256) as u8;
-    put(high, out, q);
-    put(middle, out, q + 1);
-    put(low, out, q + 2);
-}
-
-// One byte at a place of `out`, where there is one.
-fn put(b: u8, out: &mut [u8], q: usize)
-    ensures { λ _. ⌜ now (out .exit) ≡ set (now (out .entry)) q b ⌝ }
-{
-    if out.len() <= q {
-        return;
-    }
-    out[q] = b;
+    lent_bytes::put(high, out, q);
+    lent_bytes::put(middle, out, q + 1);
+    lent_bytes::put(low, out, q + 2);
 }

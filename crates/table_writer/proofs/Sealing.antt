@@ -17,13 +17,14 @@ use Rattle.octet.specs.Decoding.{nib}
 use Rattle.fields.specs.Fields.{Field, laid, parts}
 use Rattle.fields.proofs.Laid.{length-parts}
 use Rattle.forms.specs.Tables.{Table, fields, control, size, fits}
-use Rattle.sums.specs.Block.{header, nibbles, checksumOf, blockWith, recordOf}
-use Rattle.sums.specs.Sums.{checksum}
+use Rattle.blocks.specs.Block.{header}
+use Rattle.forms.specs.Block.{nibbles, checksumOf, blockWith, recordOf}
+use Rattle.blocks.specs.Sums.{checksum}
 use Rattle.forms.specs.Writing.{formRules, writeRules}
 use Rattle.forms.specs.Form.{tableIn}
 use Rattle.forms.proofs.Measures.{bits-of}
-use Rattle.sums.proofs.Nibbles.{behind-sum, nibbles-again}
-use Rattle.sums.proofs.Summing.{checksum-lt}
+use Rattle.forms.proofs.Blocks.{behind-sum, nibbles-again}
+use Rattle.blocks.proofs.Summing.{checksum-lt}
 use Rattle.table_writer.specs.Internal.{sumIn, sealed}
 
 length-nibbles : (sum reserved filling : ℕ) (t : Table) → length (map image (nibbles sum reserved filling t)) ≡ size t

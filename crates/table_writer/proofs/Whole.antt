@@ -13,7 +13,7 @@ use Rattle.fields.specs.Fields.{Field, width, laid, whole}
 use Rattle.fields.proofs.Laid.{laid-append, width-append}
 use Rattle.forms.specs.Tables.{Table, per, loops, fields, bits, control, fill, size, fits}
 use Rattle.forms.specs.Form.{tableIn}
-use Rattle.sums.specs.Block.{nibbles}
+use Rattle.forms.specs.Block.{nibbles}
 use Rattle.forms.proofs.Sendable.{sendable}
 use Rattle.forms.proofs.Forms.{length-in, two-bytes}
 use Rattle.table_writer.specs.declared.Pen.{Pen}

@@ -8,8 +8,8 @@ use Rattle.octet.specs.Image.{image}
 use Rattle.octet.specs.Decoding.{nib}
 use Rattle.fields.specs.Fields.{Field, width, laid, parts}
 use Rattle.forms.specs.Tables.{Table, fields}
-use Rattle.sums.specs.Block.{headLength}
-use Rattle.sums.specs.Sums.{checksum}
+use Rattle.blocks.specs.Block.{headLength}
+use Rattle.blocks.specs.Sums.{checksum}
 use Rattle.table_writer.specs.declared.Pen.{Pen}
 
 -- the bits that a pen has once fields are laid: those it held, then theirs

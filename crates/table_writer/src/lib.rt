@@ -8,7 +8,7 @@ ghost use Rattle.fields.specs.Fields.{alike, laid, fitting};
 ghost use Rattle.forms.specs.Tables.{loops, size, fits, bits as Tables·bits};
 ghost use Rattle.forms.specs.Form.{wordsIn, tableIn};
 ghost use Rattle.forms.specs.Internal.{formMost};
-ghost use Rattle.sums.specs.Block.{nibbles, recordOf};
+ghost use Rattle.forms.specs.Block.{nibbles, recordOf};
 ghost use Rattle.octet.specs.Image.{image};
 ghost use lib.Seq.{sets};
 ghost use Rattle.table_writer.specs.Internal.{ready, inked, moved, Fine, sealed, firstFields, secondFields};
@@ -94,7 +94,7 @@ fn seal(head: usize, size: usize, out: &mut [u8])
     ensures { λ _. ⌜ now (out .exit) ≡ sealed head size (now (out .entry)) ⌝ }
 {
     let end = HEAD + size;
-    let sum = sums::checksum(head, &out[HEAD..end]);
+    let sum = blocks::sums::checksum(head, &out[HEAD..end]);
     let low = octet::image((sum % 16) as u8);
     let high = octet::image((sum / 16 % 16) as u8);
     out[HEAD] = low;
@@ -131,8 +131,8 @@ fn first_fields(table: &[u8], control: usize) -> usize
     requires { ⌜ (fits (tableIn (now table)) ≡ true) × (control < 1024) ⌝ }
     ensures { λ r. ⌜ (r ≡ laid (firstFields control (tableIn (now (table .entry)))) 0) × (r < 2 ^ 28) ⌝ }
 {
-    let kind = forms::byte_at(table, 0);
-    let copyright = forms::byte_at(table, 1);
+    let kind = lent_bytes::byte_at(table, 0);
+    let copyright = lent_bytes::byte_at(table, 1);
     ((copyright * 256 + kind) * 1024 + control) * 256
 }
 
@@ -141,9 +141,9 @@ fn second_fields(table: &[u8]) -> usize
     requires { ⌜ fits (tableIn (now table)) ≡ true ⌝ }
     ensures { λ r. ⌜ (r ≡ laid (secondFields (tableIn (now (table .entry)))) 0) × (r < 2 ^ 30) ⌝ }
 {
-    let block = forms::byte_at(table, 2) + 256 * forms::byte_at(table, 3);
-    let network = forms::byte_at(table, 4);
-    let count = forms::byte_at(table, 5);
+    let block = lent_bytes::byte_at(table, 2) + 256 * lent_bytes::byte_at(table, 3);
+    let network = lent_bytes::byte_at(table, 4);
+    let count = lent_bytes::byte_at(table, 5);
     (count * 256 + network) * 65536 + block
 }
 
@@ -157,13 +157,13 @@ fn put_descriptors(table: &[u8], pen: Pen, out: &mut [u8]) -> Pen
         × (now (out .exit)
         ≡ inked pen (loops (tableIn (now (table .entry)) .kind) (tableIn (now (table .entry)) .descriptors)) (now (out .entry))) ⌝ }
 {
-    let kind = forms::byte_at(table, 0);
-    let mut left = forms::byte_at(table, 5);
+    let kind = lent_bytes::byte_at(table, 0);
+    let mut left = lent_bytes::byte_at(table, 5);
     let mut p = pen;
     let mut i = OPENING;
     while 0 < left {
-        let id = forms::byte_at(table, i);
-        let entries = forms::byte_at(table, i + 1);
+        let id = lent_bytes::byte_at(table, i);
+        let entries = lent_bytes::byte_at(table, i + 1);
         let words = forms::words_of(kind, entries);
         let q = put(p, HEADING, entries * 64 + id, out);
         p = put_words(table, i + 2, words, q, out);

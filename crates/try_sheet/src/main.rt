@@ -106,7 +106,8 @@ fn add_counted(op: u8, payload: &[u8], out: &mut [u8]) -> Line {
     let end = 8 + long;
     let table = end + 2;
     let stamp = number_at(payload, 0) as u32;
-    let count = (forms::byte_at(payload, end) + 256 * forms::byte_at(payload, end + 1)) as u16;
+    let count = (lent_bytes::byte_at(payload, end)
+        + 256 * lent_bytes::byte_at(payload, end + 1)) as u16;
     Line::Answered {
         op: op,
         answer: day_sheet::add(
@@ -162,7 +163,7 @@ fn drop(op: u8, form: Form, payload: &[u8], out: &mut [u8]) -> Line {
     }
     let network = payload[0];
     let kind = payload[1];
-    let block = (forms::byte_at(payload, 2) + 256 * forms::byte_at(payload, 3)) as u16;
+    let block = (lent_bytes::byte_at(payload, 2) + 256 * lent_bytes::byte_at(payload, 3)) as u16;
     Line::Answered {
         op: op,
         answer: day_sheet::drop(form, network, kind, block, &payload[4..], out),
@@ -174,7 +175,7 @@ fn number_at(s: &[u8], i: usize) -> usize
     requires { ⌜ i ≤ 4 ⌝ }
     ensures { λ r. ⌜ r < 4294967296 ⌝ }
 {
-    let low = forms::byte_at(s, i) + 256 * forms::byte_at(s, i + 1);
-    let high = forms::byte_at(s, i + 2) + 256 * forms::byte_at(s, i + 3);
+    let low = lent_bytes::byte_at(s, i) + 256 * lent_bytes::byte_at(s, i + 1);
+    let high = lent_bytes::byte_at(s, i + 2) + 256 * lent_bytes::byte_at(s, i + 3);
     low + 65536 * high
 }

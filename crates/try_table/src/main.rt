@@ -1,6 +1,6 @@
 // Runs cases of blocks: op 30 reads one, op 31 writes one from a table form. Both begin with the application.
 use answer::Answer;
-use frames::Read;
+use blocks::Read;
 use vectors::Case;
 use vectors::Line;
 use vectors::MOST;

@@ -9,6 +9,7 @@ use Rattle.laws.specs.Pick.{pick, either}
 use Rattle.octet.specs.Decoding.{nib, undecodable}
 use Rattle.octet.specs.Hearing.{harm}
 use Rattle.blocks.specs.Block.{Block, sizeOf}
+use Rattle.blocks.specs.Parts.{partMost}
 
 -- how far reading is
 pub data Mode : Type 0 where
@@ -143,4 +144,4 @@ abbrev pub Good : Mode → Type 0
 Good off = Unit
 Good scan = ⊥
 Good (heading g v part) = Bits g v part
-Good (body h part held) = (h < 2 ^ 16) × (part ≤ 5) × (length held ≤ sizeOf h)
+Good (body h part held) = (h < 2 ^ 16) × (part ≤ partMost) × (length held ≤ sizeOf h)

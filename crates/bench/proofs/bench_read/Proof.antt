@@ -1,7 +1,7 @@
 -- `bench::bench_read` meets its contract: it says how many bytes the answer of `table::read_block` reports. Assumes nothing.
 use borrow.Author.Needs.{needs}
 use mathlib.Core.Path.{_∙_, ap, sym}
-use Rattle.frames.specs.Values.{writtenOf}
+use Rattle.blocks.specs.Values.{writtenOf}
 use Rattle.bench.proofs.bench_read.Statement.{statement}
 use Rattle.bench.proofs.bench_read.Tie as tie
 

@@ -7,8 +7,8 @@ use native.Mathlib.Omega.{arith}
 use lib.ListN.{drop}
 use denote.Ref.{now}
 use Rattle.answer.proofs.Lent.{lent-all}
-use Rattle.frames.specs.declared.Read.the-variants.{Taken}
-use Rattle.frames.specs.Values.{counted}
+use Rattle.blocks.specs.declared.Read.the-variants.{Taken}
+use Rattle.blocks.specs.Values.{counted}
 use Rattle.kinds.proofs.Exact.{mended-most}
 use Rattle.information_forms.specs.Form.{form}
 use Rattle.information_forms.specs.Kind.{information}

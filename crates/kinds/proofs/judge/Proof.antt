@@ -12,9 +12,9 @@ use Rattle.answer.specs.Values.{refused}
 use Rattle.answer.specs.declared.Answer.the-variants.{Done}
 use Rattle.answer.proofs.Steps.{ends, goes-on}
 use Rattle.blocks.specs.Block.{headOf}
-use Rattle.frames.specs.Framing.{framing}
-use Rattle.frames.proofs.Framed.{framed}
-use Rattle.frames.proofs.Judging.{asAnswer, frame-same, head-every, head-value}
+use Rattle.blocks.specs.Framing.{framing}
+use Rattle.blocks.proofs.Framed.{framed}
+use Rattle.blocks.proofs.Judging.{asAnswer, frame-same, head-every, head-value}
 use Rattle.kinds.specs.Reading.{oneOf, controlPart, bodyRules}
 use Rattle.kinds.proofs.judge.Statement.{statement}
 use Rattle.kinds.proofs.judge.Tie as tie

@@ -12,8 +12,8 @@ use Rattle.laws.proofs.Maps.{map-take}
 use Rattle.octet.specs.Decoding.{nib}
 use Rattle.fields.specs.Fields.{field}
 use Rattle.fields.specs.Compound.{compound}
-use Rattle.sums.specs.Sums.{sound}
-use Rattle.sums.proofs.Summing.{sound-le}
+use Rattle.blocks.specs.Sums.{sound}
+use Rattle.blocks.proofs.Summing.{sound-le}
 use Rattle.kinds.specs.Front.{Front}
 use Rattle.kinds.specs.Reading.{frontIn, oneOf}
 use Rattle.kinds.proofs.Fronts.{front-at}

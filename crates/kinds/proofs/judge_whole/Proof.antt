@@ -8,8 +8,8 @@ use lib.ListN.{length, length-map}
 use denote.Ref.{now}
 use Rattle.answer.specs.Values.{refused}
 use Rattle.octet.specs.Decoding.{nib}
-use Rattle.sums.specs.Sums.{sound}
-use Rattle.sums.proofs.Summing.{sound-le}
+use Rattle.blocks.specs.Sums.{sound}
+use Rattle.blocks.proofs.Summing.{sound-le}
 use Rattle.parity.proofs.Letters.{odds-le}
 use Rattle.kinds.proofs.Judging.{whole-10, whole-23, whole-11, whole-done}
 use Rattle.kinds.proofs.judge_whole.Statement.{statement}

@@ -21,7 +21,7 @@ use Rattle.menu_listing.proofs.+walk_event+walk_menu.Lts-walk_event as 
 use Rattle.menu_listing.proofs.walk_menu.Reads as walk-menu
 use Rattle.menu_listing.proofs.walk_menu.Kinds as walk-menu-kinds
 use Rattle.menu_listing.proofs.+walk_event+walk_menu.Lts-walk_menu as walk-menu-lts
-use Rattle.forms.proofs.byte_at.Reads as byte-at-reads
+use Rattle.lent_bytes.proofs.byte_at.Reads as byte-at-reads
 use Rattle.menu_listing.proofs.finding.find_form.Reads as find-form-reads
 use Rattle.menu_listing.proofs.lines.events_place.Reads as events-place-reads
 use Rattle.menu_listing.proofs.lines.link_at.Reads as link-at-reads

@@ -9,8 +9,8 @@ use lib.Seq.{length-take-le}
 use denote.Ref.{now}
 use Rattle.laws.proofs.Maps.{map-take}
 use Rattle.octet.specs.Decoding.{nib}
-use Rattle.sums.specs.Sums.{sound}
-use Rattle.sums.proofs.Summing.{sound-le}
+use Rattle.blocks.specs.Sums.{sound}
+use Rattle.blocks.proofs.Summing.{sound-le}
 use Rattle.menu_reader.proofs.Walked.{opened}
 use Rattle.menu_reader.proofs.Judging.{front-10, front-12, front-12′, front-done}
 use Rattle.menu_reader.proofs.judge_front.Statement.{statement}

@@ -8,9 +8,9 @@ use lib.ListN.{length, length-map}
 use denote.Ref.{now}
 use Rattle.answer.specs.Values.{refused}
 use Rattle.octet.specs.Decoding.{nib}
-use Rattle.sums.specs.Sums.{sound}
+use Rattle.blocks.specs.Sums.{sound}
 use Rattle.parity.proofs.Letters.{odds-le}
-use Rattle.sums.proofs.Summing.{sound-le}
+use Rattle.blocks.proofs.Summing.{sound-le}
 use Rattle.menu_reader.specs.Reading.{codeOf}
 use Rattle.menu_reader.proofs.Walked.{opened}
 use Rattle.menu_reader.proofs.Judging.{whole-10, whole-23, whole-11, whole-done}

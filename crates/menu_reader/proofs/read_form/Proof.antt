@@ -11,9 +11,9 @@ use Rattle.laws.proofs.Lists.{part-rest}
 use Rattle.answer.specs.declared.Answer.{Answer}
 use Rattle.answer.specs.Writing.{answered, after, left}
 use Rattle.blocks.specs.Block.{headOf}
-use Rattle.frames.specs.Framing.{framing}
-use Rattle.frames.proofs.Framed.{framed}
-use Rattle.frames.proofs.Judging.{head-every, head-value, frame-refused, frame-taken}
+use Rattle.blocks.specs.Framing.{framing}
+use Rattle.blocks.proofs.Framed.{framed}
+use Rattle.blocks.proofs.Judging.{head-every, head-value, frame-refused, frame-taken}
 use Rattle.menu_forms.specs.Form.{form}
 use Rattle.menu_reader.specs.Reading.{bodyRules, menuRead}
 use Rattle.menu_reader.proofs.read_form.Statement.{statement}

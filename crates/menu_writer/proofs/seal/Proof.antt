@@ -10,7 +10,7 @@ use Rattle.laws.proofs.Lists.{part-of}
 use Rattle.octet.specs.Decoding.{nib}
 use Rattle.octet.specs.Image.{image}
 use Rattle.fields.specs.Fields.{parts}
-use Rattle.sums.specs.Sums.{checksum}
+use Rattle.blocks.specs.Sums.{checksum}
 use Rattle.menu_writer.proofs.seal.Statement.{statement}
 use Rattle.menu_writer.proofs.seal.Tie as tie
 

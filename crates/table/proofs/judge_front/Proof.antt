@@ -11,9 +11,9 @@ use denote.Ref.{now}
 use Rattle.laws.proofs.Maps.{map-take}
 use Rattle.octet.specs.Decoding.{nib}
 use Rattle.fields.specs.declared.Opening.{Opening}
-use Rattle.sums.specs.Sums.{sound}
+use Rattle.blocks.specs.Sums.{sound}
 use Rattle.table.proofs.Judging.{front-10, front-12, front-12′, front-13, front-done}
-use Rattle.sums.proofs.Summing.{sound-le}
+use Rattle.blocks.proofs.Summing.{sound-le}
 use Rattle.forms.specs.Tables.{known}
 use borrow.Author.Tests.{not-true, not-false}
 use Rattle.table.proofs.judge_front.Statement.{statement}

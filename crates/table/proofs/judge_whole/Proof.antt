@@ -9,9 +9,9 @@ use lib.ListN.{length-map}
 use denote.Ref.{now}
 use Rattle.octet.specs.Decoding.{nib}
 use Rattle.fields.specs.declared.Opening.{Opening}
-use Rattle.sums.specs.Sums.{sound}
+use Rattle.blocks.specs.Sums.{sound}
 use Rattle.table.proofs.Judging.{whole-10, whole-11, whole-done}
-use Rattle.sums.proofs.Summing.{sound-le}
+use Rattle.blocks.proofs.Summing.{sound-le}
 use Rattle.table.proofs.judge_whole.Statement.{statement}
 use Rattle.table.proofs.judge_whole.Tie as tie
 

@@ -7,10 +7,10 @@ use native.Mathlib.Omega.{arith}
 use denote.Ref.{now}
 use Rattle.answer.proofs.Lent.{lent-all}
 use Rattle.forms.specs.Form.{form}
-use Rattle.sums.specs.Block.{mendedIn}
-use Rattle.frames.specs.declared.Read.the-variants.{Taken}
+use Rattle.blocks.specs.Parts.{mendedIn}
+use Rattle.blocks.specs.declared.Read.the-variants.{Taken}
 use Rattle.table.specs.Reading.{readRules, tableRead}
-use Rattle.frames.specs.Values.{counted}
+use Rattle.blocks.specs.Values.{counted}
 use Rattle.table.proofs.Exact.{mended-most}
 use Rattle.table.proofs.read_block.Statement.{statement}
 use Rattle.table.proofs.read_block.Tie as tie

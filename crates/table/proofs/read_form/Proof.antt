@@ -13,12 +13,12 @@ use Rattle.answer.specs.Writing.{answered, after, left}
 use Rattle.octet.specs.Decoding.{nib}
 use Rattle.fields.specs.Fields.{whole}
 use Rattle.forms.specs.Form.{form}
-use Rattle.sums.specs.Block.{headOf, nibblesOf}
+use Rattle.blocks.specs.Block.{headOf, nibblesOf}
 use Rattle.table.specs.Control.{tableOf}
-use Rattle.frames.specs.Framing.{framing}
+use Rattle.blocks.specs.Framing.{framing}
 use Rattle.table.specs.Reading.{bodyRules, tableRead}
-use Rattle.frames.proofs.Framed.{framed}
-use Rattle.frames.proofs.Judging.{head-every, head-value, frame-refused, frame-taken}
+use Rattle.blocks.proofs.Framed.{framed}
+use Rattle.blocks.proofs.Judging.{head-every, head-value, frame-refused, frame-taken}
 use Rattle.table.proofs.read_form.Statement.{statement}
 use Rattle.table.proofs.read_form.Tie as tie
 

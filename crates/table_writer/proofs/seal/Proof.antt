@@ -9,7 +9,7 @@ use denote.Ref.{now}
 use Rattle.laws.proofs.Lists.{part-of}
 use Rattle.octet.specs.Image.{image}
 use Rattle.octet.specs.Decoding.{nib}
-use Rattle.sums.specs.Sums.{checksum}
+use Rattle.blocks.specs.Sums.{checksum}
 use Rattle.table_writer.specs.Internal.{sealed}
 use Rattle.table_writer.proofs.seal.Statement.{statement}
 use Rattle.table_writer.proofs.seal.Tie as tie

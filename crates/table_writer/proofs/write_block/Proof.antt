@@ -12,7 +12,7 @@ use Rattle.answer.proofs.Lent.{lent-value, lent-refused, lent-short, lent-done}
 use Rattle.forms.specs.Tables.{bits}
 use Rattle.forms.specs.Form.{tableIn}
 use Rattle.forms.specs.Writing.{writeRules}
-use Rattle.sums.specs.Block.{recordOf}
+use Rattle.forms.specs.Block.{recordOf}
 use Rattle.forms.proofs.Sendable.{sendable}
 use Rattle.table_writer.proofs.Sealing.{writable, length-record}
 use Rattle.table_writer.proofs.write_block.Statement.{statement}

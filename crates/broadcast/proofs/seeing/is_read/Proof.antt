@@ -5,7 +5,7 @@ use denote.Ref.{now}
 use lib.ListN.{drop}
 use Rattle.blocks.specs.Block.{headLength}
 use Rattle.forms.specs.Form.{form as Table·form}
-use Rattle.sums.specs.Block.{mendedIn}
+use Rattle.blocks.specs.Parts.{mendedIn}
 use Rattle.table.specs.Reading.{readRules as tableRules, tableRead}
 use Rattle.menu_forms.specs.Form.{form as Menu·form}
 use Rattle.menu_reader.specs.Reading.{readRules as menuRules, menuRead, mendedControl as Menu·mended}
