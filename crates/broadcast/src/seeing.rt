@@ -1,0 +1,134 @@
+// What a record counts as (SCOPE 31).
+use answer::Refusal;
+use blocks::HEAD;
+use blocks::Read;
+ghost use mathlib.Core.Path.{_≡_};
+ghost use Prim.Native.Nat.{_<_};
+ghost use lib.Dec.{eqb};
+ghost use Rattle.blocks.specs.Block.{headOf};
+ghost use Rattle.broadcast.specs.Counting.{hasKind, isRead, networkPlace, seen as Counting·seen, unseen as Counting·unseen, countsAs};
+ghost use Rattle.broadcast.specs.Internal.{isAccepted};
+
+// 11.12.3: the datatypes that are read besides TI and LI.
+pub(crate) const AI: u8 = 1;
+
+const NI: u8 = 3;
+
+// What a record counts as that doesn't.
+const UNCOUNTED: u8 = 64;
+
+// The place of datatype_id, and its width, in bits.
+const KIND: usize = 18;
+
+const WIDE: usize = 6;
+
+// What a record counts as: its datatype, or 64; and the network that it speaks of, which means something in an AI, an LI and a TI.
+pub(crate) struct Seen {
+    pub kind: u8,
+    pub network: u8,
+}
+
+// The datatype that a record counts as, 64 where it doesn't.
+pub fn counts(application: u8, rec: &[u8]) -> u8
+    ensures { λ r. ⌜ r ≡ countsAs application (now (rec .entry)) ⌝ }
+{
+    let seen = see(application, rec);
+    seen.kind
+}
+
+pub(crate) fn see(application: u8, rec: &[u8]) -> Seen
+    ensures { λ r. ⌜ r ≡ Counting·seen application (now (rec .entry)) ⌝ }
+{
+    if !has_kind(application, rec) {
+        return unseen();
+    }
+    let kind = fields::field_of(&rec[HEAD..], KIND, WIDE) as u8;
+    if !is_read(application, kind, rec) {
+        return unseen();
+    }
+    let network = fields::field_of(&rec[HEAD..], network_place(kind), 8) as u8;
+    Seen { kind, network }
+}
+
+// It doesn't count.
+fn unseen() -> Seen
+    ensures { λ r. ⌜ r ≡ Counting·unseen ⌝ }
+{
+    Seen {
+        kind: UNCOUNTED,
+        network: 0,
+    }
+}
+
+// Whether a record is a whole block of ours with a kind.
+fn has_kind(application: u8, rec: &[u8]) -> bool
+    ensures { λ r. ⌜ r ≡ hasKind application (now (rec .entry)) ⌝ }
+{
+    if 32 <= application {
+        return false;
+    }
+    let head = head_of(rec);
+    if rec.len() != HEAD + head / 32 {
+        return false;
+    }
+    if head % 32 != application as usize {
+        return false;
+    }
+    if head / 32 < 8 {
+        return false;
+    }
+    blocks::sums::sound(&rec[HEAD..12]) == 8
+}
+
+// The 16 bits of a record's head.
+pub(crate) fn head_of(rec: &[u8]) -> usize
+    ensures { λ r. ⌜ (r ≡ headOf (now (rec .entry))) × (r < 65536) ⌝ }
+{
+    lent_bytes::byte_at(rec, 0) + 256 * lent_bytes::byte_at(rec, 1)
+}
+
+// The place of the network that a kind speaks of: this_operator_network_no, or netwop_no.
+fn network_place(kind: u8) -> usize
+    ensures { λ r. ⌜ r ≡ networkPlace kind ⌝ }
+{
+    if kind == AI {
+        return 144;
+    }
+    44
+}
+
+// Whether reading accepts it, of the kinds that are read. No room is lent, so that all other rules are judged and nothing is written.
+fn is_read(application: u8, kind: u8, rec: &[u8]) -> bool
+    ensures { λ r. ⌜ r ≡ isRead application kind (now (rec .entry)) ⌝ }
+{
+    let mut none = [0u8; 0];
+    if kind == AI {
+        return is_accepted(information::read_information(application, rec, &mut none));
+    }
+    if kind == NI {
+        return is_accepted(menu_reader::read_menu(application, rec, &mut none));
+    }
+    if forms::known(kind as usize) {
+        return is_accepted(table::read_block(application, rec, &mut none));
+    }
+    true
+}
+
+// Whether every rule but the room holds.
+fn is_accepted(read: Read) -> bool
+    ensures { λ r. ⌜ r ≡ isAccepted read ⌝ }
+{
+    match read {
+        Read::Taken {
+            written: _,
+            mended: _,
+        } => true,
+        Read::Refused(why) => is_room(why),
+    }
+}
+
+fn is_room(why: Refusal) -> bool
+    ensures { λ r. ⌜ r ≡ eqb (why .no) 1 ⌝ }
+{
+    why.no == 1
+}
