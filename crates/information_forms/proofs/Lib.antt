@@ -4,3 +4,4 @@ pub mod Forms
 pub mod Formed
 pub mod Sizes
 pub mod Sending
+pub mod Cases
