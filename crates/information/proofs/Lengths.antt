@@ -15,7 +15,7 @@ use Rattle.fields.specs.Compound.{compound}
 use Rattle.codecs.proofs.Lawful.{row-length}
 use Rattle.kinds.specs.Front.{Front}
 use Rattle.kinds.specs.Kind.{Content, Sent, contentOf, control, size}
-use Rattle.kinds.specs.Reading.{frontIn, carriedBy, lengthRules}
+use Rattle.kinds.specs.Reading.{frontIn, sentIn, carriedBy, lengthRules}
 use Rattle.kinds.proofs.Fronts.{front-at}
 use Rattle.information_forms.specs.Information.{Network, Information, Behind, networkCount, networkFormat, behind, among, names}
 use Rattle.information_forms.specs.Form.{form}
@@ -35,11 +35,11 @@ module _ (bytes strings : List ℕ) where
   c = contentOf s
 
   pub held-carried : value c ≡ held bytes strings
-  unfolding held carriedBy frontIn width
+  unfolding held sentIn frontIn width
   held-carried = ap (λ (f : Front). among (f .copyright) (behind .read (n / 2 ^ 28) (spoken strings))) (front-at (map nib bytes))
 
   pub control-said : s .0 .control ≡ field 8 10 n
-  unfolding carriedBy frontIn
+  unfolding sentIn frontIn
   control-said = ap (λ (f : Front). f .control) (front-at (map nib bytes))
 
   module _ (networks : ℕ) (e : networks ≡ field 136 8 n) where
