@@ -33,6 +33,7 @@ use Rattle.menu_forms.specs.Writing.{formRules as Menu·formRules, writeRules a
 use Rattle.menu_reader.specs.Reading.{frontRules as Menu·frontRules, wholeRules as Menu·wholeRules, lengthRules as Menu·lengthRules, readRules as Menu·readRules}
 use Rattle.menu_listing.specs.Listing.{listRules, levelsRules}
 use Rattle.menu_listing.specs.Kept.{keptRules}
+use Rattle.broadcast.specs.Lawful.{lawfulRules}
 use Rattle.shelf.specs.Putting.{putRules}
 use Rattle.sheet_entry.specs.declared.Form.{Form}
 use Rattle.day_sheet.specs.Calls.{rewriteRules, joinRules, addRules, dropRules}
@@ -134,6 +135,10 @@ lists-levels application levels records = refl
 pub lists-kept : (levels : ℕ) → allRefusing (keptRules levels) ≡ true
 unfolding allRefusing
 lists-kept levels = refl
+
+pub judges-broadcast : (application : ℕ) (records : List ℕ) → allRefusing (lawfulRules application records) ≡ true
+unfolding allRefusing
+judges-broadcast application records = refl
 
 pub puts-menu : (form : List ℕ) (used : ℕ) (heads shelf : List ℕ) → allRefusing (putRules form used heads shelf) ≡ true
 unfolding allRefusing putRules
