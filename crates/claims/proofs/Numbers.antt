@@ -34,6 +34,7 @@ use Rattle.kinds.specs.Reading.{frontRules as Kind·frontRules, wholeRules as K
 use Rattle.menu_reader.specs.Reading.{readRules as Menu·readRules}
 use Rattle.menu_listing.specs.Listing.{listRules, levelsRules}
 use Rattle.menu_listing.specs.Kept.{keptRules}
+use Rattle.broadcast.specs.Lawful.{lawfulRules}
 use Rattle.shelf.specs.Putting.{putRules}
 use Rattle.sheet_entry.specs.declared.Form.{Form}
 use Rattle.day_sheet.specs.Calls.{rewriteRules, dropRules}
@@ -136,6 +137,10 @@ lists-levels application levels records = refl
 pub lists-kept : (levels : ℕ) → allRefusing (keptRules levels) ≡ true
 unfolding allRefusing
 lists-kept levels = refl
+
+pub judges-broadcast : (application : ℕ) (records : List ℕ) → allRefusing (lawfulRules application records) ≡ true
+unfolding allRefusing
+judges-broadcast application records = refl
 
 pub puts-menu : (form : List ℕ) (used : ℕ) (heads shelf : List ℕ) → allRefusing (putRules form used heads shelf) ≡ true
 unfolding allRefusing putRules

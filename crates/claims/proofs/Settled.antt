@@ -129,6 +129,9 @@ use Rattle.menu_writer.proofs.write_menu.Reads as menu-writer·write-menu
 use Rattle.menu_listing.proofs.list_levels.Reads as menu-listing·list-levels
 use Rattle.menu_listing.proofs.list_menu.Reads as menu-listing·list-menu
 use Rattle.menu_listing.proofs.list_kept.Reads as menu-listing·list-kept
+use Rattle.broadcast.proofs.counts.Reads as broadcast·counts
+use Rattle.broadcast.proofs.same.Reads as broadcast·same
+use Rattle.broadcast.proofs.lawful.Reads as broadcast·lawful
 use Rattle.shelf.proofs.find.Reads as shelf·find
 use Rattle.shelf.proofs.put.Reads as shelf·put
 use Rattle.listing_reader.proofs.lines.number_at.Reads as listing-reader·number-at
@@ -704,6 +707,16 @@ pub menu-listing·list-kept-settled :
     (κs : _) (a : _) (x y : _) (s t : _) → menu-listing·list-kept.Post κs a x s → menu-listing·list-kept.Post κs a y t
     → (x ≡ y) × (now (s .1 .1 .1 .1 .0) ≡ now (t .1 .1 .1 .1 .0))
 menu-listing·list-kept-settled κs a x y s t p q = (same (p .0) (q .0), same (p .1) (q .1))
+
+pub broadcast·counts-settled : (κs : _) (a : _) (x y : _) (s t : _) → broadcast·counts.Post κs a x s → broadcast·counts.Post κs a y t → x ≡ y
+broadcast·counts-settled κs a x y s t p q = same p q
+
+pub broadcast·same-settled : (κs : _) (a : _) (x y : _) (s t : _) → broadcast·same.Post κs a x s → broadcast·same.Post κs a y t → x ≡ y
+broadcast·same-settled κs a x y s t p q = same p q
+
+pub broadcast·lawful-settled :
+    (κs : _) (a : _) (x y : _) (s t : _) → broadcast·lawful.Post κs a x s → broadcast·lawful.Post κs a y t → (x ≡ y) × (now (s .1 .1 .0) ≡ now (t .1 .1 .0))
+broadcast·lawful-settled κs a x y s t p q = (same (p .0) (q .0), same (p .1) (q .1))
 
 pub shelf·find-settled : (κs : _) (a : _) (x y : _) (s t : _) → shelf·find.Post κs a x s → shelf·find.Post κs a y t → x ≡ y
 shelf·find-settled κs a x y s t p q = same (p .0) (q .0)
