@@ -1,4 +1,4 @@
--- The two calls for a block, one after the other, for tables and for menus: what is written is read again, byte for byte the form that was
+-- The two calls for a block, one after the other, for tables, for menus and for Application Information: what is written is read again, byte for byte the form that was
 -- handed in, and what was read is written again, as a record that says the same. From the contracts alone. Assumes nothing.
 use mathlib.Core.Path.{_≡_, _∙_, sym, ap, ap₂, subst}
 use mathlib.Core.List.{List, _++_}
@@ -33,7 +33,12 @@ use Rattle.menu_forms.specs.Block.{recordOf as Menu·recordOf, Says as Menu·Sa
 use Rattle.menu_reader.specs.Reading.{mendedControl, menuRead, readRules as Menu·readRules}
 use Rattle.menu_reader.proofs.Written.{written-says}
 use Rattle.menu_reader.proofs.Calls.{call-back, call-writable, call-says as Menu·call-says}
-use Rattle.claims.specs.Calls.{Writes, Reads, WritesMenu, write-menu, ReadsMenu, read-menu, reported}
+use Rattle.information_forms.specs.Form.{form as Information·form, informationIn}
+use Rattle.information_forms.specs.Writing.{writeRules as Information·writeRules}
+use Rattle.information_forms.specs.Kind.{recordOf as Information·recordOf, Says as Information·Says}
+use Rattle.information.specs.Reading.{informationRead, mendedControl as Information·mended, readRules as Information·readRules}
+use Rattle.information.proofs.Exact.{written-says as Information·written-says, call-back as Information·call-back, call-writable as Information·call-writable, call-says as Information·call-says}
+use Rattle.claims.specs.Calls.{Writes, Reads, WritesMenu, write-menu, ReadsMenu, read-menu, WritesInformation, write-information, ReadsInformation, read-information, reported}
 use Rattle.claims.proofs.Calls.{writes, reads, its-bytes, writable}
 
 -- a call that answers so many bytes wrote all of its own
@@ -129,3 +134,43 @@ menu-again {application} {n} {c} {r} {old} {out} {lent} b call w enough =
     let p = again Menu·form menuIn (Menu·recordOf application) (Menu·writeRules application) m old lent (said .1)
     (reads-menu call .1 ∙ said .3) can (writes-menu w .0) (writes-menu w .1) enough in
     (said .0, p .0, rw (p .1) (rw (can .1) at (written-says application (Menu·form m) (can .0))))
+
+-- ---- Application Information
+
+writes-information :
+    {application : ℕ} {f old out : List ℕ} {x : Answer} → WritesInformation application f old x out
+    → (x ≡ answered (Information·writeRules application f) (Information·recordOf application (informationIn f)) old)
+    × (out ≡ left (Information·writeRules application f) (Information·recordOf application (informationIn f)) old)
+writes-information (write-information κs a x t post) = post
+
+reads-information :
+    {application : ℕ} {r old out : List ℕ} {x : Read} → ReadsInformation application r old x out
+    → (x ≡ counted (Information·mended r) (answered (Information·readRules application r) (Information·form (informationRead (drop headLength r))) old))
+    × (out ≡ left (Information·readRules application r) (Information·form (informationRead (drop headLength r))) old)
+reads-information (read-information κs a x t post) = post
+
+-- what `write_information` wrote, `read_information` reads with room: the form that was handed in, with nothing mended
+pub information-back :
+    {application n : ℕ} {f old out lent after : List ℕ} {y : Read} → Bytes f → WritesInformation application f old (Done n) out
+    → ReadsInformation application (take n out) lent y after → length f ≤ length lent
+    → (y ≡ Taken (length f) 0) × (after ≡ f ++ drop (length f) lent)
+information-back {application} {n} {f} {old} {out} {lent} {after} {y} b w call enough =
+    let p = written (Information·writeRules application f) (Information·recordOf application (informationIn f)) old (writes-information w .0) (writes-information w .1) in
+    let said = reads-information (subst (λ (l : List ℕ). ReadsInformation application l lent y after) (p .1) call) in
+    let q = Information·call-back application f lent b (p .0) enough in
+    (said .0 ∙ q .0, said .1 ∙ q .1)
+
+-- what `read_information` accepted and left, `write_information` takes with room: its record says what the record which was read says
+pub information-again :
+    {application n c : ℕ} {r old out lent after : List ℕ} {x : Answer} → Bytes r → ReadsInformation application r old (Taken n c) out
+    → WritesInformation application (take n out) lent x after → length (Information·recordOf application (informationRead (drop headLength r))) ≤ length lent
+    → Information·Says application r (informationRead (drop headLength r))
+    × (x ≡ Done (length (Information·recordOf application (informationRead (drop headLength r)))))
+    × Information·Says application (reported x after) (informationRead (drop headLength r))
+information-again {application} {n} {c} {r} {old} {out} {lent} b call w enough =
+    let i = informationRead (drop headLength r) in
+    let said = Information·call-says application r old n c b (sym (reads-information call .0)) in
+    let can = Information·call-writable application r old n c b (sym (reads-information call .0)) in
+    let p = again Information·form informationIn (Information·recordOf application) (Information·writeRules application) i old lent (said .1)
+    (reads-information call .1 ∙ said .3) can (writes-information w .0) (writes-information w .1) enough in
+    (said .0, p .0, rw (p .1) (rw (can .1) at (Information·written-says application (Information·form i) (can .0))))

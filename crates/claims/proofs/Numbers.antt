@@ -34,6 +34,8 @@ use Rattle.kinds.specs.Reading.{frontRules as Kind·frontRules, wholeRules as K
 use Rattle.menu_reader.specs.Reading.{readRules as Menu·readRules}
 use Rattle.menu_listing.specs.Listing.{listRules, levelsRules}
 use Rattle.menu_listing.specs.Kept.{keptRules}
+use Rattle.information_forms.specs.Writing.{formRules as Information·formRules, writeRules as Information·writeRules}
+use Rattle.information.specs.Reading.{readRules as Information·readRules}
 use Rattle.broadcast.specs.Lawful.{lawfulRules}
 use Rattle.shelf.specs.Putting.{putRules}
 use Rattle.sheet_entry.specs.declared.Form.{Form}
@@ -71,6 +73,14 @@ writes-menu application f = refl
 pub reads-menu : (application : ℕ) (r : List ℕ) → allRefusing (Menu·readRules application r) ≡ true
 unfolding allRefusing frameRules Kind·frontRules Kind·wholeRules Kind·lengthRules
 reads-menu application r = refl
+
+pub writes-information : (application : ℕ) (f : List ℕ) → allRefusing (Information·writeRules application f) ≡ true
+unfolding allRefusing Information·formRules
+writes-information application f = refl
+
+pub reads-information : (application : ℕ) (r : List ℕ) → allRefusing (Information·readRules application r) ≡ true
+unfolding allRefusing frameRules Kind·frontRules Kind·wholeRules Kind·lengthRules
+reads-information application r = refl
 
 pub writes-descriptor : (f : List ℕ) → allRefusing (Descriptor·writeRules f) ≡ true
 unfolding allRefusing formRules Descriptor·writeRules

@@ -129,6 +129,9 @@ use Rattle.menu_writer.proofs.write_menu.Reads as menu-writer·write-menu
 use Rattle.menu_listing.proofs.list_levels.Reads as menu-listing·list-levels
 use Rattle.menu_listing.proofs.list_menu.Reads as menu-listing·list-menu
 use Rattle.menu_listing.proofs.list_kept.Reads as menu-listing·list-kept
+use Rattle.information_forms.proofs.width_at.Reads as information-forms·width-at
+use Rattle.information.proofs.read_information.Reads as information·read-information
+use Rattle.information_writer.proofs.write_information.Reads as information-writer·write-information
 use Rattle.broadcast.proofs.counts.Reads as broadcast·counts
 use Rattle.broadcast.proofs.same.Reads as broadcast·same
 use Rattle.broadcast.proofs.lawful.Reads as broadcast·lawful
@@ -707,6 +710,20 @@ pub menu-listing·list-kept-settled :
     (κs : _) (a : _) (x y : _) (s t : _) → menu-listing·list-kept.Post κs a x s → menu-listing·list-kept.Post κs a y t
     → (x ≡ y) × (now (s .1 .1 .1 .1 .0) ≡ now (t .1 .1 .1 .1 .0))
 menu-listing·list-kept-settled κs a x y s t p q = (same (p .0) (q .0), same (p .1) (q .1))
+
+pub information-forms·width-at-settled :
+    (κs : _) (a : _) (x y : _) (s t : _) → information-forms·width-at.Post κs a x s → information-forms·width-at.Post κs a y t → x ≡ y
+information-forms·width-at-settled κs a x y s t p q = same (p .0) (q .0)
+
+pub information·read-information-settled :
+    (κs : _) (a : _) (x y : _) (s t : _) → information·read-information.Post κs a x s → information·read-information.Post κs a y t
+    → (x ≡ y) × (now (s .1 .1 .0) ≡ now (t .1 .1 .0))
+information·read-information-settled κs a x y s t p q = (same (p .0) (q .0), same (p .1) (q .1))
+
+pub information-writer·write-information-settled :
+    (κs : _) (a : _) (x y : _) (s t : _) → information-writer·write-information.Post κs a x s → information-writer·write-information.Post κs a y t
+    → (x ≡ y) × (now (s .1 .1 .0) ≡ now (t .1 .1 .0))
+information-writer·write-information-settled κs a x y s t p q = (same (p .0) (q .0), same (p .1) (q .1))
 
 pub broadcast·counts-settled : (κs : _) (a : _) (x y : _) (s t : _) → broadcast·counts.Post κs a x s → broadcast·counts.Post κs a y t → x ≡ y
 broadcast·counts-settled κs a x y s t p q = same p q

@@ -30,6 +30,8 @@ use Rattle.blocks.specs.declared.Read.the-variants.{Taken, Refused as Read·Ref
 use Rattle.table.proofs.read_block.Reads as table·read-block
 use Rattle.menu_reader.proofs.read_menu.Reads as menu-reader·read-menu
 use Rattle.menu_writer.proofs.write_menu.Reads as menu-writer·write-menu
+use Rattle.information.proofs.read_information.Reads as information·read-information
+use Rattle.information_writer.proofs.write_information.Reads as information-writer·write-information
 use Rattle.claims.specs.Noise.{Aired, Came}
 use Rattle.claims.specs.Damage.{streamIn, sendings, Counted, damaged}
 use Rattle.claims.specs.Rows.{Fed as Rows·Fed}
@@ -84,6 +86,17 @@ pub data ReadsMenu : ℕ → List ℕ → List ℕ → Read → List ℕ → Typ
   read-menu :
       (κs : _) (a : _) (x : _) (t : _) → menu-reader·read-menu.Post κs a x t
       → ReadsMenu (a .0) (now (a .1 .0)) (now (a .1 .1 .0)) x (now (t .1 .1 .0))
+
+-- and of Application Information
+pub data WritesInformation : ℕ → List ℕ → List ℕ → Answer → List ℕ → Type 0 where
+  write-information :
+      (κs : _) (a : _) (x : _) (t : _) → information-writer·write-information.Post κs a x t
+      → WritesInformation (a .0) (now (a .1 .0)) (now (a .1 .1 .0)) x (now (t .1 .1 .0))
+
+pub data ReadsInformation : ℕ → List ℕ → List ℕ → Read → List ℕ → Type 0 where
+  read-information :
+      (κs : _) (a : _) (x : _) (t : _) → information·read-information.Post κs a x t
+      → ReadsInformation (a .0) (now (a .1 .0)) (now (a .1 .1 .0)) x (now (t .1 .1 .0))
 
 -- ---- what their answers say
 

@@ -1,4 +1,5 @@
-// Runs cases of Application Information: op 34 reads it, op 35 writes it from its form. Both begin with the application.
+// Runs cases of Application Information: op 34 reads it, op 35 writes it from its form; op 42 says whether the blocks of a list make a lawful
+// broadcast. Each begins with the application.
 use answer::Answer;
 use blocks::Read;
 use vectors::Case;
@@ -41,6 +42,7 @@ fn call(op: u8, payload: &[u8], out: &mut [u8]) -> Line {
     match op {
         34 => read(op, payload, out),
         35 => write(op, payload, out),
+        42 => judge(op, payload, out),
         _ => Line::Unknown(op),
     }
 }
@@ -72,5 +74,15 @@ fn write(op: u8, payload: &[u8], out: &mut [u8]) -> Line {
     Line::Answered {
         op: op,
         answer: information_writer::write_information(payload[0], &payload[1..], out),
+    }
+}
+
+fn judge(op: u8, payload: &[u8], out: &mut [u8]) -> Line {
+    if payload.len() < 1 {
+        return Line::Unknown(op);
+    }
+    Line::Answered {
+        op: op,
+        answer: broadcast::lawful(payload[0], &payload[1..], out),
     }
 }
