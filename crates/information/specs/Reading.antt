@@ -1,4 +1,4 @@
--- Reading Application Information: its rules, what is read, and the count of mended bytes, as the kind has them (EN 300 707, clause 11.2).
+-- Reading Application Information: its rules, what is read, and the count of mended bytes, as the kind has them (EN 300 707, clause 11.2; SCOPE 31.5).
 use mathlib.Core.Bool.{true}
 use mathlib.Core.List.{List}
 use Prim.Native.Nat.{ℕ}

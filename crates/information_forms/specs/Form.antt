@@ -1,4 +1,4 @@
--- Application Information in lent bytes, the AI form: 1, copyright, the row of its values, the codes of the service's name; each network:
+-- Application Information in lent bytes, the AI form (SCOPE 31.4): 1, copyright, the row of its values, the codes of the service's name; each network:
 -- the row of its values, the codes of its name.
 use mathlib.Core.List.{List, [], _∷_, _++_}
 use Prim.Native.Nat.{ℕ, _+_}

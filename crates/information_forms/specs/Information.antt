@@ -1,4 +1,4 @@
--- Application Information as a value, and the format that tables 11 and 12 have for it (EN 300 707, clause 11.2).
+-- Application Information as a value, and the format that table 11 has for it (EN 300 707, clause 11.2; SCOPE 31.1, 31.2).
 use mathlib.Core.Bool.{Bool, true}
 use mathlib.Core.List.{List, [], _∷_, _++_}
 use Prim.Native.Nat.{ℕ, _%_}
@@ -19,27 +19,27 @@ pub record Information : Type 0 where
   pub name : List ℕ
   pub networks : List Network
 
--- the datatype_id of Application Information (table 8)
+-- the datatype_id of Application Information (11.12.3)
 abbrev pub AI : ℕ
 AI = 1
 
--- the widths from application_version_no on: version, version_swo; the numbers of NI, OI and MI blocks, and the same _swo; the number of
--- networks, this network, the length of the service's name, no_of_updates
+-- the widths from epg_version_number on: the version, the same _swo; the numbers of NI, OI and MI blocks, and the same _swo; no_of_networks,
+-- this_operator_network_no, service_name_length, no_of_updates
 abbrev pub openingWidths : List ℕ
 openingWidths = 6 ∷ 6 ∷ 16 ∷ 16 ∷ 16 ∷ 16 ∷ 16 ∷ 16 ∷ 8 ∷ 8 ∷ 5 ∷ 1 ∷ []
 
 abbrev pub networkCount : List ℕ → ℕ
 networkCount opening = getD opening 8 0
 
--- this_network_operator: the network that carries the guide
+-- this_operator_network_no: the network that carries the guide
 abbrev pub thisNetwork : List ℕ → ℕ
 thisNetwork opening = getD opening 9 0
 
 abbrev pub nameLength : List ℕ → ℕ
 nameLength opening = getD opening 10 0
 
--- the widths of a network: cni, LTO_magnitude, LTO_sign, no_of_days, the length of its name, default_alphabet, prog_start_no,
--- prog_stop_no, prog_stop_no_swo, network_version_no, LI, TI, network_add_info
+-- the widths of a network: cni, LTO_magnitude, LTO_sign, no_of_days, netwop_name_len, default_alphabet, prog_start_no, prog_stop_no,
+-- prog_stop_no_swo, network_version_no, no_of_LI_structures, no_of_TI_structures, network_add_info
 abbrev pub networkWidths : List ℕ
 networkWidths = 16 ∷ 7 ∷ 1 ∷ 5 ∷ 5 ∷ 7 ∷ 16 ∷ 16 ∷ 16 ∷ 6 ∷ 1 ∷ 2 ∷ 2 ∷ []
 

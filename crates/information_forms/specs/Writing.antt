@@ -1,4 +1,4 @@
--- Writing Application Information: its rules, in the order of writers.
+-- Writing Application Information: its rules, in the order of writers (SCOPE 31.6).
 use mathlib.Core.List.{List, [], _∷_}
 use Prim.Native.Nat.{ℕ}
 use lib.Dec.{eqb, ltb, leb}
