@@ -20,9 +20,12 @@ use Rattle.blocks.specs.Framing.{frameRules}
 use Rattle.blocks.specs.Values.{counted}
 use Rattle.table.specs.Reading.{readRules as tableRules, frontRules as tableFront, wholeRules as tableWhole}
 use Rattle.table.specs.Lengths.{lengthRules as tableLengths}
-use Rattle.menu_reader.specs.Reading.{readRules as menuRules, frontRules as menuFront, wholeRules as menuWhole, lengthRules as menuLengths}
-use Rattle.kinds.specs.Reading.{frontRules as kindFront, wholeRules as kindWhole, lengthRules as kindLengths}
+use Rattle.menu_reader.specs.Reading.{readRules as menuRules}
+use Rattle.menu_forms.specs.Menus.{navigation}
+use Rattle.kinds.specs.Kind.{Kind}
+use Rattle.kinds.specs.Reading.{frontRules, wholeRules, lengthRules, readRules as kindRules}
 use Rattle.information.specs.Reading.{readRules as informationRules}
+use Rattle.information_forms.specs.Kind.{information}
 use Rattle.broadcast.specs.Counting.{holding}
 use Rattle.broadcast.specs.Internal.{isAccepted}
 
@@ -75,10 +78,13 @@ pub table-others : (application : ℕ) (r : List ℕ) → others (tableRules app
 unfolding frameRules tableFront tableWhole tableLengths
 table-others application r = refl
 
+-- of any kind whose own rule has another number
+kind-others : {B : Type 0} (k : Kind B) → notOne (k .number) ≡ true → (application : ℕ) (r : List ℕ) → others (kindRules k application r) ≡ true
+unfolding frameRules frontRules wholeRules lengthRules
+kind-others k n application r = rw n
+
 pub menu-others : (application : ℕ) (r : List ℕ) → others (menuRules application r) ≡ true
-unfolding frameRules menuFront menuWhole menuLengths
-menu-others application r = refl
+menu-others = kind-others navigation refl
 
 pub information-others : (application : ℕ) (r : List ℕ) → others (informationRules application r) ≡ true
-unfolding frameRules kindFront kindWhole kindLengths
-information-others application r = refl
+information-others = kind-others information refl
