@@ -17,10 +17,9 @@ use Rattle.fields.specs.Compound.{compound}
 use Rattle.fields.proofs.Laid.{field-lt}
 use Rattle.forms.specs.Kinds.{LI, TI}
 use Rattle.blocks.specs.Block.{Block, headLength, recordOf}
-use Rattle.answer.specs.Rules.{Rule, rule, judged}
 use Rattle.broadcast.specs.declared.seeing.Seen.{Seen}
 use Rattle.broadcast.specs.Counting.{AI, MI, UI, hasKind, isRead, kindOf, networkPlace, unseen, seen, allSeen}
-use Rattle.broadcast.specs.Lawful.{Counts, limit, eachWithin, minimum, rowRules, verdict, one, number, numberOf, channelFrom, counted}
+use Rattle.broadcast.specs.Lawful.{Counts, limit, eachWithin, minimum, verdict, one, number, numberOf, channelFrom, counted}
 use Rattle.broadcast.specs.Internal.{more, noted, networkAt, places, tally, tallied, countsBy}
 
 -- a count as it is kept
@@ -169,7 +168,7 @@ module _ (t : List ℕ) (fresh : t ≡ replicate places 0) (application : ℕ) (
       (λ (n : ℕ) (l : n < 256). ap (λ (m : ℕ). leb m (limit 1 2 channel n)) (network-at k n h l) ∙ capped-leb (numberOf ss k n) (limit 1 2 channel n) (limit-most channel n))
 
   pub same-verdict : verdict (countsBy (tallied t ss) channel) minimum ≡ verdict (counted ss) minimum
-  unfolding rowRules countsBy counted
+  unfolding verdict countsBy counted
   same-verdict =
       rw (
         kind-at AI (omega arith),

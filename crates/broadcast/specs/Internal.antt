@@ -48,6 +48,10 @@ abbrev pub isAccepted : Read → Bool
 isAccepted (Taken written mended) = true
 isAccepted (Refused why) = eqb (why .no) 1
 
--- the lines of the one kind of guide, by the letter of the rule that isn't met
-unfoldable pub said : ℕ → List ℕ
-said letter = line (codes "guide=") (codes "EPG") ++ verdictLines letter
+-- the name of a rule by its first letter, 0 for none: all names end in I
+abbrev pub nameBy : ℕ → List ℕ
+nameBy letter = pick (eqb letter 0) [] (letter ∷ codes "I")
+
+-- the lines of the one kind of guide, by the name of the rule that isn't met
+unfoldable pub said : List ℕ → List ℕ
+said name = line (codes "guide=") (codes "EPG") ++ verdictLines name
