@@ -1,6 +1,6 @@
 -- Reading that is lent no room accepts, or refuses by 1, exactly when every rule holds: no other rule has that number. Assumes nothing.
 use mathlib.Core.Path.{_≡_, _∙_, refl, sym, ap}
-use mathlib.Core.Bool.{Bool, true, false}
+use mathlib.Core.Bool.{Bool, true, false, true≢false}
 use mathlib.Core.Logic.{_⊎_, inl, inr}
 use mathlib.Core.List.{List, [], _∷_, _++_}
 use Prim.Native.Nat.{ℕ}
@@ -71,6 +71,14 @@ module _ (rules : List Rule) (bytes : List ℕ) (mended : ℕ) where
           ap (λ (a : Answer). isAccepted (counted mended a)) (refuses refused (Done (length bytes)) (first-append (room bytes [] ∷ []) (f .1)))
           ∙ first-other o (f .1)
           ∙ sym (refuses {A = Bool} (λ number offset. false) true (f .1))
+
+-- where every rule is said to hold, each does
+pub holding-every : (rules : List Rule) → holding rules ≡ true → Every rules
+holding-every rules h = go (decided rules)
+  where
+    go : Every rules ⊎ ((q : Rule) × First q rules) → Every rules
+    go (inl e) = e
+    go (inr f) = absurd (true≢false (sym h ∙ refuses {A = Bool} (λ number offset. false) true (f .1)))
 
 -- ---- the three kinds of reading
 
