@@ -1,6 +1,6 @@
 -- Reading that is lent no room accepts, or refuses by 1, exactly when every rule holds: no other rule has that number. Assumes nothing.
 use mathlib.Core.Path.{_≡_, _∙_, refl, sym, ap}
-use mathlib.Core.Bool.{Bool, true, false}
+use mathlib.Core.Bool.{Bool, true, false, true≢false}
 use mathlib.Core.Logic.{_⊎_, inl, inr}
 use mathlib.Core.List.{List, [], _∷_, _++_}
 use Prim.Native.Nat.{ℕ}
@@ -20,9 +20,12 @@ use Rattle.blocks.specs.Framing.{frameRules}
 use Rattle.blocks.specs.Values.{counted}
 use Rattle.table.specs.Reading.{readRules as tableRules, frontRules as tableFront, wholeRules as tableWhole}
 use Rattle.table.specs.Lengths.{lengthRules as tableLengths}
-use Rattle.menu_reader.specs.Reading.{readRules as menuRules, frontRules as menuFront, wholeRules as menuWhole, lengthRules as menuLengths}
-use Rattle.kinds.specs.Reading.{frontRules as kindFront, wholeRules as kindWhole, lengthRules as kindLengths}
+use Rattle.menu_reader.specs.Reading.{readRules as menuRules}
+use Rattle.menu_forms.specs.Menus.{navigation}
+use Rattle.kinds.specs.Kind.{Kind}
+use Rattle.kinds.specs.Reading.{frontRules, wholeRules, lengthRules, readRules as kindRules}
 use Rattle.information.specs.Reading.{readRules as informationRules}
+use Rattle.information_forms.specs.Kind.{information}
 use Rattle.broadcast.specs.Counting.{holding}
 use Rattle.broadcast.specs.Internal.{isAccepted}
 
@@ -69,16 +72,27 @@ module _ (rules : List Rule) (bytes : List ℕ) (mended : ℕ) where
           ∙ first-other o (f .1)
           ∙ sym (refuses {A = Bool} (λ number offset. false) true (f .1))
 
+-- where every rule is said to hold, each does
+pub holding-every : (rules : List Rule) → holding rules ≡ true → Every rules
+holding-every rules h = go (decided rules)
+  where
+    go : Every rules ⊎ ((q : Rule) × First q rules) → Every rules
+    go (inl e) = e
+    go (inr f) = absurd (true≢false (sym h ∙ refuses {A = Bool} (λ number offset. false) true (f .1)))
+
 -- ---- the three kinds of reading
 
 pub table-others : (application : ℕ) (r : List ℕ) → others (tableRules application r) ≡ true
 unfolding frameRules tableFront tableWhole tableLengths
 table-others application r = refl
 
+-- of any kind whose own rule has another number
+kind-others : {B : Type 0} (k : Kind B) → notOne (k .number) ≡ true → (application : ℕ) (r : List ℕ) → others (kindRules k application r) ≡ true
+unfolding frameRules frontRules wholeRules lengthRules
+kind-others k n application r = rw n
+
 pub menu-others : (application : ℕ) (r : List ℕ) → others (menuRules application r) ≡ true
-unfolding frameRules menuFront menuWhole menuLengths
-menu-others application r = refl
+menu-others = kind-others navigation refl
 
 pub information-others : (application : ℕ) (r : List ℕ) → others (informationRules application r) ≡ true
-unfolding frameRules kindFront kindWhole kindLengths
-information-others application r = refl
+information-others = kind-others information refl

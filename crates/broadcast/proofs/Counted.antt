@@ -10,20 +10,17 @@ use lib.ListN.{length, take, drop}
 use Rattle.laws.specs.Pick.{pick, both}
 use Rattle.laws.proofs.Tests.{both-first, both-second}
 use Rattle.octet.specs.Decoding.{nib}
-use Rattle.fields.specs.Fields.{field}
-use Rattle.fields.specs.Compound.{compound}
-use Rattle.blocks.specs.Block.{nibblesOf, headLength, headOf, applicationOf, sizeOf, recordLength}
+use Rattle.blocks.specs.Block.{headLength, headOf, applicationOf, sizeOf, recordLength}
 use Rattle.blocks.specs.Sums.{sound}
-use Rattle.forms.specs.Kinds.{LI, known}
-use Rattle.fields.specs.declared.Opening.{Opening}
-use Rattle.table.specs.Control.{tableOf}
-use Rattle.table.proofs.Places.{opening-at}
+use Rattle.forms.specs.Kinds.{known}
 use Rattle.menu_forms.specs.Menus.{NI}
-use Rattle.table.specs.Reading.{readRules as tableRules, tableRead}
+use Rattle.table.specs.Reading.{readRules as tableRules}
 use Rattle.menu_reader.specs.Reading.{readRules as menuRules}
 use Rattle.information.specs.Reading.{readRules as informationRules}
 use Rattle.broadcast.specs.declared.seeing.Seen.{Seen}
-use Rattle.broadcast.specs.Counting.{AI, holding, hasKind, kindOf, isRead, networkPlace, unseen, seen}
+use Rattle.broadcast.specs.Counting.{AI, holding, hasKind, kindOf, isRead, unseen, seen}
+use Rattle.broadcast.specs.Internal.{networkIn}
+use Rattle.broadcast.proofs.Networks.{network-read}
 
 module _ (application : ℕ) (r : List ℕ) where
   pub kindless-high : 32 ≤ application → false ≡ hasKind application r
@@ -72,10 +69,10 @@ module _ (application : ℕ) (r : List ℕ) where
     unseen-refused n = rw (k, ← e, n)
 
     pub seen-read :
-        isRead application kind r ≡ true → {network : ℕ} → network ≡ field (networkPlace kind) 8 (compound (drop headLength r))
+        isRead application kind r ≡ true → {network : ℕ} → network ≡ networkIn kind (drop headLength r)
         → (record { kind = kind; network = network }) ≡ seen application r
     unfolding seen
-    seen-read n f = rw (k, ← e, n, ← f)
+    seen-read n f = rw (k, ← e, n, ← network-read application kind r n, ← f)
 
 -- ---- by its kind, what reading says
 
@@ -97,9 +94,3 @@ module _ (application kind : ℕ) (r : List ℕ) where
       pub is-another : known kind ≡ false → true ≡ isRead application kind r
       unfolding isRead
       is-another e = rw (ne-eqb kind AI n, ne-eqb kind NI m, e)
-
--- ---- the network is the one that reading gives
-
-pub table-network : (r : List ℕ) → tableRead r .network ≡ field (networkPlace LI) 8 (compound (drop headLength r))
-unfolding nibblesOf tableOf
-table-network r = sym (ap (λ (o : Opening). o .network) (opening-at (compound (drop headLength r))))

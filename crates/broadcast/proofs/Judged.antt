@@ -18,8 +18,8 @@ use Rattle.forms.specs.Kinds.{LI, TI}
 use Rattle.text_lines.specs.Codes.{codes}
 use Rattle.broadcast.specs.declared.seeing.Seen.{Seen}
 use Rattle.broadcast.specs.Counting.{AI, MI, UI, allSeen}
-use Rattle.broadcast.specs.Lawful.{Counts, limit, eachWithin, minimum, rowRules, verdict, number, channelFrom, counted, line, guideLines, countsIn, lawfulRules, lawfulLines}
-use Rattle.broadcast.specs.Internal.{networkAt, places, tallied, countsBy, said}
+use Rattle.broadcast.specs.Lawful.{Counts, limit, eachWithin, minimum, verdict, number, channelFrom, counted, line, guideLines, countsIn, lawfulRules, lawfulLines}
+use Rattle.broadcast.specs.Internal.{networkAt, places, tallied, countsBy, nameBy, said}
 use Rattle.broadcast.proofs.Tallying.{capped-eqb, kind-at, same-verdict}
 
 -- a network's blocks are within their limit
@@ -51,42 +51,42 @@ module _ (f : ℕ → Bool) (n : ℕ) where
 -- ---- the rows that can fail, in their order
 
 module _ (c : Counts) where
-  pub judged-ai : (c .number AI ≡ 1 → ⊥) → 65 ≡ verdict c minimum
-  unfolding rowRules
+  pub judged-ai : (c .number AI ≡ 1 → ⊥) → nameBy 65 ≡ verdict c minimum
+  unfolding verdict
   judged-ai n = rw (ne-eqb (c .number AI) 1 n)
 
   module _ (a : c .number AI ≡ 1) where
-    pub judged-mi : 255 < c .number MI → 77 ≡ verdict c minimum
-    unfolding rowRules
+    pub judged-mi : 255 < c .number MI → nameBy 77 ≡ verdict c minimum
+    unfolding verdict
     judged-mi n = rw (eq-eqb (c .number AI) 1 a, lt-leb (c .number MI) 255 n)
 
     module _ (m : c .number MI ≤ 255) where
-      pub judged-ui : 1 < c .number UI → 85 ≡ verdict c minimum
-      unfolding rowRules
+      pub judged-ui : 1 < c .number UI → nameBy 85 ≡ verdict c minimum
+      unfolding verdict
       judged-ui n = rw (eq-eqb (c .number AI) 1 a, le-leb (c .number MI) 255 m, lt-leb (c .number UI) 1 n)
 
       module _ (u : c .number UI ≤ 1) where
-        pub judged-li : eachWithin c LI 1 2 ≡ false → 76 ≡ verdict c minimum
-        unfolding rowRules
+        pub judged-li : eachWithin c LI 1 2 ≡ false → nameBy 76 ≡ verdict c minimum
+        unfolding verdict
         judged-li n = rw (eq-eqb (c .number AI) 1 a, le-leb (c .number MI) 255 m, le-leb (c .number UI) 1 u, n)
 
         module _ (l : eachWithin c LI 1 2 ≡ true) where
-          pub judged-ti : eachWithin c TI 1 2 ≡ false → 84 ≡ verdict c minimum
-          unfolding rowRules
+          pub judged-ti : eachWithin c TI 1 2 ≡ false → nameBy 84 ≡ verdict c minimum
+          unfolding verdict
           judged-ti n = rw (eq-eqb (c .number AI) 1 a, le-leb (c .number MI) 255 m, le-leb (c .number UI) 1 u, l, n)
 
-          pub judged-lawful : eachWithin c TI 1 2 ≡ true → 0 ≡ verdict c minimum
-          unfolding rowRules
+          pub judged-lawful : eachWithin c TI 1 2 ≡ true → nameBy 0 ≡ verdict c minimum
+          unfolding verdict
           judged-lawful t = rw (eq-eqb (c .number AI) 1 a, le-leb (c .number MI) 255 m, le-leb (c .number UI) 1 u, l, t)
 
 -- ---- what is said
 
-pub said-yes : (letter : ℕ) → letter ≡ 0 → said 0 ≡ said letter
-said-yes letter e = ap said (sym e)
+pub said-yes : (letter : ℕ) → letter ≡ 0 → said [] ≡ said (nameBy letter)
+said-yes letter e = rw (eq-eqb letter 0 e)
 
 pub said-no :
     (letter : ℕ) → (letter ≡ 0 → ⊥)
-    → line (codes "guide=") (codes "EPG") ++ (line (codes "lawful=") (codes "no") ++ line (codes "rule=") (letter ∷ codes "I")) ≡ said letter
+    → line (codes "guide=") (codes "EPG") ++ (line (codes "lawful=") (codes "no") ++ line (codes "rule=") (letter ∷ codes "I")) ≡ said (nameBy letter)
 unfolding said
 said-no letter n = rw (ne-eqb letter 0 n)
 
@@ -129,14 +129,14 @@ module _ (application : ℕ) (records out : List ℕ) where
           let z = none-counts true e in
           (rw (lt-ltb application 32 h, w, z), rw (lt-ltb application 32 h, w, z))
 
-      module _ (letter : ℕ) (v : letter ≡ verdict (countsBy (tallied t ss) (channelFrom 0 ss)) minimum) where
-        says-it : said letter ≡ text
+      module _ (name : List ℕ) (v : name ≡ verdict (countsBy (tallied t ss) (channelFrom 0 ss)) minimum) where
+        says-it : said name ≡ text
         unfolding said lawfulLines guideLines
         says-it = ap said (v ∙ same-verdict t fresh application (blocks records)) ∙ sym (append-nil _)
 
         pub lawful-said :
             eqb (getD (tallied t ss) 1 0) 0 ≡ false
-            → (answered [] (said letter) out ≡ answered rules text out) × (left [] (said letter) out ≡ left rules text out)
+            → (answered [] (said name) out ≡ answered rules text out) × (left [] (said name) out ≡ left rules text out)
         lawful-said e =
             let z = none-counts false e in
             (rw (lt-ltb application 32 h, w, z, says-it), rw (lt-ltb application 32 h, w, z, says-it))

@@ -12,16 +12,17 @@ use lib.Seq.{getD-set-same, getD-set-other}
 use Rattle.laws.specs.Pick.{pick, both}
 use Rattle.laws.specs.Range.{all}
 use Rattle.laws.specs.Each.{Each, nil, and}
+use Rattle.laws.proofs.Tests.{both-second}
 use Rattle.fields.specs.Fields.{field}
 use Rattle.fields.specs.Compound.{compound}
 use Rattle.fields.proofs.Laid.{field-lt}
 use Rattle.forms.specs.Kinds.{LI, TI}
 use Rattle.blocks.specs.Block.{Block, headLength, recordOf}
-use Rattle.answer.specs.Rules.{Rule, rule, judged}
 use Rattle.broadcast.specs.declared.seeing.Seen.{Seen}
-use Rattle.broadcast.specs.Counting.{AI, MI, UI, hasKind, isRead, kindOf, networkPlace, unseen, seen, allSeen}
-use Rattle.broadcast.specs.Lawful.{Counts, limit, eachWithin, minimum, rowRules, verdict, one, number, numberOf, channelFrom, counted}
+use Rattle.broadcast.specs.Counting.{AI, MI, UI, hasKind, isRead, kindOf, networkOf, unseen, seen, allSeen}
+use Rattle.broadcast.specs.Lawful.{Counts, limit, eachWithin, minimum, verdict, one, number, numberOf, channelFrom, counted}
 use Rattle.broadcast.specs.Internal.{more, noted, networkAt, places, tally, tallied, countsBy}
+use Rattle.broadcast.proofs.Networks.{network-read, network-lt}
 
 -- a count as it is kept
 abbrev pub capped : ℕ → ℕ
@@ -97,13 +98,15 @@ hits-network (and {a = s} {l = ss} r rs) k n h =
 
 pub seen-ranged : (application : ℕ) (r : List ℕ) → Ranged (seen application r)
 unfolding seen
-seen-ranged application r = go (both (hasKind application r) (isRead application (kindOf r) r))
+seen-ranged application r = go (both (hasKind application r) (isRead application (kindOf r) r)) refl
   where
     go :
-        (t : Bool)
-        → Ranged (pick t (record { kind = kindOf r; network = field (networkPlace (kindOf r)) 8 (compound (drop headLength r)) }) unseen)
-    go true = (omega (arith, field-lt 18 6 (compound (drop headLength r))), field-lt (networkPlace (kindOf r)) 8 (compound (drop headLength r)))
-    go false = (omega arith, omega arith)
+        (t : Bool) → both (hasKind application r) (isRead application (kindOf r) r) ≡ t
+        → Ranged (pick t (record { kind = kindOf r; network = networkOf (kindOf r) r }) unseen)
+    go true e =
+        let same = network-read application (kindOf r) r (both-second (hasKind application r) _ e) in
+        (omega (arith, field-lt 18 6 (compound (drop headLength r))), omega (arith, same, network-lt (kindOf r) (drop headLength r)))
+    go false e = (omega arith, omega arith)
 
 pub all-ranged : (application : ℕ) (bs : List Block) → Each Ranged (allSeen application bs)
 unfolding allSeen
@@ -169,7 +172,7 @@ module _ (t : List ℕ) (fresh : t ≡ replicate places 0) (application : ℕ) (
       (λ (n : ℕ) (l : n < 256). ap (λ (m : ℕ). leb m (limit 1 2 channel n)) (network-at k n h l) ∙ capped-leb (numberOf ss k n) (limit 1 2 channel n) (limit-most channel n))
 
   pub same-verdict : verdict (countsBy (tallied t ss) channel) minimum ≡ verdict (counted ss) minimum
-  unfolding rowRules countsBy counted
+  unfolding verdict countsBy counted
   same-verdict =
       rw (
         kind-at AI (omega arith),

@@ -13,9 +13,10 @@ use Rattle.forms.specs.Kinds.{TI, LI, known}
 use Rattle.blocks.specs.Block.{Block, headLength, headOf, applicationOf, sizeOf, recordLength, recordOf}
 use Rattle.blocks.specs.Sums.{sound}
 use Rattle.menu_forms.specs.Menus.{NI}
-use Rattle.table.specs.Reading.{readRules as tableRules}
+use Rattle.table.specs.Reading.{readRules as tableRules, tableRead}
 use Rattle.menu_reader.specs.Reading.{readRules as menuRules}
-use Rattle.information.specs.Reading.{readRules as informationRules}
+use Rattle.information.specs.Reading.{readRules as informationRules, informationRead}
+use Rattle.information_forms.specs.Information.{thisNetwork}
 pub use Rattle.information_forms.specs.Information.{AI}
 use Rattle.broadcast.specs.declared.seeing.Seen.{Seen}
 
@@ -66,9 +67,11 @@ isRead application kind r =
     (pick (eqb kind NI) (holding (menuRules application r))
     (pick (known kind) (holding (tableRules application r)) true))
 
--- the place of the network that a kind speaks of: an AI's this_operator_network_no (table 11), an LI's or TI's netwop_no (tables 15, 17)
-abbrev pub networkPlace : ℕ → ℕ
-networkPlace kind = pick (eqb kind AI) 144 44
+-- the network that a block of a kind speaks of: of an AI this_network_operator of the information that it carries (table 11), of an LI or TI
+-- netwop_no of the table (tables 15, 17), of another kind none, which is 0
+unfoldable pub networkOf : ℕ → List ℕ → ℕ
+networkOf kind r =
+    pick (eqb kind AI) (thisNetwork (informationRead (drop headLength r) .opening)) (pick (known kind) (tableRead r .network) 0)
 
 -- it doesn't count
 abbrev pub unseen : Seen
@@ -78,7 +81,7 @@ unseen = record { kind = uncounted; network = 0 }
 unfoldable pub seen : ℕ → List ℕ → Seen
 seen application r =
     pick (both (hasKind application r) (isRead application (kindOf r) r))
-    (record { kind = kindOf r; network = field (networkPlace (kindOf r)) 8 (compound (drop headLength r)) })
+    (record { kind = kindOf r; network = networkOf (kindOf r) r })
     unseen
 
 -- the datatype that a record counts as, 64 where it doesn't

@@ -7,10 +7,18 @@ use lib.Dec.{eqb, ltb}
 use lib.ListN.{getD, set}
 use Rattle.laws.specs.Pick.{pick}
 use Rattle.text_lines.specs.Codes.{codes}
+use Rattle.fields.specs.Fields.{field}
+use Rattle.fields.specs.Compound.{compound}
+use Rattle.forms.specs.Kinds.{known}
 use Rattle.blocks.specs.declared.Read.{Read}
 use Rattle.blocks.specs.declared.Read.the-variants.{Taken, Refused}
 use Rattle.broadcast.specs.declared.seeing.Seen.{Seen}
+use Rattle.broadcast.specs.Counting.{AI}
 use Rattle.broadcast.specs.Lawful.{Counts, line, verdictLines}
+
+-- the network of a kind by its place in the raw bytes
+abbrev pub networkIn : ℕ → List ℕ → ℕ
+networkIn kind raw = pick (eqb kind AI) (field 144 8 (compound raw)) (pick (known kind) (field 44 8 (compound raw)) 0)
 
 -- a count goes no further
 abbrev pub mostCounted : ℕ
@@ -48,6 +56,10 @@ abbrev pub isAccepted : Read → Bool
 isAccepted (Taken written mended) = true
 isAccepted (Refused why) = eqb (why .no) 1
 
--- the lines of the one kind of guide, by the letter of the rule that isn't met
-unfoldable pub said : ℕ → List ℕ
-said letter = line (codes "guide=") (codes "EPG") ++ verdictLines letter
+-- the name of a rule by its first letter, 0 for none: all names end in I
+abbrev pub nameBy : ℕ → List ℕ
+nameBy letter = pick (eqb letter 0) [] (letter ∷ codes "I")
+
+-- the lines of the one kind of guide, by the name of the rule that isn't met
+unfoldable pub said : List ℕ → List ℕ
+said name = line (codes "guide=") (codes "EPG") ++ verdictLines name

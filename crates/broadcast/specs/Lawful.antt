@@ -3,10 +3,9 @@ use mathlib.Core.Bool.{Bool, true, false}
 use mathlib.Core.List.{List, [], _∷_, _++_}
 use Prim.Native.Nat.{ℕ, _+_}
 use lib.Dec.{eqb, ltb, leb}
-use lib.ListN.{getD}
 use Rattle.laws.specs.Pick.{pick, both}
 use Rattle.laws.specs.Range.{all}
-use Rattle.answer.specs.Rules.{Rule, rule, judged}
+use Rattle.answer.specs.Rules.{Rule, rule}
 use Rattle.blocks.specs.Block.{whole, blocks}
 use Rattle.forms.specs.Kinds.{TI, LI}
 use Rattle.text_lines.specs.Codes.{codes}
@@ -79,14 +78,10 @@ meets c kind (exactly n) = eqb (c .number kind) n
 meets c kind (most n) = leb (c .number kind) n
 meets c kind (ofNetwork each here) = eachWithin c kind each here
 
--- the rows as rules: each has the first letter of its name, and all names end in I
-unfoldable pub rowRules : Counts → List Row → List Rule
-rowRules c [] = []
-rowRules c (r ∷ rs) = rule (meets c (r .kind) (r .asked)) (getD (r .name) 0 0) 0 ∷ rowRules c rs
-
--- the letter of the first row that isn't met, and 0 where each is
-abbrev pub verdict : Counts → List Row → ℕ
-verdict c rows = judged (λ letter offset. letter) (rowRules c rows) 0
+-- the name of the first row that isn't met, and no codes where each is
+unfoldable pub verdict : Counts → List Row → List ℕ
+verdict c [] = []
+verdict c (r ∷ rs) = pick (meets c (r .kind) (r .asked)) (verdict c rs) (r .name)
 
 -- ---- what is counted
 
@@ -121,12 +116,10 @@ counted ss = record { number = number ss; numberOf = numberOf ss; channel = chan
 abbrev pub line : List ℕ → List ℕ → List ℕ
 line name value = name ++ value ++ (10 ∷ [])
 
--- by the letter of the rule that isn't met
-abbrev pub verdictLines : ℕ → List ℕ
-verdictLines letter =
-    pick (eqb letter 0)
-    (line (codes "lawful=") (codes "yes"))
-    (line (codes "lawful=") (codes "no") ++ line (codes "rule=") (letter ∷ codes "I"))
+-- by the name of the rule that isn't met
+abbrev pub verdictLines : List ℕ → List ℕ
+verdictLines [] = line (codes "lawful=") (codes "yes")
+verdictLines (a ∷ name) = line (codes "lawful=") (codes "no") ++ line (codes "rule=") (a ∷ name)
 
 -- of each kind of guide
 unfoldable pub guideLines : Counts → List Guide → List ℕ

@@ -17,7 +17,7 @@ ghost use Rattle.blocks.specs.Block.{whole, headLength, blocks};
 ghost use Rattle.broadcast.specs.Counting.{allSeen};
 ghost use Rattle.broadcast.specs.Same.{alike, alikes, sameBlock};
 ghost use Rattle.broadcast.specs.Lawful.{channelAfter, channelFrom, lawfulRules, lawfulLines};
-ghost use Rattle.broadcast.specs.Internal.{tallied, said};
+ghost use Rattle.broadcast.specs.Internal.{tallied, nameBy, said};
 
 // What was found on the way along a list: whether it is whole records, and this channel.
 struct Walked {
@@ -97,8 +97,8 @@ fn channel_after(channel: u8, seen: Seen) -> u8
 
 // The lines of the verdict, by the letter of the rule that isn't met, where there is room.
 fn say(letter: u8, out: &mut [u8]) -> Answer
-    ensures answer { λ r. ⌜ r ≡ answered [] (said letter) (now (out .entry)) ⌝ }
-    ensures output { λ _. ⌜ now (out .exit) ≡ left [] (said letter) (now (out .entry)) ⌝ }
+    ensures answer { λ r. ⌜ r ≡ answered [] (said (nameBy letter)) (now (out .entry)) ⌝ }
+    ensures output { λ _. ⌜ now (out .exit) ≡ left [] (said (nameBy letter)) (now (out .entry)) ⌝ }
 {
     if letter == 0 {
         return put(b"guide=EPG\nlawful=yes\n", out);

@@ -6,8 +6,8 @@ ghost use mathlib.Core.Path.{_≡_};
 ghost use Prim.Native.Nat.{_<_};
 ghost use lib.Dec.{eqb};
 ghost use Rattle.blocks.specs.Block.{headOf};
-ghost use Rattle.broadcast.specs.Counting.{hasKind, isRead, networkPlace, seen as Counting·seen, unseen as Counting·unseen, countsAs};
-ghost use Rattle.broadcast.specs.Internal.{isAccepted};
+ghost use Rattle.broadcast.specs.Counting.{hasKind, isRead, seen as Counting·seen, unseen as Counting·unseen, countsAs};
+ghost use Rattle.broadcast.specs.Internal.{networkIn, isAccepted};
 
 // 11.12.3: the datatypes that are read besides TI and LI.
 pub(crate) const AI: u8 = 1;
@@ -22,7 +22,12 @@ const KIND: usize = 18;
 
 const WIDE: usize = 6;
 
-// What a record counts as: its datatype, or 64; and the network that it speaks of, which means something in an AI, an LI and a TI.
+// The places of this_network_operator in an AI, and of netwop_no in an LI or a TI.
+const THIS_NETWORK: usize = 144;
+
+const NETWORK: usize = 44;
+
+// What a record counts as: its datatype, or 64; and the network that it speaks of, which is 0 but in an AI, an LI and a TI.
 pub(crate) struct Seen {
     pub kind: u8,
     pub network: u8,
@@ -46,7 +51,7 @@ pub(crate) fn see(application: u8, rec: &[u8]) -> Seen
     if !is_read(application, kind, rec) {
         return unseen();
     }
-    let network = fields::field_of(&rec[HEAD..], network_place(kind), 8) as u8;
+    let network = network_in(kind, &rec[HEAD..]);
     Seen { kind, network }
 }
 
@@ -87,14 +92,17 @@ pub(crate) fn head_of(rec: &[u8]) -> usize
     lent_bytes::byte_at(rec, 0) + 256 * lent_bytes::byte_at(rec, 1)
 }
 
-// The place of the network that a kind speaks of: this_operator_network_no, or netwop_no.
-fn network_place(kind: u8) -> usize
-    ensures { λ r. ⌜ r ≡ networkPlace kind ⌝ }
+// The network that a kind speaks of, by its place.
+fn network_in(kind: u8, raw: &[u8]) -> u8
+    ensures { λ r. ⌜ r ≡ networkIn kind (now (raw .entry)) ⌝ }
 {
     if kind == AI {
-        return 144;
+        return fields::field_of(raw, THIS_NETWORK, 8) as u8;
     }
-    44
+    if forms::known(kind as usize) {
+        return fields::field_of(raw, NETWORK, 8) as u8;
+    }
+    0
 }
 
 // Whether reading accepts it, of the kinds that are read. No room is lent, so that all other rules are judged and nothing is written.

@@ -5,7 +5,7 @@ ghost use mathlib.Core.Path.{_≡_};
 ghost use lib.Dec.{eqb};
 ghost use lib.ListN.{getD};
 ghost use Rattle.broadcast.specs.Lawful.{limit as Lawful·limit, minimum, verdict, eachWithin};
-ghost use Rattle.broadcast.specs.Internal.{noted, networkAt, tally as Internal·tally, countsBy};
+ghost use Rattle.broadcast.specs.Internal.{noted, networkAt, tally as Internal·tally, countsBy, nameBy};
 
 // 11.12.3: the other datatypes whose rules can fail.
 const MI: u8 = 5;
@@ -79,7 +79,7 @@ pub(crate) fn is_none(tally: &[u16]) -> bool
 // The first letter of the first rule that isn't met, in the order of table D.1; 0 where each is. The kinds of which there may be any number
 // can't fail.
 pub(crate) fn judge(tally: &[u16], channel: u8) -> u8
-    ensures { λ r. ⌜ r ≡ verdict (countsBy (now (tally .entry)) channel) minimum ⌝ }
+    ensures { λ r. ⌜ nameBy r ≡ verdict (countsBy (now (tally .entry)) channel) minimum ⌝ }
 {
     if tallied_at(tally, AI as usize) != 1 {
         return b'A';

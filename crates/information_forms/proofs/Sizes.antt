@@ -78,6 +78,10 @@ module _ (c : Content Behind) where
       let own : networkCount (c .body .0) % 2 ≡ count % 2 = ap (λ (x : ℕ). x % 2) (sym h) in
       omega (arith, bits-of information c, behind-width (c .body), own, even)
 
+  -- at least that of what stands before the networks
+  pub control-least : 20 ≤ control information c
+  control-least = omega (arith, bits-of information c, behind-width (c .body))
+
   -- whose fields are all of it
   pub bits-whole : count ≡ networkCount (value c .opening) → bits information c ≡ 8 * control information c
   bits-whole h =

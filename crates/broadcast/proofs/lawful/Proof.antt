@@ -8,7 +8,7 @@ use denote.Ref.{now}
 use lib.Dec.{eqb}
 use lib.ListN.{getD, replicate}
 use Rattle.broadcast.specs.Lawful.{minimum, verdict}
-use Rattle.broadcast.specs.Internal.{places, countsBy}
+use Rattle.broadcast.specs.Internal.{places, countsBy, nameBy}
 use Rattle.broadcast.proofs.Judged.{lawful-16, lawful-13, lawful-24, lawful-said}
 use Rattle.broadcast.proofs.lawful.Statement.{statement}
 use Rattle.broadcast.proofs.lawful.Tie as tie
@@ -47,8 +47,8 @@ returns-4 c =
     let l : List ℕ = now (s .records) in
     let whole = sym (w .walk .ensures .0 .0) ∙ not-false _ (n .before .before .if2 .left) in
     let some = sym (ap (λ (t : List ℕ). eqb (getD t 1 0) 0) (w .walk .ensures .1)) ∙ sym (n .is-none .ensures) ∙ j .before .before .if3 .left in
-    let letter = j .judge .ensures ∙ ap₂ (λ (t : List ℕ) (channel : ℕ). verdict (countsBy t channel) minimum) (w .walk .ensures .1) (w .walk .ensures .0 .1) in
-    let p = lawful-said (s .application) l (now (s .out)) (w .before .before .if1 .left) whole (replicate places 0) refl (j .judge .result) letter some in
+    let name = j .judge .ensures ∙ ap₂ (λ (t : List ℕ) (channel : ℕ). verdict (countsBy t channel) minimum) (w .walk .ensures .1) (w .walk .ensures .0 .1) in
+    let p = lawful-said (s .application) l (now (s .out)) (w .before .before .if1 .left) whole (replicate places 0) refl (nameBy (j .judge .result)) name some in
     (c .before .before .say .ensures .0 ∙ p .0, c .before .before .say .ensures .1 ∙ p .1)
 
 pub lawful-spec : {M : Type 1} → statement M

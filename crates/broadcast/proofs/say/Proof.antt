@@ -5,7 +5,7 @@ use mathlib.Core.Path.{_≡_, _∙_, ap}
 use Prim.Native.Nat.{ℕ}
 use denote.Ref.{now}
 use Rattle.answer.specs.Writing.{answered, left}
-use Rattle.broadcast.specs.Internal.{said}
+use Rattle.broadcast.specs.Internal.{nameBy, said}
 use Rattle.broadcast.proofs.Judged.{said-yes, said-no}
 use Rattle.broadcast.proofs.say.Statement.{statement}
 use Rattle.broadcast.proofs.say.Tie as tie
@@ -15,7 +15,7 @@ unfolding said
 returns c =
     let w = c .before .before .put .ensures in
     let s = c .before .before .before .before .before .before .before .args in
-    let e : said 0 ≡ said (s .letter) = said-yes (s .letter) (c .before .before .before .before .before .if1 .taken) in
+    let e : said [] ≡ said (nameBy (s .letter)) = said-yes (s .letter) (c .before .before .before .before .before .if1 .taken) in
     (w .0 ∙ ap (λ (l : List ℕ). answered [] l (now (s .out))) e, w .1 ∙ ap (λ (l : List ℕ). left [] l (now (s .out))) e)
 
 returns-2 : tie.Need-returns-2

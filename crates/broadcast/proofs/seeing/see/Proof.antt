@@ -1,7 +1,7 @@
 -- `broadcast::seeing::see` meets its contract: the kind, whether reading accepts it, the network. Assumes nothing.
 use borrow.Author.Needs.{needs}
 use borrow.Author.Tests.{not-true, not-false}
-use mathlib.Core.Path.{_≡_, _∙_, sym, ap, ap₂}
+use mathlib.Core.Path.{_∙_, sym, ap}
 use mathlib.Core.List.{List}
 use Prim.Native.Nat.{ℕ}
 use native.Mathlib.Omega.{arith}
@@ -9,6 +9,7 @@ use denote.Ref.{now}
 use Rattle.laws.proofs.Lists.{part-rest}
 use Rattle.fields.specs.Fields.{field}
 use Rattle.fields.specs.Compound.{compound}
+use Rattle.broadcast.specs.Internal.{networkIn}
 use Rattle.broadcast.proofs.Counted.{kind-long, unseen-kindless, unseen-refused, seen-read}
 use Rattle.broadcast.proofs.seeing.see.Statement.{statement}
 use Rattle.broadcast.proofs.seeing.see.Tie as tie
@@ -38,28 +39,27 @@ returns-2 c =
     let kind = c .before .before .before .field-of .ensures .0 ∙ ap (λ (l : List ℕ). field 18 6 (compound l)) (part-rest 4 r) in
     c .unseen2 .ensures ∙ unseen-refused (s .application) r k kind (sym (c .before .before .is-read .ensures) ∙ not-true _ (c .before .if2 .taken))
 
-sub-field-of-2 : tie.Need-sub-field-of-2
-sub-field-of-2 c =
+sub-network-in : tie.Need-sub-network-in
+sub-network-in c =
     let b = c .before .before .before .before in
     let s = b .before .before .before .args in
     omega (arith, kind-long (s .application) (now (s .rec)) (sym (b .before .has-kind .ensures) ∙ not-false _ (b .if1 .left)))
 
-part-field-of-start-2 : tie.Need-part-field-of-start-2
-part-field-of-start-2 c =
+part-network-in-start : tie.Need-part-network-in-start
+part-network-in-start c =
     let b = c .before .before .before .before in
     let s = b .before .before .before .args in
     omega (arith, kind-long (s .application) (now (s .rec)) (sym (b .before .has-kind .ensures) ∙ not-false _ (b .if1 .left)))
 
 returns-3 : tie.Need-returns-3
 returns-3 c =
-    let b = c .before .before .before .before .before .before .before in
+    let b = c .before .before .before .before .before .before in
     let s = b .before .before .before .args in
     let r : List ℕ = now (s .rec) in
     let k = sym (b .before .has-kind .ensures) ∙ not-false _ (b .if1 .left) in
-    let kind = c .before .before .before .before .before .field-of .ensures .0 ∙ ap (λ (l : List ℕ). field 18 6 (compound l)) (part-rest 4 r) in
-    let place = c .before .network-place .ensures in
-    seen-read (s .application) r k kind (sym (c .before .before .before .before .is-read .ensures) ∙ not-false _ (c .before .before .before .if2 .left))
-    (c .field-of2 .ensures .0 ∙ ap₂ (λ (p : ℕ) (l : List ℕ). field p 8 (compound l)) place (part-rest 4 r))
+    let kind = c .before .before .before .before .field-of .ensures .0 ∙ ap (λ (l : List ℕ). field 18 6 (compound l)) (part-rest 4 r) in
+    seen-read (s .application) r k kind (sym (c .before .before .before .is-read .ensures) ∙ not-false _ (c .before .before .if2 .left))
+    (c .network-in .ensures ∙ ap (networkIn (c .before .before .before .before .field-of .result)) (part-rest 4 r))
 
 pub see-spec : {M : Type 1} → statement M
 see-spec =
@@ -76,10 +76,8 @@ see-spec =
     (λ c κs. search needs)
     (λ c κs. search needs)
     returns-2
-    sub-field-of-2
-    part-field-of-start-2
+    sub-network-in
+    part-network-in-start
     (λ c. search needs)
     (λ c κs. search needs)
-    (λ c κs. search needs)
-    (λ c. search needs)
     returns-3)
