@@ -67,7 +67,7 @@ isRead application kind r =
     (pick (eqb kind NI) (holding (menuRules application r))
     (pick (known kind) (holding (tableRules application r)) true))
 
--- the network that a block of a kind speaks of: of an AI this_network_operator of the information that it carries (table 11), of an LI or TI
+-- the network that a block of a kind speaks of: of an AI this_operator_network_no of the information that it carries (table 11), of an LI or TI
 -- netwop_no of the table (tables 15, 17), of another kind none, which is 0
 unfoldable pub networkOf : ℕ → List ℕ → ℕ
 networkOf kind r =

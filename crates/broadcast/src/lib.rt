@@ -1,6 +1,6 @@
 // Whether a broadcast is lawful (SCOPE 31): what a block counts as, whether two records are one block, and what annex D's rules say of the blocks
 // of a list.
-mod seeing;
+pub mod seeing;
 mod tallies;
 
 use answer::Answer;
