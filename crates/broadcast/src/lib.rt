@@ -6,6 +6,7 @@ mod tallies;
 use answer::Answer;
 use blocks::Found;
 use blocks::HEAD;
+use information_forms::AI;
 use seeing::Seen;
 pub use seeing::counts;
 use tallies::PLACES;
@@ -89,7 +90,7 @@ fn walk(application: u8, records: &[u8], tally: &mut [u16]) -> Walked
 fn channel_after(channel: u8, seen: Seen) -> u8
     ensures { λ r. ⌜ r ≡ channelAfter channel seen ⌝ }
 {
-    if seen.kind == seeing::AI {
+    if seen.kind as usize == AI {
         return seen.network;
     }
     channel

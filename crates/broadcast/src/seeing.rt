@@ -2,17 +2,14 @@
 use answer::Refusal;
 use blocks::HEAD;
 use blocks::Read;
+use information_forms::AI;
+use menu_forms::NI;
 ghost use mathlib.Core.Path.{_≡_};
 ghost use Prim.Native.Nat.{_<_};
 ghost use lib.Dec.{eqb};
 ghost use Rattle.blocks.specs.Block.{headOf};
 ghost use Rattle.broadcast.specs.Counting.{hasKind, isRead, seen as Counting·seen, unseen as Counting·unseen, countsAs};
 ghost use Rattle.broadcast.specs.Internal.{networkIn, isAccepted};
-
-// 11.12.3: the datatypes that are read besides TI and LI.
-pub(crate) const AI: u8 = 1;
-
-const NI: u8 = 3;
 
 // What a record counts as that doesn't.
 const UNCOUNTED: u8 = 64;
@@ -96,7 +93,7 @@ pub(crate) fn head_of(rec: &[u8]) -> usize
 fn network_in(kind: u8, raw: &[u8]) -> u8
     ensures { λ r. ⌜ r ≡ networkIn kind (now (raw .entry)) ⌝ }
 {
-    if kind == AI {
+    if kind as usize == AI {
         return fields::field_of(raw, THIS_NETWORK, 8) as u8;
     }
     if forms::known(kind as usize) {
@@ -110,10 +107,10 @@ fn is_read(application: u8, kind: u8, rec: &[u8]) -> bool
     ensures { λ r. ⌜ r ≡ isRead application kind (now (rec .entry)) ⌝ }
 {
     let mut none = [0u8; 0];
-    if kind == AI {
+    if kind as usize == AI {
         return is_accepted(information::read_information(application, rec, &mut none));
     }
-    if kind == NI {
+    if kind as usize == NI {
         return is_accepted(menu_reader::read_menu(application, rec, &mut none));
     }
     if forms::known(kind as usize) {

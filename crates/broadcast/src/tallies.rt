@@ -1,6 +1,6 @@
 // The blocks of a list, tallied by kind and network, and what annex D's rules say of them (SCOPE 31).
-use crate::seeing::AI;
 use crate::seeing::Seen;
+use information_forms::AI;
 ghost use mathlib.Core.Path.{_≡_};
 ghost use lib.Dec.{eqb};
 ghost use lib.ListN.{getD};
@@ -73,7 +73,7 @@ fn tallied_at(tally: &[u16], place: usize) -> u16
 pub(crate) fn is_none(tally: &[u16]) -> bool
     ensures { λ r. ⌜ r ≡ eqb (getD (now (tally .entry)) 1 0) 0 ⌝ }
 {
-    tallied_at(tally, AI as usize) == 0
+    tallied_at(tally, AI) == 0
 }
 
 // The first letter of the first rule that isn't met, in the order of table D.1; 0 where each is. The kinds of which there may be any number
@@ -81,7 +81,7 @@ pub(crate) fn is_none(tally: &[u16]) -> bool
 pub(crate) fn judge(tally: &[u16], channel: u8) -> u8
     ensures { λ r. ⌜ nameBy r ≡ verdict (countsBy (now (tally .entry)) channel) minimum ⌝ }
 {
-    if tallied_at(tally, AI as usize) != 1 {
+    if tallied_at(tally, AI) != 1 {
         return b'A';
     }
     if 255 < tallied_at(tally, MI as usize) {
