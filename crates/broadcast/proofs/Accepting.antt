@@ -2,10 +2,10 @@
 use mathlib.Core.Path.{_≡_, _∙_, refl, sym, ap}
 use mathlib.Core.Bool.{Bool, true, false, true≢false}
 use mathlib.Core.Logic.{_⊎_, inl, inr}
-use mathlib.Core.List.{List, [], _∷_, _++_}
+use mathlib.Core.List.{List, [], _∷_}
 use Prim.Native.Nat.{ℕ}
 use lib.Dec.{eqb, leb}
-use lib.ListN.{length, drop}
+use lib.ListN.{length}
 use Rattle.laws.specs.Pick.{pick, both}
 use Rattle.laws.proofs.Tests.{both-first, both-second}
 use Rattle.answer.specs.Rules.{Rule, judged, Every, First, here, later}
@@ -15,7 +15,6 @@ use Rattle.answer.specs.declared.Answer.{Answer}
 use Rattle.answer.specs.declared.Answer.the-variants.{Done}
 use Rattle.answer.proofs.Judging.{passes, refuses, decided, first-append}
 use Rattle.answer.proofs.Steps.{judged-append}
-use Rattle.blocks.specs.Block.{headOf, sizeOf, headLength}
 use Rattle.blocks.specs.Framing.{frameRules}
 use Rattle.blocks.specs.Values.{counted}
 use Rattle.table.specs.Reading.{readRules as tableRules, frontRules as tableFront, wholeRules as tableWhole}

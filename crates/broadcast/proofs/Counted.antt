@@ -1,13 +1,12 @@
 -- A record has a kind by the tests in their order, and counts as that kind where reading accepts it. Assumes nothing.
-use mathlib.Core.Path.{_≡_, _∙_, refl, sym, ap, ap₂}
-use mathlib.Core.Bool.{Bool, true, false}
+use mathlib.Core.Path.{_≡_}
+use mathlib.Core.Bool.{true, false}
 use mathlib.Core.List.{List, map}
 use Prim.Native.Nat.{ℕ, _+_, _/_, _%_, _≤_, _<_}
 use native.Mathlib.Omega.{arith}
 use borrow.Author.Tests.{lt-ltb, le-ltb, le-leb, lt-leb, eq-eqb, ne-eqb, leb-true, eqb-true}
-use lib.Dec.{eqb, ltb, leb}
+use lib.Dec.{eqb, ltb}
 use lib.ListN.{length, take, drop}
-use Rattle.laws.specs.Pick.{pick, both}
 use Rattle.laws.proofs.Tests.{both-first, both-second}
 use Rattle.octet.specs.Decoding.{nib}
 use Rattle.blocks.specs.Block.{headLength, headOf, applicationOf, sizeOf, recordLength}
@@ -17,7 +16,6 @@ use Rattle.menu_forms.specs.Menus.{NI}
 use Rattle.table.specs.Reading.{readRules as tableRules}
 use Rattle.menu_reader.specs.Reading.{readRules as menuRules}
 use Rattle.information.specs.Reading.{readRules as informationRules}
-use Rattle.broadcast.specs.declared.seeing.Seen.{Seen}
 use Rattle.broadcast.specs.Counting.{AI, holding, hasKind, kindOf, isRead, unseen, seen}
 use Rattle.broadcast.specs.Internal.{networkIn}
 use Rattle.broadcast.proofs.Networks.{network-read}

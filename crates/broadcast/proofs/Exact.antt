@@ -13,7 +13,7 @@ use Rattle.laws.specs.Pick.{both}
 use Rattle.laws.specs.Each.{Each, nil, and}
 use Rattle.laws.proofs.Tests.{both-first, both-second}
 use Rattle.text_lines.specs.Codes.{codes}
-use Rattle.broadcast.specs.Lawful.{Counts, Row, minimum, meets, verdict, line, verdictLines, guideLines, countsIn, lawfulLines}
+use Rattle.broadcast.specs.Lawful.{Counts, Row, minimum, meets, verdict, line, guideLines, countsIn, lawfulLines}
 use Rattle.broadcast.specs.Internal.{said}
 
 -- a row is met by these counts

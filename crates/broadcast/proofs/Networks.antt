@@ -1,11 +1,11 @@
 -- The network that stands at its place in the raw bytes is the one that reading gives. Assumes nothing.
-use mathlib.Core.Path.{_≡_, _∙_, refl, sym, ap}
+use mathlib.Core.Path.{_≡_, _∙_, sym, ap}
 use mathlib.Core.Bool.{Bool, true, false}
 use mathlib.Core.List.{List, map}
-use Prim.Native.Nat.{ℕ, _+_, _*_, _/_, _^_, _≤_, _<_}
+use Prim.Native.Nat.{ℕ, _*_, _/_, _^_, _≤_, _<_}
 use native.Mathlib.Omega.{arith}
 use lib.Dec.{eqb}
-use lib.ListN.{length, take, drop, length-take}
+use lib.ListN.{take, drop, length-take}
 use Rattle.laws.specs.Pick.{pick}
 use Rattle.laws.proofs.Maps.{map-take}
 use Rattle.octet.specs.Decoding.{nib}
@@ -13,7 +13,7 @@ use Rattle.fields.specs.Fields.{width, field, whole}
 use Rattle.fields.specs.Compound.{compound}
 use Rattle.fields.specs.declared.Opening.{Opening}
 use Rattle.fields.proofs.Laid.{field-lt, field-in, field-past}
-use Rattle.codecs.specs.Rows.{rowed, valuesIn}
+use Rattle.codecs.specs.Rows.{rowed}
 use Rattle.codecs.proofs.Lawful.{value-at}
 use Rattle.blocks.specs.Block.{nibblesOf, headLength}
 use Rattle.forms.specs.Kinds.{known}

@@ -2,25 +2,24 @@
 use mathlib.Core.Path.{_≡_, _∙_, refl, sym, ap, ap₂}
 use mathlib.Core.Bool.{Bool, true, false}
 use mathlib.Core.List.{List, [], _∷_}
-use Prim.Native.Nat.{ℕ, zero, suc, _+_, _*_, _^_, _≤_, _<_}
+use Prim.Native.Nat.{ℕ, zero, suc, _+_, _≤_, _<_}
 use native.Mathlib.Nat.{add-zero, zero-add}
 use native.Mathlib.Omega.{arith}
-use borrow.Author.Tests.{ltb-true, ltb-false, leb-true, leb-false, eqb-true, eqb-false, lt-ltb, le-ltb, le-leb, lt-leb, eq-eqb, ne-eqb}
+use borrow.Author.Tests.{ltb-true, ltb-false, eqb-true, eqb-false, lt-leb, eq-eqb, ne-eqb}
 use lib.Dec.{eqb, ltb, leb}
-use lib.ListN.{length, getD, drop, set, replicate, length-set, length-replicate, getD-replicate}
+use lib.ListN.{length, getD, drop, replicate, length-set, length-replicate, getD-replicate}
 use lib.Seq.{getD-set-same, getD-set-other}
 use Rattle.laws.specs.Pick.{pick, both}
 use Rattle.laws.specs.Range.{all}
 use Rattle.laws.specs.Each.{Each, nil, and}
 use Rattle.laws.proofs.Tests.{both-second}
-use Rattle.fields.specs.Fields.{field}
 use Rattle.fields.specs.Compound.{compound}
 use Rattle.fields.proofs.Laid.{field-lt}
 use Rattle.forms.specs.Kinds.{LI, TI}
 use Rattle.blocks.specs.Block.{Block, headLength, recordOf}
 use Rattle.broadcast.specs.declared.seeing.Seen.{Seen}
 use Rattle.broadcast.specs.Counting.{AI, MI, UI, hasKind, isRead, kindOf, networkOf, unseen, seen, allSeen}
-use Rattle.broadcast.specs.Lawful.{Counts, limit, eachWithin, minimum, verdict, one, number, numberOf, channelFrom, counted}
+use Rattle.broadcast.specs.Lawful.{limit, eachWithin, minimum, verdict, one, number, numberOf, channelFrom, counted}
 use Rattle.broadcast.specs.Internal.{more, noted, networkAt, places, tally, tallied, countsBy}
 use Rattle.broadcast.proofs.Networks.{network-read, network-lt}
 
