@@ -18,10 +18,9 @@ use Rattle.answer.proofs.Steps.{judged-append}
 use Rattle.blocks.specs.Block.{headOf, sizeOf, headLength}
 use Rattle.blocks.specs.Framing.{frameRules}
 use Rattle.blocks.specs.Values.{counted}
-use Rattle.table.specs.Reading.{readRules as tableRules, frontRules as tableFront, wholeRules as tableWhole}
-use Rattle.table.specs.Lengths.{lengthRules as tableLengths}
-use Rattle.menu_reader.specs.Reading.{readRules as menuRules, frontRules as menuFront, wholeRules as menuWhole, lengthRules as menuLengths}
-use Rattle.kinds.specs.Reading.{frontRules as kindFront, wholeRules as kindWhole, lengthRules as kindLengths}
+use Rattle.kinds.specs.Reading.{frontRules, wholeRules, lengthRules}
+use Rattle.table.specs.Reading.{readRules as tableRules}
+use Rattle.menu_reader.specs.Reading.{readRules as menuRules}
 use Rattle.information.specs.Reading.{readRules as informationRules}
 use Rattle.broadcast.specs.Counting.{holding}
 use Rattle.broadcast.specs.Internal.{isAccepted}
@@ -72,13 +71,13 @@ module _ (rules : List Rule) (bytes : List ℕ) (mended : ℕ) where
 -- ---- the three kinds of reading
 
 pub table-others : (application : ℕ) (r : List ℕ) → others (tableRules application r) ≡ true
-unfolding frameRules tableFront tableWhole tableLengths
+unfolding frameRules frontRules wholeRules lengthRules
 table-others application r = refl
 
 pub menu-others : (application : ℕ) (r : List ℕ) → others (menuRules application r) ≡ true
-unfolding frameRules menuFront menuWhole menuLengths
+unfolding frameRules frontRules wholeRules lengthRules
 menu-others application r = refl
 
 pub information-others : (application : ℕ) (r : List ℕ) → others (informationRules application r) ≡ true
-unfolding frameRules kindFront kindWhole kindLengths
+unfolding frameRules frontRules wholeRules lengthRules
 information-others application r = refl
