@@ -17,8 +17,8 @@ use Rattle.answer.proofs.Judging.{passes, refuses, decided, first-append}
 use Rattle.answer.proofs.Steps.{judged-append}
 use Rattle.blocks.specs.Framing.{frameRules}
 use Rattle.blocks.specs.Values.{counted}
-use Rattle.table.specs.Reading.{readRules as tableRules, frontRules as tableFront, wholeRules as tableWhole}
-use Rattle.table.specs.Lengths.{lengthRules as tableLengths}
+use Rattle.table.specs.Reading.{readRules as tableRules}
+use Rattle.forms.specs.Tables.{tables}
 use Rattle.menu_reader.specs.Reading.{readRules as menuRules}
 use Rattle.menu_forms.specs.Menus.{navigation}
 use Rattle.kinds.specs.Kind.{Kind}
@@ -81,14 +81,13 @@ holding-every rules h = go (decided rules)
 
 -- ---- the three kinds of reading
 
-pub table-others : (application : ℕ) (r : List ℕ) → others (tableRules application r) ≡ true
-unfolding frameRules tableFront tableWhole tableLengths
-table-others application r = refl
-
 -- of any kind whose own rule has another number
 kind-others : {B : Type 0} (k : Kind B) → notOne (k .number) ≡ true → (application : ℕ) (r : List ℕ) → others (kindRules k application r) ≡ true
 unfolding frameRules frontRules wholeRules lengthRules
 kind-others k n application r = rw n
+
+pub table-others : (application : ℕ) (r : List ℕ) → others (tableRules application r) ≡ true
+table-others = kind-others tables refl
 
 pub menu-others : (application : ℕ) (r : List ℕ) → others (menuRules application r) ≡ true
 menu-others = kind-others navigation refl

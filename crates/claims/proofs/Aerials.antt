@@ -26,12 +26,11 @@ use Rattle.pages.specs.Seen.{see, seeY, seenAs}
 use Rattle.walk.specs.Mode.{goesOn, continues, emitted, ends, gives, spoiled, spoils, step}
 use Rattle.state.specs.Acting.{act, handed}
 use Rattle.blocks.specs.Sums.{total, checksum, sound}
-use Rattle.forms.specs.Block.{nibbles, checksumOf, blockWith}
-use Rattle.blocks.specs.Parts.{mendedIn}
+use Rattle.parity.specs.Parity.{odds}
+use Rattle.kinds.specs.Block.{nibbles, checksumOf, blockWith}
+use Rattle.kinds.specs.Reading.{frontIn, frontRules, wholeRules, mendedOf, sentIn, lengthRules, readAs}
 use Rattle.table.specs.Control.{descriptorsOf, tableOf}
-use Rattle.table.specs.Lengths.{lengthRules}
 use Rattle.blocks.specs.Framing.{frameRules}
-use Rattle.table.specs.Reading.{frontRules, wholeRules, readBlock}
 use Rattle.forms.specs.Tables.{Table, loops, fields}
 use Rattle.forms.specs.Kinds.{TI, LI, per}
 use Rattle.writer.proofs.Cases.{desk}
@@ -116,7 +115,6 @@ unfolding
     heardBlocks
     recordsOf
     blockWith
-    mendedIn
     harm
     harms
     nibbles
@@ -176,5 +174,9 @@ unfolding
     frameRules
     frontRules
     wholeRules
-    readBlock
+    frontIn
+    sentIn
+    mendedOf
+    odds
+    readAs
 late-joins = refl

@@ -24,8 +24,9 @@ use Rattle.blocks.specs.declared.Read.the-variants.{Taken}
 use Rattle.blocks.specs.Values.{counted}
 use Rattle.blocks.proofs.Counting.{counted-takes}
 use Rattle.blocks.proofs.Framed.{accepts}
-use Rattle.table.specs.Reading.{readRules, tableRead, readBlock}
-use Rattle.table.proofs.Back.{says-with, writes-back-form}
+use Rattle.table.specs.Reading.{readRules, tableRead}
+use Rattle.table.proofs.Exact.{read-as}
+use Rattle.table.proofs.Back.{says-with, said-fits, writes-back-form}
 use Rattle.table.proofs.Calls.{call-says}
 use Rattle.menu_forms.specs.Form.{form as Menu·form, menuIn}
 use Rattle.menu_forms.specs.Writing.{writeRules as Menu·writeRules}
@@ -67,13 +68,12 @@ pub table-back :
     {application n : ℕ} {f old out lent after : List ℕ} {y : Read} → Bytes f → Writes application f old (Done n) out
     → Reads application (take n out) lent y after → length f ≤ length lent
     → (y ≡ Taken (length f) 0) × (after ≡ f ++ drop (length f) lent)
-unfolding readBlock
 table-back {application} {n} {f} {old} {out} {lent} {after} {y} b w call enough =
     let t = tableIn f in
     let r = recordOf application t in
     let p = written (writeRules application f) r old (writes w .0) (writes w .1) in
     let back = writes-back-form application f b (p .0) in
-    let a = accepts (readRules application r) (tableRead r) t (mendedIn r) 0 (back .0) in
+    let a = accepts (readRules application r) (tableRead r) t (mendedIn r) 0 (sym (read-as application r) ∙ back .0) in
     let said = reads (subst (λ (l : List ℕ). Reads application l lent y after) (p .1) call) in
     let q = counted-takes form (readRules application r) (tableRead r) (mendedIn r) lent t (a .0) (a .1) (rw (back .1) enough) in (
       said .0 ∙ q .0 ∙ ap₂ (λ (l : List ℕ) (c : ℕ). Taken (length l) c) (back .1) (a .2),
@@ -91,9 +91,10 @@ table-again {application} {n} {c} {r} {old} {out} {lent} call w enough =
     let t = tableRead r in
     let said = call-says application r old n c (sym (reads call .0)) in
     let s = said .0 in
+    let can = said-fits application r t s in
     let p = again form tableIn (recordOf application) (writeRules application) t old lent (said .1) (reads call .1 ∙ said .3)
-    (writable application t (s .within) (s .sendable)) (writes w .0) (writes w .1) enough in
-    (s, p .0, rw (p .1) (says-with application 0 0 t (s .within) (s .sendable) (omega arith) (pow-pos (fill t))))
+    (writable application t (s .says .within) can) (writes w .0) (writes w .1) enough in
+    (s, p .0, rw (p .1) (says-with application 0 0 t (s .says .within) can (omega arith) (pow-pos (fill t))))
 
 -- ---- menus
 

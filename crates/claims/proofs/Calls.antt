@@ -40,6 +40,7 @@ use Rattle.forms.specs.Block.{recordOf}
 use Rattle.table.specs.Reading.{Outcome, accepted as Reading·accepted, refused as Reading·refused, readRules, tableRead, readBlock}
 use Rattle.blocks.specs.declared.Read.{Read}
 use Rattle.blocks.specs.Values.{counted}
+use Rattle.table.proofs.Exact.{read-as}
 use Rattle.table.proofs.Back.{writes-back, accepted-writable}
 use Rattle.claims.specs.Noise.{Flipped, Aired, Came}
 use Rattle.claims.specs.Damage.{streamIn, Sending, sendings, damage, Counted, damaged}
@@ -127,12 +128,10 @@ cut-holds s index k records i low least most w =
 
 module _ (application : ℕ) where
   read-holds : (r : List ℕ) → Every (readRules application r) → readBlock application r ≡ Reading·accepted (tableRead r) (mendedIn r)
-  unfolding readBlock
-  read-holds r every = passes Reading·refused (Reading·accepted (tableRead r) (mendedIn r)) every
+  read-holds r every = read-as application r ∙ passes Reading·refused (Reading·accepted (tableRead r) (mendedIn r)) every
 
   read-fails : (r : List ℕ) {q : Rule} → First q (readRules application r) → readBlock application r ≡ Reading·refused (q .number) (q .offset)
-  unfolding readBlock
-  read-fails r first = refuses Reading·refused (Reading·accepted (tableRead r) (mendedIn r)) first
+  read-fails r first = read-as application r ∙ refuses Reading·refused (Reading·accepted (tableRead r) (mendedIn r)) first
 
   -- a record, with room for the table's form where it is read as one
   record-read :

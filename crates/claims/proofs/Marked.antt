@@ -11,7 +11,8 @@ use Rattle.pes_writer.proofs.Cases.{CaseJ, case-j, CaseK, case-k}
 use Rattle.fields.specs.Fields.{alike, width, laid, parts}
 use Rattle.forms.specs.Tables.{per, loops, fields, bits, fill, size}
 use Rattle.blocks.specs.Sums.{total, checksum}
-use Rattle.forms.specs.Block.{nibbles, checksumOf, blockWith, recordOf}
+use Rattle.kinds.specs.Block.{nibbles, checksumOf, blockWith}
+use Rattle.forms.specs.Block.{recordOf}
 use Rattle.forms.specs.Form.{form}
 use Rattle.forms.specs.Writing.{writeRules}
 use Rattle.table.proofs.Cases.{G, H, I, case-G, case-H, case-I}

@@ -27,8 +27,7 @@ use Rattle.blocks.specs.declared.Frame.the-variants.{Head}
 use Rattle.blocks.specs.Framing.{frameRules, framing}
 use Rattle.blocks.specs.Values.{numberOfFrame, offsetOfFrame, headOfFrame, refusedFrame}
 use Rattle.blocks.proofs.frames.judge.Reads as blocks·frames-judge
-use Rattle.table.specs.Reading.{frontRules, wholeRules, readRules as Table·readRules}
-use Rattle.table.specs.Lengths.{lengthRules}
+use Rattle.table.specs.Reading.{readRules as Table·readRules}
 use Rattle.menu_forms.specs.Writing.{formRules as Menu·formRules, writeRules as Menu·writeRules}
 use Rattle.kinds.specs.Reading.{frontRules as Kind·frontRules, wholeRules as Kind·wholeRules, lengthRules as Kind·lengthRules}
 use Rattle.menu_reader.specs.Reading.{readRules as Menu·readRules}
@@ -63,7 +62,7 @@ unfolding allRefusing formRules
 writes-block application f = refl
 
 pub reads-block : (application : ℕ) (r : List ℕ) → allRefusing (Table·readRules application r) ≡ true
-unfolding allRefusing frameRules frontRules wholeRules lengthRules
+unfolding allRefusing frameRules Kind·frontRules Kind·wholeRules Kind·lengthRules
 reads-block application r = refl
 
 pub writes-menu : (application : ℕ) (f : List ℕ) → allRefusing (Menu·writeRules application f) ≡ true

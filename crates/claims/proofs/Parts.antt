@@ -1,6 +1,6 @@
 -- Block reading, set to an application in range, doesn't answer 16 to a record that the reader hands out: its part is at most 5, and its
 -- second byte at most 1 (SCOPE 19.3, 26.3). Assumes nothing.
-use mathlib.Core.Path.{_≡_, refl, sym, ap, subst}
+use mathlib.Core.Path.{_≡_, _∙_, refl, sym, ap, subst}
 use mathlib.Core.Bool.{Bool, true, false}
 use mathlib.Core.List.{List, [], _∷_}
 use Prim.Native.Nat.{ℕ, _<_}
@@ -19,8 +19,9 @@ use Rattle.state.specs.State.{readerOf, Sound}
 use Rattle.state.proofs.Handing.{handed-parted}
 use Rattle.blocks.specs.Framing.{frameRules}
 use Rattle.forms.specs.Tables.{Table}
-use Rattle.table.specs.Reading.{Outcome, accepted, refused, frontRules, wholeRules, readRules, tableRead, readBlock}
-use Rattle.table.specs.Lengths.{lengthRules}
+use Rattle.kinds.specs.Reading.{frontRules, wholeRules, lengthRules}
+use Rattle.table.specs.Reading.{Outcome, accepted, refused, readRules, tableRead, readBlock}
+use Rattle.table.proofs.Exact.{read-as}
 use Rattle.claims.specs.Feeding.{Call, packetsOf, comesOut}
 use Rattle.claims.proofs.Fed.{heard-each, fed-blocks}
 
@@ -46,7 +47,7 @@ not-sixteen (q ∷ rs) a z (and h r) e = go (q .holds) (λ n. h n) (λ n. not-si
 pub never-sixteen :
     (application : ℕ) (b : Block) (offset : ℕ) → application < 32 → Parted b
     → readBlock application (recordOf b) ≡ refused 16 offset → ⊥
-unfolding readBlock frameRules frontRules wholeRules lengthRules
+unfolding frameRules frontRules wholeRules lengthRules
 never-sixteen application b offset a p e =
     not-sixteen (readRules application (recordOf b)) (accepted (tableRead (recordOf b)) (mendedIn (recordOf b))) refl
     (and (λ n. lt-ltb application 32 a)
@@ -58,10 +59,11 @@ never-sixteen application b offset a p e =
     (and (λ (n : _≡_ {A = ℕ} 12 16). absurd (omega arith))
     (and (λ (n : _≡_ {A = ℕ} 13 16). absurd (omega arith))
     (and (λ (n : _≡_ {A = ℕ} 10 16). absurd (omega arith))
+    (and (λ (n : _≡_ {A = ℕ} 23 16). absurd (omega arith))
     (and (λ (n : _≡_ {A = ℕ} 11 16). absurd (omega arith))
     (and (λ (n : _≡_ {A = ℕ} 22 16). absurd (omega arith))
-    (and (λ (n : _≡_ {A = ℕ} 14 16). absurd (omega arith)) nil))))))))))))
-    (ap numberOf e)
+    (and (λ (n : _≡_ {A = ℕ} 14 16). absurd (omega arith)) nil)))))))))))))
+    (ap numberOf (sym (read-as application (recordOf b)) ∙ e))
 
 -- of each record that calls write, from a reader that calls leave
 module _ (s : Setting) (i : inRange s ≡ true) where

@@ -1,6 +1,6 @@
 -- Tables come through noise: a table's block is all images, so with noise it is read as the same table, or, where two flips are
 -- allowed, not at all. Assumes nothing.
-use mathlib.Core.Path.{_≡_, _∙_, refl, sym, ap, ap₂}
+use mathlib.Core.Path.{_≡_, _∙_, refl, sym, ap, ap₂, subst}
 use mathlib.Core.Bool.{true}
 use mathlib.Core.Logic.{_⊎_, inl, inr}
 use mathlib.Core.List.{List, [], _∷_, _++_, map}
@@ -21,12 +21,14 @@ use Rattle.blocks.specs.Sizes.{Sized}
 use Rattle.blocks.proofs.Round.{blocks-records}
 use Rattle.fields.specs.Fields.{parts}
 use Rattle.fields.proofs.Laid.{length-parts}
-use Rattle.forms.specs.Tables.{Table, fits, size}
+use Rattle.kinds.specs.Block.{blockWith as Kind·blockWith}
+use Rattle.kinds.proofs.Laying.{nibbles-again}
+use Rattle.forms.specs.Tables.{Table, tables, content, fits, size}
 use Rattle.blocks.specs.Parts.{partMost, mendedIn}
 use Rattle.forms.specs.Block.{nibbles, checksumOf, blockWith, recordOf}
 use Rattle.table.specs.Reading.{Outcome, accepted, refused, readBlock}
 use Rattle.forms.proofs.Sendable.{sendable}
-use Rattle.forms.proofs.Blocks.{nibbles-again}
+use Rattle.forms.proofs.Blocks.{head-any, nibbles-any, raw-any}
 use Rattle.blocks.proofs.Framed.{header-lt, header-size}
 use Rattle.table.proofs.Back.{writes-back}
 use Rattle.table.proofs.Noise.{reads-alike, broken-refused}
@@ -47,19 +49,19 @@ tableBlock application t = blockWith application 0 0 t
 -- ---- it is a block, and its record is the one written
 
 nibbles-length : (application : ℕ) (t : Table) → length (nibblesFor application t) ≡ size t
-unfolding nibbles
-nibbles-length application t = length-parts 4 (size t) _
+nibbles-length application t = ap length (nibbles-any 0 t (checksumOf application 0 0 t) 0) ∙ length-parts 4 (size t) _
 
 pub table-fits : (application : ℕ) (t : Table) → fits t ≡ true → Fits (tableBlock application t)
-unfolding blockWith
+unfolding Kind·blockWith
 table-fits application t f =
     let c = sendable t f .control-fits in
     record {
-      head = header-lt application (size t);
+      head = header-lt application _;
       size =
-          length-map (nibblesFor application t) image
+          ap length (raw-any 0 t application 0)
+          ∙ length-map (nibblesFor application t) image
           ∙ nibbles-length application t
-          ∙ sym (header-size application (size t) (omega arith));
+          ∙ sym (ap (λ (h : ℕ). h / 32) (head-any 0 t application) ∙ header-size application (size t) (omega arith));
     }
 
 pub all-fit : (application : ℕ) {ts : List Table} → Each (λ t. fits t ≡ true) ts → Each Fits (map (tableBlock application) ts)
@@ -121,18 +123,21 @@ module _ (R : ℕ → ℕ → Type 0) (L : Type 0) (hears : Hears R L) where
     x = sendingOf (tableBlock application t) cs
 
     blocked : Near R (tableBlock application t .raw) (landed x .raw) → Nibbles L (nibblesFor application t) (landed x .raw)
-    unfolding blockWith nibbles
-    blocked r = parts-heard (size t) _ r
+    blocked r =
+        let e = nibbles-any 0 t (checksumOf application 0 0 t) 0 in
+        subst (λ (ns : List ℕ). Nibbles L ns (landed x .raw)) (sym e)
+        (parts-heard (size t) _ (subst (λ (l : List ℕ). Near R l (landed x .raw)) (raw-any 0 t application 0 ∙ ap (map image) e) r))
 
     counts : map nib (landed x .raw) ≡ nibblesFor application t → mendedIn (Block·recordOf (landed x)) ≡ damage x
-    unfolding blockWith mendedIn
+    unfolding mendedIn
     counts e =
         ap (λ (k : ℕ). leadDamage x + k) (mended-damaged (nibblesFor application t) (landed x .raw) e)
+        ∙ ap (λ (l : List ℕ). leadDamage x + unlike l (landed x .raw)) (sym (raw-any 0 t application 0))
         ∙ sym (damage-parts x n)
 
     again : map nib (landed x .raw) ≡ nibblesFor application t → nibblesOf (Block·recordOf (landed x)) ≡ nibblesOf (recordOf application t)
-    unfolding blockWith nibblesOf
-    again e = e ∙ sym (nibbles-again (checksumOf application 0 0 t) 0 0 t)
+    unfolding nibblesOf
+    again e = e ∙ sym (ap (map nib) (raw-any 0 t application 0) ∙ nibbles-again tables (checksumOf application 0 0 t) 0 (content 0 t))
 
     breaks :
         (j : ℕ) → j < length (map nib (landed x .raw)) → 16 ≤ getD (map nib (landed x .raw)) j 0 → (u : Table) (c : ℕ)

@@ -18,7 +18,7 @@ use Rattle.pages.specs.Seen.{seeY, seenAs, see}
 use Rattle.fields.specs.Fields.{alike, width, laid, parts, fitting}
 use Rattle.forms.specs.Tables.{Table, TI, per, loops, fields, entire, fits}
 use Rattle.blocks.specs.Sums.{total, checksum}
-use Rattle.forms.specs.Block.{nibbles, checksumOf, blockWith, recordOf}
+use Rattle.forms.specs.Block.{recordOf}
 use Rattle.blocks.specs.Outcome.{accepted}
 use Rattle.table.specs.Reading.{readBlock}
 use Rattle.table.proofs.Back.{writes-back}
@@ -89,11 +89,11 @@ titlesBytes =
     ∷ 0xB6 ∷ 0x73 ∷ 0xB6 ∷ 0x02 ∷ 0xC7 ∷ 0xC7 ∷ 0x73 ∷ 0x02 ∷ 0xB6 ∷ 0xD0 ∷ 0x64 ∷ 0x15 ∷ []
 
 pub titles-written : recordOf 9 titles ≡ titlesBytes
-unfolding blockWith laid parts alike width fields loops per nibbles checksumOf checksum total image withParity number
+unfolding Kind·blockWith laid parts alike width fields loops per Kind·nibbles Kind·checksumOf checksum total image withParity number
 titles-written = refl
 
 titles-fit : fits titles ≡ true
-unfolding fits entire fitting fields loops per alike width
+unfolding fits Kind·fits sevens entire fitting fields loops per alike width
 titles-fit = refl
 
 pub titles-read : readBlock 9 titlesBytes ≡ accepted titles 0

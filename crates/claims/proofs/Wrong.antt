@@ -47,7 +47,8 @@ use Rattle.reader.specs.Feeding.{feedHeard, feedOut}
 use Rattle.reader.specs.Two.{feedHeardOfTwo, feedOutOfTwo}
 use Rattle.forms.specs.Tables.{Table, per, loops, fields, fits, entire}
 use Rattle.blocks.specs.Sums.{total, checksum}
-use Rattle.forms.specs.Block.{nibbles, checksumOf, blockWith}
+use Rattle.kinds.specs.Kind.{sevens, fits as Kind·fits}
+use Rattle.kinds.specs.Block.{nibbles, checksumOf, blockWith}
 use Rattle.table.proofs.Cases.{G, H}
 use Rattle.claims.specs.Noise.{Flipped, Near, none, more, Aired, ended, sent as Aired·sent}
 use Rattle.claims.specs.Carrying.{heardBlocks}
@@ -106,11 +107,11 @@ given f c t e =
     ∙ all-sent 0 (lit≤ tt) desk desk-range 0 1 (lit< tt) (lit≤ tt) (lit≤ tt) (t ∷ []) (and e nil) (callsFor (only t)) (only t) aired
 
 g-fits : fits G ≡ true
-unfolding fits entire fitting fields loops per alike width
+unfolding fits Kind·fits sevens entire fitting fields loops per alike width
 g-fits = refl
 
 h-fits : fits H ≡ true
-unfolding fits entire fitting fields loops per alike width
+unfolding fits Kind·fits sevens entire fitting fields loops per alike width
 h-fits = refl
 
 -- both begin with the same packet 0

@@ -1,42 +1,41 @@
--- The nibbles of a table's block: its checksum leaves itself out, and their images decode to them. Assumes nothing.
-use mathlib.Core.Path.{_≡_, _∙_, sym, ap}
-use mathlib.Core.List.{List, map}
-use Prim.Native.Nat.{ℕ, suc, _+_, _-_, _%_}
-use native.Mathlib.Omega.{arith}
-use lib.ListN.{drop}
+-- A table's block has no strings: its size is that of its control data, and its bytes are images. Its reserved bit doesn't change how long
+-- it is. Assumes nothing.
+use mathlib.Core.Path.{_≡_, _∙_, refl, ap}
+use mathlib.Core.List.{List, _++_, map, append-nil}
+use Prim.Native.Nat.{ℕ, _+_, _*_}
+use native.Mathlib.Nat.{add-zero}
+use lib.ListN.{length}
 use Rattle.octet.specs.Image.{image}
-use Rattle.octet.specs.Decoding.{nib}
-use Rattle.fields.specs.Fields.{laid, parts}
-use Rattle.fields.proofs.Laid.{laid-next}
-use Rattle.blocks.specs.Sums.{total, checksum}
-use Rattle.blocks.proofs.Nibbles.{drop-parts, nibbles-back}
-use Rattle.forms.specs.Tables.{Table, fields, control, size}
-use Rattle.forms.specs.Block.{nibbles}
-use Rattle.forms.proofs.Measures.{bits-of}
+use Rattle.parity.specs.Parity.{letter}
+use Rattle.blocks.specs.Block.{header}
+use Rattle.fields.specs.Fields.{width, laid, parts}
+use Rattle.kinds.specs.Kind.{size as Kind·size, control as Kind·control}
+use Rattle.kinds.specs.Block.{headBits, nibbles as Kind·nibbles, blockWith as Kind·blockWith}
+use Rattle.forms.specs.Tables.{Table, tables, content, fields, control, size}
+use Rattle.forms.specs.Block.{nibbles, checksumOf, blockWith}
+use Rattle.forms.proofs.Formats.{no-strings}
 
--- the nibbles behind the checksum's two are those of the other fields
-pub behind-sum :
-    (sum reserved filling : ℕ) (t : Table)
-    → drop 2 (nibbles sum reserved filling t)
-    ≡ parts 4 (size t - 2) (laid (drop 1 (fields 0 (control t) reserved t)) filling)
-unfolding nibbles fields
-behind-sum sum reserved filling t =
-    let two : size t ≡ suc (suc (size t - 2)) = omega (arith, bits-of t) in
-    let n = laid (fields sum (control t) reserved t) filling in
-    ap (λ (k : ℕ). drop 2 (parts 4 k n)) two ∙ drop-parts (size t - 2) n
-    ∙ ap (parts 4 (size t - 2)) (laid-next (8, sum) (drop 1 (fields 0 (control t) reserved t)) filling)
+module _ (reserved : ℕ) (t : Table) where
+  pub control-any : Kind·control tables (content reserved t) ≡ control t
+  unfolding fields width
+  control-any = refl
 
--- a block's checksum is the same whatever stands in its place
-pub sum-apart :
-    (head s₁ s₂ reserved filling : ℕ) (t : Table)
-    → checksum head (nibbles s₁ reserved filling t) ≡ checksum head (nibbles s₂ reserved filling t)
-unfolding checksum
-sum-apart head s₁ s₂ reserved filling t =
-    ap (λ (ns : List ℕ). (256 - (total (parts 4 4 head) + total ns) % 256) % 256)
-    (behind-sum s₁ reserved filling t ∙ sym (behind-sum s₂ reserved filling t))
+  pub size-any : Kind·size tables (content reserved t) ≡ size t
+  size-any =
+      ap (λ (l : List ℕ). 2 * Kind·control tables (content reserved t) + length l) (no-strings (content reserved t))
+      ∙ add-zero _ ∙ ap (λ (x : ℕ). 2 * x) control-any
 
-pub nibbles-again :
-    (sum reserved filling : ℕ) (t : Table)
-    → map nib (map image (nibbles sum reserved filling t)) ≡ nibbles sum reserved filling t
-unfolding nibbles
-nibbles-again sum reserved filling t = nibbles-back (size t) _
+  pub head-any : (application : ℕ) → headBits tables application (content reserved t) ≡ laid (header application (size t)) 0
+  head-any application = ap (λ (x : ℕ). laid (header application x) 0) size-any
+
+  pub nibbles-any : (sum filling : ℕ) → nibbles sum reserved filling t ≡ parts 4 (size t) (laid (fields sum (control t) reserved t) filling)
+  unfolding Kind·nibbles fields width
+  nibbles-any sum filling = refl
+
+  pub raw-any :
+      (application filling : ℕ)
+      → blockWith application reserved filling t .raw ≡ map image (nibbles (checksumOf application reserved filling t) reserved filling t)
+  unfolding Kind·blockWith
+  raw-any application filling =
+      ap (λ (l : List ℕ). map image (nibbles (checksumOf application reserved filling t) reserved filling t) ++ map letter l) (no-strings (content reserved t))
+      ∙ append-nil _

@@ -1,17 +1,20 @@
 -- What a table that can be sent has, each value by itself. Assumes nothing.
-use mathlib.Core.Path.{_≡_, _∙_, refl, sym}
+use mathlib.Core.Path.{_≡_, _∙_, refl, sym, ap}
 use mathlib.Core.Bool.{true}
 use mathlib.Core.List.{List, _∷_}
-use Prim.Native.Nat.{ℕ, _*_, _^_, _<_}
+use Prim.Native.Nat.{ℕ, _*_, _^_, _≤_, _<_}
 use native.Mathlib.Omega.{arith}
-use borrow.Author.Tests.{ltb-true, lt-ltb, eqb-true, eq-eqb}
+use borrow.Author.Tests.{ltb-true, lt-ltb, le-ltb, eqb-true, eq-eqb}
 use lib.Dec.{ltb, eqb}
 use lib.ListN.{length}
-use Rattle.laws.proofs.Tests.{both-true}
-use Rattle.fields.specs.Fields.{alike, fitting}
+use Rattle.laws.proofs.Tests.{both-true, either-true}
+use Rattle.fields.specs.Fields.{alike, width, fitting}
 use Rattle.fields.proofs.Laid.{fitting-append}
-use Rattle.codecs.specs.Codec.{fit}
-use Rattle.forms.specs.Tables.{Descriptor, Table, Sent, known, numbered, per, entries, format, sent, loops, control, entire, fits}
+use Rattle.kinds.specs.Kind.{Content, sevens, size as Kind·size, fits as Kind·fits}
+use Rattle.kinds.proofs.Sendable.{Sendable as Kind·Sendable, sendable as Kind·sendable, sends as Kind·sends}
+use Rattle.forms.specs.Tables.{Descriptor, Table, Body, known, numbered, blockNumbered, per, entries, tables, content, tableSent, fields, loops, control, entire, fits}
+use Rattle.forms.proofs.Measures.{bits-of}
+use Rattle.forms.proofs.Formats.{no-strings}
 
 -- what a table that can be sent has
 pub record Sendable (t : Table) : Type 0 where
@@ -26,29 +29,35 @@ pub record Sendable (t : Table) : Type 0 where
   pub count-fits : length (t .descriptors) < 64
   pub loops-fit : fitting (loops (t .kind) (t .descriptors)) ≡ true
 
--- of a block that fits, whose control size is that of its table
-pub fit-sendable :
-    (s : Sent) → known (s .table .kind) ≡ true → numbered (s .table .block) ≡ true → s .control ≡ control (s .table) → fit format s ≡ true
-    → Sendable (s .table)
-unfolding fitting entire loops
-fit-sendable s k n e h =
-    let t = s .table in
-    let b = both-true (format .whole s) _ h in
-    let w = both-true (eqb (length (t .descriptors)) (length (t .descriptors))) (entire (t .kind) (t .descriptors)) (b .0) in
-    let u = both-true (ltb (s .checksum) (2 ^ 8)) _ (b .1) in
-    let c = both-true (ltb (s .control) (2 ^ 10)) _ (u .1) in
-    let d = both-true (ltb (t .kind) (2 ^ 6)) _ (c .1) in
-    let a = both-true (ltb (s .access) (2 ^ 2)) _ (d .1) in
-    let y = both-true (ltb (t .copyright) (2 ^ 1)) _ (a .1) in
-    let r = both-true (ltb (s .reserved) (2 ^ 1)) _ (y .1) in
+-- control data has seven bytes at least, and no strings follow it
+held : (t : Table) → 12 ≤ Kind·size tables (content 0 t)
+unfolding fields
+held t = omega (arith, bits-of t)
+
+-- a block that holds its number
+held-number : (blockSize block : ℕ) → 12 ≤ blockSize → blockNumbered blockSize block ≡ true → numbered block ≡ true
+held-number blockSize block h e = rw (le-ltb blockSize 12 h) at e
+
+-- the values of a content that fit
+pub fitted-parts :
+    (c : Content Body) → Kind·Sendable tables c → Sendable (tableSent c)
+unfolding fitting entire loops fields width
+fitted-parts x k =
+    let t = tableSent x in
+    let c = control t in
+    let w = both-true (eqb (length (t .descriptors)) (length (t .descriptors))) (entire (t .kind) (t .descriptors)) (k .entire) in
+    let u = both-true (ltb c (2 ^ 10)) _ (k .fitted) in
+    let d = both-true (ltb (t .kind) (2 ^ 6)) _ (u .1) in
+    let y = both-true (ltb (t .copyright) (2 ^ 1)) _ (d .1) in
+    let r = both-true (ltb (x .reserved) (2 ^ 1)) _ (y .1) in
     let f = both-true (ltb (t .block) (2 ^ 16)) _ (r .1) in
     let g = both-true (ltb (t .network) (2 ^ 8)) _ (f .1) in
     let i = both-true (ltb (length (t .descriptors)) (2 ^ 6)) _ (g .1) in
     record {
-      kind-known = k;
-      edition = n;
+      kind-known = k .asked;
+      edition = held-number (Kind·size tables x) (t .block) (held t) (k .fine);
       entire-all = w .1;
-      control-fits = rw e at (ltb-true (s .control) 1024 (c .0));
+      control-fits = ltb-true c 1024 (u .0);
       kind-fits = ltb-true (t .kind) 64 (d .0);
       copyright-fits = ltb-true (t .copyright) 2 (y .0);
       block-fits = ltb-true (t .block) 65536 (f .0);
@@ -59,34 +68,37 @@ fit-sendable s k n e h =
 
 pub sendable : (t : Table) → fits t ≡ true → Sendable t
 unfolding fits
-sendable t h =
-    let a = both-true (known (t .kind)) _ h in
-    let n = both-true (numbered (t .block)) _ (a .1) in
-    fit-sendable (sent 0 (control t) 0 t) (a .0) (n .0) refl (n .1)
+sendable t h = fitted-parts (content 0 t) (Kind·sendable tables (content 0 t) h)
 
--- such a table fits the format, whatever stands beside it
-pub sent-fits :
-    (sum c reserved : ℕ) (t : Table) → Sendable t → sum < 256 → c < 1024 → reserved < 2 → fit format (sent sum c reserved t) ≡ true
-unfolding fitting entire loops
-sent-fits sum c reserved t s hs hc hr =
-    rw (
-      eq-eqb (length (t .descriptors)) (length (t .descriptors)) refl,
-      s .entire-all,
-      lt-ltb sum 256 hs,
-      lt-ltb c 1024 hc,
-      lt-ltb (t .kind) 64 (s .kind-fits),
-      lt-ltb (t .copyright) 2 (s .copyright-fits),
-      lt-ltb reserved 2 hr,
-      lt-ltb (t .block) 65536 (s .block-fits),
-      lt-ltb (t .network) 256 (s .network-fits),
-      lt-ltb (length (t .descriptors)) 64 (s .count-fits),
-      s .loops-fit,
-    )
+-- such a table can be sent with any reserved bit
+pub content-sends : (reserved : ℕ) (t : Table) → Sendable t → reserved < 2 → Kind·fits tables (content reserved t) ≡ true
+unfolding fitting entire loops fields width sevens
+content-sends reserved t s hr =
+    let c = content reserved t in
+    let none = ap length (no-strings c) in
+    Kind·sends tables c
+    (record {
+      asked = s .kind-known;
+      fine = rw (s .edition) (either-true (ltb (Kind·size tables c) 12));
+      entire = rw (eq-eqb (length (t .descriptors)) (length (t .descriptors)) refl) (s .entire-all);
+      fitted =
+          rw (
+            lt-ltb (control t) 1024 (s .control-fits),
+            lt-ltb (t .kind) 64 (s .kind-fits),
+            lt-ltb (t .copyright) 2 (s .copyright-fits),
+            lt-ltb reserved 2 hr,
+            lt-ltb (t .block) 65536 (s .block-fits),
+            lt-ltb (t .network) 256 (s .network-fits),
+            lt-ltb (length (t .descriptors)) 64 (s .count-fits),
+          )
+          (s .loops-fit);
+      seven = ap sevens (no-strings c);
+      small = omega (arith, s .control-fits, none);
+    })
 
--- and so it can be sent
 pub sends : (t : Table) → Sendable t → fits t ≡ true
 unfolding fits
-sends t s = rw (s .kind-known, s .edition) (sent-fits 0 (control t) 0 t s (omega arith) (s .control-fits) (omega arith))
+sends t s = content-sends 0 t s (omega arith)
 
 -- ---- descriptors
 

@@ -1,12 +1,14 @@
 -- A TI or LI table as a value, and the format that tables 15 and 17 have for it.
-use mathlib.Core.Bool.{Bool}
+use mathlib.Core.Bool.{Bool, false}
 use mathlib.Core.List.{List, []}
 use Prim.Native.Nat.{ℕ, _+_, _*_, _/_, _-_}
+use lib.Dec.{ltb}
 use lib.ListN.{length}
-use Rattle.laws.specs.Pick.{both}
+use Rattle.laws.specs.Pick.{either}
 use Rattle.fields.specs.Fields.{Field, width}
 use Rattle.codecs.specs.Rows.{each}
-use Rattle.codecs.specs.Codec.{Codec, fit, number, numbers, then, rowWhole, seen, counted}
+use Rattle.codecs.specs.Codec.{Codec, number, numbers, then, rowWhole, seen, counted}
+use Rattle.kinds.specs.Kind.{Kind, Content, Sent, format, fields as Kind·fields, fits as Kind·fits}
 pub use Rattle.forms.specs.Kinds.{TI, LI, known, numbered}
 unfoldable pub use Rattle.forms.specs.Kinds.{per}
 
@@ -33,53 +35,64 @@ descriptor each =
     seen (λ d. (d .id, (length (d .words) / each, d .words))) (λ r. record { id = r .0; words = r .1 .1 })
     (then (number 6) (λ id. then (number 4) (λ entries. numbers 24 (each * entries))))
 
--- what a block of a table carries: the table, with what isn't its own
-pub record Sent : Type 0 where
-  pub checksum : ℕ
-  pub control : ℕ
-  pub access : ℕ
-  pub reserved : ℕ
-  pub table : Table
+-- what stands behind the opening fields: a table's values but its kind and its copyright bit
+pub record Body : Type 0 where
+  pub block : ℕ
+  pub network : ℕ
+  pub descriptors : List Descriptor
 
 -- its values in the order in which they stand
 abbrev pub Ordered : Type 0
-Ordered = ℕ × (ℕ × (ℕ × (ℕ × (ℕ × (ℕ × (ℕ × (ℕ × List Descriptor)))))))
+Ordered = ℕ × (ℕ × List Descriptor)
 
-abbrev pub ordered : Sent → Ordered
-ordered s =
-    let t = s .table in
-    (s .checksum, (s .control, (t .kind, (s .access, (t .copyright, (s .reserved, (t .block, (t .network, t .descriptors))))))))
+abbrev pub ordered : Body → Ordered
+ordered b = (b .block, (b .network, b .descriptors))
 
-abbrev pub named : Ordered → Sent
-named (checksum, (control, (kind, (access, (copyright, (reserved, (block, (network, descriptors)))))))) =
+abbrev pub named : Ordered → Body
+named (block, (network, descriptors)) = record { block = block; network = network; descriptors = descriptors }
+
+-- tables 15 and 17 behind the opening fields (SCOPE 12.2, 12.3): block_no, netwop_no, the number of descriptors, the descriptors
+abbrev pub behind : ℕ → Codec Body
+behind kind = seen ordered named (then (number 16) (λ block. then (number 8) (λ network. counted 6 (descriptor (per kind)))))
+
+-- a block of so many bytes is too short to hold a block number, or holds one of this edition
+abbrev pub blockNumbered : ℕ → ℕ → Bool
+blockNumbered blockSize block = either (ltb blockSize 12) (numbered block)
+
+-- Subtitle and Language tables: no strings follow their control data, and their block number is one of this edition, or it is 22: by the
+-- block's size, whatever its control size is (SCOPE 22.3)
+abbrev pub tables : Kind Body
+tables =
     record {
-      checksum = checksum;
-      control = control;
-      access = access;
-      reserved = reserved;
-      table = record { kind = kind; copyright = copyright; block = block; network = network; descriptors = descriptors };
+      asked = known;
+      spoken = false;
+      behind = behind;
+      fine = λ blockSize b. blockNumbered blockSize (b .block);
+      number = 22;
     }
 
--- tables 15 and 17 from checksum on (SCOPE 12.2, 12.3): checksum, control_block_size, datatype_id, CA_mode, copyright,
--- reserved_for_future_use, block_no, netwop_no, the number of descriptors, the descriptors
-abbrev pub format : Codec Sent
-format =
-    seen ordered named
-    (then (number 8) (λ checksum. then (number 10) (λ control. then (number 6) (λ kind. then (number 2) (λ access.
-    then (number 1) (λ copyright. then (number 1) (λ reserved. then (number 16) (λ block. then (number 8) (λ network.
-    counted 6 (descriptor (per kind)))))))))))
+-- a table as it is sent, with any reserved bit; and the table that is sent
+abbrev pub content : ℕ → Table → Content Body
+content reserved t =
+    record {
+      kind = t .kind;
+      copyright = t .copyright;
+      reserved = reserved;
+      body = record { block = t .block; network = t .network; descriptors = t .descriptors };
+    }
+
+abbrev pub tableSent : Content Body → Table
+tableSent c =
+    let b = c .body in
+    record { kind = c .kind; copyright = c .copyright; block = b .block; network = b .network; descriptors = b .descriptors }
 
 -- what control data n carries: no strings follow it
-abbrev pub sentIn : ℕ → Sent
-sentIn n = format .read n []
-
--- a table with what isn't its own. CA_mode is 0: free to everyone (11.1.3; SCOPE 12.8)
-abbrev pub sent : ℕ → ℕ → ℕ → Table → Sent
-sent checksum control reserved t = record { checksum = checksum; control = control; access = 0; reserved = reserved; table = t }
+abbrev pub sentIn : ℕ → Sent Body
+sentIn n = format tables .read n []
 
 -- the fields that are laid for it, and those of its loops
 unfoldable pub fields : ℕ → ℕ → ℕ → Table → List Field
-fields checksum control reserved t = format .fields (sent checksum control reserved t)
+fields checksum control reserved t = Kind·fields tables checksum control (content reserved t)
 
 unfoldable pub loops : ℕ → List Descriptor → List Field
 loops kind ds = each (descriptor (per kind) .fields) ds
@@ -107,4 +120,4 @@ entire kind ds = rowWhole (descriptor (per kind)) ds
 -- a table that can be sent: of a kind that is read, with a block number of this edition, its entries whole, and each value fitting its
 -- field; what doesn't fit control_block_size is a table of more than 8,184 bits (SCOPE 2.1, number 15)
 unfoldable pub fits : Table → Bool
-fits t = both (known (t .kind)) (both (numbered (t .block)) (fit format (sent 0 (control t) 0 t)))
+fits t = Kind·fits tables (content 0 t)

@@ -7,6 +7,7 @@ use Rattle.answer.specs.Rules.{judged}
 use Rattle.answer.specs.Values.{refused}
 use Rattle.answer.specs.declared.Answer.the-variants.{Done}
 use Rattle.fields.specs.Fields.{alike, width, laid, fitting, whole}
+use Rattle.kinds.specs.Kind.{sevens, fits as Kind·fits}
 use Rattle.forms.specs.Tables.{Table, TI, per, loops, fields, bits, fill, size, entire, fits}
 use Rattle.forms.specs.Form.{spelled, listed, openingOf, form, wordsIn, descriptorsIn, tableIn}
 use Rattle.forms.specs.Writing.{formRules, writeRules}
@@ -53,5 +54,5 @@ pub case-I :
     × (size (I 11) ≡ 2022)
     × (judged refused (writeRules 1 (form (I 11))) (Done 0) ≡ Done 0)
     × (judged refused (writeRules 1 (form (I 12))) (Done 0) ≡ refused 15 0)
-unfolding alike width laid fields loops per fits entire fitting form openingOf listed spelled tableIn descriptorsIn wordsIn whole formRules
+unfolding alike width laid fields loops per fits entire fitting form openingOf listed spelled tableIn descriptorsIn wordsIn whole formRules Kind·fits sevens
 case-I = (refl, refl, refl, refl)

@@ -10,7 +10,8 @@ use lib.Pow.{shr-shr}
 use Rattle.fields.specs.Fields.{width, field}
 use Rattle.fields.specs.declared.Opening.{Opening}
 use Rattle.fields.proofs.Laid.{length-parts, field-past}
-use Rattle.forms.specs.Tables.{Descriptor, per, sentIn, loops, bits}
+use Rattle.kinds.specs.Kind.{contentOf}
+use Rattle.forms.specs.Tables.{Descriptor, per, tableSent, sentIn, loops, bits}
 use Rattle.forms.specs.Form.{form}
 use Rattle.forms.proofs.Measures.{width-loops, bits-of, length-form, eights}
 use Rattle.table.specs.Control.{descriptorsOf}
@@ -49,14 +50,14 @@ walk-end kind left n at whole h inv =
 -- what is measured are the table's bits, and the form's bytes go by them
 module _ (o : Opening) (n b : ℕ) (opens : o ≡ openingBy (sentIn n)) where
   pub measured :
-      b ≡ 58 + width (loops (o .kind) (descriptorsOf (per (o .kind)) (o .count) (n / 2 ^ 58))) → b ≡ bits (sentIn n .table)
+      b ≡ 58 + width (loops (o .kind) (descriptorsOf (per (o .kind)) (o .count) (n / 2 ^ 58))) → b ≡ bits (tableSent (contentOf (sentIn n)))
   measured e =
-      let t = sentIn n .table in
+      let t = tableSent (contentOf (sentIn n)) in
       e ∙ ap (λ (p : Opening). 58 + width (loops (p .kind) (descriptorsOf (per (p .kind)) (p .count) (n / 2 ^ 58)))) opens
       ∙ ap (λ (ds : List Descriptor). 58 + width (loops (t .kind) ds)) (sym (loops-at n))
       ∙ sym (bits-of t)
 
-  pub form-need : b ≡ bits (sentIn n .table) → 6 + (b - 58 + 6 * o .count) / 8 ≡ length (form (sentIn n .table))
+  pub form-need : b ≡ bits (tableSent (contentOf (sentIn n))) → 6 + (b - 58 + 6 * o .count) / 8 ≡ length (form (tableSent (contentOf (sentIn n))))
   form-need e =
-      let t = sentIn n .table in
+      let t = tableSent (contentOf (sentIn n)) in
       omega (arith, bits-of t, length-form t, eights (t .kind) (t .descriptors), ap (λ (p : Opening). p .count) opens)

@@ -9,7 +9,8 @@ use Rattle.fields.specs.Fields.{width, field, parts}
 use Rattle.fields.specs.Opening.{openingIn}
 use Rattle.fields.proofs.Laid.{field-past, length-parts, width-row}
 use Rattle.codecs.proofs.Lawful.{row-length}
-use Rattle.forms.specs.Tables.{Descriptor, Sent, per, descriptor, sentIn}
+use Rattle.kinds.specs.Kind.{Sent, contentOf}
+use Rattle.forms.specs.Tables.{Descriptor, Body, per, descriptor, tableSent, sentIn}
 use Rattle.table.specs.Control.{descriptorsOf}
 use Rattle.table.specs.Internal.{openingBy}
 
@@ -37,20 +38,21 @@ length-descriptors each k n = row-length (descriptor each) k n []
 pub read-at :
     (n : ℕ)
     → sentIn n
-    ≡ record {
-      checksum = field 0 8 n;
-      control = field 8 10 n;
-      access = field 24 2 n;
-      reserved = field 27 1 n;
-      table =
-          record {
-            kind = field 18 6 n;
-            copyright = field 26 1 n;
-            block = field 28 16 n;
-            network = field 44 8 n;
-            descriptors = descriptorsOf (per (field 18 6 n)) (field 52 6 n) (n / 2 ^ 58);
-          };
-    }
+    ≡ (
+      record {
+        checksum = field 0 8 n;
+        control = field 8 10 n;
+        kind = field 18 6 n;
+        access = field 24 2 n;
+        copyright = field 26 1 n;
+        reserved = field 27 1 n;
+      },
+      record {
+        block = field 28 16 n;
+        network = field 44 8 n;
+        descriptors = descriptorsOf (per (field 18 6 n)) (field 52 6 n) (n / 2 ^ 58);
+      },
+    )
 unfolding descriptorsOf width
 read-at n = simp (shr-shr, field-past)
 
@@ -61,10 +63,10 @@ opening-at n = sym (ap openingBy (read-at n) ∙ (rw length-descriptors))
 -- the loops go by them
 pub loops-at :
     (n : ℕ)
-    → let t = sentIn n .table in
+    → let t = tableSent (contentOf (sentIn n)) in
     t .descriptors ≡ descriptorsOf (per (t .kind)) (length (t .descriptors)) (n / 2 ^ 58)
 loops-at n =
     let k = per (field 18 6 n) in
     let c = field 52 6 n in
-    subst (λ (s : Sent). s .table .descriptors ≡ descriptorsOf (per (s .table .kind)) (length (s .table .descriptors)) (n / 2 ^ 58)) (sym (read-at n))
+    subst (λ (s : Sent Body). s .1 .descriptors ≡ descriptorsOf (per (s .0 .kind)) (length (s .1 .descriptors)) (n / 2 ^ 58)) (sym (read-at n))
     (ap (λ (x : ℕ). descriptorsOf k x (n / 2 ^ 58)) (sym (length-descriptors k c (n / 2 ^ 58))))

@@ -11,7 +11,8 @@ use lib.Seq.{sets}
 use Rattle.laws.proofs.Lists.{sets-append}
 use Rattle.fields.specs.Fields.{field, parts}
 use Rattle.fields.specs.declared.Opening.{Opening}
-use Rattle.forms.specs.Tables.{Descriptor, per, sentIn}
+use Rattle.kinds.specs.Kind.{contentOf}
+use Rattle.forms.specs.Tables.{Descriptor, per, tableSent, sentIn}
 use Rattle.forms.specs.Form.{spelled, listed, openingOf, form}
 use Rattle.table.specs.Control.{descriptorsOf}
 use Rattle.table.specs.Internal.{openingBy}
@@ -100,10 +101,10 @@ pub form-at :
     (o : Opening) (n : ℕ) → o ≡ openingBy (sentIn n) → (out out₁ out₂ : List ℕ)
     → out₁ ≡ sets out 0 (o .kind ∷ o .copyright ∷ o .block % 256 ∷ o .block / 256 ∷ o .network ∷ o .count ∷ [])
     → out₂ ≡ sets out₁ 6 (listed (o .kind) (descriptorsOf (per (o .kind)) (o .count) (n / 2 ^ 58)))
-    → out₂ ≡ sets out 0 (form (sentIn n .table))
+    → out₂ ≡ sets out 0 (form (tableSent (contentOf (sentIn n))))
 unfolding form openingOf
 form-at o n e out out₁ out₂ p q =
-    let t = sentIn n .table in
+    let t = tableSent (contentOf (sentIn n)) in
     let front : out₁ ≡ sets out 0 (openingOf t) =
     p ∙ ap (λ (x : Opening). sets out 0 (x .kind ∷ x .copyright ∷ x .block % 256 ∷ x .block / 256 ∷ x .network ∷ x .count ∷ [])) e in
     let behind : out₂ ≡ sets out₁ 6 (listed (t .kind) (t .descriptors)) =

@@ -2,11 +2,12 @@
 use mathlib.Core.List.{List, []}
 use Prim.Native.Nat.{ℕ}
 use Rattle.codecs.specs.Codec.{rowRead}
-use Rattle.forms.specs.Tables.{Descriptor, Table, descriptor, sentIn}
+use Rattle.kinds.specs.Kind.{contentOf}
+use Rattle.forms.specs.Tables.{Descriptor, Table, descriptor, tableSent, sentIn}
 
 -- the table in control data n: no strings follow it
 unfoldable pub tableOf : ℕ → Table
-tableOf n = sentIn n .table
+tableOf n = tableSent (contentOf (sentIn n))
 
 -- the k descriptors at the front of the bits n, whose entries have `each` words
 unfoldable pub descriptorsOf : ℕ → ℕ → ℕ → List Descriptor

@@ -3,20 +3,21 @@
 use Prim.Native.Nat.{ℕ, _+_, _*_}
 use lib.ListN.{length}
 use Rattle.fields.specs.declared.Opening.{Opening}
-use Rattle.forms.specs.Tables.{Sent}
+use Rattle.kinds.specs.Kind.{Sent}
+use Rattle.forms.specs.Tables.{Body}
 
 -- what a block opens with, of what it carries
-abbrev pub openingBy : Sent → Opening
+abbrev pub openingBy : Sent Body → Opening
 openingBy s =
     record {
-      checksum = s .checksum;
-      control = s .control;
-      kind = s .table .kind;
-      access = s .access;
-      copyright = s .table .copyright;
-      block = s .table .block;
-      network = s .table .network;
-      count = length (s .table .descriptors);
+      checksum = s .0 .checksum;
+      control = s .0 .control;
+      kind = s .0 .kind;
+      access = s .0 .access;
+      copyright = s .0 .copyright;
+      block = s .1 .block;
+      network = s .1 .network;
+      count = length (s .1 .descriptors);
     }
 
 -- the bits of a descriptor: its id, its number of entries, and 15 entries of two words

@@ -12,12 +12,12 @@ ghost use lib.ListN.{length};
 ghost use Rattle.answer.specs.Rules.{judged};
 ghost use Rattle.answer.specs.Values.{refused};
 ghost use Rattle.answer.specs.declared.Answer.the-variants.{Done};
-ghost use Rattle.forms.specs.Tables.{per, sentIn, loops};
+ghost use Rattle.forms.specs.Tables.{blockNumbered, per, sentIn, loops};
 ghost use Rattle.forms.specs.Form.{form};
 ghost use Rattle.fields.specs.Fields.{width};
 ghost use Rattle.fields.specs.Compound.{compound};
 ghost use Rattle.table.specs.Control.{tableOf, descriptorsOf};
-ghost use Rattle.table.specs.Lengths.{blockNumbered, lengthRules};
+ghost use Rattle.table.specs.Lengths.{lengthRules};
 ghost use Rattle.table.specs.Internal.{openingBy, tableBits};
 
 // 22, 14: where the number is one of this edition, and loops, control size and fill fit, the bytes of the table's form. The block opens

@@ -17,6 +17,7 @@ use Rattle.forms.specs.Tables.{Table, per, loops, fields, bits, control, fill, 
 use Rattle.forms.specs.Form.{tableIn}
 use Rattle.forms.specs.Block.{nibbles}
 use Rattle.forms.proofs.Sendable.{sendable}
+use Rattle.forms.proofs.Blocks.{nibbles-any}
 use Rattle.forms.proofs.Forms.{length-in, two-bytes}
 use Rattle.table_writer.specs.Internal.{firstFields, secondFields}
 
@@ -67,8 +68,7 @@ all-laid t =
     ∙ ap (laid (fields 0 (control t) 0 t)) (filled (fill t))
 
 all-inked : (t : Table) (out : List ℕ) → inked (begun 4) (laid-all t) out ≡ sets out 4 (map image (nibbles 0 0 0 t))
-unfolding nibbles
-all-inked t out = begun-inked 4 (laid-all t) out ∙ (rw (all-wide, all-laid))
+all-inked t out = begun-inked 4 (laid-all t) out ∙ (rw (all-wide, all-laid, nibbles-any))
 
 -- the two parts from the form's bytes
 pub first-of :
