@@ -21,7 +21,7 @@ abbrev pub judged {ℓ} : {A : Type ℓ} → (ℕ → ℕ → A) → List Rule �
 judged refused [] a = a
 judged refused (r ∷ rs) a = pick (r .holds) (judged refused rs a) (refused (r .number) (r .offset))
 
--- the greatest number of the list, of which 25 isn't given yet (SCOPE 2.1)
+-- the greatest number of the list, of which 17, 18 and 19 aren't given (SCOPE 2.1)
 abbrev pub lastNumber : ℕ
 lastNumber = 27
 

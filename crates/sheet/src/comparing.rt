@@ -5,8 +5,8 @@ use crate::says;
 use answer::Answer;
 use captures::Got;
 use sheet_entry::Form;
-use sheet_file::kinds;
-use sheet_file::kinds::NOT_PLAIN;
+use sheet_file::modes;
+use sheet_file::modes::NOT_PLAIN;
 
 // The most that is printed: two sheets together.
 const PRINT: usize = 34304;
@@ -34,7 +34,7 @@ pub fn compare(name: &mut [u8; 4096], n: usize, other: &mut [u8; 4096], m: usize
 
 // Reads the sheet of a name. What can't be read, or is no plain file, is told.
 fn open(word: &mut [u8; 4096], n: usize, sheet: &mut [u8; SHEET]) -> Read {
-    let fd = kinds::open_plain(told::front(word, n));
+    let fd = modes::open_plain(told::front(word, n));
     told::plain(word);
     if fd == NOT_PLAIN {
         says::tell(told::front(word, n), b"it is no plain file");

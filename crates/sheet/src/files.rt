@@ -5,8 +5,8 @@ use crate::work::Work;
 use answer::Answer;
 use captures::Got;
 use sheet_entry::Form;
-use sheet_file::kinds;
-use sheet_file::kinds::NOT_PLAIN;
+use sheet_file::modes;
+use sheet_file::modes::NOT_PLAIN;
 
 // One more than the most that a sheet has, so that a longer one is seen.
 pub const SHEET: usize = 17153;
@@ -34,7 +34,7 @@ pub fn open_other(
     if !work.sound {
         return work;
     }
-    let fd = kinds::open_plain(told::front(word, n));
+    let fd = modes::open_plain(told::front(word, n));
     told::plain(word);
     if fd == NOT_PLAIN {
         says::tell(
@@ -150,7 +150,7 @@ fn dropped(
 
 // Looks at the sheet of a name, and prints its line. Answers whether standard output took it.
 pub fn check(word: &mut [u8; 4096], n: usize) -> bool {
-    let fd = kinds::open_plain(told::front(word, n));
+    let fd = modes::open_plain(told::front(word, n));
     told::plain(word);
     if fd == NOT_PLAIN {
         says::tell(told::front(word, n), b"it is no plain file");

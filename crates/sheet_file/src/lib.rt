@@ -1,14 +1,14 @@
 // The day sheet's file: what stands at its path is read, and another takes its place whole or not at all (SCOPE 20.16). `paths` finds where it is,
-// `kinds` what it is, `placing` puts the new one there. What the file says is none of this room's.
+// `modes` what it is, `placing` puts the new one there. What the file says is none of this room's.
 //
 // What fails is told, in the name of the program that keeps the sheet, where it fails: errno is lost behind the next call.
-pub mod kinds;
+pub mod modes;
 pub mod paths;
 pub mod placing;
 pub mod says;
 
 use captures::Got;
-use kinds::NOT_PLAIN;
+use modes::NOT_PLAIN;
 
 // What stands in the sheet's place: whether it could be read, whether there is a file, its mode, and how many bytes were read of it.
 pub struct Stand {
@@ -20,7 +20,7 @@ pub struct Stand {
 
 // Reads what stands at the sheet's path. What can't be read, or is no plain file, is told.
 pub fn read(path: &[u8], shown: &[u8], sheet: &mut [u8]) -> Stand {
-    let fd = kinds::open_plain(path);
+    let fd = modes::open_plain(path);
     if fd == NOT_PLAIN {
         says::tell(shown, b"it is no plain file, and stays as it was");
         return unread();
@@ -61,7 +61,7 @@ fn is_none(path: &[u8]) -> bool {
 }
 
 fn fill(fd: i32, shown: &[u8], sheet: &mut [u8]) -> Stand {
-    let mode = kinds::of(fd);
+    let mode = modes::of(fd);
     let got = captures::fill(fd, sheet);
     let Got::Bytes(length) = got else {
         says::fail(shown, b"it can't be read, and stays as it was");

@@ -1,6 +1,6 @@
 // Where the sheet's file is: links are followed to it, and the temporary file is made beside it (SCOPE 20.16).
-use crate::kinds;
-use crate::kinds::PATH;
+use crate::modes;
+use crate::modes::PATH;
 ghost use Prim.Native.Nat.{_≤_};
 ghost use lib.ListN.{length};
 
@@ -50,7 +50,7 @@ fn read_link(path: &[u8], n: usize, target: &mut [u8]) -> usize {
     if PATH <= n {
         return 0;
     }
-    let path = kinds::ended(told::front(path, n));
+    let path = modes::ended(told::front(path, n));
     let got = libc::readlink(&path, target);
     io::count(got, target)
 }

@@ -1,7 +1,7 @@
 // The new sheet takes the place of the old one, whole or not at all: it goes to a temporary file beside it, which is written, synced and closed;
 // then the old one is read once more; then the new one is renamed over it, and the folder is synced (SCOPE 20.16). The line is the caller's to print.
 use crate::Stand;
-use crate::kinds;
+use crate::modes;
 use crate::paths;
 use crate::says;
 
@@ -141,7 +141,7 @@ fn is_written(fd: i32, stand: Stand, shown: &[u8], sheet: &[u8]) -> bool {
 // A sheet that stands keeps its mode, which is set before a byte of it is written.
 fn is_synced(fd: i32, stand: Stand, sheet: &[u8]) -> bool {
     if stand.there {
-        if libc::fchmod(fd, kinds::rights(stand.mode)) < 0 {
+        if libc::fchmod(fd, modes::rights(stand.mode)) < 0 {
             return false;
         }
     }

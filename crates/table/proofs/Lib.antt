@@ -1,3 +1,4 @@
+mod Judging
 pub mod Places
 pub mod Exact
 pub mod Back

@@ -1,4 +1,4 @@
--- `sheet_file::kinds::stat_mode` is safe and ends: a walk of its MIR, by hand, since it lends a struct. The struct in the local is lent for a lifetime that is made for the call
+-- `sheet_file::modes::stat_mode` is safe and ends: a walk of its MIR, by hand, since it lends a struct. The struct in the local is lent for a lifetime that is made for the call
 -- and comes back at whatever `stat` left there, of which the mode is read. All that it knows of `stat` is its contract.
 -- Assumes nothing.
 use mathlib.Core.Path.{_≡_, refl, ap}
@@ -54,10 +54,10 @@ use Rattle.libc.proofs.stat as the-call
 use Rattle.libc.proofs.stat.Symbol as stat-def
 use Rattle.libc.proofs.stat.Symbol.{name as #libc·stat}
 use Rattle.libc.proofs.stat.Met as stat-thm
-use Rattle.sheet_file.proofs.kinds.stat_mode.Key.{name as #sheet_file·kinds·stat-mode}
-use Rattle.sheet_file.proofs.kinds.stat_mode as f
-use Rattle.sheet_file.proofs.kinds.stat_mode.Statement as stated
-use Rattle.sheet_file.proofs.kinds.stat_mode.Code as code
+use Rattle.sheet_file.proofs.modes.stat_mode.Key.{name as #sheet_file·modes·stat-mode}
+use Rattle.sheet_file.proofs.modes.stat_mode as f
+use Rattle.sheet_file.proofs.modes.stat_mode.Statement as stated
+use Rattle.sheet_file.proofs.modes.stat_mode.Code as code
 
 abbrev R : RattleType
 R = T.the-row
@@ -169,6 +169,6 @@ pub stat-mode-spec : {M : Type 1} → stated.statement M
 unfolding code.routine tablesOf
 stat-mode-spec 𝓤 H 𝓜 𝓖 𝓡 =
     entered 𝓤 H (tripleOf 𝓤 H (𝓖 .A) f.signature (f.spec 𝓤 H (𝓖 .A) (𝓜 .mem) (𝓡 .run)))
-    (tables 𝓤 H 𝓜 𝓡 code.env .C) (tables 𝓤 H 𝓜 𝓡 code.env .Λ) #sheet_file·kinds·stat-mode code.function (code.unfolded 𝓤 H 𝓜 𝓡)
+    (tables 𝓤 H 𝓜 𝓡 code.env .C) (tables 𝓤 H 𝓜 𝓡 code.env .Λ) #sheet_file·modes·stat-mode code.function (code.unfolded 𝓤 H 𝓜 𝓡)
     (stat-mode-meets 𝓤 H (𝓖 .A) (givenOf 𝓤 H 𝓜 𝓖) (𝓜 .mem) (𝓡 .run) (tablesOf 𝓤 H 𝓜 (tables 𝓤 H 𝓜 𝓡 code.env))
     (cited 𝓤 H (Stat 𝓤 H (𝓖 .A) (𝓜 .mem) (𝓡 .run)) 𝓜 𝓡 code.env #libc·stat stat-def.routine code.calls-libc·stat (stat-thm.met 𝓤 H 𝓜 𝓖 𝓡)))

@@ -1,4 +1,4 @@
--- `sheet_file::kinds::fstat_mode` is safe and ends: a walk of its MIR, by hand, since it lends a struct. The struct in the local is lent for a lifetime that is made for the call
+-- `sheet_file::modes::fstat_mode` is safe and ends: a walk of its MIR, by hand, since it lends a struct. The struct in the local is lent for a lifetime that is made for the call
 -- and comes back at whatever `fstat` left there, of which the mode is read. All that it knows of `fstat` is its contract.
 -- Assumes nothing.
 use mathlib.Core.Path.{_≡_, refl, ap}
@@ -52,10 +52,10 @@ use Rattle.libc.proofs.fstat as fstat
 use Rattle.libc.proofs.fstat.Symbol as fstat-def
 use Rattle.libc.proofs.fstat.Symbol.{name as #libc·fstat}
 use Rattle.libc.proofs.fstat.Met as fstat-thm
-use Rattle.sheet_file.proofs.kinds.fstat_mode.Key.{name as #sheet_file·kinds·fstat-mode}
-use Rattle.sheet_file.proofs.kinds.fstat_mode as f
-use Rattle.sheet_file.proofs.kinds.fstat_mode.Statement as stated
-use Rattle.sheet_file.proofs.kinds.fstat_mode.Code as code
+use Rattle.sheet_file.proofs.modes.fstat_mode.Key.{name as #sheet_file·modes·fstat-mode}
+use Rattle.sheet_file.proofs.modes.fstat_mode as f
+use Rattle.sheet_file.proofs.modes.fstat_mode.Statement as stated
+use Rattle.sheet_file.proofs.modes.fstat_mode.Code as code
 
 abbrev R : RattleType
 R = T.the-row
@@ -159,6 +159,6 @@ pub fstat-mode-spec : {M : Type 1} → stated.statement M
 unfolding code.routine tablesOf
 fstat-mode-spec 𝓤 H 𝓜 𝓖 𝓡 =
     entered 𝓤 H (tripleOf 𝓤 H (𝓖 .A) f.signature (f.spec 𝓤 H (𝓖 .A) (𝓜 .mem) (𝓡 .run)))
-    (tables 𝓤 H 𝓜 𝓡 code.env .C) (tables 𝓤 H 𝓜 𝓡 code.env .Λ) #sheet_file·kinds·fstat-mode code.function (code.unfolded 𝓤 H 𝓜 𝓡)
+    (tables 𝓤 H 𝓜 𝓡 code.env .C) (tables 𝓤 H 𝓜 𝓡 code.env .Λ) #sheet_file·modes·fstat-mode code.function (code.unfolded 𝓤 H 𝓜 𝓡)
     (fstat-mode-meets 𝓤 H (𝓖 .A) (givenOf 𝓤 H 𝓜 𝓖) (𝓜 .mem) (𝓡 .run) (tablesOf 𝓤 H 𝓜 (tables 𝓤 H 𝓜 𝓡 code.env))
     (cited 𝓤 H (Fstat 𝓤 H (𝓖 .A) (𝓜 .mem) (𝓡 .run)) 𝓜 𝓡 code.env #libc·fstat fstat-def.routine code.calls-libc·fstat (fstat-thm.met 𝓤 H 𝓜 𝓖 𝓡)))
