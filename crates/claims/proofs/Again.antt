@@ -96,6 +96,47 @@ table-again {application} {n} {c} {r} {old} {out} {lent} call w enough =
     (writable application t (s .says .within) can) (writes w .0) (writes w .1) enough in
     (s, p .0, rw (p .1) (says-with application 0 0 t (s .says .within) can (omega arith) (pow-pos (fill t))))
 
+-- ---- a kind with strings: its two calls, by what their contracts say
+
+module _
+    {T : Type 0} (form : T → List ℕ) (within found : List ℕ → T) (recordFor : ℕ → T → List ℕ) (writing reading : ℕ → List ℕ → List Rule)
+    (mended : List ℕ → ℕ)
+  where
+    -- what reading answers and leaves
+    abbrev AsRead : ℕ → List ℕ → List ℕ → Read → List ℕ → Type 0
+    AsRead application r lent y after =
+        (y ≡ counted (mended r) (answered (reading application r) (form (found r)) lent)) × (after ≡ left (reading application r) (form (found r)) lent)
+
+    -- what writing answers and leaves
+    abbrev AsWritten : ℕ → List ℕ → List ℕ → Answer → List ℕ → Type 0
+    AsWritten application f old x out =
+        (x ≡ answered (writing application f) (recordFor application (within f)) old) × (out ≡ left (writing application f) (recordFor application (within f)) old)
+
+    spoken-back :
+        (application : ℕ) (f old lent : List ℕ) {n : ℕ} {out after : List ℕ} {y : Read}
+        → (Every (writing application f) → AsRead application (recordFor application (within f)) lent (Taken (length f) 0) (f ++ drop (length f) lent))
+        → AsWritten application f old (Done n) out → AsRead application (take n out) lent y after
+        → (y ≡ Taken (length f) 0) × (after ≡ f ++ drop (length f) lent)
+    spoken-back application f old lent {n} {out} {after} {y} back w call =
+        let p = written (writing application f) (recordFor application (within f)) old (w .0) (w .1) in
+        let said = subst (λ (r : List ℕ). AsRead application r lent y after) (p .1) call in
+        let q = back (p .0) in
+        (said .0 ∙ sym (q .0), said .1 ∙ sym (q .1))
+
+    module _ (Said : ℕ → List ℕ → T → Type 0) where
+      spoken-again :
+          (application : ℕ) (r old lent : List ℕ) {n : ℕ} {out after : List ℕ} {x : Answer} → Said application r (found r) → n ≡ length (form (found r))
+          → out ≡ form (found r) ++ drop (length (form (found r))) old
+          → Every (writing application (form (found r))) × (within (form (found r)) ≡ found r)
+          → (Every (writing application (form (found r))) → Said application (recordFor application (within (form (found r)))) (within (form (found r))))
+          → AsWritten application (take n out) lent x after
+          → length (recordFor application (found r)) ≤ length lent
+          → Said application r (found r) × (x ≡ Done (length (recordFor application (found r)))) × Said application (reported x after) (found r)
+      spoken-again application r old lent said long stands can says w enough =
+          let p = again form within (recordFor application) (writing application) (found r) old lent long stands can (w .0) (w .1) enough in
+          let own = subst (λ (t : T). Said application (recordFor application t) t) (can .1) (says (can .0)) in
+          (said, p .0, subst (λ (l : List ℕ). Said application l (found r)) (sym (p .1)) own)
+
 -- ---- menus
 
 writes-menu :
@@ -115,11 +156,9 @@ pub menu-back :
     {application n : ℕ} {f old out lent after : List ℕ} {y : Read} → Bytes f → WritesMenu application f old (Done n) out
     → ReadsMenu application (take n out) lent y after → length f ≤ length lent
     → (y ≡ Taken (length f) 0) × (after ≡ f ++ drop (length f) lent)
-menu-back {application} {n} {f} {old} {out} {lent} {after} {y} b w call enough =
-    let p = written (Menu·writeRules application f) (Menu·recordOf application (menuIn f)) old (writes-menu w .0) (writes-menu w .1) in
-    let said = reads-menu (subst (λ (l : List ℕ). ReadsMenu application l lent y after) (p .1) call) in
-    let q = call-back application f lent b (p .0) enough in
-    (said .0 ∙ q .0, said .1 ∙ q .1)
+menu-back {application} {n} {f} {old} {out} {lent} b w call enough =
+    spoken-back Menu·form menuIn (λ r. menuRead (drop headLength r)) Menu·recordOf Menu·writeRules Menu·readRules mendedControl application f old lent
+    (λ e. let q = call-back application f lent b e enough in (sym (q .0), sym (q .1))) (writes-menu w) (reads-menu call)
 
 -- what `read_menu` accepted and left, `write_menu` takes with room: its record says the menu that the record which was read says
 pub menu-again :
@@ -129,12 +168,10 @@ pub menu-again :
     × (x ≡ Done (length (Menu·recordOf application (menuRead (drop headLength r)))))
     × Menu·Says application (reported x after) (menuRead (drop headLength r))
 menu-again {application} {n} {c} {r} {old} {out} {lent} b call w enough =
-    let m = menuRead (drop headLength r) in
     let said = Menu·call-says application r old n c b (sym (reads-menu call .0)) in
     let can = call-writable application r old n c b (sym (reads-menu call .0)) in
-    let p = again Menu·form menuIn (Menu·recordOf application) (Menu·writeRules application) m old lent (said .1)
-    (reads-menu call .1 ∙ said .3) can (writes-menu w .0) (writes-menu w .1) enough in
-    (said .0, p .0, rw (p .1) (rw (can .1) at (written-says application (Menu·form m) (can .0))))
+    spoken-again Menu·form menuIn (λ r. menuRead (drop headLength r)) Menu·recordOf Menu·writeRules Menu·readRules mendedControl Menu·Says application r old lent
+    (said .0) (said .1) (reads-menu call .1 ∙ said .3) can (written-says application (Menu·form (menuRead (drop headLength r)))) (writes-menu w) enough
 
 -- ---- Application Information
 
@@ -155,11 +192,10 @@ pub information-back :
     {application n : ℕ} {f old out lent after : List ℕ} {y : Read} → Bytes f → WritesInformation application f old (Done n) out
     → ReadsInformation application (take n out) lent y after → length f ≤ length lent
     → (y ≡ Taken (length f) 0) × (after ≡ f ++ drop (length f) lent)
-information-back {application} {n} {f} {old} {out} {lent} {after} {y} b w call enough =
-    let p = written (Information·writeRules application f) (Information·recordOf application (informationIn f)) old (writes-information w .0) (writes-information w .1) in
-    let said = reads-information (subst (λ (l : List ℕ). ReadsInformation application l lent y after) (p .1) call) in
-    let q = Information·call-back application f lent b (p .0) enough in
-    (said .0 ∙ q .0, said .1 ∙ q .1)
+information-back {application} {n} {f} {old} {out} {lent} b w call enough =
+    spoken-back Information·form informationIn (λ r. informationRead (drop headLength r)) Information·recordOf Information·writeRules Information·readRules Information·mended application
+    f old lent
+    (λ e. let q = Information·call-back application f lent b e enough in (sym (q .0), sym (q .1))) (writes-information w) (reads-information call)
 
 -- what `read_information` accepted and left, `write_information` takes with room: its record says what the record which was read says
 pub information-again :
@@ -169,9 +205,8 @@ pub information-again :
     × (x ≡ Done (length (Information·recordOf application (informationRead (drop headLength r)))))
     × Information·Says application (reported x after) (informationRead (drop headLength r))
 information-again {application} {n} {c} {r} {old} {out} {lent} b call w enough =
-    let i = informationRead (drop headLength r) in
     let said = Information·call-says application r old n c b (sym (reads-information call .0)) in
     let can = Information·call-writable application r old n c b (sym (reads-information call .0)) in
-    let p = again Information·form informationIn (Information·recordOf application) (Information·writeRules application) i old lent (said .1)
-    (reads-information call .1 ∙ said .3) can (writes-information w .0) (writes-information w .1) enough in
-    (said .0, p .0, rw (p .1) (rw (can .1) at (Information·written-says application (Information·form i) (can .0))))
+    spoken-again Information·form informationIn (λ r. informationRead (drop headLength r)) Information·recordOf Information·writeRules Information·readRules Information·mended
+    Information·Says application r old lent (said .0) (said .1) (reads-information call .1 ∙ said .3) can
+    (Information·written-says application (Information·form (informationRead (drop headLength r)))) (writes-information w) enough
