@@ -46,6 +46,7 @@ pub mod Moves
 pub mod CutLineCalls
 pub mod BothCalls
 pub mod Again
+pub mod AnnexE
 pub mod Usual
 pub mod Happening
 pub mod Aerials
