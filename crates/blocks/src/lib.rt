@@ -15,7 +15,7 @@ use answer::Refusal;
 pub const HEAD: usize = 4;
 
 // What stands at a place of a list of records.
-#[derive(Drop)]
+#[derive(Clone, Copy)]
 pub enum Found {
     // The list ends there.
     End,

@@ -23,7 +23,7 @@ const THIS_NETWORK: usize = 144;
 const NETWORK: usize = 44;
 
 // What a record counts as: its datatype, or 64; and the network that it speaks of, which is 0 but in an AI, an LI and a TI.
-#[derive(Drop)]
+#[derive(Clone, Copy)]
 pub(crate) struct Seen {
     pub kind: u8,
     pub network: u8,

@@ -28,7 +28,7 @@ pub const PIECE: usize = 65520;
 pub const RECORDS: usize = 65536;
 
 // How much of a capture is left.
-#[derive(Drop)]
+#[derive(Clone, Copy)]
 pub enum Stage {
     // Another piece may come behind the one that is held.
     More,
@@ -42,7 +42,7 @@ pub enum Stage {
 
 // How far a capture has come: how many bytes of the piece are held, and up to which place they were fed; how many calls of the reader told of
 // a drop; and what was seen. Where drops are counted the reader gets one packet in a call, so that each packet that drops counts.
-#[derive(Drop)]
+#[derive(Clone, Copy)]
 pub struct Course {
     pub setting: Streams,
     pub verbose: bool,
@@ -54,7 +54,7 @@ pub struct Course {
 }
 
 // A state with an array stands beside the enum. Of the two states only the one that the setting asks for goes on: one stream's, or two's.
-#[derive(Drop)]
+#[derive(Clone, Copy)]
 pub struct Capture {
     pub reader: Reader,
     pub readers: Readers,
@@ -62,7 +62,7 @@ pub struct Capture {
 }
 
 // What came of a call.
-#[derive(Drop)]
+#[derive(Clone, Copy)]
 pub enum Came {
     // So many bytes of records at the front of the space, which may be none.
     Records(usize),
@@ -74,7 +74,7 @@ pub enum Came {
     Stuck,
 }
 
-#[derive(Drop)]
+#[derive(Clone, Copy)]
 pub struct Turn {
     pub capture: Capture,
     pub came: Came,

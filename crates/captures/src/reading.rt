@@ -3,7 +3,7 @@ ghost use Rattle.std.specs.Prelude.{true, ◌≡◌, length};
 ghost use Rattle.captures.specs.Reading.{fits_in};
 
 // What was read: so many bytes, fewer than asked for only where the input ended.
-#[derive(Drop)]
+#[derive(Clone, Copy)]
 pub enum Got {
     Bytes(usize),
     Failed,

@@ -16,7 +16,7 @@ const LI: usize = 7;
 const NO_KEY: usize = 33554432;
 
 // Where an entry stands, and how long it is.
-#[derive(Drop)]
+#[derive(Clone, Copy)]
 pub struct Spot {
     pub from: usize,
     pub long: usize,

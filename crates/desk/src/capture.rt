@@ -19,7 +19,7 @@ const FORM: usize = 2048;
 
 // How many blocks were accepted and refused, how many bytes of lines wait in the text, whether the title is still to be written, and whether
 // standard output took all that was written so far.
-#[derive(Drop)]
+#[derive(Clone, Copy)]
 struct Tally {
     accepted: u64,
     refused: u64,

@@ -13,7 +13,7 @@ const FORM: usize = 2048;
 
 // How many TI tables were accepted and how many of them were left out, whether the title is still to be written, and whether standard output
 // took all that was written so far.
-#[derive(Drop)]
+#[derive(Clone, Copy)]
 struct Tally {
     tables: u64,
     over: u64,

@@ -15,14 +15,14 @@ const WIDEST: usize = 24;
 const LAST: usize = 18446744073709551615;
 
 // The bit reader: the lent bytes with the place that is read next.
-#[derive(Drop)]
+#[derive(Clone, Copy)]
 struct BitReader<'a> {
     pub src: &'a [u8],
     pub at: usize,
 }
 
 // The fields of tables 15 and 17 up to the loops.
-#[derive(Drop)]
+#[derive(Clone, Copy)]
 pub struct Opening {
     pub checksum: u8,
     pub control: u16,

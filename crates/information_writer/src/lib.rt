@@ -20,7 +20,7 @@ use blocks::HEAD;
 use information_forms::{AI, NETWORK, OPENING};
 
 // A form, measured: how many codes its names have, and whether its values fit.
-#[derive(Drop)]
+#[derive(Clone, Copy)]
 pub(crate) struct Measured {
     pub codes: usize,
     pub fine: bool,

@@ -20,7 +20,7 @@ pub(crate) const FORM: usize = 2047;
 const TO_MENU: usize = 1;
 
 // Where the menus are: in a list of records, of which an application's are read, or on a shelf.
-#[derive(Drop)]
+#[derive(Clone, Copy)]
 pub(crate) enum Source {
     Records(u8),
     Shelf,

@@ -19,7 +19,7 @@ use blocks::{HEAD, Read};
 const KIND: u8 = 3;
 
 // A place in a block's control data, by nibbles, one in its strings and one in the menu's form.
-#[derive(Drop)]
+#[derive(Clone, Copy)]
 pub(crate) struct Spot {
     pub at: usize,
     pub from: usize,
@@ -27,7 +27,7 @@ pub(crate) struct Spot {
 }
 
 // The loops of control data whose entries are spelled alone.
-#[derive(Drop)]
+#[derive(Clone, Copy)]
 pub(crate) enum Loop {
     Descriptors,
     Escapes,

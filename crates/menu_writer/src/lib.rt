@@ -24,7 +24,7 @@ use blocks::HEAD;
 use menu_forms::{NI, OPENING};
 
 // The loops of a form.
-#[derive(Drop)]
+#[derive(Clone, Copy)]
 pub(crate) enum Loop {
     Codes,
     Descriptors,
@@ -40,7 +40,7 @@ pub(crate) struct Passed {
 }
 
 // A place in the form and one in the output.
-#[derive(Drop)]
+#[derive(Clone, Copy)]
 pub(crate) struct Spot {
     pub at: usize,
     pub to: usize,
@@ -48,7 +48,7 @@ pub(crate) struct Spot {
 
 // A part of a form, measured: the place behind it, the bytes of control data and of strings that it
 // takes, and whether its values fit.
-#[derive(Drop)]
+#[derive(Clone, Copy)]
 pub(crate) struct Tally {
     pub end: usize,
     pub control: usize,

@@ -38,7 +38,7 @@ struct Listed {
 }
 
 // What is asked for of each capture: the menu of a block, and how many levels of it.
-#[derive(Drop)]
+#[derive(Clone, Copy)]
 pub struct Asked {
     pub setting: Streams,
     pub block: u16,

@@ -7,7 +7,7 @@ ghost use Rattle.packet.specs.Address.{address_of, elsewhere};
 
 // Which page and stream carry the guide, and which application its blocks are of. In range are
 // magazines from 1 to 8, any page, streams up to 15 and applications up to 31 (SCOPE 8.1).
-#[derive(Drop)]
+#[derive(Clone, Copy)]
 pub struct Setting {
     pub magazine: u8,
     pub page: u8,

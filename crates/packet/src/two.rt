@@ -6,7 +6,7 @@ use crate::Setting;
 
 // Which page carries the guide, in which two streams, and which application its blocks are of. In range is what is in
 // range for each stream alone, with two streams that differ (SCOPE 27.1).
-#[derive(Drop)]
+#[derive(Clone, Copy)]
 pub struct Streams {
     pub magazine: u8,
     pub page: u8,

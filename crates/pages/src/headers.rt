@@ -10,7 +10,7 @@ use packet::{PACKET, Setting};
 
 // The page of ours that is open, if one is: how many packets follow its packet 0, and the number of
 // the last one that came.
-#[derive(Drop)]
+#[derive(Clone, Copy)]
 pub enum Page {
     Shut,
     Open { n: u8, last: u8 },
@@ -18,7 +18,7 @@ pub enum Page {
 
 // What a packet does: page and index as they are then, whether the running block is dropped, whether
 // the packet opens a page of ours, and whether its bytes are read after that.
-#[derive(Drop)]
+#[derive(Clone, Copy)]
 pub struct Verdict {
     pub page: Page,
     pub index: u8,

@@ -12,7 +12,7 @@ use packet::two::Streams;
 const NONE: u8 = 16;
 
 // One of the two streams, by the order of the setting.
-#[derive(Drop)]
+#[derive(Clone, Copy)]
 pub enum Whose {
     First,
     Second,
@@ -20,7 +20,7 @@ pub enum Whose {
 
 // The open page that the two streams share: none; or whose it is, how many packets follow its packet 0, and the number
 // of the last one that came.
-#[derive(Drop)]
+#[derive(Clone, Copy)]
 pub enum SharedPage {
     None,
     One { whose: Whose, n: u8, last: u8 },

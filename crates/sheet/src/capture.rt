@@ -15,7 +15,7 @@ use sight::PAGES;
 const FORM: usize = 2048;
 
 // What a capture's tables are added under: its stamp, and the word that names it.
-#[derive(Drop)]
+#[derive(Clone, Copy)]
 pub struct Source {
     pub stamp: u32,
     pub word: usize,

@@ -14,7 +14,7 @@ use listing_reader::lines::Line;
 pub use writing::write_entry;
 
 // The form of a sheet: the old one, or the one whose entries say what was mended.
-#[derive(Drop)]
+#[derive(Clone, Copy)]
 pub enum Form {
     Old,
     New,
@@ -41,7 +41,7 @@ pub struct Named {
 }
 
 // The values of an entry's head as far as its lines are in form, whether all are, and where the line stands after them.
-#[derive(Drop)]
+#[derive(Clone, Copy)]
 pub struct Head {
     pub stamp: usize,
     pub mended: usize,
@@ -53,7 +53,7 @@ pub struct Head {
 }
 
 // An entry: its length, its key, its stamp, what was mended, and the length of its head; or none, whether that is well, and where the line at fault stands.
-#[derive(Drop)]
+#[derive(Clone, Copy)]
 pub struct Found {
     pub more: bool,
     pub fine: bool,

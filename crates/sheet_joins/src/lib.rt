@@ -27,7 +27,7 @@ pub struct Size {
 }
 
 // What has the next key: an entry of the first sheet, of the second, or one of each; where a sheet has none, none was found.
-#[derive(Drop)]
+#[derive(Clone, Copy)]
 pub struct Turn {
     pub first: Found,
     pub second: Found,

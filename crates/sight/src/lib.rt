@@ -16,7 +16,7 @@ pub const PAGES: usize = 12;
 
 // So far: the counts, whether bytes came and began as a PES packet does, and from which byte of 42 on packets would fit, as they are and
 // with each byte turned: 42 where they don't.
-#[derive(Drop)]
+#[derive(Clone, Copy)]
 pub struct Sight {
     pub counts: Counts,
     pub any: bool,

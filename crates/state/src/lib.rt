@@ -18,7 +18,7 @@ pub const STORE: usize = 2047;
 
 // What a reader keeps between packets: the page of ours that is open, our last index, the running block, and whether
 // that has lived through a packet 0 that opened a page of ours. Every byte of the store past those held is zero.
-#[derive(Drop)]
+#[derive(Clone, Copy)]
 pub struct Reader {
     pub page: Page,
     pub index: u8,

@@ -10,7 +10,7 @@ use walk::Run;
 
 // What is one stream's own: its last index, its running block, and whether that has lived through a packet 0 that opened
 // a page of its stream.
-#[derive(Drop)]
+#[derive(Clone, Copy)]
 pub struct Half {
     pub index: u8,
     pub run: Run,
@@ -19,7 +19,7 @@ pub struct Half {
 
 // What a reader of two streams keeps between packets: the open page, which the two share, and for each stream what is its
 // own and a store for the bytes of its running block. First and second are by the setting's order.
-#[derive(Drop)]
+#[derive(Clone, Copy)]
 pub struct Readers {
     pub page: SharedPage,
     pub first: Half,

@@ -21,7 +21,7 @@ const NO_INDEX: u8 = 16;
 
 // How many packets came; of them those of our page, its packets 0 and those that are read for it; those that can't be read. Then whether a
 // packet 0 of our page came, and up to which number the packets of the page that is open are read, 0 where none is.
-#[derive(Drop)]
+#[derive(Clone, Copy)]
 pub struct Counts {
     pub packets: u64,
     pub ours: u64,

@@ -16,7 +16,7 @@ const SPACE: usize = 131072;
 
 // How many PES packets were read, and how many refused; how many bytes were left over; whether a capture has begun,
 // and whether standard output took all so far.
-#[derive(Drop)]
+#[derive(Clone, Copy)]
 pub struct Tally {
     pub read: u64,
     pub refused: u64,
@@ -27,7 +27,7 @@ pub struct Tally {
 
 // What is held of the input: the bytes from `at` up to `end` of the space, whether more may come, and whether a
 // packet went out already for the bytes that are being passed over.
-#[derive(Drop)]
+#[derive(Clone, Copy)]
 struct Held {
     at: usize,
     end: usize,
@@ -36,7 +36,7 @@ struct Held {
 }
 
 // After one turn: what is held, the counts, and whether there is another turn.
-#[derive(Drop)]
+#[derive(Clone, Copy)]
 struct Turn {
     held: Held,
     tally: Tally,
@@ -44,7 +44,7 @@ struct Turn {
 }
 
 // What was read: the place up to which bytes now stand.
-#[derive(Drop)]
+#[derive(Clone, Copy)]
 enum Got {
     Upto(usize),
     Failed(usize),

@@ -13,7 +13,7 @@ pub const HEAD: usize = 9;
 
 // The bytes of the lent space that are read and not yet handed out stand from `from` up to, not
 // including, `to`; `ended` is whether no more are to come.
-#[derive(Drop)]
+#[derive(Clone, Copy)]
 pub struct Input {
     pub from: usize,
     pub to: usize,
@@ -22,7 +22,7 @@ pub struct Input {
 
 // A case: its payload stands in the lent space from `from` up to, not including, `to`; `rest` is what
 // is unread after it.
-#[derive(Drop)]
+#[derive(Clone, Copy)]
 pub struct Case {
     pub op: u8,
     pub room: usize,
@@ -31,7 +31,7 @@ pub struct Case {
     pub rest: Input,
 }
 
-#[derive(Drop)]
+#[derive(Clone, Copy)]
 pub enum NextCase {
     Whole(Case),
     // No whole case is left, but so many bytes.

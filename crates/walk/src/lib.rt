@@ -13,7 +13,7 @@ pub use starts::{falls, find};
 // The running block: none; its start and so many nibbles of its 16 bits; its 16 bits, and how many
 // of its bytes are in the store. The part counts the start and the header bytes so far that weren't
 // the image of their nibble.
-#[derive(Drop)]
+#[derive(Clone, Copy)]
 pub enum Run {
     Idle,
     Head { got: u8, bits: u16, part: u8 },
@@ -22,7 +22,7 @@ pub enum Run {
 
 // What reading has come to: the running block beside the store, the blocks handed out so far, as how
 // many bytes of records, and whether a block was dropped.
-#[derive(Drop)]
+#[derive(Clone, Copy)]
 pub struct Got {
     pub run: Run,
     pub blocks: usize,

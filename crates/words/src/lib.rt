@@ -24,7 +24,7 @@ pub use numbers::{kind_of, number_of};
 pub use places::Spot;
 
 // What may come next.
-#[derive(Drop)]
+#[derive(Clone, Copy)]
 pub enum Stage {
     // The word of a task.
     Task,
@@ -42,7 +42,7 @@ pub enum Stage {
 
 // What the words heard so far say: what may come next, where the task's row begins, where the next name stands in it, and the values. Of
 // option k they stand at 2 k and, the second of a pair, at 2 k + 1.
-#[derive(Drop)]
+#[derive(Clone, Copy)]
 pub struct Said {
     pub stage: Stage,
     pub row: usize,

@@ -5,7 +5,7 @@ ghost use Rattle.words.specs.Places.{is_mark, passed, letter_at, turned, after, 
 use crate::numbers;
 
 // Where the next name stands among a row's places, and where the group begins that comes again: 0 until its mark is passed.
-#[derive(Drop)]
+#[derive(Clone, Copy)]
 pub struct Spot {
     pub at: usize,
     pub group: usize,

@@ -39,7 +39,7 @@ struct Row {
 }
 
 // A list of records, measured.
-#[derive(Drop)]
+#[derive(Clone, Copy)]
 enum Measured {
     Cells(usize),
     Broken,
