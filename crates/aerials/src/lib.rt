@@ -3,6 +3,8 @@
 // The caller must know that the two are one packet of the sender's, sent once. To compare their addresses is not enough: a packet of
 // the next page has the same address, and where one aerial is a page late the head of one table and the tail of another would join, and
 // nothing shows it.
+#![tactic(auto)]
+
 ghost use Rattle.std.specs.Prelude.{◌≡◌, ◌∷◌, [], length};
 ghost use Rattle.packet.specs.Packet.{packet_length};
 ghost use Rattle.aerials.specs.Better.{judged_bytes, broken_in, better_of, better_at};

@@ -1,6 +1,7 @@
 // What a call answers that writes bytes into a lent output. The numbers are those of SCOPE 2;
 // specs/Rules.antt says how the order of a call's refusals decides, and specs/Values.antt which number
 // and values each case stands for.
+#![tactic(auto)]
 
 ghost use Rattle.std.specs.Prelude.{◌≡◌};
 ghost use Rattle.answer.specs.Values.{refused};

@@ -1,5 +1,7 @@
 // What bench/measure.c times: our calls in the shape in which C can call them on many bytes at once.
 // No product links this crate.
+#![tactic(auto)]
+
 ghost use Rattle.std.specs.Prelude.{◌≡◌, ◌/◌, ◌<◌, length};
 ghost use Rattle.packet.specs.Packet.{packet_length};
 ghost use Rattle.answer.specs.Values.{written_of};

@@ -1,5 +1,7 @@
 // Blocks as they go between the calls: a record has a block's 16 bits in two bytes, the low one first, its part (SCOPE 19.3),
 // a second byte (SCOPE 26.1), and its raw bytes (SCOPE 10.3). The reader hands out records, one after the other; the writer and block reading take them. Nothing here knows what a block holds.
+#![tactic(auto)]
+
 pub mod frames;
 pub mod sums;
 

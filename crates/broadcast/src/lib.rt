@@ -1,5 +1,7 @@
 // Whether a broadcast is lawful (SCOPE 31): what a block counts as, whether two records are one block, and what annex D's rules say of the blocks
 // of a list.
+#![tactic(auto)]
+
 pub mod seeing;
 mod tallies;
 

@@ -5,6 +5,8 @@
 //
 // What can't come, a reader that takes nothing, ends a capture as a failure: nothing goes on from it. That it can't come is `never_stuck`
 // (proofs/Moving).
+#![tactic(auto)]
+
 mod feeding;
 pub mod reading;
 pub mod spans;

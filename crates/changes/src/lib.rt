@@ -1,4 +1,6 @@
 // Two day sheets held side by side (SCOPE 28): what went, what came and what changed from the first to the second.
+#![tactic(auto)]
+
 mod lines;
 
 ghost use Rattle.std.specs.Prelude.{◌≡◌, [], ◌≤◌, length, drop};

@@ -1,1 +1,2 @@
 // No code: the statements that need several layers, in specs/, and their proofs.
+#![tactic(auto)]

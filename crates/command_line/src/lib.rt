@@ -1,5 +1,7 @@
 // The words that a program was called with, heard by its options and rows (SCOPE 13.12), once for all programs. A program hears them
 // twice: first all are judged, then it goes along them once more, word by word, for its names.
+#![tactic(auto)]
+
 ghost use Rattle.std.specs.Prelude.{◌≡◌};
 ghost use Rattle.command_line.specs.Hearing.{heard_word, setting_by, second_by, byte_of};
 

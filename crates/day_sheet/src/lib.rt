@@ -1,4 +1,6 @@
 // The day sheet (SCOPE 20): text of all tables, an entry for each key, read, written again and dropped from, in either form (SCOPE 30).
+#![tactic(auto)]
+
 pub mod dropping;
 mod entries;
 

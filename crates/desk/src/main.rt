@@ -5,6 +5,8 @@
 //
 // A line on standard error that tells of a failure begins `desk: `. Once standard output has failed, nothing more goes out: a list that
 // lacks something in its middle is what nobody could see.
+#![tactic(auto)]
+
 mod capture;
 mod help;
 mod says;

@@ -4,6 +4,8 @@
 // Words that the program is called with are heard twice: first all are judged, then the files are listed.
 //
 // A line on standard error that tells of a failure begins `dvb: `. Once standard output has failed, nothing more goes out.
+#![tactic(auto)]
+
 mod capture;
 mod help;
 mod says;

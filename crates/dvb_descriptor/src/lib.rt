@@ -1,4 +1,6 @@
 // A Subtitle (TI) table as the teletext descriptor of EN 300 468, and back (SCOPE 29).
+#![tactic(auto)]
+
 ghost use Rattle.std.specs.Prelude.{◌≡◌, ◌+◌, ◌*◌, ◌<◌, ◌≤◌, length, get_or, drop};
 ghost use Rattle.std.proofs.lemmas.List.Edits.{sets};
 ghost use Rattle.answer.specs.Rules.{judged};

@@ -1,5 +1,7 @@
 // Fields of some bits each, out of protected bytes (SCOPE 12.1, 12.11) and, by the pen, into them. The definitions are in specs/,
 // and the laws that other crates cite in proofs/Laid.antt and proofs/Inking.antt.
+#![tactic(auto)]
+
 pub mod pen;
 
 ghost use Rattle.std.specs.Prelude.{◌≡◌, map, ◌+◌, ◌-◌, ◌/◌, ◌%◌, ◌^◌, ◌≤◌, ◌<◌, min, length, get_or};

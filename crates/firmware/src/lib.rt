@@ -2,6 +2,8 @@
 // nothing else (SCOPE 6.11). Each takes any value, keeps nothing between calls and touches no memory but
 // what its arguments name. A byte is decoded by a `match`, which lays no table out at each call, and turned
 // in steps.
+#![tactic(auto)]
+
 mod packing;
 
 ghost use Rattle.std.specs.Prelude.{◌≡◌};

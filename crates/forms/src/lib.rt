@@ -1,5 +1,7 @@
 // A table as its form, the bytes that block writing and the list take: its parts, and whether it can be
 // written.
+#![tactic(auto)]
+
 pub mod items;
 
 ghost use Rattle.std.specs.Prelude.{true, ◌≡◌, ◌∷◌, [], ◌≤◌, length, get_or};

@@ -1,5 +1,7 @@
 // Reading Application Information: the rules by which a block is taken, the form of what it holds, and how many of its control bytes were
 // mended (EN 300 707, clause 11.2).
+#![tactic(auto)]
+
 mod spelling;
 
 ghost use Rattle.std.specs.Prelude.{◌≡◌, ◌+◌, ◌^◌, ◌<◌, length, drop};

@@ -1,4 +1,6 @@
 // Application Information as a value and as its form. The definitions are in specs/, and the laws that other crates cite in proofs/.
+#![tactic(auto)]
+
 ghost use Rattle.std.specs.Prelude.{◌≡◌, ◌≤◌, min, get_or};
 
 // The datatype_id of Application Information.

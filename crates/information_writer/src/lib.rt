@@ -1,4 +1,6 @@
 // Writing Application Information: forms to blocks (EN 300 707, clause 11.2).
+#![tactic(auto)]
+
 mod laying;
 mod measuring;
 

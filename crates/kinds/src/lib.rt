@@ -1,5 +1,7 @@
 // Reading a block of any kind up to its checksum, whatever stands behind its opening fields (SCOPE 3.6, 19.4, 23.6), and how many of its
 // bytes were mended.
+#![tactic(auto)]
+
 ghost use Rattle.std.specs.Prelude.{◌≡◌, map, ◌+◌, ◌%◌, ◌^◌, ◌<◌, ◌≤◌, eqb, length, drop};
 ghost use Rattle.laws.specs.Pick.{either};
 ghost use Rattle.answer.specs.Rules.{judged};

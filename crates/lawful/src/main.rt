@@ -6,6 +6,8 @@
 //
 // A line on standard error that tells of a failure begins `lawful: `; a capture that isn't lawful is one. Once standard output has failed, nothing
 // more goes out.
+#![tactic(auto)]
+
 mod capture;
 mod help;
 mod kept;

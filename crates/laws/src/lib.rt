@@ -1,1 +1,2 @@
 // No code: the definitions and laws that every crate cites and the kit lacks.
+#![tactic(auto)]

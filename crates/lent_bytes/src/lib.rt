@@ -1,5 +1,7 @@
 // Bytes of lent memory: one read or stored, many copied to a place, filled, or made zero. What doesn't lie within the
 // slices reads as zero and is left out.
+#![tactic(auto)]
+
 ghost use Rattle.std.specs.Prelude.{◌≡◌, ◌-◌, ◌<◌, min, get_or, take, drop, set, replicate};
 ghost use Rattle.std.proofs.lemmas.List.Edits.{sets};
 

@@ -1,4 +1,6 @@
 // A table as the desk's lines (SCOPE 13, 19.7, 26.6).
+#![tactic(auto)]
+
 ghost use Rattle.std.specs.Prelude.{true, ◌≡◌, ◌+◌, ◌*◌, ◌/◌, ◌<◌, ◌≤◌, ltb, length, get_or, drop};
 ghost use Rattle.answer.specs.Writing.{answered, left};
 ghost use Rattle.forms.specs.Tables.{per, fits};

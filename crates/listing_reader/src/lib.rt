@@ -1,5 +1,7 @@
 // A table's lines read back (SCOPE 13.2, 20.6), the counterpart of `listing`: a line of a name and a number or of a kind, and the lines from
 // `descriptor=` on. What stands at a place is read in one walk with nothing held.
+#![tactic(auto)]
+
 pub mod lines;
 
 ghost use Rattle.std.specs.Prelude.{Bool, ◌≡◌, ◌≤◌, ltb, drop};

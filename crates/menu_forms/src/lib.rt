@@ -1,4 +1,6 @@
 // Menus as values and as their form (SCOPE 23). The definitions are in specs/, and the laws that other crates cite in proofs/.
+#![tactic(auto)]
+
 ghost use Rattle.std.specs.Prelude.{◌≡◌, ◌≤◌};
 ghost use Rattle.menu_forms.specs.Menus.{info_bytes};
 

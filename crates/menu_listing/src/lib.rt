@@ -1,4 +1,6 @@
 // Menus as text: one menu of a list of records or of a shelf, and those that its links lead to (SCOPE 23.8, 23.9).
+#![tactic(auto)]
+
 mod finding;
 mod lines;
 

@@ -1,5 +1,7 @@
 // Menu reading: the rules by which a Navigation Information block is taken, the menu that it gives, and how many of its control bytes
 // were mended (SCOPE 23.6).
+#![tactic(auto)]
+
 mod spelling;
 
 ghost use Rattle.std.specs.Prelude.{◌≡◌, length, drop};

@@ -1,4 +1,6 @@
 // Menus to blocks (SCOPE 23.7).
+#![tactic(auto)]
+
 mod loops;
 mod measuring;
 mod putting;

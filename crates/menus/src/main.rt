@@ -5,6 +5,8 @@
 //
 // A line on standard error that tells of a failure begins `menus: `, and one that tells of none `note: `. Once standard output has failed,
 // nothing more goes out.
+#![tactic(auto)]
+
 mod capture;
 mod help;
 mod kept;

@@ -5,6 +5,8 @@
 // laws that other rooms cite in proofs/Laws.antt; those of flipped bits stand where noise is spoken of, in
 // claims. The place of a fault, by the parity checks, is module `faults`; the same decoding without a
 // table in memory is module `quick`.
+#![tactic(auto)]
+
 pub mod faults;
 pub mod quick;
 

@@ -1,4 +1,6 @@
 // A packet of the guide page, and the setting that says which page, stream and application are ours. That of two streams is module `two`.
+#![tactic(auto)]
+
 pub mod two;
 
 ghost use Rattle.std.specs.Prelude.{◌≡◌};

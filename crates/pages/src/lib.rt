@@ -1,6 +1,8 @@
 // What a packet is to the open page of ours and to our last index, by its bytes alone: the two as they are then, whether it drops the
 // running block, and whether its 39 bytes are read. Every rule of the reader that doesn't look into those bytes stands here, or in
 // module `headers` where it is packet 0's. A reader of two streams asks module `two`.
+#![tactic(auto)]
+
 mod headers;
 pub mod two;
 

@@ -1,4 +1,6 @@
 // The bytes of strings (SCOPE 23.4): seven bits of a code, and the bit that makes the number of ones odd.
+#![tactic(auto)]
+
 ghost use Rattle.std.specs.Prelude.{◌≡◌};
 ghost use Rattle.parity.specs.Parity.{is_odd, letter as letter_of, odds as oddsOf};
 

@@ -4,6 +4,8 @@
 // A record is what stands in a text unit, ready for a teletext reader: the unit's id, the line byte,
 // and the 42 bytes after the framing byte, each turned. The definitions are in specs/: Reading.antt has
 // the call's rules, in order, and its bytes; Finding.antt says where a packet begins among any bytes.
+#![tactic(auto)]
+
 pub mod ebu;
 
 ghost use Rattle.std.specs.Prelude.{◌≡◌, ◌+◌, ◌*◌, ◌≤◌, leb, eqb, length, drop};

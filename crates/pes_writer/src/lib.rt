@@ -3,6 +3,8 @@
 //
 // The definitions are in specs/Writing.antt: the packet's bytes; the call's rules, in order, are
 // specs/Records.antt's, and module `writable` judges by them. What reading and writing owe each other is proofs/Statements.antt.
+#![tactic(auto)]
+
 mod writable;
 
 ghost use Rattle.std.specs.Prelude.{◌≡◌, ◌+◌, ◌*◌, ◌≤◌, length, replicate};

@@ -1,5 +1,7 @@
 // The reader of the guide page, called packet by packet; `feed_all` takes a list of packets in one call
 // (SCOPE 8 to 10). Two streams at once are module `two` (SCOPE 27).
+#![tactic(auto)]
+
 mod held;
 pub mod many;
 pub mod two;

@@ -6,6 +6,8 @@
 //
 // A line on standard error that tells of a failure begins `sheet: `. Words that the program is called with are heard twice: first all
 // are judged, then the files are opened.
+#![tactic(auto)]
+
 mod capture;
 mod comparing;
 mod files;

@@ -1,5 +1,7 @@
 // An entry of a day sheet at a place (SCOPE 20.6), read in one walk with nothing held: where it ends, its key, its stamp, what was mended, and
 // where its table's lines begin. And the text of an entry, written (SCOPE 20.8). Both in either form of a sheet (SCOPE 30.1).
+#![tactic(auto)]
+
 pub mod writing;
 
 ghost use Rattle.std.specs.Prelude.{Bool, ◌≡◌, ◌≤◌, drop};

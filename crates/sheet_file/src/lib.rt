@@ -2,6 +2,8 @@
 // `modes` what it is, `placing` puts the new one there. What the file says is none of this room's.
 //
 // What fails is told, in the name of the program that keeps the sheet, where it fails: errno is lost behind the next call.
+#![tactic(auto)]
+
 pub mod modes;
 pub mod paths;
 pub mod placing;

@@ -1,5 +1,7 @@
 // Day sheets joined (SCOPE 20.8, 30.2), and one entry added: two sheets in form are merged along their texts, whole entries passed and copied
 // by their places.
+#![tactic(auto)]
+
 pub mod adding;
 
 ghost use Rattle.std.specs.Prelude.{◌≡◌, ◌∷◌, [], ◌+◌, ◌≤◌, leb, length, drop};

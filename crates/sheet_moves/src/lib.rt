@@ -1,5 +1,7 @@
 // A sheet moved to the other form: the same entries, written in it (SCOPE 30.6). One walk for both ways: of each entry what stands before the
 // line of what was mended is copied, then that line as the other form has it is put, then what stands behind it is copied.
+#![tactic(auto)]
+
 ghost use Rattle.std.specs.Prelude.{true, ◌≡◌, ◌+◌, ◌≤◌, length, drop};
 ghost use Rattle.answer.specs.Writing.{answered, left};
 ghost use Rattle.text_lines.specs.Putting.{Put};

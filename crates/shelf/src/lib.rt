@@ -1,6 +1,8 @@
 // Menus kept by number (SCOPE 23.9). `shelf` has an entry for each: three bytes that name the entry before it in its row, then its form. `heads` has
 // three bytes for each of 256 rows, which name the row's last entry. An entry is named by its place, counted from 1; 0 names none. Both
 // lists are the caller's, who begins with heads of zeros and no byte in use.
+#![tactic(auto)]
+
 ghost use Rattle.std.specs.Prelude.{◌≡◌, ◌+◌, ◌*◌, ◌≤◌, eqb, leb, length, drop};
 ghost use Rattle.std.proofs.lemmas.List.Edits.{sets};
 ghost use Rattle.laws.specs.Pick.{both};

@@ -1,5 +1,7 @@
 // What is seen of a capture besides its tables: the counts that `-v` asks for (SCOPE 13.10), and, where no packet 0 of our page came,
 // what the capture may be (SCOPE 13.9). Once one has come, only `-v` looks on.
+#![tactic(auto)]
+
 pub mod lack;
 
 ghost use Rattle.std.specs.Prelude.{◌≡◌, ◌/◌, length};

@@ -1,5 +1,7 @@
 // The reader's state: what it keeps between packets, and when that is in range (SCOPE 10). Whether the running block
 // spans pages is module `joined`, the state of two streams module `two`.
+#![tactic(auto)]
+
 pub mod joined;
 pub mod two;
 

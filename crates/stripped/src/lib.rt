@@ -3,6 +3,8 @@
 // answers.
 //
 // The definitions are in specs/Stripped.antt.
+#![tactic(auto)]
+
 pub mod loss;
 
 ghost use Rattle.std.specs.Prelude.{◌≡◌, ◌≤◌, length};

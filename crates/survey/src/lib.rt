@@ -2,6 +2,8 @@
 // which pages came. Ours is the page in either of two streams; a setting that names one stream twice is of that stream alone (SCOPE 27.8).
 // Where none of ours came, `find` and `turn_all` tell whether its bytes fit at another place, or turned. Nothing is kept
 // here: what is known so far goes in and comes back.
+#![tactic(auto)]
+
 pub mod seen;
 
 ghost use Rattle.std.specs.Prelude.{◌≡◌, map};

@@ -3,6 +3,8 @@
 //
 // A block goes in whole cells of three symbols: its start, its 16 bits in four nibbles, its raw bytes,
 // then filler.
+#![tactic(auto)]
+
 pub mod cells;
 
 ghost use Rattle.std.specs.Prelude.{◌≡◌, ◌+◌, ◌/◌, ◌^◌, ◌≤◌, ◌<◌, length, get_or};

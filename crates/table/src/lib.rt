@@ -1,5 +1,7 @@
 // Block reading: the rules by which a Subtitle or Language block is taken, the table that it gives
 // (SCOPE 3.6, 12), and how many of its bytes were mended (SCOPE 19).
+#![tactic(auto)]
+
 mod lengths;
 mod spelling;
 

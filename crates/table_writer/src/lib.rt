@@ -1,4 +1,6 @@
 // Subtitle and Language tables to blocks (SCOPE 3.7, 12).
+#![tactic(auto)]
+
 ghost use Rattle.std.specs.Prelude.{true, ◌≡◌, map, ◌∷◌, [], ◌+◌, ◌-◌, ◌*◌, ◌/◌, ◌%◌, ◌^◌, ◌<◌, ◌≤◌, length, drop};
 ghost use Rattle.fields.specs.Fields.{alike, laid, fitting};
 ghost use Rattle.fields.specs.Pens.{inked, moved, Fine};

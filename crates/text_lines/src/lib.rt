@@ -3,6 +3,8 @@
 //
 // Each call answers the place after what it puts, and that goes on where there is no room, so that one
 // walk both measures and writes. At a place past `REACH` nothing is put.
+#![tactic(auto)]
+
 pub mod puts;
 
 ghost use Rattle.std.specs.Prelude.{◌≡◌, ◌∷◌, [], ◌++◌, ◌+◌, ◌^◌, ◌≤◌, ◌<◌, length, drop};

@@ -1,4 +1,6 @@
 // Lent texts held against each other: whether two are the same, whether one stands within the other, and how many empty lines there are.
+#![tactic(auto)]
+
 ghost use Rattle.std.specs.Prelude.{◌≡◌, ◌≤◌};
 ghost use Rattle.laws.specs.Pick.{pick, both};
 ghost use Rattle.texts.specs.Texts.{same_text, begins_with, stands_in, empty_lines};

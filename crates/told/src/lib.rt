@@ -1,5 +1,7 @@
 // What the programs tell and write, once for all of them. A line on standard error that tells of a failure begins with the program's
 // name. Every write to standard output is looked at: the first that doesn't take all is told, and the caller stops.
+#![tactic(auto)]
+
 pub mod names;
 
 ghost use Rattle.std.specs.Prelude.{◌≡◌};

@@ -1,4 +1,6 @@
 // Runs cases of teletext descriptors: op 70 writes one from a table form, op 71 reads one. The payload is the form or the descriptor.
+#![tactic(auto)]
+
 use vectors::{Case, Line, MOST, NextCase, SPACE};
 
 fn main() {

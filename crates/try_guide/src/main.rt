@@ -1,6 +1,8 @@
 // Runs cases of the guide page's packets: op 20 takes a setting and a fresh reader, op 21 feeds it one
 // packet, op 22 cuts records into packets, op 23 takes the better of two packets; op 24 takes a setting of two streams and
 // a fresh reader of two, op 25 feeds it one packet.
+#![tactic(auto)]
+
 use answer::Answer;
 use packet::Setting;
 use packet::two::Streams;

@@ -1,5 +1,7 @@
 // Runs cases of Application Information: op 34 reads it, op 35 writes it from its form; op 42 says whether the blocks of a list make a lawful
 // broadcast. Each begins with the application.
+#![tactic(auto)]
+
 use answer::Answer;
 use blocks::Read;
 use vectors::{Case, Line, MOST, NextCase, SPACE};

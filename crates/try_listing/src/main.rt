@@ -1,5 +1,7 @@
 // Runs cases of table forms: op 40 prints one as the desk's lines. Before the form stand the count of mended
 // bytes, in two bytes, the low one first, and the second byte.
+#![tactic(auto)]
+
 use vectors::{Case, Line, MOST, NextCase, SPACE};
 
 fn main() {

@@ -1,4 +1,6 @@
 // Runs cases of menus: op 32 reads one, op 33 writes one from its form, op 41 lists one of a number. All begin with the application.
+#![tactic(auto)]
+
 use answer::Answer;
 use blocks::Read;
 use vectors::{Case, Line, MOST, NextCase, SPACE};

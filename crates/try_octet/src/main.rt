@@ -1,5 +1,7 @@
 // Runs cases of one byte: op 1 decodes it, 2 gives its image, 3 turns it, 4 finds its fault place, 5 says how
 // it was heard.
+#![tactic(auto)]
+
 use answer::Answer;
 use octet::Heard;
 use vectors::{Case, Line, NextCase, SPACE};

@@ -1,4 +1,6 @@
 // Runs cases of PES packets: op 10 reads one, op 11 writes one from a data_identifier and records.
+#![tactic(auto)]
+
 use vectors::{Case, Line, MOST, NextCase, SPACE};
 
 fn main() {

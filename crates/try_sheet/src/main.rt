@@ -1,5 +1,7 @@
 // Runs cases of day sheets: op 50 writes one again, op 51 adds a table to one, op 52 joins two, op 53 compares two, op 56 drops an
 // entry, each of the old form; ops 60 to 63 and 66 do the same in the new one. Op 54 moves one of the old form to the new one, op 55 back.
+#![tactic(auto)]
+
 ghost use Rattle.std.specs.Prelude.{◌≤◌, ◌<◌};
 
 use sheet_entry::Form;

@@ -1,4 +1,6 @@
 // Runs cases of blocks: op 30 reads one, op 31 writes one from a table form. Both begin with the application.
+#![tactic(auto)]
+
 use answer::Answer;
 use blocks::Read;
 use vectors::{Case, Line, MOST, NextCase, SPACE};

@@ -3,6 +3,8 @@
 //
 // The definitions are in specs/Units.antt. What a unit that is met tells is in proofs/Meets.antt. What an id and a line byte say alone
 // is module `marks`.
+#![tactic(auto)]
+
 pub mod marks;
 
 ghost use Rattle.std.specs.Prelude.{◌≡◌, ◌≤◌, length};

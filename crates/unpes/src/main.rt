@@ -8,6 +8,8 @@
 //
 // A line on standard error that tells of a failure begins `unpes: `. Once standard output has failed, nothing more goes
 // out: a packet that is missing in the middle is what nobody could see.
+#![tactic(auto)]
+
 mod capture;
 mod help;
 

@@ -4,6 +4,8 @@
 // A program lends all memory: 131,200 bytes for the input, of which a case takes up to 65,545, and
 // 65,536 for the output. In each turn it calls `turn`, and for a case `cases::payload`, `lent::lend`, the
 // call that op names, and `lines::tell`.
+#![tactic(auto)]
+
 pub mod cases;
 pub mod lent;
 pub mod lines;

@@ -1,6 +1,8 @@
 // Within a packet: what its pointer says, and what a block's header says. Where a block starts in its bytes, and whether what stands before
 // the pointed byte may stand there, is module `starts`; the running block's bytes are the reader's (its module `held`), and the laws
 // of the running block in its store are proofs/Keeping and Adding.
+#![tactic(auto)]
+
 pub mod starts;
 
 ghost use Rattle.std.specs.Prelude.{◌≡◌, ◌+◌, ◌-◌, ◌≤◌, ◌<◌, length, drop};

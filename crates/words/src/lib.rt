@@ -9,6 +9,8 @@
 //
 // One word is heard at a time. The program hears them all, and asks is_good, before it opens anything; then it goes through them again
 // for the names, and asks of each which place it takes.
+#![tactic(auto)]
+
 pub mod numbers;
 pub mod options;
 pub mod places;

@@ -3,6 +3,8 @@
 // The writer's 39 bytes after a packet's pointer are thirteen cells of three. A block goes in whole
 // cells: its start, its 16 bits in four nibbles, its raw bytes, then filler. So every start stands at
 // a byte 1+3p, and the pointer is the cell of a packet's first start.
+#![tactic(auto)]
+
 mod zero;
 
 ghost use Rattle.std.specs.Prelude.{◌≡◌, [], map, ◌+◌, ◌*◌, ◌/◌, ◌^◌, ◌≤◌, ◌<◌, length};

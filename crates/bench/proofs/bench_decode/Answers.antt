@@ -1,0 +1,18 @@
+-- The answers that `bench::bench_decode` wants beside its invariants. Assumes nothing.
+use borrow.Author.Rules.{rules}
+use mathlib.Core.Path.{◌∙◌, sym}
+use Prim.Native.Nat.{◌-◌}
+use Rattle.octet.specs.Decoding.{nib}
+use Rattle.bench.proofs.Mixing.{mix_step, mix_end}
+use Rattle.bench.proofs.bench_decode.Goals as goal
+
+pub loop-i-preserved : goal.loop-i-preserved
+loop-i-preserved c =
+    let l = c.loop-i in
+    let a = c.args in
+    mix_step nib a.s.now l.i l.mix c.decode-mix.result (search rules) c.decode-mix.ensures ∙ l.invariant
+
+pub returns : goal.returns
+returns c =
+    let l = c.loop-i in
+    sym (mix_end nib c.args.s.now l.i l.mix (search rules)) ∙ l.invariant

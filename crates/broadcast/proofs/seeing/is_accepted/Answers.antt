@@ -1,0 +1,7 @@
+-- `broadcast::seeing::is_accepted` meets its contract. Assumes nothing.
+use mathlib.Core.Path.{◌∙◌, sym, ap}
+use Rattle.broadcast.specs.Internal.{is_accepted}
+use Rattle.broadcast.proofs.seeing.is_accepted.Goals as goal
+
+pub returns-in-Refused : goal.returns-in-Refused
+returns-in-Refused c = c.is_room.ensures ∙ sym (ap is_accepted c.in-Refused.is)

@@ -1,0 +1,12 @@
+-- `fields::word_at` meets its contract, as `some_at` does: n is the field from nibble i up to the last. Assumes nothing.
+use mathlib.Core.Path.{◌≡◌}
+use Prim.Native.Nat.{◌-◌, ◌*◌, ◌≤◌}
+use Rattle.fields.specs.Fields.{field}
+use Rattle.fields.specs.Compound.{compound}
+use Rattle.fields.proofs.word_at.Given as goal
+
+abbrev pub invariant-loop-i : goal.invariant-loop-i
+invariant-loop-i l = (l.first ≤ l.i) × (l.i ≤ l.end) × (l.n ≡ field (l.i * 4) ((l.end - l.i) * 4) (compound l.s))
+
+abbrev pub decreases-loop-i : goal.decreases-loop-i
+decreases-loop-i l = l.i

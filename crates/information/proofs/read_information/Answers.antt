@@ -1,0 +1,38 @@
+-- `information::read_information` meets its contract: the answer of `read_form`, with the count beside it. Assumes nothing.
+use mathlib.Core.Path.{◌∙◌, sym, ap}
+use mathlib.Core.List.{List}
+use Prim.Native.Nat.{ℕ}
+use native.Mathlib.Omega.{arith}
+use lib.ListN.{drop}
+use Rattle.answer.proofs.Lent.{lent-all}
+use Rattle.blocks.specs.declared.Read.TheVariants.{Taken}
+use Rattle.blocks.specs.Values.{counted}
+use Rattle.kinds.proofs.Exact.{mended_most_lem}
+use Rattle.information_forms.specs.Form.{form}
+use Rattle.information_forms.specs.Kind.{information}
+use Rattle.information_forms.proofs.Sending.{owed}
+use Rattle.information.specs.Reading.{read_rules, information_read, mended_control}
+use Rattle.information.proofs.read_information.Goals as goal
+
+pub overflow_cast-mended : goal.overflow_cast-mended
+overflow_cast-mended c =
+    let a = c.args in
+    let r : List ℕ = a.rec.now in
+    let d = sym c.read_form.ensures.answer ∙ c.in-Done.is in
+    let all = lent-all (read_rules a.application r) (form (information_read (drop 4 r))) a.out.now _ d in
+    omega (arith, c.mended_in-mended.ensures, mended_most_lem information owed a.application r all.0)
+
+pub returns-in-Refused : goal.returns-in-Refused
+returns-in-Refused c =
+    record {
+      answer = sym (ap (counted (mended_control _)) (sym c.read_form.ensures.answer ∙ c.in-Refused.is));
+      output = c.read_form.ensures.output;
+    }
+
+pub returns-in-Done : goal.returns-in-Done
+returns-in-Done c =
+    record {
+      answer = ap (Taken c.in-Done.written) c.mended_in-mended.ensures
+          ∙ sym (ap (counted (mended_control _)) (sym c.read_form.ensures.answer ∙ c.in-Done.is));
+      output = c.read_form.ensures.output;
+    }

@@ -1,0 +1,74 @@
+-- The answers that `menu_listing::finding::find_menu` wants beside its invariants. Assumes nothing.
+use borrow.Author.Rules.{rules}
+use mathlib.Core.Path.{◌∙◌, refl, sym}
+use mathlib.Core.List.{List}
+use Prim.Native.Nat.{ℕ, ◌-◌}
+use native.Mathlib.Omega.{arith}
+use lib.ListN.{drop, length-drop}
+use lib.Seq.{length-take-le}
+use Rattle.blocks.proofs.Walking.{Standing, standing, ended, broken}
+use Rattle.menu_listing.proofs.Records.{passed_over, found_first, none-ended, none-broken, none-held}
+use Rattle.menu_listing.proofs.finding.find_menu.Goals as goal
+
+pub loop-next-init : goal.loop-next-init
+loop-next-init c = (search rules, c.requires, refl)
+
+pub shape_of-form-in-End : goal.shape_of-form-in-End
+shape_of-form-in-End c = c.loop-next.invariant.1 ∙ sym c.requires
+
+pub returns-in-End : goal.returns-in-End
+returns-in-End c =
+    let s = c.args in
+    let e = none-ended s.application s.number _ _ (ended _ _ (sym c.record_at.ensures ∙ c.in-End.is)) in
+    none-held _ (sym e ∙ c.loop-next.invariant.2)
+
+pub shape_of-form-in-Broken : goal.shape_of-form-in-Broken
+shape_of-form-in-Broken c = c.loop-next.invariant.1 ∙ sym c.requires
+
+pub returns-in-Broken : goal.returns-in-Broken
+returns-in-Broken c =
+    let s = c.args in
+    let e = none-broken s.application s.number (drop c.loop-next.at s.records.now) (broken _ _ (sym c.record_at.ensures ∙ c.in-Broken.is)).1 in
+    none-held _ (sym e ∙ c.loop-next.invariant.2)
+
+pub slice_bounds-judge-count : goal.slice_bounds-judge-count
+slice_bounds-judge-count c =
+    let stands-c : (Standing c.args.records.now c.loop-next.at c.in-Record.head
+    c.in-Record.raw c.in-Record.next) = (standing _ _ _ _ _ (sym c.record_at.ensures ∙ c.in-Record.is)) in
+    let s = stands-c in omega (arith, s.its-next)
+
+pub judge-requires : goal.judge-requires
+judge-requires c =
+    let stands-c : (Standing c.args.records.now c.loop-next.at c.in-Record.head
+    c.in-Record.raw c.in-Record.next) = (standing _ _ _ _ _ (sym c.record_at.ensures ∙ c.in-Record.is)) in
+    let s = stands-c in
+    let l = c.loop-next in
+    let g : List ℕ = drop l.at c.args.records.now in
+    let n = c.in-Record.next in
+    let e = length-take-le (n - l.at) g (omega (arith, s.within, length-drop l.at c.args.records.now)) in
+    (omega (arith, e, s.its-next), l.invariant.1)
+
+pub returns-then-judge : goal.returns-then-judge
+returns-then-judge c =
+    let stands-c : (Standing c.args.records.now c.loop-next.at c.in-Record.head
+    c.in-Record.raw c.in-Record.next) = (standing _ _ _ _ _ (sym c.record_at.ensures ∙ c.in-Record.is)) in
+    let l = c.loop-next in
+    let s = c.args in
+    found_first s.application s.number stands-c c.judge.ensures c.if-judge.true l.invariant.2
+
+pub loop-next-smaller : goal.loop-next-smaller
+loop-next-smaller c =
+    let stands-c : (Standing c.args.records.now c.loop-next.at c.in-Record.head
+    c.in-Record.raw c.in-Record.next) = (standing _ _ _ _ _ (sym c.record_at.ensures ∙ c.in-Record.is)) in
+    let s = stands-c in omega (arith, s.its-next, s.within)
+
+pub loop-next-preserved : goal.loop-next-preserved
+loop-next-preserved c =
+    let stands-c : (Standing c.args.records.now c.loop-next.at c.in-Record.head
+    c.in-Record.raw c.in-Record.next) = (standing _ _ _ _ _ (sym c.record_at.ensures ∙ c.in-Record.is)) in
+    let j = c.judge in
+    let l = c.loop-next in
+    let s = c.args in
+    let t = stands-c in
+    let e = passed_over s.application s.number t j.ensures c.if-judge.false in
+    (t.within, j.auto.1.1.1.0 ∙ l.invariant.1, sym e ∙ l.invariant.2)

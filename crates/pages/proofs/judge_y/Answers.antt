@@ -1,0 +1,16 @@
+-- `pages::judge_y` meets its contract: no page is open, the packet is over n, or it is read. Assumes nothing.
+use native.Mathlib.Omega.{arith}
+use borrow.Author.Tests.{le-leb, lt-leb}
+use Rattle.pages.proofs.judge_y.Goals as goal
+
+pub returns-then-y-n : goal.returns-then-y-n
+returns-then-y-n c =
+    let a = c.args in
+    let page = c.page-1.given in
+    rw (c.is_wrong-wrong.ensures, page.1, lt-leb a.y page.0.0 (omega arith))
+
+pub returns-in-Shut : goal.returns-in-Shut
+returns-in-Shut c = rw c.in-Shut.is
+
+pub returns-else-y-n : goal.returns-else-y-n
+returns-else-y-n c = rw (c.is_wrong-wrong.ensures, c.in-Open.is, le-leb _ _ c.if-y-n.false)

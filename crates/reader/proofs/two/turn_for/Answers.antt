@@ -1,0 +1,12 @@
+-- `reader::two::turn_for` meets its contract. Assumes nothing.
+use Rattle.reader.proofs.HeedingTwo.{turned_alone}
+use Rattle.reader.proofs.two.turn_for.Goals as goal
+
+pub turn-a-requires : goal.turn-a-requires
+turn-a-requires c =
+    let it = rw c.start-from.ensures (c.requires.kept, c.requires.reads_value) in
+    record { kept = it.0; reads_value = it.1 }
+
+pub returns : goal.returns
+returns c =
+    turned_alone c.args.v c.args.half c.args.store.now c.requires.reads_value c.start-from.ensures c.turn-a.ensures

@@ -1,0 +1,45 @@
+-- `sheet_moves::carry` meets its contract: the sheet's rules first, then the numbers, then the size. Assumes nothing.
+use mathlib.Core.Path.{◌∙◌, sym}
+use Rattle.sheet_moves.proofs.Carried.{move-bad, move-mended, move-plainly, move-goes-on}
+use Rattle.day_sheet.proofs.Counted.{counted-short, counted-as, counted-halfway}
+use Rattle.sheet_moves.proofs.carry.Goals as goal
+
+pub none_mended-requires : goal.none_mended-requires
+none_mended-requires c =
+    let a = c.args in
+    counted-halfway a.from a.sheet.now c.count.ensures c.in-Done.is
+
+pub returns-then-not-none_mended : goal.returns-then-not-none_mended
+returns-then-not-none_mended c =
+    let a = c.args in
+    let d = move-mended a.from a.to a.sheet.now a.out.now c.count.ensures c.in-Done.is (sym c.if-not-none_mended.true ∙ c.none_mended.ensures) in
+    record {
+      answer = c.refuse.ensures ∙ d.0;
+      output = d.1;
+    }
+
+pub carry_counted-requires : goal.carry_counted-requires
+carry_counted-requires c =
+    let a = c.args in
+    let counts = c.count.ensures in
+    let done = c.in-Done.is in (
+      move-plainly a.from a.to a.sheet.now a.out.now counts done (sym c.if-not-none_mended.false ∙ c.none_mended.ensures),
+      counted-short a.from a.sheet.now counts done,
+      counted-as a.from a.sheet.now counts done,
+    )
+
+pub returns-in-Refused : goal.returns-in-Refused
+returns-in-Refused c =
+    let a = c.args in
+    let it = move-bad a.from a.to a.sheet.now a.out.now c.count.ensures c.in-Refused.is in
+    record { answer = it.0; output = it.1 }
+
+pub returns-else-not-none_mended : goal.returns-else-not-none_mended
+returns-else-not-none_mended c =
+    let a = c.args in
+    let p = move-goes-on a.from a.to a.sheet.now a.out.now c.count.ensures c.in-Done.is (sym c.if-not-none_mended.false ∙ c.none_mended.ensures) in
+    let e = c.carry_counted.ensures in
+    record {
+      answer = e.0 ∙ p.0;
+      output = e.1 ∙ p.1;
+    }

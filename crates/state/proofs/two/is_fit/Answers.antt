@@ -1,0 +1,8 @@
+-- `state::two::is_fit` meets its contract: it asks what one stream's reader is asked. Assumes nothing.
+
+use Rattle.state.proofs.two.is_fit.Goals as goal
+
+pub returns : goal.returns
+returns c =
+    let it = rw c.page_of-own.ensures at c.in_range.ensures in
+    record { value = it.0; sixteen = it.1 }

@@ -1,0 +1,13 @@
+-- `stripped::put_packets` meets its contract. The loop's invariant: the packets from here on, stored now, give the whole. The measure is
+-- what is left of the PES packet. Assumes nothing.
+use Prim.Native.Nat.{◌-◌}
+use lib.ListN.{length}
+use Rattle.pes.proofs.Filling.{Filled}
+use Rattle.stripped.specs.Stripped.{packet_at}
+use Rattle.stripped.proofs.put_packets.Given as goal
+
+abbrev pub invariant-loop-next : goal.invariant-loop-next
+invariant-loop-next l = Filled (packet_at l.pes) l.pes l.initial.packets l.at l.to l.packets
+
+abbrev pub decreases-loop-next : goal.decreases-loop-next
+decreases-loop-next l = length l.pes - l.at

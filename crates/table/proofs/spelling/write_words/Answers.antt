@@ -1,0 +1,27 @@
+-- The answers that `table::spelling::write_words` wants beside its invariants. Assumes nothing.
+use borrow.Author.Rules.{rules}
+use mathlib.Core.Path.{◌∙◌, refl}
+use Rattle.fields.specs.Compound.{compound}
+use Rattle.table.proofs.Written.{word_on, words_end}
+use Rattle.table.proofs.spelling.write_words.Goals as goal
+
+pub loop-left-init : goal.loop-left-init
+loop-left-init c = (refl, search rules, search rules, refl)
+
+pub loop-left-preserved : goal.loop-left-preserved
+loop-left-preserved c =
+    let l = c.loop-left in
+    let k = c.write_word.auto.1.0 in
+    let a = c.args in
+    let f = c.field_of-w in (
+      k ∙ l.invariant.0,
+      search rules,
+      search rules,
+      word_on l.left (compound a.body.now) l.at l.p f.result l.out c.write_word.new.1.0 _ (search rules)
+          f.ensures.0 c.write_word.ensures l.invariant.3,
+    )
+
+pub returns : goal.returns
+returns c =
+    let l = c.loop-left in
+    words_end l.left (compound c.args.body.now) l.at l.p l.out _ (search rules) l.invariant.3

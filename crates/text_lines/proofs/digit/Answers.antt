@@ -1,0 +1,12 @@
+-- `text_lines::digit` meets its contract: by cases on the test. Assumes nothing.
+use borrow.Author.Tests.{lt-ltb, le-ltb}
+use Rattle.text_lines.specs.Lines.{digit}
+use Rattle.text_lines.proofs.digit.Goals as goal
+
+pub returns-then-n-lt10 : goal.returns-then-n-lt10
+unfolding digit
+returns-then-n-lt10 c = simp (lt-ltb _ _ c.if-n-lt10.true)
+
+pub returns : goal.returns
+unfolding digit
+returns c = simp (le-ltb _ _ c.if-n-lt10.false)

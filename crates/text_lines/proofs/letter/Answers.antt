@@ -1,0 +1,9 @@
+-- `text_lines::letter` meets its contract: by cases on the tests. Assumes nothing.
+use borrow.Author.Tests.{le-leb, lt-leb}
+use Rattle.text_lines.proofs.letter.Goals as goal
+
+pub returns-then-b-lt97 : goal.returns-then-b-lt97
+returns-then-b-lt97 c = simp (lt-leb _ _ c.if-b-lt97.true)
+
+pub returns : goal.returns
+returns c = simp (le-leb _ _ c.if-b-lt97.false)

@@ -1,0 +1,27 @@
+-- The answers that `writer::write_page` wants beside its invariants. Assumes nothing.
+use Prim.Native.Nat.{◌-◌}
+use borrow.Author.Rules.{rules}
+use lib.Seq.{sets}
+use Rattle.packet.specs.Packet.{packet_zero}
+use Rattle.writer.proofs.PacketZero.{written}
+use Rattle.symbols.specs.Internal.{rest_of}
+use Rattle.writer.proofs.Paging.{rowed-none, rowed-more, rowed-all, page-laid}
+use Rattle.writer.proofs.write_page.Goals as goal
+
+pub loop-y-init : goal.loop-y-init
+loop-y-init c = rowed-none _ _ _ _ _ _ (search rules)
+
+pub loop-y-preserved : goal.loop-y-preserved
+loop-y-preserved c =
+    let w = c.write_packet-at in
+    rowed-more c.loop-y.invariant c.loop-y-test.true
+    w.new.1.1.1.1.0 w.result w.ensures.0 w.ensures.1
+
+pub returns : goal.returns
+returns c =
+    let a = c.args in
+    let e = rowed-all c.loop-y.invariant c.loop-y-test.false in record {
+      out_after = page-laid a.s a.k a.index (rest_of a.records.now a.pen) a.out.now c.write_zero.new.1.1.1.0 c.loop-y.out
+          a.q (written a.out.now c.write_zero.new.1.1.1.0 (sets a.out.now a.q (packet_zero a.s a.index a.k)) a.q 42 (search rules) c.write_zero.ensures) e.0;
+      goes = e.1;
+    }
