@@ -134,4 +134,4 @@ returns-in-30 c = eight_at mark c.args.i 30 _ c.in-30.is refl
 
 pub returns-in_default : goal.returns-in_default
 unfolding packed mark harm nib nibble_from image with_parity differing number
-returns-in_default c = eight_at mark c.args.i 31 _ (last _ (past _ 31 c.in_default-own.rest) c.requires) refl
+returns-in_default c = eight_at mark c.args.i 31 _ (last _ (past _ 31 c.in_default.in_default-own.rest) c.requires) refl
