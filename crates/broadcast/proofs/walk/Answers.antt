@@ -65,4 +65,4 @@ loop-next-preserved c =
     let see = c.see-seen.ensures in
     let channel = channel-on s.application small t see l.channel c.channel_after-channel.ensures in
     let tally = tally-on s.application small t see l.tally c.count.ensures in
-    (t.within, c.count.auto.0 ∙ l.invariant.1, sym (whole-at t) ∙ l.invariant.2, channel ∙ l.invariant.3, tally ∙ l.invariant.4)
+    (t.within, c.count.auto.tally ∙ l.invariant.1, sym (whole-at t) ∙ l.invariant.2, channel ∙ l.invariant.3, tally ∙ l.invariant.4)

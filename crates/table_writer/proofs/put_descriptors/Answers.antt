@@ -82,7 +82,7 @@ loop-left-preserved c =
       fit = l.invariant.3;
     } in (
       fine-descriptor ahead l.p q.ensures.0 r.ensures.0,
-      r.auto.1.1.1.1.0 ∙ q.auto.1.1.1.0 ∙ l.invariant.1,
+      r.auto.out ∙ q.auto.out ∙ l.invariant.1,
       omega (arith, l.invariant.2, w.ensures.1, few_words ahead),
       fit_on ahead,
       on-descriptor ahead l.p q.ensures.0 r.ensures.0 ∙ l.invariant.4,

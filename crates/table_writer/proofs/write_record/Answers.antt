@@ -31,4 +31,4 @@ returns c =
     let head = c.args.application + 32 * (2 * ((c.args.bits + 7) / 8)) in
     let k = head_of c.args.application (2 * ((c.args.bits + 7) / 8)) c.requires.0 (omega (arith, b, (sendable t c.requires.1).control-fits)) in
     record_stored c.args.application head t c.args.out.now (k.0 ∙ ap (λ (n : ℕ). laid (header c.args.application n) 0) b) k.1 c.requires.3 c.put_head.ensures
-    c.write_fields.ensures (c.seal.ensures ∙ ap (λ (n : ℕ). sealed head n c.write_fields.new.1.1.0) b)
+    c.write_fields.ensures (c.seal.ensures ∙ ap (λ (n : ℕ). sealed head n c.write_fields.new.out) b)

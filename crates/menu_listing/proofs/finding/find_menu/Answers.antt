@@ -71,4 +71,4 @@ loop-next-preserved c =
     let s = c.args in
     let t = stands-c in
     let e = passed_over s.application s.number t j.ensures c.if-judge.false in
-    (t.within, j.auto.1.1.1.0 ∙ l.invariant.1, sym e ∙ l.invariant.2)
+    (t.within, j.auto.form ∙ l.invariant.1, sym e ∙ l.invariant.2)
