@@ -46,13 +46,13 @@ pub slice_bounds-see-count : goal.slice_bounds-see-count
 slice_bounds-see-count c =
     let stands-c : (Standing c.args.records.now c.loop-next.at c.in-Record.head
     c.in-Record.raw c.in-Record.next) = (standing _ _ _ _ _ (sym c.record_at.ensures ∙ c.in-Record.is)) in
-    let s = stands-c in omega (arith, s.its-next)
+    let s = stands-c in omega (arith, s.its_next)
 
 pub loop-next-smaller : goal.loop-next-smaller
 loop-next-smaller c =
     let stands-c : (Standing c.args.records.now c.loop-next.at c.in-Record.head
     c.in-Record.raw c.in-Record.next) = (standing _ _ _ _ _ (sym c.record_at.ensures ∙ c.in-Record.is)) in
-    let s = stands-c in omega (arith, s.its-next, s.within)
+    let s = stands-c in omega (arith, s.its_next, s.within)
 
 pub loop-next-preserved : goal.loop-next-preserved
 loop-next-preserved c =

@@ -15,11 +15,11 @@ use Rattle.table_writer.proofs.write_fields.Goals as goal
 
 pub overflow_add-control : goal.overflow_add-control
 overflow_add-control c =
-    omega (arith, c.requires.1, (sendable (table_in c.args.table.now) c.requires.0).control-fits)
+    omega (arith, c.requires.1, (sendable (table_in c.args.table.now) c.requires.0).control_fits)
 
 pub first_fields-first-requires : goal.first_fields-first-requires
 first_fields-first-requires c =
-    (c.requires.0, omega (arith, c.requires.1, (sendable (table_in c.args.table.now) c.requires.0).control-fits))
+    (c.requires.0, omega (arith, c.requires.1, (sendable (table_in c.args.table.now) c.requires.0).control_fits))
 
 pub put_descriptors-c-requires : goal.put_descriptors-c-requires
 put_descriptors-c-requires c =
@@ -33,7 +33,7 @@ put_descriptors-c-requires c =
 
 pub overflow_mul-control : goal.overflow_mul-control
 overflow_mul-control c =
-    omega (arith, c.requires.1, (sendable (table_in c.args.table.now) c.requires.0).control-fits)
+    omega (arith, c.requires.1, (sendable (table_in c.args.table.now) c.requires.0).control_fits)
 
 pub returns : goal.returns
 returns c =
