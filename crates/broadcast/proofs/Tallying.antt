@@ -162,7 +162,7 @@ module _ (t : List ℕ) (fresh : t ≡ replicate places 0) (application : ℕ) (
 
   each_network : (k : ℕ) → k < 9 → each_within (counts_by (tallied t ss) channel) k 1 2 ≡ each_within (counted ss) k 1 2
   unfolding each_within counts_by counted
-  each-network k h =
+  each_network k h =
       all_same
       (λ (n : ℕ). leb (get_or (tallied t ss) (network_at k n) 0) (limit 1 2 channel n))
       (λ (n : ℕ). leb (number_of ss k n) (limit 1 2 channel n))
@@ -177,8 +177,8 @@ module _ (t : List ℕ) (fresh : t ≡ replicate places 0) (application : ℕ) (
         kind_at AI (omega arith),
         kind_at MI (omega arith),
         kind_at UI (omega arith),
-        each-network LI (omega arith),
-        each-network TI (omega arith),
+        each_network LI (omega arith),
+        each_network TI (omega arith),
         capped_eqb (number ss AI) 1 (omega arith),
         capped_leb (number ss MI) 255 (omega arith),
         capped_leb (number ss UI) 1 (omega arith),

@@ -38,7 +38,7 @@ use Rattle.state.specs.State.{fresh_state}
 use Rattle.claims.specs.Carrying.{heard_blocks}
 use Rattle.claims.specs.Tables.{records_of, sent as tables_sent, tables_of}
 use Rattle.claims.specs.Noise.{Near, Aired, ended, sent, between}
-use Rattle.claims.specs.Twice.{glued, Both, of-first, of-second, Twice, ended as twice_ended, sent as twice_sent, between as twice_between}
+use Rattle.claims.specs.Twice.{glued, Both, of_first, of_second, Twice, ended as twice_ended, sent as twice_sent, between as twice_between}
 use Rattle.claims.proofs.Losing.{near-length, near-append, near-drop, near-take}
 
 -- ---- the packet that goes on
@@ -59,8 +59,8 @@ module _ {R : ℕ → ℕ → Type 0} {p first second : List ℕ} (long : length
       subst (λ (l : List ℕ). Near R l (glued a first second)) (take-append-drop address_length p) (near-append (near-take address_length n) part-near)
 
 both-near : {R : ℕ → ℕ → Type 0} {p q : List ℕ} → length p ≡ packet_length → Both R p q → Near R p q
-both-near long (of-first one two e) = rw e (glued-near long one two one)
-both-near long (of-second one two e) = rw e (glued-near long one two two)
+both-near long (of_first one two e) = rw e (glued-near long one two one)
+both-near long (of_second one two e) = rw e (glued-near long one two two)
 
 -- ---- what goes on of all packets has been aired: so `exactly`, `never-wrong` and the statements of the calls hold of it
 

@@ -90,18 +90,18 @@ module _ (first second : List ℕ) (every : Every (join_rules Old first second))
   first-up =
       let w = within.0 in
       let j = joined-long (entries_of Old first) (entries_of Old second) in
-      more (first_holds every) (more first-in (more (le-leb (length (entries_of Old first)) entry_limit (omega arith)) all_hold))
+      more (first_holds every) (more first_in (more (le-leb (length (entries_of Old first)) entry_limit (omega arith)) all_hold))
 
   pub second-up : Every (up_rules second)
   unfolding join_rules up_rules join_result Both
   second-up =
       let w = within.0 in
       let j = joined-long (entries_of Old first) (entries_of Old second) in
-      more (first_holds (others_hold every)) (more second-in (more (le-leb (length (entries_of Old second)) entry_limit (omega arith)) all_hold))
+      more (first_holds (others_hold every)) (more second_in (more (le-leb (length (entries_of Old second)) entry_limit (omega arith)) all_hold))
 
   joined-read : InForm Old sheet × (entries_of Old sheet ≡ together)
   unfolding join_result
-  joined-read = text_of Old (sheet-joined Old (sheet-of Old first first-in) (sheet-of Old second second-in))
+  joined-read = text_of Old (sheet-joined Old (sheet-of Old first first_in) (sheet-of Old second second_in))
 
   pub joined-up : Every (up_rules sheet)
   unfolding up_rules

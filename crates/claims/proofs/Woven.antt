@@ -22,7 +22,7 @@ use Rattle.claims.specs.Noise.{Near}
 use Rattle.claims.specs.Mingled.{Kind, elsewhere, header, row, Mingled, ended, sent, between, begins, goes, OtherPage, OtherRow, Rightly, Shared}
 use Rattle.claims.specs.CutLine.{Readable, from_page, before_page, Resumed}
 use Rattle.claims.specs.Differing.{the_other}
-use Rattle.claims.specs.Woven.{Woven, of-first, of-second, ended as woven_ended, between as woven_between, begins as woven_begins, goes as woven_goes, cut_for, ToBoth, BothWoven, BothShared, BothClean}
+use Rattle.claims.specs.Woven.{Woven, of_first, of_second, ended as woven_ended, between as woven_between, begins as woven_begins, goes as woven_goes, cut_for, ToBoth, BothWoven, BothShared, BothClean}
 use Rattle.claims.proofs.Hearing.{six-nibbles, rightly-readable}
 use Rattle.claims.proofs.Blocks.{range}
 use Rattle.claims.proofs.CutLine.{Clean, clean, drop-pages}
@@ -58,8 +58,8 @@ turned :
     {R : ℕ → ℕ → Type 0} {K : Kind → List ℕ → Type 0} {k l m n : ℕ} {begun : Bool} {ps ours rs theirs qs : List (List ℕ)}
     → Woven R K k l m ps ours n rs theirs begun qs → Woven R K l k n rs theirs m ps ours begun qs
 turned woven_ended = woven_ended
-turned (of-first n a) = of-second n (turned a)
-turned (of-second n a) = of-first n (turned a)
+turned (of_first n a) = of_second n (turned a)
+turned (of_second n a) = of_first n (turned a)
 turned (woven_between e a) = woven_between e (turned a)
 turned (woven_begins e a) = woven_begins e (turned a)
 turned (woven_goes e a) = woven_goes e (turned a)
@@ -71,9 +71,9 @@ module _ {R : ℕ → ℕ → Type 0} {K J : Kind → List ℕ → Type 0} {k l 
       → Paged (λ p. (q : List ℕ) → Near R p q → J header q) (λ p. (q : List ℕ) → Near R p q → J row q) l n rs
       → (t : Bool) → (1 ≤ n → t ≡ true) → (begun ≡ true → t ≡ true) → Woven R K k l m ps ours n rs theirs begun qs → Mingled R J k m t ps ours qs
   one-alone r t h g woven_ended = ended
-  one-alone r t h g (of-first n a) = sent n (one-alone r false (λ x. absurd (omega arith)) (λ e. e) a)
-  one-alone (zeroth z r) t h g (of-second {q = q} n a) = begins (z q n) (one-alone r true (λ x. refl) (λ e. refl) a)
-  one-alone (another y r) t h g (of-second {q = q} n a) =
+  one-alone r t h g (of_first n a) = sent n (one-alone r false (λ x. absurd (omega arith)) (λ e. e) a)
+  one-alone (zeroth z r) t h g (of_second {q = q} n a) = begins (z q n) (one-alone r true (λ x. refl) (λ e. refl) a)
+  one-alone (another y r) t h g (of_second {q = q} n a) =
       rw (h (omega arith)) (goes (y q n) (one-alone r true (λ x. refl) (λ e. refl) a))
   one-alone r t h g (woven_between {q = q} e a) = between (among elsewhere q e) (one-alone r t h g a)
   one-alone r t h g (woven_begins {q = q} e a) = begins (among header q e) (one-alone r true (λ x. refl) (λ e. refl) a)

@@ -105,7 +105,7 @@ module _ (f : List ℕ) (name : ℕ) (e : name ≡ get_or f 18 0) (h : name < 25
 
   pub opening-over : 2 ≤ get_or f 1 0 → false ≡ opening_fine (information_in f)
   opening-over over =
-      sym (opening-fits ∙ ap (λ (x : Bool). both x (both (fitting (row_at opening_widths 2 f)) (sevens (codes_in name (drop 20 f))))) (le-ltb (get_or f 1 0) 2 over))
+      sym (opening_fits ∙ ap (λ (x : Bool). both x (both (fitting (row_at opening_widths 2 f)) (sevens (codes_in name (drop 20 f))))) (le-ltb (get_or f 1 0) 2 over))
 
   pub networks-found : (count : ℕ) → count ≡ get_or f 16 0 → count < 256 → (information_in f).networks ≡ networks_from count 0 name f
   unfolding information_in row_bytes

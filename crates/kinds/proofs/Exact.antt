@@ -292,13 +292,13 @@ module _ {B : Type 0} (k : Kind B) (o : Owed k) (application : ℕ) (r : List �
 
   control_said : (front_in (map nib (take 8 block))).control ≡ control k c
   unfolding front_in
-  control-said =
+  control_said =
       control_bytes block (2 * control k c) (omega (arith, four k c)) ∙ ap (λ (l : List ℕ). (front_in l).control) said.body
       ∙ ap (λ (x : Sent B). x.0.control) read_back
 
   pub said-parts : Parted k.spoken block (2 * control k c)
   said-parts =
-      parted k.spoken block (control k c) (λ e. control-said) (four k c) enough
+      parted k.spoken block (control k c) (λ e. control_said) (four k c) enough
       (λ e. omega (arith, block-long, ap length (o.silent e c)))
 
   said-nibbles : map nib (control_part k.spoken block) ≡ ours

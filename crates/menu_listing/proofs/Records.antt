@@ -86,7 +86,7 @@ module _ (application number : ℕ) {l : List ℕ} {p head raw next : ℕ} (s : 
       j.says
       ∙ ap₂ (λ (rules : List Rule) (bytes : List ℕ). both (holding rules) (eqb (menu_read bytes).block number))
       (ap (read_rules application) its-record ∙ (same-record application from s.whole_there).0)
-      its-raw
+      its_raw
 
   here : menus_of application number (blocks from) ≡ pick r (menu_read (block_of from).raw ∷ []) [] ++ menus_of application number (blocks (drop next l))
   unfolding menus_of
@@ -100,7 +100,7 @@ module _ (application number : ℕ) {l : List ℕ} {p head raw next : ℕ} (s : 
   pub found_first : {ms : List Menu} → r ≡ true → menus_of application number (blocks from) ≡ ms → Held ms f true
   found_first {ms} e h =
       let m = menu_read (block_of from).raw in
-      let q : menu_in f ≡ m = j.stands e ∙ ap menu_read its-raw in
+      let q : menu_in f ≡ m = j.stands e ∙ ap menu_read its_raw in
       let same : m ∷ menus_of application number (blocks (drop next l)) ≡ ms = sym (here ∙ (rw e)) ∙ h in
       subst (λ (x : List Menu). Held x f true) same (first q)
 

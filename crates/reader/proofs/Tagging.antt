@@ -58,14 +58,14 @@ module _ (k : ℕ) (l : List ℕ) (n : ℕ) (out₀ : List ℕ) (to : ℕ) where
   -- one record
   module _ (p : ℕ) (b : Block) (others : List ℕ) (h : Sized b) (e : drop p l ≡ record_of b ++ others) where
     its_head : get_or l p 0 + 256 * get_or l (p + 1) 0 ≡ b.head
-    its-head =
+    its_head =
         let x : get_or l (p + 0) 0 ≡ b.head % 256 = sym (get_or-drop p l 0 0) ∙ ap (λ (m : List ℕ). get_or m 0 0) e in
         let y : get_or l (p + 1) 0 ≡ b.head / 256 = sym (get_or-drop p l 1 0) ∙ ap (λ (m : List ℕ). get_or m 1 0) e in
         let z : get_or l p 0 ≡ b.head % 256 = rw add-zero at x in
         omega arith
 
     its-long : length (record_of b) ≡ long_at l p
-    its-long = rw its-head (omega (arith, h))
+    its-long = rw its_head (omega (arith, h))
 
     its_bytes : take (long_at l p) (drop p l) ≡ record_of b
     its_bytes = rw e (take_at (record_of b) others (long_at l p) its-long)

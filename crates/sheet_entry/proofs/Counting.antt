@@ -54,7 +54,7 @@ loops_fit kind (d ∷ ds) (more p ps) o = go (ltb 15 (entries kind d.words)) ref
         let small : entries kind d.words < 16 = omega (arith, ltb-false 15 (entries kind d.words) e) in
         let id_fits : d.id < 64 = omega (arith, p.small) in
         let these : fitting (alike 24 d.words) ≡ true = rw p.made (words_fit kind p.rows p.each) in
-        rw (lt-ltb d.id 64 id-fits, lt-ltb (entries kind d.words) 16 small, fitting-append (alike 24 d.words) (loops kind ds), these) (ih f)
+        rw (lt-ltb d.id 64 id_fits, lt-ltb (entries kind d.words) 16 small, fitting-append (alike 24 d.words) (loops kind ds), these) (ih f)
 
 none_over : (kind : ℕ) (ds : List Descriptor) → fitting (loops kind ds) ≡ true → over_in kind ds ≡ false
 unfolding fitting loops over_in

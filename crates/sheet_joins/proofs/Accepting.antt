@@ -65,7 +65,7 @@ module _ (form : Form) where
     -- both sheets are in form, and what is written are their entries, joined
     pub joins-said : {sheet : List ℕ} → Joins form first second sheet → InForm form first × InForm form second × (sheet ≡ sheet_text form (join_result form first second))
     joins-said {sheet} j =
-        let w = wrote (join_rules form first second) (sheet_text form (join_result form first second)) long-enough sheet (j.answers long-enough is-long) (j.writes long-enough is-long) in
+        let w = wrote (join_rules form first second) (sheet_text form (join_result form first second)) long-enough sheet (j.answers long-enough is_long) (j.writes long-enough is_long) in
         let h = join-holds w.0 in
         (h.0, h.1, w.1)
 
@@ -100,7 +100,7 @@ module _ (form : Form) where
 
     pub adds-said : {result : List ℕ} → Adds form sheet c result → Every (entry_rules form c.mended c.table) × InForm form sheet × (result ≡ bytes)
     adds-said {result} a =
-        let w = wrote rules bytes long-enough result (a.answers long-enough is-long) (a.writes long-enough is-long) in
+        let w = wrote rules bytes long-enough result (a.answers long-enough is_long) (a.writes long-enough is_long) in
         let h = add_holds w.0 in
         (h.0, h.1, w.1)
 

@@ -131,12 +131,12 @@ module _ (form : Form) where
       of-both (add-never-back c l a) (λ i. work-never-back p i k e h) (λ i. itself i k e h) (in_either (sheets_of form w) i)
 
   in_first : {B : Type 0} {x : B} {xs : List B} (ys : List B) → In x xs → In x (xs ++ ys)
-  in-first ys here = here
-  in-first ys (there i) = there (in-first ys i)
+  in_first ys here = here
+  in_first ys (there i) = there (in_first ys i)
 
   in_second : {B : Type 0} {x : B} (xs : List B) {ys : List B} → In x ys → In x (xs ++ ys)
-  in-second [] i = i
-  in-second (y ∷ xs) i = there (in-second xs i)
+  in_second [] i = i
+  in_second (y ∷ xs) i = there (in_second xs i)
 
   -- and every entry of what they came to is one of theirs
   pub work-theirs :
@@ -150,12 +150,12 @@ module _ (form : Form) where
           {A B : Type 0} → A ⊎ B → (A → (s : List ℕ) × In s (sheets_of form v) × (stands_at form k s ≡ some z))
           → (B → (s : List ℕ) × In s (sheets_of form w) × (stands_at form k s ≡ some z))
           → (s : List ℕ) × In s (sheets_of form v ++ sheets_of form w) × (stands_at form k s ≡ some z)
-      go (inl e) f g = let x = f e in (x.0, in-first (sheets_of form w) x.1, x.2)
-      go (inr e) f g = let x = g e in (x.0, in-second (sheets_of form v) x.1, x.2)
+      go (inl e) f g = let x = f e in (x.0, in_first (sheets_of form w) x.1, x.2)
+      go (inr e) f g = let x = g e in (x.0, in_second (sheets_of form v) x.1, x.2)
   work-theirs (added {w = w} {c = c} p l a) k z h = go ((add-never-back c l a).theirs k z h) (work-theirs p k z)
     where
       go :
           {A : Type 0} → A ⊎ (stands_at form k (sheet_of_one form c) ≡ some z) → (A → (s : List ℕ) × In s (sheets_of form w) × (stands_at form k s ≡ some z))
           → (s : List ℕ) × In s (sheets_of form w ++ (sheet_of_one form c ∷ [])) × (stands_at form k s ≡ some z)
-      go (inl e) f = let x = f e in (x.0, in-first (sheet_of_one form c ∷ []) x.1, x.2)
-      go (inr e) f = (sheet_of_one form c, in-second (sheets_of form w) here, e)
+      go (inl e) f = let x = f e in (x.0, in_first (sheet_of_one form c ∷ []) x.1, x.2)
+      go (inr e) f = (sheet_of_one form c, in_second (sheets_of form w) here, e)

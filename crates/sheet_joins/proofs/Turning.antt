@@ -221,7 +221,7 @@ module _ (form : Form) where
         record {
           in_first = record { within = record { inside = let h = v.in_first.within.inside in omega arith; short = v.in_first.within.short }; fine = rw (sym f) u.first_fine };
           in_second = record { within = record { inside = let h = v.in_second.within.inside in omega arith; short = v.in_second.within.short }; fine = rw (sym g) u.second_fine };
-          to-put =
+          to_put =
               rw (r, e, k)
               (sym (sets-append out q (turn_text t a b) (sheet_text form (join_result form (drop t.first.long a) (drop t.second.long b))))
               ∙ ap (sets out q) (sym (text-on form u))

@@ -191,7 +191,7 @@ module _ (l : List ℕ) (pen : Pen) (head from next : ℕ) (s : Standing l pen.a
 
   moves_on : pen.sent + 1 < (next - from + 7) / 3 * 3 → Goes l pen 1 (record { at = pen.at; sent = pen.sent + 1 })
   unfolding rest_of
-  moves-on h =
+  moves_on h =
       record {
         rest = sym (drop-drop 1 pen.sent _);
         stands = record { among = λ t. omega (arith, lasts) };
@@ -212,7 +212,7 @@ module _ (l : List ℕ) (pen : Pen) (head from next : ℕ) (s : Standing l pen.a
   moves : Goes l pen 1 (moved_of pen (next - from) next)
   moves =
       elim (dec_lt (pen.sent + 1) ((next - from + 7) / 3 * 3)) [
-        | yes h ↦ rw (lt-ltb (pen.sent + 1) ((next - from + 7) / 3 * 3) h) (moves-on h)
+        | yes h ↦ rw (lt-ltb (pen.sent + 1) ((next - from + 7) / 3 * 3) h) (moves_on h)
         | no n ↦ let h : (next - from + 7) / 3 * 3 ≤ pen.sent + 1 = omega arith in rw (le-ltb (pen.sent + 1) ((next - from + 7) / 3 * 3) h) (moves-over h)
       ]
 

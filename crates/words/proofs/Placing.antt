@@ -65,7 +65,7 @@ module _ (w : List ℕ) {c : ℕ} where
 
   pub fits_block : c ≡ 98 → {n : ℕ} → n ≡ number_of w → leb n 65535 ≡ fits c w
   unfolding fits
-  fits-block here said = rw (here, said)
+  fits_block here said = rw (here, said)
 
   pub fits_byte : c ≡ 110 → {n : ℕ} → n ≡ number_of w → leb n 255 ≡ fits c w
   unfolding fits

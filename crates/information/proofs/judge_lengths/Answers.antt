@@ -2,7 +2,7 @@
 -- Assumes nothing.
 use mathlib.Core.Path.{◌∙◌, sym, ap}
 use Rattle.answer.specs.declared.Answer.TheVariants.{Done}
-use Rattle.information.proofs.Lengths.{control-said, control-held, size-held, form-held, lengths-control, lengths-size, lengths-done}
+use Rattle.information.proofs.Lengths.{control_said, control-held, size-held, form-held, lengths-control, lengths-size, lengths-done}
 use Rattle.information.proofs.judge_lengths.Goals as goal
 
 pub returns-then-field_of-size : goal.returns-then-field_of-size
@@ -11,7 +11,7 @@ returns-then-field_of-size c =
     let x = c.field_of-networks in
     let y = c.field_of in
     c.refuse.ensures
-    ∙ sym (lengths-control _ _ _ (λ (e : _). c.if-field_of-size.true (y.ensures.0 ∙ sym (control-said a.control.now a.strings.now) ∙ e ∙ control-held a.control.now a.strings.now x.result x.ensures.0)))
+    ∙ sym (lengths-control _ _ _ (λ (e : _). c.if-field_of-size.true (y.ensures.0 ∙ sym (control_said a.control.now a.strings.now) ∙ e ∙ control-held a.control.now a.strings.now x.result x.ensures.0)))
 
 pub returns-then-control-strings : goal.returns-then-control-strings
 returns-then-control-strings c =
@@ -19,7 +19,7 @@ returns-then-control-strings c =
     let s = c.spell-names in
     let x = c.field_of-networks in
     let y = c.field_of in
-    let same = control-said a.control.now a.strings.now ∙ sym y.ensures.0 ∙ c.if-field_of-size.false ∙ sym (control-held a.control.now a.strings.now x.result x.ensures.0) in
+    let same = control_said a.control.now a.strings.now ∙ sym y.ensures.0 ∙ c.if-field_of-size.false ∙ sym (control-held a.control.now a.strings.now x.result x.ensures.0) in
     c.refuse-then-control-strings.ensures
     ∙ sym (lengths-size _ _ _ same (λ (e : _). c.if-control-strings.true (e ∙ size-held a.control.now a.strings.now x.result x.ensures.0 s.result s.ensures.0)))
 
@@ -29,6 +29,6 @@ returns c =
     let s = c.spell-names in
     let x = c.field_of-networks in
     let y = c.field_of in
-    let same = control-said a.control.now a.strings.now ∙ sym y.ensures.0 ∙ c.if-field_of-size.false ∙ sym (control-held a.control.now a.strings.now x.result x.ensures.0) in
+    let same = control_said a.control.now a.strings.now ∙ sym y.ensures.0 ∙ c.if-field_of-size.false ∙ sym (control-held a.control.now a.strings.now x.result x.ensures.0) in
     ap Done (form-held a.control.now a.strings.now x.result x.ensures.0 s.result s.ensures.0)
     ∙ sym (lengths-done _ _ _ same (c.if-control-strings.false ∙ sym (size-held a.control.now a.strings.now x.result x.ensures.0 s.result s.ensures.0)))

@@ -6,7 +6,7 @@ use lib.ListN.{drop}
 use Rattle.laws.specs.Pick.{both}
 use Rattle.information_forms.specs.Form.{network_in}
 use Rattle.information_writer.specs.Internal.{network_fine}
-use Rattle.information_writer.proofs.Listed.{network-fits, second-bad, last-decides}
+use Rattle.information_writer.proofs.Listed.{network_fits, second-bad, last-decides}
 use Rattle.information_writer.proofs.measuring.network_fine.Goals as goal
 
 pub returns-then-not-before : goal.returns-then-not-before
@@ -18,7 +18,7 @@ pub returns-then-not-row_fine : goal.returns-then-not-row_fine
 returns-then-not-row_fine c =
     let a = c.args in
     let p = c.requires in
-    second-bad a.before _ _ _ (sym c.row_fine.ensures ∙ c.if-not-row_fine.true) (network-fits a.form.now a.at a.name p.1 (omega (arith, p.2)))
+    second-bad a.before _ _ _ (sym c.row_fine.ensures ∙ c.if-not-row_fine.true) (network_fits a.form.now a.at a.name p.1 (omega (arith, p.2)))
 
 pub returns : goal.returns
 returns c =
@@ -26,4 +26,4 @@ returns c =
     let p = c.requires in
     c.codes_fine.ensures
     ∙ last-decides a.before _ _ _ c.if-not-before.false (sym c.row_fine.ensures ∙ c.if-not-row_fine.false)
-    (network-fits a.form.now a.at a.name p.1 (omega (arith, p.2)))
+    (network_fits a.form.now a.at a.name p.1 (omega (arith, p.2)))

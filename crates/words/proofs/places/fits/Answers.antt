@@ -1,7 +1,7 @@
 -- `words::places::fits` meets its contract: letter by letter. Assumes nothing.
 use borrow.Author.Tests.{ne_eqb}
 use Rattle.words.specs.Places.{fits}
-use Rattle.words.proofs.Placing.{fits-none, fits-stamp, fits-block, fits_byte, fits-kind}
+use Rattle.words.proofs.Placing.{fits-none, fits-stamp, fits_block, fits_byte, fits-kind}
 use Rattle.words.proofs.places.fits.Goals as goal
 
 pub returns-in-0 : goal.returns-in-0
@@ -11,7 +11,7 @@ pub returns-in-115 : goal.returns-in-115
 returns-in-115 c = fits-stamp _ c.in-115.is c.number_of.ensures
 
 pub returns-in-98 : goal.returns-in-98
-returns-in-98 c = fits-block _ c.in-98.is c.number_of-in-98.ensures
+returns-in-98 c = fits_block _ c.in-98.is c.number_of-in-98.ensures
 
 pub returns-in-110 : goal.returns-in-110
 returns-in-110 c = fits_byte _ c.in-110.is c.number_of-in-110.ensures
