@@ -7,6 +7,6 @@ use Rattle.vectors.proofs.lent.lend.Goals as goal
 pub returns : goal.returns
 returns c = record {
   many = c.least.ensures;
-  there = sym (length-take-le c.least.result c.fill.new.0 (omega (arith, c.least.ensures)));
+  there = sym (length-take-le c.least.result c.fill.new.dst (omega (arith, c.least.ensures)));
   filled = c.fill.ensures;
 }
