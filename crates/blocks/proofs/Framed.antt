@@ -22,7 +22,7 @@ use Rattle.blocks.specs.Outcome.{accepted, refused}
 pub record Framed (application : ℕ) (r : List ℕ) : Type 0 where
   pub within : application < 32
   pub long : length r ≡ 4 + head_of r / 32
-  pub in_range_lem : InRange r
+  pub in_range : InRange r
   pub ours : head_of r % 32 ≡ application
   pub eight : 8 ≤ head_of r / 32
 
@@ -36,7 +36,7 @@ module _ (application : ℕ) (r : List ℕ) where
       record {
         within = ltb-true application 32 (first_holds e₀);
         long = eqb-true (length r) (4 + head_of r / 32) (first_holds e₁);
-        in_range_lem = first_holds e₂;
+        in_range = first_holds e₂;
         ours = eqb-true (head_of r % 32) application (first_holds e₃);
         eight = leb-true 8 (head_of r / 32) (first_holds (others_hold e₃));
       }
@@ -46,7 +46,7 @@ module _ (application : ℕ) (r : List ℕ) where
   frame-holds k =
       more (lt-ltb application 32 k.within)
       (more (eq-eqb (length r) (4 + head_of r / 32) k.long)
-      (more k.in-range
+      (more k.in_range
       (more (eq-eqb (head_of r % 32) application k.ours) (more (le-leb 8 (head_of r / 32) k.eight) none))))
 
 pub part_most_lem : (r : List ℕ) → InRange r → part_of r ≤ part_most

@@ -83,10 +83,10 @@ blocks_not l b = blocks_fuel (length l) (suc (length l)) l (le_refl (length l)) 
 
 -- a whole record stands at p: its 16 bits, the place of its raw bytes, the place after it
 pub record Standing (l : List ℕ) (p head raw next : ℕ) : Type 0 where
-  pub whole-there : begins (drop p l) ≡ true
-  pub its-head : head ≡ head_of (drop p l)
-  pub its-raw : raw ≡ p + head_length
-  pub its-next : next ≡ p + record_length (drop p l)
+  pub whole_there : begins (drop p l) ≡ true
+  pub its_head : head ≡ head_of (drop p l)
+  pub its_raw : raw ≡ p + head_length
+  pub its_next : next ≡ p + record_length (drop p l)
   pub within : next ≤ length l
 
 pub standing : (l : List ℕ) (p head raw next : ℕ) → found_at l p ≡ Record head raw next → Standing l p head raw next
@@ -99,10 +99,10 @@ standing l p head raw next e = go (eqb p (length l)) refl (begins (drop p l)) re
     go false ea true eb =
         let at_next : next ≡ p + record_length (drop p l) = cc in
         record {
-          whole-there = eb;
-          its-head = cc;
-          its-raw = cc;
-          its-next = at_next;
+          whole_there = eb;
+          its_head = cc;
+          its_raw = cc;
+          its_next = at_next;
           within = omega (arith, begins-head (drop p l) eb, begins-fits (drop p l) eb, length-drop p l);
         }
 
@@ -128,10 +128,10 @@ broken l p e = go (eqb p (length l)) refl (begins (drop p l)) refl
 
 -- the walk goes on at the next record
 pub whole-at : {l : List ℕ} {p head raw next : ℕ} → Standing l p head raw next → whole (drop p l) ≡ whole (drop next l)
-whole-at {l} {p} s = whole-step (drop p l) s.whole-there ∙ rw (drop-drop (record_length (drop p l)) p l, ← s.its-next)
+whole-at {l} {p} s = whole-step (drop p l) s.whole_there ∙ rw (drop-drop (record_length (drop p l)) p l, ← s.its_next)
 
 pub blocks_at :
     {l : List ℕ} {p head raw next : ℕ} → Standing l p head raw next
     → blocks (drop p l) ≡ block_of (drop p l) ∷ blocks (drop next l)
 blocks_at {l} {p} s =
-    blocks_step (drop p l) s.whole-there ∙ rw (drop-drop (record_length (drop p l)) p l, ← s.its-next)
+    blocks_step (drop p l) s.whole_there ∙ rw (drop-drop (record_length (drop p l)) p l, ← s.its_next)

@@ -47,10 +47,10 @@ module _ (application : ℕ) where
       → all_seen application (blocks (drop p l)) ≡ seen application (take (next - p) (drop p l)) ∷ all_seen application (blocks (drop next l))
   unfolding all_seen
   seen_step {l} {p} {next = next} small s =
-      let e : next - p ≡ record_length (drop p l) = omega (arith, s.its-next) in
+      let e : next - p ≡ record_length (drop p l) = omega (arith, s.its_next) in
       ap (all_seen application) (blocks_at s)
       ∙ ap (λ (r : List ℕ). seen application r ∷ all_seen application (blocks (drop next l)))
-      (sym (rw e (record_again (drop p l) (bytes_drop p l small) s.whole-there)))
+      (sym (rw e (record_again (drop p l) (bytes_drop p l small) s.whole_there)))
 
   pub seen-ended : (l : List ℕ) (p : ℕ) → p ≡ length l → all_seen application (blocks (drop p l)) ≡ []
   unfolding all_seen blocks_within

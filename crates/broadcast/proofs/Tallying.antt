@@ -160,7 +160,7 @@ module _ (t : List ℕ) (fresh : t ≡ replicate places 0) (application : ℕ) (
   network-at : (k n : ℕ) → k < 9 → n < 256 → get_or (tallied t ss) (network_at k n) 0 ≡ capped (number_of ss k n)
   network-at k n h l = start-at (network_at k n) (omega arith) ∙ ap capped (hits-network (all-ranged application bs) k n l)
 
-  each-network : (k : ℕ) → k < 9 → each_within (counts_by (tallied t ss) channel) k 1 2 ≡ each_within (counted ss) k 1 2
+  each_network : (k : ℕ) → k < 9 → each_within (counts_by (tallied t ss) channel) k 1 2 ≡ each_within (counted ss) k 1 2
   unfolding each_within counts_by counted
   each-network k h =
       all_same

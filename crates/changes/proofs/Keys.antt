@@ -25,17 +25,17 @@ use Rattle.sheet_entry.specs.declared.Form.{Form}
 
 -- a key within its fields
 pub record Keyed (t : Table) : Type 0 where
-  pub kind-known : known t.kind ≡ true
-  pub network-fits : t.network ≤ 255
-  pub block-fits : t.block ≤ 65535
+  pub kind_known : known t.kind ≡ true
+  pub network_fits : t.network ≤ 255
+  pub block_fits : t.block ≤ 65535
 
 module _ (form : Form) where
   pub keyed : (e : Entry) → Fit form e → Keyed e.table
   keyed e w =
       let s = written-sendable form e w in
-      let n = s.network-fits in
-      let b = s.block-fits in
-      record { kind-known = s.kind-known; network-fits = omega arith; block-fits = omega arith }
+      let n = s.network_fits in
+      let b = s.block_fits in
+      record { kind_known = s.kind_known; network_fits = omega arith; block_fits = omega arith }
 
 -- a known kind is one of the two
 pub by_kind : (P : ℕ → Type 0) (kind : ℕ) → known kind ≡ true → P TI → P LI → P kind
@@ -66,7 +66,7 @@ module _ (form : Form) where
   pub key-line : (name : List ℕ) (e : Entry) → Fit form e → key_text name (key_of e) ≡ key_line name e.table
   unfolding key_of key_line
   key-line name e w =
-      let k = keyed form e w in key_text_lem name e.table.kind e.table.network e.table.block k.kind-known k.block-fits
+      let k = keyed form e w in key_text_lem name e.table.kind e.table.network e.table.block k.kind_known k.block_fits
 
 -- ---- read back
 
@@ -99,19 +99,19 @@ new_network_lem kind network block rest k h =
 
 -- kind, network and block of a `new=` line at the front
 pub record ReadBack (t : Table) (text : List ℕ) : Type 0 where
-  pub kind-is : new_kind text ≡ t.kind
-  pub network-is : new_network text ≡ t.network
-  pub line-is : new_line text ≡ line_of true t.block (key_line new_name t)
+  pub kind_is : new_kind text ≡ t.kind
+  pub network_is : new_network text ≡ t.network
+  pub line_is : new_line text ≡ line_of true t.block (key_line new_name t)
 
 pub new_back : (t : Table) (rest : List ℕ) → Keyed t → ReadBack t (key_line new_name t ++ rest)
 unfolding new_line key_line
 new_back t rest k =
-    let a = new_kind_lem t.kind t.network t.block rest k.kind-known in
-    let b = new_network_lem t.kind t.network t.block rest k.kind-known k.network-fits in
+    let a = new_kind_lem t.kind t.network t.block rest k.kind_known in
+    let b = new_network_lem t.kind t.network t.block rest k.kind_known k.network_fits in
     record {
-      kind-is = a;
-      network-is = b;
-      line-is = rw (a, b) (number-back (key_name new_name t.kind t.network) 65535 t.block rest k.block-fits (omega arith));
+      kind_is = a;
+      network_is = b;
+      line_is = rw (a, b) (number-back (key_name new_name t.kind t.network) 65535 t.block rest k.block_fits (omega arith));
     }
 
 -- ---- two keys
@@ -138,9 +138,9 @@ same_key name t u r s k l e =
     let a = new_back t r k in
     let b = new_back u s l in
     let f = renamed name new_name t u r s e in
-    let kind : t.kind ≡ u.kind = sym a.kind-is ∙ ap new_kind f ∙ b.kind-is in
-    let network : t.network ≡ u.network = sym a.network-is ∙ ap new_network f ∙ b.network-is in
-    let block : t.block ≡ u.block = ap (λ x. x.value) (sym a.line-is ∙ ap new_line f ∙ b.line-is) in
+    let kind : t.kind ≡ u.kind = sym a.kind_is ∙ ap new_kind f ∙ b.kind_is in
+    let network : t.network ≡ u.network = sym a.network_is ∙ ap new_network f ∙ b.network_is in
+    let block : t.block ≡ u.block = ap (λ x. x.value) (sym a.line_is ∙ ap new_line f ∙ b.line_is) in
     rw (kind, network, block)
 
 pub keys_apart :

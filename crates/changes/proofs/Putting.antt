@@ -240,14 +240,14 @@ module _ (form : Form) where
 
   -- what holds before each turn: what is left of both gives what is still to be put
   pub record Walk (first second out₀ out : List ℕ) (i j q : ℕ) : Type 0 where
-    pub in-first : Halfway form first i
-    pub in-second : Halfway form second j
-    pub to-put : Left out q (compare_text form (drop i first) (drop j second)) out₀ 0 (compare_text form first second)
+    pub in_first : Halfway form first i
+    pub in_second : Halfway form second j
+    pub to_put : Left out q (compare_text form (drop i first) (drop j second)) out₀ 0 (compare_text form first second)
     pub small : q ≤ i + j
 
   pub walk_start : (first second out : List ℕ) → Halfway form first 0 → Halfway form second 0 → Walk first second out out 0 0 0
   walk_start first second out f g =
-      record { in-first = f; in-second = g; to-put = left-start out 0 (compare_text form first second); small = omega arith }
+      record { in_first = f; in_second = g; to_put = left-start out 0 (compare_text form first second); small = omega arith }
 
   text-on :
       {a b : List ℕ} {t : Turn} (u : Turned form a b t)
@@ -264,11 +264,11 @@ module _ (form : Form) where
         i + j < length first + length second → {t : Turn} → t ≡ turn_of form (drop i first) (drop j second)
         → Turned form (drop i first) (drop j second) t
     walk_turn h e =
-        let f = v.in-first.within.inside in
-        let g = v.in-second.within.inside in
+        let f = v.in_first.within.inside in
+        let g = v.in_second.within.inside in
         let k = length-drop i first in
         let l = length-drop j second in
-        rw e (turned form (drop i first) (drop j second) v.in-first.fine v.in-second.fine (omega arith))
+        rw e (turned form (drop i first) (drop j second) v.in_first.fine v.in_second.fine (omega arith))
 
     pub walk-on :
         {t : Turn} {out' : List ℕ} {q' : ℕ} → Turned form (drop i first) (drop j second) t
@@ -279,16 +279,16 @@ module _ (form : Form) where
         let b = drop j second in
         let f = drop-drop t.first.long i first in
         let g = drop-drop t.second.long j second in
-        let x = u.first-in in
-        let y = u.second-in in
+        let x = u.first_in in
+        let y = u.second_in in
         let l = length-drop i first in
         let m = length-drop j second in
         let o = change-short u.front in
         let w = ap length (turn-changes u.front) in
         record {
-          in-first = record { within = record { inside = let h = v.in-first.within.inside in omega arith; short = v.in-first.within.short }; fine = rw (sym f) u.first_fine };
-          in-second = record { within = record { inside = let h = v.in-second.within.inside in omega arith; short = v.in-second.within.short }; fine = rw (sym g) u.second-fine };
-          to-put = rw (sym f, sym g) (left-on (text-on u) p v.to-put);
+          in_first = record { within = record { inside = let h = v.in_first.within.inside in omega arith; short = v.in_first.within.short }; fine = rw (sym f) u.first_fine };
+          in_second = record { within = record { inside = let h = v.in_second.within.inside in omega arith; short = v.in_second.within.short }; fine = rw (sym g) u.second_fine };
+          to_put = rw (sym f, sym g) (left-on (text-on u) p v.to_put);
           small = let h = v.small in omega (arith, p.moved);
         }
 
@@ -296,21 +296,21 @@ module _ (form : Form) where
     walk_end h =
         let k = length-drop i first in
         let l = length-drop j second in
-        let f = v.in-first.within.inside in
-        let g = v.in-second.within.inside in
-        left_end (text_out (drop i first) (drop j second) (omega arith)) v.to-put
+        let f = v.in_first.within.inside in
+        let g = v.in_second.within.inside in
+        left_end (text_out (drop i first) (drop j second) (omega arith)) v.to_put
 
     -- no place is far on, and what was met lies within the sheets
     pub walk-fits : {t : Turn} → Turned form (drop i first) (drop j second) t → Met first i t.first × Met second j t.second × (q ≤ place_most)
     walk-fits {t} u =
-        let x = u.first-in in
-        let y = u.second-in in
+        let x = u.first_in in
+        let y = u.second_in in
         let l = length-drop i first in
         let m = length-drop j second in
-        let f = v.in-first.within in
-        let g = v.in-second.within in
+        let f = v.in_first.within in
+        let g = v.in_second.within in
         let s = v.small in (
-          record { span = u.first-span; inside = omega arith; small = f.short },
-          record { span = u.second-span; inside = omega arith; small = g.short },
+          record { span = u.first_span; inside = omega arith; small = f.short },
+          record { span = u.second_span; inside = omega arith; small = g.short },
           omega arith,
         )

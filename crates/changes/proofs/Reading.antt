@@ -78,7 +78,7 @@ module _ (form : Form) where
   unfolding descriptor_lines_of
   lines_read e tail w c =
       let s = written-sendable form e w in
-      table_before e.table.kind e.table.descriptors tail (all_described e.table.kind e.table.descriptors s.entire-all s.loops-fit) c
+      table_before e.table.kind e.table.descriptors tail (all_described e.table.kind e.table.descriptors s.entire_all s.loops-fit) c
 
   -- the key and the lines are the table's own
   pub same-table : (x y : Entry) → Fit form x → Fit form y → key_of x ≡ key_of y → table_lines x ≡ table_lines y → table_of x ≡ table_of y
@@ -109,8 +109,8 @@ module _ (form : Form) where
   under-read y more w c =
       let line = key_line new_name y.table in
       let r = new_back y.table (table_lines y ++ more) (keyed form y w) in
-      let n : (new_line (line ++ (table_lines y ++ more))).long ≡ length line = ap (λ (l : Line). l.long) r.line-is in
-      rw (r.kind-is, n, drop-append_seam line (table_lines y ++ more)) (lines_read form y more w c)
+      let n : (new_line (line ++ (table_lines y ++ more))).long ≡ length line = ap (λ (l : Line). l.long) r.line_is in
+      rw (r.kind_is, n, drop-append_seam line (table_lines y ++ more)) (lines_read form y more w c)
 
 pub some_line : (name : List ℕ) (t : Table) → 1 ≤ length (key_line name t)
 unfolding key_line
@@ -122,13 +122,13 @@ module _ (form : Form) where
   brought y more w c =
       let line = key_line new_name y.table in
       let r = new_back y.table (table_lines y ++ more) (keyed form y w) in
-      let n : (new_line (line ++ (table_lines y ++ more))).long ≡ length line = ap (λ (l : Line). l.long) r.line-is in
+      let n : (new_line (line ++ (table_lines y ++ more))).long ≡ length line = ap (λ (l : Line). l.long) r.line_is in
       let u = under-read form y more w c in
       let o = some_line new_name y.table in
       record {
         there = rw n (ne_eqb (length line) 0 (λ z. omega arith));
         table =
-            table_is r.kind-is (sym (no-copyright form y w)) (ap (λ (l : Line). l.value) r.line-is) r.network-is
+            table_is r.kind_is (sym (no-copyright form y w)) (ap (λ (l : Line). l.value) r.line_is) r.network_is
             (ap (λ (m : Many Descriptor). m.items) u);
         long = rw (n, ap (λ (m : Many Descriptor). m.long) u);
       }

@@ -61,7 +61,7 @@ module _ (form : Form) where
 
   -- ---- of what the call writes
 
-  in_form_lem : (sheet : List ℕ) → Every (rewrite_rules form sheet) → InForm form sheet
+  in_form : (sheet : List ℕ) → Every (rewrite_rules form sheet) → InForm form sheet
   unfolding rewrite_rules
   in_form_lem sheet h = first_holds (others_hold h)
 

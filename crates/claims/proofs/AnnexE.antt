@@ -52,4 +52,4 @@ menu-strings application r m c b e =
     let s = (accepted-says application r m c b e).0 in
     let can : fits m ≡ true = subst (λ (x : Menu). fits x ≡ true) s.meant (plain_fits s.content s.says.sendable) in
     let p = fits-parts m can in
-    (text-short m.header p.fits-header, events_short m.events p.fits-events)
+    (text-short m.header p.fits_header, events_short m.events p.fits_events)

@@ -56,7 +56,7 @@ feed_all_moves s i st r e some {old = old} enough call = Rows.moves (feeder_for 
 pub as_ones :
     (s : Setting) (i : in_range s ≡ true) → {r : Reader} {qs : List (List ℕ)} {numbers : List ℕ} {bs : List Block}
     → Fed s r qs numbers bs → (st : State) → Sound st → r ≡ reader_of st → FortyTwo qs → Rows.AsOnes (feeder_for s) (works s i) st qs numbers bs
-as_ones s i = Rows.as-ones (feeder_for s) (works s i) (λ r after p old out h call. feeds call) (λ r after l old out h call. feeds-all call)
+as_ones s i = Rows.as_ones (feeder_for s) (works s i) (λ r after p old out h call. feeds call) (λ r after l old out h call. feeds-all call)
 
 -- any chain of calls: every call is accepted, and the blocks are what the packets hand out, in order
 pub fed_of-one :

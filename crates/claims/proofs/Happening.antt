@@ -106,13 +106,13 @@ can_write_all application (t ∷ ts) =
     (_, _, table (le_refl (length (record_of application t))) (can_write application (form t) (record_of application t)) rest.2)
 
 can_feed_all : (s : Setting) (r : Reader) (qs : List (List ℕ)) → (numbers : List ℕ) × (bs : List Block) × Fed s r qs numbers bs
-can_feed_all s = Rows.can-feed-all (feeder_for s) (can_feed s)
+can_feed_all s = Rows.can_feed_all (feeder_for s) (can_feed s)
 
 -- whatever packets come, calls of two streams can be made for them, from a fresh state on
 pub fed_happens_of_two :
     (s : Streams) (qs : List (List ℕ)) → (r : Readers) × StartsTwo r × (numbers : List ℕ) × (bs : List Handed) × FedOfTwo s r qs numbers bs
 fed_happens_of_two s qs =
-    let fed = Rows.can-feed-all (feeder_for_two s) (can_feed_two s) (readers_of fresh_of_two) qs in
+    let fed = Rows.can_feed_all (feeder_for_two s) (can_feed_two s) (readers_of fresh_of_two) qs in
     (readers_of fresh_of_two, can_start_two, fed.0, fed.1, fed.2)
 
 can_read-all : (application most : ℕ) (bs : List Block) → (forms : List (Counted (List ℕ))) × ReadOut application most bs forms

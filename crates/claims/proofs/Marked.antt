@@ -24,13 +24,13 @@ record_g_lem = refl
 
 pub record Marked : Type 0 where
   -- A to D: bytes decoded or refused; E: a byte turned
-  pub a-to-e : CasesAtoE
+  pub a_to_e : CasesAtoE
   pub images : TheImages
   -- F: the four bytes of a header
   pub f : CaseF
   -- G: a table of one subtitle, as a block and in packets
-  pub g-block : (bits G ≡ 116) × (fill G ≡ 4) × (size G ≡ 30)
-  pub g-packets : CaseG (record_of 1 G)
+  pub g_block : (bits G ≡ 116) × (fill G ≡ 4) × (size G ≡ 30)
+  pub g_packets : CaseG (record_of 1 G)
   -- H: a table with no descriptors
   pub h : (bits H ≡ 58) × (fill H ≡ 6) × (size H ≡ 16)
   -- I: the most descriptors of 15 subtitles that can be written, and one more
@@ -47,11 +47,11 @@ pub record Marked : Type 0 where
 pub marked : Marked
 marked =
     record {
-      a-to-e = cases_a_to_e;
+      a_to_e = cases_a_to_e;
       images = the_images;
       f = case_f;
-      g-block = case_G;
-      g-packets = subst CaseG (sym record_g_lem) case_g;
+      g_block = case_G;
+      g_packets = subst CaseG (sym record_g_lem) case_g;
       h = case_H;
       i = case_I;
       j = case_j;

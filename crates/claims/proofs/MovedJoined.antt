@@ -71,13 +71,13 @@ module _ (first second : List ℕ) (every : Every (join_rules Old first second))
   abbrev sheet : List ℕ
   sheet = sheet_text Old (join_result Old first second)
 
-  first-in : InForm Old first
+  first_in : InForm Old first
   unfolding join_rules
-  first-in = first_holds (others_hold (others_hold every))
+  first_in = first_holds (others_hold (others_hold every))
 
-  second-in : InForm Old second
+  second_in : InForm Old second
   unfolding join_rules
-  second-in = first_holds (others_hold (others_hold (others_hold every)))
+  second_in = first_holds (others_hold (others_hold (others_hold every)))
 
   within : (length together ≤ entry_limit) × (length sheet ≤ byte_limit Old)
   unfolding join_rules

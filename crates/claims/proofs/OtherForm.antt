@@ -132,7 +132,7 @@ module _ (form : Form) (sheet : List ℕ) (e : Entry) (es : List Entry) (f : InF
       let r = read-written (other form) sheet 0 f in
       let text : sheet ≡ entry_text (other form) e ++ sheet_text (other form) es = r.0 ∙ ap (sheet_text (other form)) has in
       let can = (both_true (written (other form) e) _ (sym (ap (all_written (other form)) has) ∙ r.2)).0 in
-      let fits = leb-true e.stamp stamp_most (written-parts (other form) e can).stamp-fits in
+      let fits = leb-true e.stamp stamp_most (written-parts (other form) e can).stamp_fits in
       let at : entry_at form 0 sheet ≡ stop false (behind_stamp e) = ap (entry_at form 0) text ∙ text_fault form e (sheet_text (other form) es) fits in
       let some : 1 ≤ length sheet = not_none form sheet at in
       row_fault form (length sheet) (length sheet) (behind_stamp e) sheet refl some at

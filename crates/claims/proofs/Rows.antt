@@ -82,7 +82,7 @@ pub record Works {R S B : Type 0} (f : Feeder R S B) (Sound : S → Type 0) (Who
   pub fits : f.tuned.fits ≡ true
   pub after : (st : S) (p : List ℕ) → Sound st → Sound (f.tuned.does.act st p)
   pub held : (st : S) → Sound st → f.tuned.state (f.tuned.held st) ≡ st
-  pub in_range_lem : (st : S) → Sound st → f.tuned.in_range (f.tuned.held st) ≡ true
+  pub in_range : (st : S) → Sound st → f.tuned.in_range (f.tuned.held st) ≡ true
   pub whole : (st : S) (p : List ℕ) → Sound st → Each Whole (f.tuned.does.handed st p)
   pub back : {bs : List B} → Each Whole bs → f.blocks (f.tuned.does.bytes bs) ≡ bs
   pub none : f.tuned.does.bytes [] ≡ []
@@ -100,18 +100,18 @@ module _ {R S B : Type 0} (f : Feeder R S B) {Sound : S → Type 0} {Whole : B �
   -- a call to a reader whose state is sound, with a packet of 42 bytes
   module _ (st : S) (r : Sound st) (c : Call f.tuned.does.room) (l : length c.packet ≡ packet_length) where
     pub call-reader : feed_reader f.tuned (f.tuned.held st) c.packet c.lent ≡ f.tuned.held (f.tuned.does.act st c.packet)
-    call-reader = rw (w.fits, w.in-range st r, eq-eqb _ _ l, le-leb _ _ c.enough, w.held st r)
+    call-reader = rw (w.fits, w.in_range st r, eq-eqb _ _ l, le-leb _ _ c.enough, w.held st r)
 
     -- it is taken
     call-took :
         feed_heard f.tuned (f.tuned.held st) c.packet c.lent
         ≡ Took (length (f.tuned.does.handed st c.packet)) (length (handed_bytes f.tuned.does st c.packet)) (f.tuned.does.dropped st c.packet)
-    call-took = rw (w.fits, w.in-range st r, eq-eqb _ _ l, le-leb _ _ c.enough, w.held st r)
+    call-took = rw (w.fits, w.in_range st r, eq-eqb _ _ l, le-leb _ _ c.enough, w.held st r)
 
     call-out :
         feed_out f.tuned (f.tuned.held st) c.packet c.lent
         ≡ handed_bytes f.tuned.does st c.packet ++ drop (length (handed_bytes f.tuned.does st c.packet)) c.lent
-    call-out = rw (w.fits, w.in-range st r, eq-eqb _ _ l, le-leb _ _ c.enough, w.held st r)
+    call-out = rw (w.fits, w.in_range st r, eq-eqb _ _ l, le-leb _ _ c.enough, w.held st r)
 
     pub call-taken : number_of (feed_heard f.tuned (f.tuned.held st) c.packet c.lent) ≡ 0
     call-taken = ap number_of call-took
@@ -239,15 +239,15 @@ module _ {R S B : Type 0} (f : Feeder R S B) {Sound : S → Type 0} {Whole : B �
     all-heard :
         feed_all_heard f.tuned (f.tuned.held st) l old
         ≡ TookAll a.packets (length a.blocks) (length (f.tuned.does.bytes a.blocks)) a.dropped
-    all-heard = rw (w.fits, w.in-range st r, eq-eqb _ _ z, le-leb _ _ enough, w.held st r, e)
+    all-heard = rw (w.fits, w.in_range st r, eq-eqb _ _ z, le-leb _ _ enough, w.held st r, e)
 
     all-reader : feed_all_reader f.tuned (f.tuned.held st) l old ≡ f.tuned.held a.state
-    all-reader = rw (w.fits, w.in-range st r, eq-eqb _ _ z, le-leb _ _ enough, w.held st r, e)
+    all-reader = rw (w.fits, w.in_range st r, eq-eqb _ _ z, le-leb _ _ enough, w.held st r, e)
 
     all-out :
         feed_all_out f.tuned (f.tuned.held st) l old
         ≡ f.tuned.does.bytes a.blocks ++ drop (length (f.tuned.does.bytes a.blocks)) old
-    all-out = rw (w.fits, w.in-range st r, eq-eqb _ _ z, le-leb _ _ enough, w.held st r, e)
+    all-out = rw (w.fits, w.in_range st r, eq-eqb _ _ z, le-leb _ _ enough, w.held st r, e)
 
   pub one_by_one :
       (st : S) → Sound st → (old : List ℕ) → f.tuned.does.room ≤ length old → (cs : List (Call f.tuned.does.room))

@@ -232,4 +232,4 @@ module _ (form : Form) where
       (_, _, joins p.2 o.2 (as_long least) (can-join p.1 o.1 (replicate least 0)))
   works-happen least (takes {c = c} r t) =
       let p = works-happen least r in
-      (_, _, adds p.2 t.stamp-fits (as_long least) (can-add c.stamp c.mended p.1 c.table (replicate least 0)))
+      (_, _, adds p.2 t.stamp_fits (as_long least) (can-add c.stamp c.mended p.1 c.table (replicate least 0)))

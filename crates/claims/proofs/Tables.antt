@@ -54,7 +54,7 @@ nibbles-length application t = ap length (nibbles-any 0 t (checksum_of applicati
 pub table_fits : (application : ℕ) (t : Table) → fits t ≡ true → Fits (table_block application t)
 unfolding kind_block_with
 table_fits application t f =
-    let c = (sendable t f).control-fits in
+    let c = (sendable t f).control_fits in
     record {
       head = header-lt application _;
       size =

@@ -11,8 +11,8 @@ glued a first second = take address_length a ++ better_of first second
 
 -- the packet p was heard as first and as second, and q goes on
 pub data Both (R : ℕ → ℕ → Type 0) (p q : List ℕ) : Type 0 where
-  of-first : {first second : List ℕ} → Near R p first → Near R p second → q ≡ glued first first second → Both R p q
-  of-second : {first second : List ℕ} → Near R p first → Near R p second → q ≡ glued second first second → Both R p q
+  of_first : {first second : List ℕ} → Near R p first → Near R p second → q ≡ glued first first second → Both R p q
+  of_second : {first second : List ℕ} → Near R p first → Near R p second → q ≡ glued second first second → Both R p q
 
 -- what goes on of the packets that were sent: all of them, in order, with packets of other magazines between, each heard by both. The packets
 -- that were sent, those of them that go on, and all that go on

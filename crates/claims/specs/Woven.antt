@@ -19,10 +19,10 @@ use Rattle.claims.specs.CutLine.{Readable}
 pub data Woven (R : ℕ → ℕ → Type 0) (K : Kind → List ℕ → Type 0) (k l : ℕ)
     : ℕ → List (List ℕ) → List (List ℕ) → ℕ → List (List ℕ) → List (List ℕ) → Bool → List (List ℕ) → Type 0 where
   ended : {m n : ℕ} {begun : Bool} → Woven R K k l m [] [] n [] [] begun []
-  of-first :
+  of_first :
       {m : ℕ} {begun : Bool} {p q : List ℕ} {ps ours rs theirs qs : List (List ℕ)} → Near R p q
       → Woven R K k l (following k m) ps ours 0 rs theirs false qs → Woven R K k l m (p ∷ ps) (q ∷ ours) 0 rs theirs begun (q ∷ qs)
-  of-second :
+  of_second :
       {n : ℕ} {begun : Bool} {p q : List ℕ} {ps ours rs theirs qs : List (List ℕ)} → Near R p q
       → Woven R K k l 0 ps ours (following l n) rs theirs false qs → Woven R K k l 0 ps ours n (p ∷ rs) (q ∷ theirs) begun (q ∷ qs)
   between :

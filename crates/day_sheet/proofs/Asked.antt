@@ -51,13 +51,13 @@ module _ (form : Form) where
 
       go : (x : Bool) → eqb (key_of e) (key_in network kind block) ≡ x → named network kind block e ≡ x
       go true f =
-          let b = s.block-fits in
+          let b = s.block_fits in
           let g =
           same_key e.table.network e.table.block network block (eqb e.table.kind TI) (eqb kind TI) (omega arith) small
           (eqb-true (key_of e) (key_in network kind block) f) in
           rw (
             eq-eqb e.table.network network g.0,
-            eq-eqb e.table.kind kind (kinds_only e.table.kind kind s.kind-known k g.1),
+            eq-eqb e.table.kind kind (kinds_only e.table.kind kind s.kind_known k g.1),
             eq-eqb e.table.block block g.2,
           )
       go false f = one-differs (eqb e.table.network network) refl (eqb e.table.kind kind) refl (eqb e.table.block block) refl
@@ -88,7 +88,7 @@ module _ (form : Form) where
       go false p true r = rw (eqb-true kind LI r) (named-known network LI block small refl e w)
       go false p false r =
           let other : eqb e.table.kind kind ≡ false =
-          ne_eqb e.table.kind kind (λ z. let k = (written-sendable form e w).kind-known in clash (rw (z, p, r) at k)) in
+          ne_eqb e.table.kind kind (λ z. let k = (written-sendable form e w).kind_known in clash (rw (z, p, r) at k)) in
           let above = key_small form e w in
           rw (ne_eqb (key_of e) 33554432 (λ z. omega arith), other) (both_false (eqb e.table.network network))
 

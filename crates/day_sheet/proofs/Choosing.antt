@@ -62,12 +62,12 @@ module _ (form : Form) where
   key-only x y v w e =
       let s = written-sendable form x v in
       let t = written-sendable form y w in
-      let b = s.block-fits in
-      let c = t.block-fits in
+      let b = s.block_fits in
+      let c = t.block_fits in
       let f = bit-small (eqb x.table.kind TI) in
       let g = bit-small (eqb y.table.kind TI) in
       let k : bit (eqb x.table.kind TI) ≡ bit (eqb y.table.kind TI) = omega arith in (
         omega arith,
-        kinds_only x.table.kind y.table.kind s.kind-known t.kind-known (bits-only (eqb x.table.kind TI) (eqb y.table.kind TI) k),
+        kinds_only x.table.kind y.table.kind s.kind_known t.kind_known (bits-only (eqb x.table.kind TI) (eqb y.table.kind TI) k),
         omega arith,
       )

@@ -55,12 +55,12 @@ module _ (form : Form) where
           → (many above (entry_at form) k (above least e) (drop n bytes)).long ≡ length (drop n bytes))
           → (further t (λ e n. many above (entry_at form) k (above least e) (drop n bytes))).long ≡ length bytes
       go (item e n) s f ih =
-          let m = (entry_stepping form).moves-on least bytes e n s in
+          let m = (entry_stepping form).moves_on least bytes e n s in
           let r = ih e n (rw length-drop (omega arith)) f in
           omega (arith, simp length-drop at r)
       go (stop b n) s f ih =
           let g = s ∙ ap (λ (x : Bool). stop x n) f in
-          let z : n ≡ 0 = (entry_stepping form).ends-well least bytes n g in
+          let z : n ≡ 0 = (entry_stepping form).ends_well least bytes n g in
           let y : length bytes ≡ 0 = ap length (ends_at-end form least n bytes g) in
           omega arith
 

@@ -97,13 +97,13 @@ record Part (a : Next) (bytes : List ℕ) (n : ℕ) : Type 0 where
   lines : List ℕ
   next : Next
   rest : List ℕ
-  in_form_lem : Lines a lines next
+  in_form : Lines a lines next
   there : bytes ≡ lines ++ rest
   size : n ≡ length lines
   missed : Missed next rest
 
 part_here : (a : Next) (bytes : List ℕ) → Missed a bytes → Part a bytes 0
-part_here a bytes m = record { lines = []; next = a; rest = bytes; in_form_lem = no_line; there = refl; size = refl; missed = m }
+part_here a bytes m = record { lines = []; next = a; rest = bytes; in_form = no_line; there = refl; size = refl; missed = m }
 
 lines_then : {a b c : Next} {xs ys : List ℕ} → Lines a xs b → Lines b ys c → Lines a (xs ++ ys) c
 lines_then no_line m = m
@@ -120,7 +120,7 @@ part-behind {text = text} l e p =
       lines = text ++ p.lines;
       next = p.next;
       rest = p.rest;
-      in_form_lem = lines_then l p.in-form;
+      in_form = lines_then l p.in_form;
       there = e ∙ ap (λ (x : List ℕ). text ++ x) p.there ∙ sym (append_assoc text p.lines p.rest);
       size = rw length-append (let s = p.size in omega arith);
       missed = p.missed;
@@ -237,7 +237,7 @@ module _ {A : Type 0} (next : ℕ → A → ℕ) (step : ℕ → List ℕ → St
             after = inl (refl, refl, refl);
           }
       go (item a n) e f =
-          let m = good.moves-on s bytes a n e in
+          let m = good.moves_on s bytes a n e in
           let o = one s bytes a n e in
           let u = f a n (rw length-drop (omega arith)) in
           let items = (many next step k (next s a) (drop n bytes)).items in
@@ -482,7 +482,7 @@ module _ (form : Form) where
   entries-read (suc k) least (e ∷ es) tail (more p ps) h =
       let rest = sheet_text form es ++ tail in
       let b = entry-back form least e rest p in
-      let m = (entry_stepping form).moves-on least (entry_text form e ++ rest) e (length (entry_text form e)) b in
+      let m = (entry_stepping form).moves_on least (entry_text form e ++ rest) e (length (entry_text form e)) b in
       let l : length rest ≤ k = simp length-append (omega (arith, simp length-append at h)) in
       let r = entries-read k (above least e) es tail ps l in
       rw (append_assoc (entry_text form e) (sheet_text form es) tail, b, drop-append_seam (entry_text form e) rest, length-append (entry_text form e) (sheet_text form es)) (omega arith)
@@ -529,13 +529,13 @@ module _ (form : Form) where
         let t : take m.long bytes ≡ text ++ p.lines =
         ap (take m.long) there ∙ ap (λ (i : ℕ). take i ((text ++ p.lines) ++ p.rest)) size ∙ take-append_seam (text ++ p.lines) p.rest in
         record {
-          not-in-form = λ g. let e : true ≡ false = sym g ∙ f in let z : ◌≡◌ {A = ℕ} 0 1 = cc in omega arith;
+          not_in_form = λ g. let e : true ≡ false = sym g ∙ f in let z : ◌≡◌ {A = ℕ} 0 1 = cc in omega arith;
           entries = m.items;
           rise = s.0;
           can = s.1;
           lines = p.lines;
           next = p.next;
-          in_form_lem = p.in-form;
+          in_form = p.in_form;
           before = t;
           no_line = rw d (stuck p.missed);
           no_end = λ g. no_end g (begins_with empty_line (drop m.long bytes)) refl;

@@ -23,20 +23,20 @@ pub record At (n : ℕ) (rs : List Rule) : Type 0 where
   pub by : Rule
   pub first : First by rs
   pub number_is : by.number ≡ 20
-  pub offset-is : by.offset ≡ n
+  pub offset_is : by.offset ≡ n
 
 pub at_first : (rules : List Rule) (bytes old : List ℕ) (n : ℕ) → answered rules bytes old ≡ refused 20 n → At n (rules ++ room bytes old ∷ [])
 at_first rules bytes old n e =
     let r = (refused_exactly rules bytes old 20 n (omega arith)).0 (ap number_of e, ap offset_of e) in
-    record { by = r.0; first = r.1; number_is = r.2; offset-is = r.3 }
+    record { by = r.0; first = r.1; number_is = r.2; offset_is = r.3 }
 
 -- a rule of another number is passed
 pub passed : {n : ℕ} {r : Rule} {rs : List Rule} → (r.number ≡ 20 → ⊥) → At n (r ∷ rs) → At n rs
-passed {n} {r} {rs} other a = go a.first a.number_is a.offset-is
+passed {n} {r} {rs} other a = go a.first a.number_is a.offset_is
   where
     go : {q : Rule} → First q (r ∷ rs) → q.number ≡ 20 → q.offset ≡ n → At n rs
     go (here h) e o = absurd (other e)
-    go {q} (later h f) e o = record { by = q; first = f; number_is = e; offset-is = o }
+    go {q} (later h f) e o = record { by = q; first = f; number_is = e; offset_is = o }
 
 -- none is left
 nowhere : {P : Type 0} {n : ℕ} → At n [] → P
@@ -49,11 +49,11 @@ module _ (form : Form) where
 
   -- the sheet's own rule
   pub judged-form : {n : ℕ} (sheet : List ℕ) {rs : List Rule} → At n (formed form sheet ∷ rs) → FirstFault form sheet n ⊎ (InForm form sheet × At n rs)
-  judged-form {n} sheet {rs} a = go a.first a.number_is a.offset-is
+  judged-form {n} sheet {rs} a = go a.first a.number_is a.offset_is
     where
       go : {q : Rule} → First q (formed form sheet ∷ rs) → q.number ≡ 20 → q.offset ≡ n → FirstFault form sheet n ⊎ (InForm form sheet × At n rs)
       go (here h) e o = inl (subst (FirstFault form sheet) o (first-fault form sheet h))
-      go {q} (later h f) e o = inr (h, record { by = q; first = f; number_is = e; offset-is = o })
+      go {q} (later h f) e o = inr (h, record { by = q; first = f; number_is = e; offset_is = o })
 
   -- ---- the calls
 

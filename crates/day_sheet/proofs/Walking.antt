@@ -39,7 +39,7 @@ module _ (form : Form) where
         let e = i.0 in
         let n : entry_at form least (drop at sheet) ≡ item e f.long = i.1 ∙ ap (λ (x : Found). item e x.long) (sym reads) in
         let k : f.key ≡ key_of e = ap (λ (x : Found). x.key) reads ∙ i.2 in
-        let b = (entry_stepping form).moves-on least (drop at sheet) e f.long n in
+        let b = (entry_stepping form).moves_on least (drop at sheet) e f.long n in
         let s = seen-item above (entry_at form) (Standing form) (text_of form) (entry_seen form) least (drop at sheet) e f.long n in
         let w = whole_item above (entry_at form) (entry_stepping form) least (drop at sheet) e f.long n in
         let k' : f.key + 1 ≡ suc (key_of e) = omega (arith, k) in

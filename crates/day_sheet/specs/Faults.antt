@@ -47,14 +47,14 @@ pub data Lines : Next → List ℕ → Next → Type 0 where
 
 -- of bytes that aren't a sheet in form a place is the first line at fault
 pub record FirstFault (form : Form) (bytes : List ℕ) (at : ℕ) : Type 0 where
-  pub not-in-form : InForm form bytes → ⊥
+  pub not_in_form : InForm form bytes → ⊥
   -- before it stand entries that rise and can be written, and the first lines of one more, each in form and where it may stand
   pub entries : List Entry
   pub rise : rising key_of entries ≡ true
   pub can : all_written form entries ≡ true
   pub lines : List ℕ
   pub next : Next
-  pub in_form_lem : Lines (begin form) lines next
+  pub in_form : Lines (begin form) lines next
   pub before : take at bytes ≡ sheet_text form entries ++ lines
   -- no line that may stand next stands there
   pub no_line : (line : List ℕ) (b : Next) → Follows next line b → begins_with line (drop at bytes) ≡ false

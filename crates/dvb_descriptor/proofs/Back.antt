@@ -27,12 +27,12 @@ use Rattle.dvb_descriptor.proofs.Packing.{length-fives}
 
 -- a language of 24 bits and a magazine of three
 record Ranged (s : Subtitle) : Type 0 where
-  language-fits : s.language < 2 ^ 24
-  magazine-fits : s.magazine < 8
+  language_fits : s.language < 2 ^ 24
+  magazine_fits : s.magazine < 8
 
 ranged-of : (language w : ℕ) → language < 2 ^ 24 → Ranged (subtitle_of language w)
 unfolding subtitle_of field
-ranged-of language w h = record { language-fits = h; magazine-fits = omega arith }
+ranged-of language w h = record { language_fits = h; magazine_fits = omega arith }
 
 words_ranged : (k : ℕ) (f : List ℕ) → Each Ranged (paired (words_in k f))
 unfolding paired words_in
@@ -57,10 +57,10 @@ kept_back : {ss : List Subtitle} → Each Ranged ss → kept_in (length ss) (fiv
 unfolding kept_in kept fives five spelled parts
 kept_back nil = refl
 kept_back (and {a = s} {l = ss} r rs) =
-    let m : (16 + s.magazine) % 8 ≡ s.magazine = omega (arith, r.magazine-fits) in
-    let type : eqb ((16 + s.magazine) / 8) 2 ≡ true = eq-eqb ((16 + s.magazine) / 8) 2 (omega (arith, r.magazine-fits)) in
+    let m : (16 + s.magazine) % 8 ≡ s.magazine = omega (arith, r.magazine_fits) in
+    let type : eqb ((16 + s.magazine) / 8) 2 ≡ true = eq-eqb ((16 + s.magazine) / 8) 2 (omega (arith, r.magazine_fits)) in
     let l : whole 8 (s.language % 256 ∷ s.language / 256 % 256 ∷ s.language / 256 / 256 % 256 ∷ []) ≡ s.language =
-    whole_parts 8 3 s.language ∙ mod-eq_of_lt r.language-fits in
+    whole_parts 8 3 s.language ∙ mod-eq_of_lt r.language_fits in
     let one : ◌≡◌ {A = Subtitle} (record { language = whole 8 (s.language % 256 ∷ s.language / 256 % 256 ∷ s.language / 256 / 256 % 256 ∷ []); magazine = (16 + s.magazine) % 8; page = s.page }) s =
     λ i. record { language = l i; magazine = m i; page = s.page } in
     rw type (ap₂ (λ (x : Subtitle) (xs : List Subtitle). x ∷ xs) one (kept_back rs))

@@ -2,4 +2,3 @@ pub mod Laid
 pub mod Bits
 pub mod Inking
 mod Landing
-mod Moves

@@ -37,7 +37,7 @@ descriptor-back :
     → descriptors_in (per kind) (suc (length ds)) (listed kind (d ∷ ds)) ≡ d ∷ descriptors_in (per kind) (length ds) (listed kind ds)
 unfolding descriptors_in listed
 descriptor-back kind d ds s =
-    let count = s.whole-entries in
+    let count = s.whole_entries in
     let n = per kind * entries kind d.words in
     let words : words_in n (spelled d.words ++ listed kind ds) ≡ d.words =
     ap (λ (x : ℕ). words_in x (spelled d.words ++ listed kind ds)) count ∙ words_back d.words (listed kind ds) s.words-fit in
@@ -60,14 +60,14 @@ descriptors_back kind (d ∷ ds) h k =
 pub form_in : (t : Table) → Sendable t → table_in (form t) ≡ t
 unfolding table_in form opening_of whole
 form_in t s =
-    let b : (0 * 2 ^ 8 + t.block / 256 % 2 ^ 8) * 2 ^ 8 + t.block % 256 % 2 ^ 8 ≡ t.block = omega (arith, s.block-fits) in
+    let b : (0 * 2 ^ 8 + t.block / 256 % 2 ^ 8) * 2 ^ 8 + t.block % 256 % 2 ^ 8 ≡ t.block = omega (arith, s.block_fits) in
     λ i.
     record {
       kind = t.kind;
       copyright = t.copyright;
       block = b i;
       network = t.network;
-      descriptors = descriptors_back t.kind t.descriptors s.entire-all s.loops-fit i;
+      descriptors = descriptors_back t.kind t.descriptors s.entire_all s.loops-fit i;
     }
 
 -- ---- the form out of its table
@@ -259,14 +259,14 @@ module _ (f : List ℕ) (b : Bytes f) (k : known (get_or f 0 0) ≡ true) (m : n
   in-sendable one few small short =
       sends (table_in f)
       (record {
-        kind-known = k;
+        kind_known = k;
         edition = m;
-        entire-all = entire_in (get_or f 0 0) (get_or f 5 0) (drop 6 f);
-        control-fits = omega (arith, short);
+        entire_all = entire_in (get_or f 0 0) (get_or f 5 0) (drop 6 f);
+        control_fits = omega (arith, short);
         kind_fits = known_small (get_or f 0 0) k;
-        copyright-fits = one;
-        block-fits = whole_lt 8 (get_or f 2 0 ∷ get_or f 3 0 ∷ []);
-        network-fits = b 4;
+        copyright_fits = one;
+        block_fits = whole_lt 8 (get_or f 2 0 ∷ get_or f 3 0 ∷ []);
+        network_fits = b 4;
         count_fits = rw (length_in (per (get_or f 0 0)) (get_or f 5 0) (drop 6 f)) few;
         loops_fit = small;
       })
@@ -280,7 +280,7 @@ unfit t h = go (fits t) refl
 
 pub out_copyright : (f : List ℕ) → 1 < get_or f 1 0 → fits (table_in f) ≡ false
 unfolding table_in
-out_copyright f h = unfit (table_in f) (λ s. let k = s.copyright-fits in omega arith)
+out_copyright f h = unfit (table_in f) (λ s. let k = s.copyright_fits in omega arith)
 
 pub out_count : (f : List ℕ) → 63 < get_or f 5 0 → fits (table_in f) ≡ false
 unfolding table_in
@@ -292,7 +292,7 @@ out_loops f h =
     unfit (table_in f) (λ s. let k = s.loops-fit in let z : ◌≡◌ {A = ℕ} 0 1 = cc in omega arith)
 
 pub out_bits : (f : List ℕ) → 8184 < bits (table_in f) → fits (table_in f) ≡ false
-out_bits f h = unfit (table_in f) (λ s. let k = s.control-fits in omega arith)
+out_bits f h = unfit (table_in f) (λ s. let k = s.control_fits in omega arith)
 
 -- the bits of a form's table by the form's length
 pub bits_in :

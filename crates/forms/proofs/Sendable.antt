@@ -18,14 +18,14 @@ use Rattle.forms.proofs.Formats.{no_strings}
 
 -- what a table that can be sent has
 pub record Sendable (t : Table) : Type 0 where
-  pub kind-known : known t.kind ≡ true
+  pub kind_known : known t.kind ≡ true
   pub edition : numbered t.block ≡ true
-  pub entire-all : entire t.kind t.descriptors ≡ true
-  pub control-fits : control t < 1024
+  pub entire_all : entire t.kind t.descriptors ≡ true
+  pub control_fits : control t < 1024
   pub kind_fits : t.kind < 64
-  pub copyright-fits : t.copyright < 2
-  pub block-fits : t.block < 65536
-  pub network-fits : t.network < 256
+  pub copyright_fits : t.copyright < 2
+  pub block_fits : t.block < 65536
+  pub network_fits : t.network < 256
   pub count_fits : length t.descriptors < 64
   pub loops_fit : fitting (loops t.kind t.descriptors) ≡ true
 
@@ -54,14 +54,14 @@ fitted_parts x k =
     let g = both_true (ltb t.network (2 ^ 8)) _ f.1 in
     let i = both_true (ltb (length t.descriptors) (2 ^ 6)) _ g.1 in
     record {
-      kind-known = k.asked;
+      kind_known = k.asked;
       edition = held_number (kind_size tables x) t.block (held t) k.fine;
-      entire-all = w.1;
-      control-fits = ltb-true c 1024 u.0;
+      entire_all = w.1;
+      control_fits = ltb-true c 1024 u.0;
       kind_fits = ltb-true t.kind 64 d.0;
-      copyright-fits = ltb-true t.copyright 2 y.0;
-      block-fits = ltb-true t.block 65536 f.0;
-      network-fits = ltb-true t.network 256 g.0;
+      copyright_fits = ltb-true t.copyright 2 y.0;
+      block_fits = ltb-true t.block 65536 f.0;
+      network_fits = ltb-true t.network 256 g.0;
       count_fits = ltb-true (length t.descriptors) 64 i.0;
       loops_fit = i.1;
     }
@@ -78,22 +78,22 @@ content-sends reserved t s hr =
     let none = ap length (no_strings c) in
     kind_sends tables c
     (record {
-      asked = s.kind-known;
+      asked = s.kind_known;
       fine = rw s.edition (either_true (ltb (kind_size tables c) 12));
-      entire = rw (eq-eqb (length t.descriptors) (length t.descriptors) refl) s.entire-all;
+      entire = rw (eq-eqb (length t.descriptors) (length t.descriptors) refl) s.entire_all;
       fitted =
           rw (
-            lt-ltb (control t) 1024 s.control-fits,
+            lt-ltb (control t) 1024 s.control_fits,
             lt-ltb t.kind 64 s.kind_fits,
-            lt-ltb t.copyright 2 s.copyright-fits,
+            lt-ltb t.copyright 2 s.copyright_fits,
             lt-ltb reserved 2 hr,
-            lt-ltb t.block 65536 s.block-fits,
-            lt-ltb t.network 256 s.network-fits,
+            lt-ltb t.block 65536 s.block_fits,
+            lt-ltb t.network 256 s.network_fits,
             lt-ltb (length t.descriptors) 64 s.count_fits,
           )
           s.loops-fit;
       seven = ap sevens (no_strings c);
-      small = omega (arith, s.control-fits, none);
+      small = omega (arith, s.control_fits, none);
     })
 
 pub sends : (t : Table) → Sendable t → fits t ≡ true
@@ -104,8 +104,8 @@ sends t s = content-sends 0 t s (omega arith)
 
 -- what a descriptor of such a table has
 pub record Sound (kind : ℕ) (d : Descriptor) : Type 0 where
-  pub whole-entries : per kind * entries kind d.words ≡ length d.words
-  pub id-fits : d.id < 64
+  pub whole_entries : per kind * entries kind d.words ≡ length d.words
+  pub id_fits : d.id < 64
   pub entries_fit : entries kind d.words < 16
   pub words_fit : fitting (alike 24 d.words) ≡ true
 
@@ -124,8 +124,8 @@ parted kind d ds h k =
     (sym (fitting-append (alike 24 d.words) (loops kind ds)) ∙ n.1) in
     let sound : Sound kind d =
     record {
-      whole-entries = sym (eqb-true (length d.words) (per kind * c) e.0);
-      id-fits = ltb-true d.id 64 i.0;
+      whole_entries = sym (eqb-true (length d.words) (per kind * c) e.0);
+      id_fits = ltb-true d.id 64 i.0;
       entries_fit = ltb-true c 16 n.0;
       words_fit = w.0;
     } in

@@ -34,11 +34,11 @@ use Rattle.information.specs.Reading.{read_rules, information_read, mended_contr
 pub reads_exactly :
     (application : ℕ) (r : List ℕ) (i : Information) (m : ℕ) → Bytes r
     → (read_information application r ≡ accepted i m) ↔ (Says application r i × (m ≡ mended_control r))
-reads_exactly application r i m b = Kinds.reads-exactly information owed value application r i m (λ e. b)
+reads_exactly application r i m b = Kinds.reads_exactly information owed value application r i m (λ e. b)
 
 -- a count is at most 5 and twice the greatest control size
 pub mended_most_lem : (application : ℕ) (r : List ℕ) → Every (read_rules application r) → mended_control r ≤ 2051
-mended_most_lem application r e = Kinds.mended-most information owed application r e
+mended_most_lem application r e = Kinds.mended_most information owed application r e
 
 -- what is written reads back, with nothing mended
 pub writes-back :
@@ -120,7 +120,7 @@ pub call_says :
     × (n ≡ length (form (found r)))
     × (m ≡ mended_control r)
     × (call_leaves application r old ≡ form (found r) ++ drop (length (form (found r))) old)
-call_says application r old n m b e = KindsCalls.call-says information owed value form application r old n m (λ x. b) e
+call_says application r old n m b e = KindsCalls.call_says information owed value form application r old n m (λ x. b) e
 
 -- a form that writing takes, written and read again by calls with room: it comes back byte for byte, with nothing mended
 pub call_back :

@@ -38,9 +38,9 @@ module _ (bytes strings : List ℕ) where
   unfolding held sent_in front_in width
   held_carried = ap (λ (f : Front). among f.copyright (behind.read (n / 2 ^ 28) (spoken strings))) (front_at (map nib bytes))
 
-  pub control-said : s.0.control ≡ field 8 10 n
+  pub control_said : s.0.control ≡ field 8 10 n
   unfolding sent_in front_in
-  control-said = ap (λ (f : Front). f.control) (front_at (map nib bytes))
+  control_said = ap (λ (f : Front). f.control) (front_at (map nib bytes))
 
   module _ (networks : ℕ) (e : networks ≡ field 136 8 n) where
     counted : length (held bytes strings).networks ≡ networks

@@ -43,12 +43,12 @@ network-back n w h rest =
 
 -- the parts of information that fits
 pub record Fitting (i : Information) : Type 0 where
-  pub opening-count : length i.opening ≡ 12
-  pub opening-fits : fitting (rowed opening_widths i.opening) ≡ true
-  pub name-count : length i.name ≡ name_length i.opening
-  pub networks-count : length i.networks ≡ network_count i.opening
-  pub networks-whole : row_whole network_format i.networks ≡ true
-  pub networks-fit : fitting (each network_format.fields i.networks) ≡ true
+  pub opening_count : length i.opening ≡ 12
+  pub opening_fits : fitting (rowed opening_widths i.opening) ≡ true
+  pub name_count : length i.name ≡ name_length i.opening
+  pub networks_count : length i.networks ≡ network_count i.opening
+  pub networks_whole : row_whole network_format i.networks ≡ true
+  pub networks_fit : fitting (each network_format.fields i.networks) ≡ true
 
 pub fitting-parts :
     (first second : ℕ) (i : Information) → behind.whole (sent_behind first second i) ≡ true
@@ -67,12 +67,12 @@ fitting-parts first second i w h =
     let f₂ = both-second (ltb first 4) (fitting (ns ++ fl)) f₁.1 in
     let f₃ = both_first (fitting ns) (fitting fl) (sym (fitting-append ns fl) ∙ f₂) in
     record {
-      opening-count = eqb-true (length i.opening) 12 w₁.0;
-      opening-fits = f₁.0;
-      name-count = eqb-true (length i.name) (name_length i.opening) w₂.0;
-      networks-count = eqb-true (length i.networks) (network_count i.opening) w₄.0;
-      networks-whole = w₄.1;
-      networks-fit = f₃;
+      opening_count = eqb-true (length i.opening) 12 w₁.0;
+      opening_fits = f₁.0;
+      name_count = eqb-true (length i.name) (name_length i.opening) w₂.0;
+      networks_count = eqb-true (length i.networks) (network_count i.opening) w₄.0;
+      networks_whole = w₄.1;
+      networks_fit = f₃;
     }
 
 -- whatever follows
@@ -85,20 +85,20 @@ form-back-on i p rest =
     let on : (xs ++ (i.name ++ ns)) ++ rest ≡ xs ++ tail =
     append_assoc xs (i.name ++ ns) rest ∙ ap (λ (l : List ℕ). xs ++ l) (append_assoc i.name ns rest) in
     let opening : row_in opening_widths (xs ++ tail) ≡ i.opening =
-    row_back opening_widths i.opening tail p.opening-count p.opening-fits in
+    row_back opening_widths i.opening tail p.opening_count p.opening_fits in
     let f : List ℕ = 1 ∷ i.copyright ∷ xs ++ tail in
     let long = row-long opening_widths i.opening in
     let name : codes_in (name_length i.opening) (drop form_opening f) ≡ i.name =
     ap (codes_in (name_length i.opening)) (sym (drop-drop (row_bytes opening_widths) 2 f))
-    ∙ codes-behind xs i.name (ns ++ rest) _ _ long p.name-count in
+    ∙ codes-behind xs i.name (ns ++ rest) _ _ long p.name_count in
     let past : drop (form_opening + name_length i.opening) f ≡ ns ++ rest =
-    ap (λ (k : ℕ). drop (2 + row_bytes opening_widths + k) f) (sym p.name-count)
+    ap (λ (k : ℕ). drop (2 + row_bytes opening_widths + k) f) (sym p.name_count)
     ∙ sym (drop-drop (length i.name) (2 + row_bytes opening_widths) f)
     ∙ ap (drop (length i.name)) (sym (drop-drop (row_bytes opening_widths) 2 f) ∙ ap (λ (k : ℕ). drop k (xs ++ tail)) (sym long) ∙ drop-append_seam xs tail)
     ∙ drop-append_seam i.name (ns ++ rest) in
     let networks : in_row network_form network_in (network_count i.opening) (drop (form_opening + name_length i.opening) f) ≡ i.networks =
-    ap₂ (in_row network_form network_in) (sym p.networks-count) past
-    ∙ found_back network_format network_form network_in network-back i.networks p.networks-whole p.networks-fit rest in
+    ap₂ (in_row network_form network_in) (sym p.networks_count) past
+    ∙ found_back network_format network_form network_in network-back i.networks p.networks_whole p.networks_fit rest in
     rw (on, opening, name, networks)
 
 pub form-back : (i : Information) → Fitting i → information_in (form i) ≡ i

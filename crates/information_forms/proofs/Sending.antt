@@ -56,7 +56,7 @@ content-sendable c h =
       clear = ltb-true c.copyright 2 f₃.0;
       fitted = parts;
       seven = ap sevens (sym (strings-of c)) ∙ p₃.0;
-      small = subst (λ (x : ℕ). x < 2048) (size_of c parts.networks-count) (ltb-true (size information c) 2048 p₃.1);
+      small = subst (λ (x : ℕ). x < 2048) (size_of c parts.networks_count) (ltb-true (size information c) 2048 p₃.1);
     }
 
 -- and what is sent for it then can be sent
@@ -71,11 +71,11 @@ module _ (i : Information) (p : Sendable i) where
 
   whole_sent : behind.whole (sent_behind 0 0 i) ≡ true
   whole_sent =
-      both-holds (eqb (length i.opening) 12) _ (eq-eqb (length i.opening) 12 p.fitted.opening-count)
-      (both-holds (eqb (length i.name) (name_length i.opening)) _ (eq-eqb (length i.name) (name_length i.opening) p.fitted.name-count)
+      both-holds (eqb (length i.opening) 12) _ (eq-eqb (length i.opening) 12 p.fitted.opening_count)
+      (both-holds (eqb (length i.name) (name_length i.opening)) _ (eq-eqb (length i.name) (name_length i.opening) p.fitted.name_count)
       (both-holds (both (eqb (length i.networks) (network_count i.opening)) (row_whole network_format i.networks)) _
       (both-holds (eqb (length i.networks) (network_count i.opening)) _
-      (eq-eqb (length i.networks) (network_count i.opening) p.fitted.networks-count) p.fitted.networks-whole)
+      (eq-eqb (length i.networks) (network_count i.opening) p.fitted.networks_count) p.fitted.networks_whole)
       (filled (network_count i.opening)).0))
 
   fields-sent : fitting (behind.fields (sent_behind 0 0 i)) ≡ true
@@ -85,15 +85,15 @@ module _ (i : Information) (p : Sendable i) where
       let ns : List Field = each network_format.fields i.networks in
       let fl : List Field = (fill_up (network_count i.opening)).fields 0 in
       fitting-append ws ((2, 0) ∷ (ns ++ fl))
-      ∙ both-holds (fitting ws) _ p.fitted.opening-fits
-      (fitting-append ns fl ∙ both-holds (fitting ns) (fitting fl) p.fitted.networks-fit (filled (network_count i.opening)).1)
+      ∙ both-holds (fitting ws) _ p.fitted.opening_fits
+      (fitting-append ns fl ∙ both-holds (fitting ns) (fitting fl) p.fitted.networks_fit (filled (network_count i.opening)).1)
 
   pub sendable-fits : fits i ≡ true
   unfolding sendable fitting
   sendable-fits =
       let c = content i in
-      let k = control-of c p.fitted.networks-count in
-      let z = size_of c p.fitted.networks-count in
+      let k = control-of c p.fitted.networks_count in
+      let z = size_of c p.fitted.networks_count in
       let low : control information c < 1024 = omega (arith, k, p.small) in
       let less : size information c < 2048 = omega (arith, z, p.small) in
       let own : fitting ((format information).fields (sent 0 (control information c) c)) ≡ true =
@@ -129,7 +129,7 @@ form-taken i h =
 -- annex E: a name has at most 31 codes, the service's and each network's
 pub record Short (i : Information) : Type 0 where
   pub service : length i.name ≤ 31
-  pub each-network : Each (λ (n : Network). length n.name ≤ 31) i.networks
+  pub each_network : Each (λ (n : Network). length n.name ≤ 31) i.networks
 
 networks_short :
     (ns : List Network) → row_whole network_format ns ≡ true → fitting (each network_format.fields ns) ≡ true
@@ -148,10 +148,10 @@ networks_short (n ∷ ns) w h =
 pub names-short : (i : Information) → fits i ≡ true → Short i
 names-short i h =
     let p = (fits-sendable i h).fitted in
-    let less : name_length i.opening < 32 = row_fits opening_widths i.opening 10 (omega arith) p.opening-fits in
+    let less : name_length i.opening < 32 = row_fits opening_widths i.opening 10 (omega arith) p.opening_fits in
     record {
-      service = omega (arith, p.name-count, less);
-      each-network = networks_short i.networks p.networks-whole p.networks-fit;
+      service = omega (arith, p.name_count, less);
+      each_network = networks_short i.networks p.networks_whole p.networks_fit;
     }
 
 all_short :
@@ -165,11 +165,11 @@ networks_most i h = omega (arith, (fits-sendable i h).small)
 
 -- a form is never longer than its block
 pub form_shorter : (i : Information) → fits i ≡ true → length (form i) ≤ size information (content i)
-form_shorter i h = omega (arith, form-long i, size_of (content i) (fits-sendable i h).fitted.networks-count)
+form_shorter i h = omega (arith, form-long i, size_of (content i) (fits-sendable i h).fitted.networks_count)
 
 -- and has at most 1,739 bytes
 pub form_most_lem : (i : Information) → fits i ≡ true → length (form i) ≤ 1739
 form_most_lem i h =
     let s = names-short i h in
-    let few = all_short i.networks s.each-network in
+    let few = all_short i.networks s.each_network in
     omega (arith, form-long i, (fits-sendable i h).small, s.service, few, length-append i.name (each (λ (n : Network). n.name) i.networks))

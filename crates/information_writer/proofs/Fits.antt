@@ -134,12 +134,12 @@ module _ (f : List ℕ) where
         let k : networks % 2 ≡ length i.networks % 2 = ap (λ (x : ℕ). x % 2) (sym many) in
         let own : Fitting i =
         record {
-          opening-count = counts.0;
-          opening-fits = q.0;
-          name-count = counts.1;
-          networks-count = counts.2;
-          networks-whole = counts.3;
-          networks-fit = r.0;
+          opening_count = counts.0;
+          opening_fits = q.0;
+          name_count = counts.1;
+          networks_count = counts.2;
+          networks_whole = counts.3;
+          networks_fit = r.0;
         } in
         let all : Sendable i =
         record {
@@ -157,8 +157,8 @@ module _ (f : List ℕ) where
         let k : networks % 2 ≡ length i.networks % 2 = ap (λ (y : ℕ). y % 2) (sym many) in (
           c.fitted
               ∙ both-holds (opening_fine i) _
-              (both-holds (ltb i.copyright 2) _ (lt-ltb i.copyright 2 p.clear) (both-holds (fitting (rowed opening_widths i.opening)) _ p.fitted.opening-fits q.0))
-              (all_fine_lem i.networks p.fitted.networks-fit q.1),
+              (both-holds (ltb i.copyright 2) _ (lt-ltb i.copyright 2 p.clear) (both-holds (fitting (rowed opening_widths i.opening)) _ p.fitted.opening_fits q.0))
+              (all_fine_lem i.networks p.fitted.networks_fit q.1),
           omega (arith, p.small, many, k, c.coded),
         )
 
@@ -232,5 +232,5 @@ writable application f n m e =
     let all = done_every (write_rules application f) n m e in
     let fit = first_holds (others_hold (others_hold (others_hold (others_hold all)))) in
     let p = fits-sendable (information_in f) fit in
-    let z = size_of (content (information_in f)) p.fitted.networks-count in
+    let z = size_of (content (information_in f)) p.fitted.networks_count in
     (ltb-true application 32 (first_holds all), omega (arith, z, p.small), p.clear)

@@ -42,9 +42,9 @@ module _ (f : List ℕ) (at name : ℕ) (e : name ≡ get_or f (at + 5) 0) (h : 
   pub network-codes : length (network_in (drop at f)).name ≡ name
   network-codes = ap length network-name ∙ codes-count name (drop (at + 17) f)
 
-  pub network-fits : network_fine (network_in (drop at f)) ≡ both (fitting (row_at network_widths at f)) (sevens (codes_in name (drop (at + 17) f)))
+  pub network_fits : network_fine (network_in (drop at f)) ≡ both (fitting (row_at network_widths at f)) (sevens (codes_in name (drop (at + 17) f)))
   unfolding network_in cut
-  network-fits = ap (λ (l : List ℕ). both (fitting (row_at network_widths at f)) (sevens l)) network-name
+  network_fits = ap (λ (l : List ℕ). both (fitting (row_at network_widths at f)) (sevens l)) network-name
 
 -- ---- networks in a row
 
@@ -97,11 +97,11 @@ module _ (f : List ℕ) (name : ℕ) (e : name ≡ get_or f 18 0) (h : name < 25
   unfolding information_in row_bytes
   service-name = ap (λ (k : ℕ). codes_in k (drop 20 f)) service-said
 
-  pub opening-fits :
+  pub opening_fits :
       opening_fine (information_in f)
       ≡ both (ltb (get_or f 1 0) 2) (both (fitting (row_at opening_widths 2 f)) (sevens (codes_in name (drop 20 f))))
   unfolding information_in cut
-  opening-fits = ap (λ (l : List ℕ). both (ltb (get_or f 1 0) 2) (both (fitting (row_at opening_widths 2 f)) (sevens l))) service-name
+  opening_fits = ap (λ (l : List ℕ). both (ltb (get_or f 1 0) 2) (both (fitting (row_at opening_widths 2 f)) (sevens l))) service-name
 
   pub opening-over : 2 ≤ get_or f 1 0 → false ≡ opening_fine (information_in f)
   opening-over over =

@@ -53,8 +53,8 @@ module _ {B : Type 0} (k : Kind B) where
     odd : odds bs ≡ length bs
     agrees : (front_in ns).checksum ≡ checksum head ns
     own : k.fine (head / 32) s.1 ≡ true
-    control-said : s.0.control ≡ control k (content_of s)
-    size-said : head / 32 ≡ size k (content_of s)
+    control_said : s.0.control ≡ control k (content_of s)
+    size_said : head / 32 ≡ size k (content_of s)
 
   module _ (head : ℕ) (raw : List ℕ) where
     abbrev ns : List ℕ
@@ -81,8 +81,8 @@ module _ {B : Type 0} (k : Kind B) where
           odd = eqb-true (odds bs) (length bs) (first_holds e₄);
           agrees = eqb-true (front_in ns).checksum (checksum head ns) (first_holds (others_hold e₄));
           own = first_holds l₀;
-          control-said = eqb-true s.0.control (control k (content_of s)) t.0;
-          size-said = eqb-true (head / 32) (size k (content_of s)) t.1;
+          control_said = eqb-true s.0.control (control k (content_of s)) t.0;
+          size_said = eqb-true (head / 32) (size k (content_of s)) t.1;
         }
 
     body-holds :
@@ -99,7 +99,7 @@ module _ {B : Type 0} (k : Kind B) where
       more q.own
           (more
           (both-holds (eqb s.0.control (control k (content_of s))) (eqb (head / 32) (size k (content_of s)))
-          (eq-eqb s.0.control (control k (content_of s)) q.control-said) (eq-eqb (head / 32) (size k (content_of s)) q.size-said))
+          (eq-eqb s.0.control (control k (content_of s)) q.control_said) (eq-eqb (head / 32) (size k (content_of s)) q.size_said))
           none),
     )
 
@@ -145,14 +145,14 @@ module _ {B : Type 0} (k : Kind B) (o : Owed k) (application : ℕ) (r : List �
 
   module _ (q : Bodied k (head_of r) nibs tail it) where
     raw-long : length raw ≡ size k c
-    raw-long = omega (arith, length-drop 4 r, f.long, q.size-said)
+    raw-long = omega (arith, length-drop 4 r, f.long, q.size_said)
 
     control-first : k.spoken ≡ true → (front_in (map nib (take 8 raw))).control ≡ control k c
     unfolding sent_in front_in
     control-first e =
         control_bytes raw (control_length raw) (omega arith)
         ∙ ap (λ (t : Bool). (front_in (map nib (control_part t raw))).control) (sym e)
-        ∙ q.control-said
+        ∙ q.control_said
 
     cut : Parted k.spoken raw (2 * control k c)
     cut =
@@ -177,7 +177,7 @@ module _ {B : Type 0} (k : Kind B) (o : Owed k) (application : ℕ) (r : List �
         (format k).fields (
           record {
             checksum = it.0.checksum;
-            control = q.control-said i;
+            control = q.control_said i;
             kind = it.0.kind;
             access = q.clear i;
             copyright = it.0.copyright;
@@ -211,8 +211,8 @@ module _ {B : Type 0} (k : Kind B) (o : Owed k) (application : ℕ) (r : List �
       small = go k.spoken refl
         where
           go : (t : Bool) → k.spoken ≡ t → size k c < 2048
-          go true e = omega (arith, q.size-said, b e 0, b e 1)
-          go false e = omega (arith, control_lt nibs, q.control-said, ap length (o.silent e c))
+          go true e = omega (arith, q.size_said, b e 0, b e 1)
+          go false e = omega (arith, control_lt nibs, q.control_said, ap length (o.silent e c))
 
       can : fits k c ≡ true
       unfolding sent_in front_in
@@ -220,7 +220,7 @@ module _ {B : Type 0} (k : Kind B) (o : Owed k) (application : ℕ) (r : List �
           sends k c
           (record {
             asked = q.kind;
-            fine = subst (λ (x : ℕ). k.fine x c.body ≡ true) q.size-said q.own;
+            fine = subst (λ (x : ℕ). k.fine x c.body ≡ true) q.size_said q.own;
             entire = (format-lawful k o).entire n cs;
             fitted = values-fit;
             seven = ap sevens (sym said-strings) ∙ codes-seven tail;
@@ -228,7 +228,7 @@ module _ {B : Type 0} (k : Kind B) (o : Owed k) (application : ℕ) (r : List �
           })
 
       said-head : head_of r ≡ head_bits k application c
-      said-head = header_of application (size k c) (head_of r) f.within small f.ours q.size-said
+      said-head = header_of application (size k c) (head_of r) f.within small f.ours q.size_said
 
       said-sum : it.0.checksum ≡ checksum_of k application filling c
       unfolding checksum_of sent_in front_in
@@ -240,7 +240,7 @@ module _ {B : Type 0} (k : Kind B) (o : Owed k) (application : ℕ) (r : List �
             within = f.within;
             sendable = can;
             filled = filled;
-            ranged = f.in-range;
+            ranged = f.in_range;
             head = said-head;
             body = ap (map nib) (sym cut.first) ∙ own-nibbles ∙ ap (λ (x : ℕ). nibbles k x filling c) said-sum;
             codes =
@@ -290,7 +290,7 @@ module _ {B : Type 0} (k : Kind B) (o : Owed k) (application : ℕ) (r : List �
   block-long : length block ≡ size k c
   block-long = omega (arith, enough, length-drop (2 * control k c) block, ap length said.codes, length-map (strings k c) letter)
 
-  control-said : (front_in (map nib (take 8 block))).control ≡ control k c
+  control_said : (front_in (map nib (take 8 block))).control ≡ control k c
   unfolding front_in
   control-said =
       control_bytes block (2 * control k c) (omega (arith, four k c)) ∙ ap (λ (l : List ℕ). (front_in l).control) said.body
@@ -323,7 +323,7 @@ module _ {B : Type 0} (k : Kind B) (o : Owed k) (application : ℕ) (r : List �
       record {
         within = said.within;
         long = omega (arith, length-drop 4 r, block-long, four k c, headed-said.1);
-        in_range_lem = said.ranged;
+        in_range = said.ranged;
         ours = headed-said.0;
         eight = omega (arith, headed-said.1, four k c);
       }
@@ -349,8 +349,8 @@ module _ {B : Type 0} (k : Kind B) (o : Owed k) (application : ℕ) (r : List �
             ap (λ (x : Sent B). x.0.checksum) read_back ∙ sum-apart k (head_bits k application c) 0 sum filling c
             ∙ ap (λ (h : ℕ). checksum h ours) (sym said.head);
         own = subst (λ (x : ℕ). k.fine x c.body ≡ true) (sym headed-said.1) can-send.fine;
-        control-said = refl;
-        size-said = headed-said.1;
+        control_said = refl;
+        size_said = headed-said.1;
       } in
       subst (Bodied k (head_of r) (map nib (control_part k.spoken block)) (string_part k.spoken block)) (sym carried-said)
       (subst (λ (x : List ℕ). Bodied k (head_of r) (map nib (control_part k.spoken block)) x its_own) (sym said-tail)
@@ -428,4 +428,4 @@ module _ {B : Type 0} (k : Kind B) (o : Owed k) (application : ℕ) (r : List �
   mended_most_lem =
       let q = taken k application r e in
       let bytes = control_part k.spoken (drop 4 r) in
-      omega (arith, part_most_lem r q.0.in-range, harms_le bytes, control-read, q.1.control-said, control_lt (map nib bytes))
+      omega (arith, part_most_lem r q.0.in_range, harms_le bytes, control-read, q.1.control_said, control_lt (map nib bytes))

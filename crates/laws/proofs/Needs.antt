@@ -363,7 +363,7 @@ module _ {A : Type 0} (key size : A → ℕ) where
         (good-together (all-rising e)).rises (tree-under t e) in
         let l = measured-length xs in
         let a = measured-added xs in
-        record { entries = let f = w.few in omega arith; length-in-all = let f = w.short in omega arith }
+        record { entries = let f = w.few in omega arith; length_in_all = let f = w.short in omega arith }
 
     -- a list within the limits, with itself
     pub within-itself :
@@ -376,7 +376,7 @@ module _ {A : Type 0} (key size : A → ℕ) where
         ∙ join-itself place Any longer decides 0 m (good-measured xs g.rises).rises in
         record {
           few = rw (e, measured-length xs) w.entries;
-          short = rw (e, measured-added xs) w.length-in-all;
+          short = rw (e, measured-added xs) w.length_in_all;
         }
 
 -- ---- what is joined is no longer than all of it

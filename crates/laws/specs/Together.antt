@@ -76,4 +76,4 @@ module _ {A : Type 0} (size : A → ℕ) where
   -- a list of so many entries and so many bytes at most
   pub record Allowed (keys bytes : ℕ) (xs : List A) : Type 0 where
     pub entries : length xs ≤ keys
-    pub length-in-all : total xs ≤ bytes
+    pub length_in_all : total xs ≤ bytes

@@ -112,7 +112,7 @@ unfolding descriptor_lines descriptor_line words_of
 descriptors_room kind [] h k = omega arith
 descriptors_room kind (d ∷ ds) h k =
     let p = parted kind d ds h k in
-    let own = number-room descriptor_name 1 d.id (omega (arith, p.0.id-fits)) in
+    let own = number-room descriptor_name 1 d.id (omega (arith, p.0.id_fits)) in
     let rest = descriptors_room kind ds p.1 p.2 in
     simp length-append (omega (arith, own, rest, entries-room kind d.words))
 
@@ -123,13 +123,13 @@ lines_room head mended second t m s = go head
   where
     each : length (descriptor_lines_of t) ≤ 9 * length (listed t.kind t.descriptors)
     each =
-        let r = descriptors_room t.kind t.descriptors s.entire-all s.loops-fit in
+        let r = descriptors_room t.kind t.descriptors s.entire_all s.loops-fit in
         omega (arith, r, listed_words t.kind t.descriptors)
 
     go : (h : Bool) → length (pick h (lines_of mended second t) (descriptor_lines_of t)) ≤ 9 * length (form t)
     go true =
-        let block = number-room block_name 4 t.block (omega (arith, s.block-fits)) in
-        let network = number-room network_name 2 t.network (omega (arith, s.network-fits)) in
+        let block = number-room block_name 4 t.block (omega (arith, s.block_fits)) in
+        let network = number-room network_name 2 t.network (omega (arith, s.network_fits)) in
         let count = number-room mended_name 4 mended (omega (arith, m)) in
         simp length-append (omega (arith, kind_room t.kind, block, network, count, joined-room second, each, length-form t))
     go false = omega (arith, each, length-form t)

@@ -13,9 +13,9 @@ module _ {A : Type 0} (next : ℕ → A → ℕ) (step : ℕ → List ℕ → St
   -- what a step owes: nothing stands where there are no bytes, a thing has bytes of its own, and a row ends well at the line where it ends
   pub record Stepping : Type 0 where
     pub none_left : (s : ℕ) → step s [] ≡ stop true 0
-    pub moves-on : (s : ℕ) (bytes : List ℕ) (a : A) (n : ℕ) → step s bytes ≡ item a n → (1 ≤ n) × (n ≤ length bytes)
+    pub moves_on : (s : ℕ) (bytes : List ℕ) (a : A) (n : ℕ) → step s bytes ≡ item a n → (1 ≤ n) × (n ≤ length bytes)
     pub stays : (s : ℕ) (bytes : List ℕ) (b : Bool) (n : ℕ) → step s bytes ≡ stop b n → n ≤ length bytes
-    pub ends-well : (s : ℕ) (bytes : List ℕ) (n : ℕ) → step s bytes ≡ stop true n → n ≡ 0
+    pub ends_well : (s : ℕ) (bytes : List ℕ) (n : ℕ) → step s bytes ≡ stop true n → n ≡ 0
 
   -- the texts of things, one after the other
   unfoldable pub texts : (ℕ → A → List ℕ) → ℕ → List A → List ℕ
@@ -48,14 +48,14 @@ module _ {A : Type 0} (next : ℕ → A → ℕ) (step : ℕ → List ℕ → St
             → many next step k (next s a) (drop n bytes) ≡ many next step j (next s a) (drop n bytes))
             → further t (λ a n. many next step k (next s a) (drop n bytes)) ≡ further t (λ a n. many next step j (next s a) (drop n bytes))
         go (item a n) e f =
-            let m = good.moves-on s bytes a n e in
+            let m = good.moves_on s bytes a n e in
             ap (behind a n) (f a n (rw length-drop (omega arith)) (rw length-drop (omega arith)))
         go (stop b n) e f = refl
 
     -- one more
     pub whole_item : (s : ℕ) (bytes : List ℕ) (a : A) (n : ℕ) → step s bytes ≡ item a n → whole s bytes ≡ behind a n (whole (next s a) (drop n bytes))
     whole_item s bytes a n e =
-        let m = good.moves-on s bytes a n e in
+        let m = good.moves_on s bytes a n e in
         any_fuel (length bytes) (suc (length bytes)) s bytes (omega arith) (omega arith)
         ∙ (unfold many further in rw e (ap (behind a n) (any_fuel (length bytes) (length (drop n bytes)) (next s a) (drop n bytes) (rw length-drop (omega arith)) (omega arith))))
 
@@ -75,7 +75,7 @@ module _ {A : Type 0} (next : ℕ → A → ℕ) (step : ℕ → List ℕ → St
             → ((a : A) (n : ℕ) → (many next step k (next s a) (drop n bytes)).long ≤ length (drop n bytes))
             → (further t (λ a n. many next step k (next s a) (drop n bytes))).long ≤ length bytes
         go (item a n) e f =
-            let m = good.moves-on s bytes a n e in
+            let m = good.moves_on s bytes a n e in
             let l = f a n in
             omega (arith, simp length-drop at l)
         go (stop b n) e f = good.stays s bytes b n e
@@ -114,7 +114,7 @@ module _ {A : Type 0} (next : ℕ → A → ℕ) (step : ℕ → List ℕ → St
                 each = more o.2 r.each;
               }
           go (stop b n) e g f =
-              let z : n ≡ 0 = good.ends-well s bytes n (e ∙ ap (λ (x : Bool). stop x n) g) in
+              let z : n ≡ 0 = good.ends_well s bytes n (e ∙ ap (λ (x : Bool). stop x n) g) in
               record { there = rw z; size = z; each = none }
 
       -- what is spelled reads back, before bytes that may follow it
@@ -139,12 +139,12 @@ module _ {A : Type 0} (next : ℕ → A → ℕ) (step : ℕ → List ℕ → St
           row_back [] (suc k) s none h = rw (ends s)
           row_back (a ∷ xs) zero s (more p ps) h =
               let e = one s a (texts text (next s a) xs ++ tail) p (may_more (next s a) xs ps) in
-              let m = good.moves-on s (text s a ++ (texts text (next s a) xs ++ tail)) a (length (text s a)) e in
+              let m = good.moves_on s (text s a ++ (texts text (next s a) xs ++ tail)) a (length (text s a)) e in
               absurd (omega (arith, simp (length-append) at h))
           row_back (a ∷ xs) (suc k) s (more p ps) h =
               let rest = texts text (next s a) xs ++ tail in
               let e = one s a rest p (may_more (next s a) xs ps) in
-              let m = good.moves-on s (text s a ++ rest) a (length (text s a)) e in
+              let m = good.moves_on s (text s a ++ rest) a (length (text s a)) e in
               let l : length rest ≤ k = simp (length-append) (omega (arith, simp (length-append) at h)) in
               rw (append_assoc (text s a) (texts text (next s a) xs) tail, e, drop-append_seam (text s a) rest, row_back xs k (next s a) ps l, length-append (text s a) (texts text (next s a) xs))
 
@@ -174,9 +174,9 @@ module _
     stepping empty some =
         record {
           none_left = empty;
-          moves-on = on;
+          moves_on = on;
           stays = λ s bytes b n e. in_bytes s bytes b n (rw e at (seen s bytes));
-          ends-well = λ s bytes n e. at_once s bytes n (rw e at (seen s bytes));
+          ends_well = λ s bytes n e. at_once s bytes n (rw e at (seen s bytes));
         }
       where
         on : (s : ℕ) (bytes : List ℕ) (a : A) (n : ℕ) → step s bytes ≡ item a n → (1 ≤ n) × (n ≤ length bytes)

@@ -182,7 +182,7 @@ language_sound bytes h =
     let w = language_in bytes 9 in
     (language-fits bytes, (in_form_lem _ w (language_line w) bytes (λ e. e) h).1)
   where
-    language-fits : (bs : List ℕ) → language_in bs 9 < 2 ^ 24
+    language_fits : (bs : List ℕ) → language_in bs 9 < 2 ^ 24
     language-fits bs = unfold language_in hex_word whole in go (eqb (get_or bs 12 0) 10) (get_or bs 11 0) (get_or bs 10 0) (get_or bs 9 0) _
       where
         go : (b : Bool) (x y z m : ℕ) → pick b (((0 * 2 ^ 8 + z % 2 ^ 8) * 2 ^ 8 + y % 2 ^ 8) * 2 ^ 8 + x % 2 ^ 8) (m % 16777216) < 2 ^ 24

@@ -126,7 +126,7 @@ module _ (sheet : List ℕ) (at p kind : ℕ) (r : Piece) (reads : r ≡ piece_o
   row_on count m =
       let i = piece_item (words_at kind (drop p sheet)) (rw reads at m) in
       let e : words_at kind (drop p sheet) ≡ item i.0 r.long = i.1 ∙ ap (λ (x : Piece). item i.0 x.long) (sym reads) in
-      let b = words_stepping.moves-on kind (drop p sheet) i.0 r.long e in
+      let b = words_stepping.moves_on kind (drop p sheet) i.0 r.long e in
       let w = whole_item same words_at words_stepping kind (drop p sheet) i.0 r.long e in
       let d = drop-drop r.long p sheet in
       let m' = many same words_at (length (drop r.long (drop p sheet))) kind (drop r.long (drop p sheet)) in
@@ -254,7 +254,7 @@ module _ (sheet : List ℕ) (at p kind : ℕ) (r : Part) (reads : r ≡ part_of 
       let d = i.0 in
       let e : descriptor_at kind (drop p sheet) ≡ item d r.long = i.1 ∙ ap (λ (x : Part). item d x.long) (sym reads) in
       let k : r.count ≡ entries kind d.words = ap (λ (x : Part). x.count) reads ∙ i.2 in
-      let b = descriptor_stepping.moves-on kind (drop p sheet) d r.long e in
+      let b = descriptor_stepping.moves_on kind (drop p sheet) d r.long e in
       let w = whole_item same descriptor_at descriptor_stepping kind (drop p sheet) d r.long e in
       let m' = many same descriptor_at (length (drop r.long (drop p sheet))) kind (drop r.long (drop p sheet)) in
       let c' : count + 1 + length m'.items ≡ count + suc (length m'.items) = omega arith in

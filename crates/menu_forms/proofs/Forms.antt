@@ -119,16 +119,16 @@ event_back e h rest =
 
 -- the parts of a menu that fits
 pub record Fitting (m : Menu) : Type 0 where
-  pub fits-copyright : m.copyright < 2
-  pub fits-block : m.block < 65536
-  pub fits-lines : m.header_size < 4
+  pub fits_copyright : m.copyright < 2
+  pub fits_block : m.block < 65536
+  pub fits_lines : m.header_size < 4
   pub fits_count : length m.events < 16
-  pub fits-rows : m.message_size < 8
-  pub fits-number : length m.descriptors < 64
-  pub fits-message : m.message < 256
-  pub fits-descriptors : fitting (each descriptor_fields m.descriptors) ≡ true
-  pub fits-header : fitting (text_fields m.header) ≡ true
-  pub fits-events : fitting (each event_fields m.events) ≡ true
+  pub fits_rows : m.message_size < 8
+  pub fits_number : length m.descriptors < 64
+  pub fits_message : m.message < 256
+  pub fits_descriptors : fitting (each descriptor_fields m.descriptors) ≡ true
+  pub fits_header : fitting (text_fields m.header) ≡ true
+  pub fits_events : fitting (each event_fields m.events) ≡ true
 
 -- of what fits the format
 pub fitting-parts : (sum control : ℕ) (c : Content Body) → fitting (kind_fields navigation sum control c) ≡ true → Fitting (menu_sent c)
@@ -155,16 +155,16 @@ fitting-parts sum control c h =
     let e₃ = both_true (fitting tx) (fitting ((8, m.message) ∷ ev)) (sym (fitting-append tx ((8, m.message) ∷ ev)) ∙ e₂) in
     let e₄ = both_true (ltb m.message 256) (fitting ev) e₃.1 in
     record {
-      fits-copyright = ltb-true m.copyright 2 c₁.0;
-      fits-lines = ltb-true m.header_size 4 d₁.0;
+      fits_copyright = ltb-true m.copyright 2 c₁.0;
+      fits_lines = ltb-true m.header_size 4 d₁.0;
       fits_count = ltb-true (length m.events) 16 d₂.0;
-      fits-rows = ltb-true m.message_size 8 d₃.0;
-      fits-number = ltb-true (length m.descriptors) 64 d₄.0;
-      fits-message = ltb-true m.message 256 e₄.0;
-      fits-block = ltb-true m.block 65536 b.0;
-      fits-descriptors = e₁.0;
-      fits-header = e₃.0;
-      fits-events = e₄.1;
+      fits_rows = ltb-true m.message_size 8 d₃.0;
+      fits_number = ltb-true (length m.descriptors) 64 d₄.0;
+      fits_message = ltb-true m.message 256 e₄.0;
+      fits_block = ltb-true m.block 65536 b.0;
+      fits_descriptors = e₁.0;
+      fits_header = e₃.0;
+      fits_events = e₄.1;
     }
 
 -- and of a menu that can be sent
@@ -182,14 +182,14 @@ form-back-on m h rest =
     let ys = text_form m.header in
     let zs = each event_form m.events in
     let tail = ys ++ (zs ++ rest) in
-    let b = two_bytes m.block p.fits-block in
+    let b = two_bytes m.block p.fits_block in
     let on : (xs ++ (ys ++ zs)) ++ rest ≡ xs ++ tail = append_assoc xs (ys ++ zs) rest ∙ ap (λ (x : List ℕ). xs ++ x) (append_assoc ys zs rest) in
-    let d = row_back descriptor_form descriptor_in descriptor_fields descriptor-back m.descriptors p.fits-descriptors tail in
+    let d = row_back descriptor_form descriptor_in descriptor_fields descriptor-back m.descriptors p.fits_descriptors tail in
     let f : List ℕ = opening_of m ++ (xs ++ tail) in
     let behind : drop (9 + length xs) f ≡ tail = sym (drop-drop (length xs) 9 f) ∙ drop-append_seam xs tail in
-    let t : text_in tail ≡ m.header = text-back m.header p.fits-header (zs ++ rest) in
+    let t : text_in tail ≡ m.header = text-back m.header p.fits_header (zs ++ rest) in
     let e : in_row event_form event_in (length m.events) (drop (length ys) tail) ≡ m.events =
-    rw (drop-append_seam ys (zs ++ rest)) (row_back event_form event_in event_fields event_back m.events p.fits-events rest) in
+    rw (drop-append_seam ys (zs ++ rest)) (row_back event_form event_in event_fields event_back m.events p.fits_events rest) in
     rw (on, d, behind, t, e, b)
 
 pub form-back : (m : Menu) → fits m ≡ true → menu_in (form m) ≡ m

@@ -104,7 +104,7 @@ pub record Listed : Type 0 where
   pub deepest : drop 343 (listing 1 3 8 round) ≡ bottom
   -- one level asked for
   pub highest : listing 1 3 1 round ≡ top
-  pub on-shelf : kept_listing 3 1 named shelved ≡ top
+  pub on_shelf : kept_listing 3 1 named shelved ≡ top
   -- a first menu that isn't there is one line
   pub absent : listing 1 9 8 [] ≡ missing
 
@@ -112,4 +112,4 @@ pub case_listed : Listed
 unfolding bits number differing image with_parity nib nibble_from blocks_within width field whole laid parts ones is_odd letter odds total checksum sound frame_rules
     in_row info_bytes text_format event_format fill_up fields strings codes_in in_nibbles front_in sent_in front_rules whole_rules length_rules
     digits_in number_line shown text_line link_line event_lines events_lines menu_lines is_menu menus_of lines_of listing three number_in way_back place_of text_in event_in menu_in form_at kept_menus kept_listing text_form event_form
-case_listed = record { whole = refl; deepest = refl; highest = refl; on-shelf = refl; absent = refl }
+case_listed = record { whole = refl; deepest = refl; highest = refl; on_shelf = refl; absent = refl }

@@ -75,17 +75,17 @@ module _ (application number : ℕ) {l : List ℕ} {p head raw next : ℕ} (s : 
   from = drop p l
 
   its-record : take (next - p) from ≡ take (record_length from) from
-  its-record = let e : next - p ≡ record_length from = omega (arith, s.its-next) in ap (λ (n : ℕ). take n from) e
+  its-record = let e : next - p ≡ record_length from = omega (arith, s.its_next) in ap (λ (n : ℕ). take n from) e
 
-  its-raw : drop head_length (take (next - p) from) ≡ (block_of from).raw
-  its-raw = ap (drop head_length) its-record ∙ (same-record application from s.whole-there).1
+  its_raw : drop head_length (take (next - p) from) ≡ (block_of from).raw
+  its_raw = ap (drop head_length) its-record ∙ (same-record application from s.whole_there).1
 
   told : r ≡ is_menu application number (block_of from)
   unfolding is_menu
   told =
       j.says
       ∙ ap₂ (λ (rules : List Rule) (bytes : List ℕ). both (holding rules) (eqb (menu_read bytes).block number))
-      (ap (read_rules application) its-record ∙ (same-record application from s.whole-there).0)
+      (ap (read_rules application) its-record ∙ (same-record application from s.whole_there).0)
       its-raw
 
   here : menus_of application number (blocks from) ≡ pick r (menu_read (block_of from).raw ∷ []) [] ++ menus_of application number (blocks (drop next l))

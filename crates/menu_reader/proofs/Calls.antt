@@ -46,7 +46,7 @@ module _ (application : ℕ) (r : List ℕ) (old : List ℕ) where
       × (n ≡ length (form (found r)))
       × (c ≡ mended_control r)
       × (left (read_rules application r) (form (found r)) old ≡ form (found r) ++ drop (length (form (found r))) old)
-  call_says n c b = Kinds.call-says navigation owed menu_sent form application r old n c (λ t. b)
+  call_says n c b = Kinds.call_says navigation owed menu_sent form application r old n c (λ t. b)
 
 -- a form that writing takes, written and read again by calls with room: it comes back byte for byte, with nothing mended
 pub call_back :

@@ -23,8 +23,8 @@ module _ (application : ℕ) (r : List ℕ) (m : Menu) where
   says-accepted = Kinds.means-accepted navigation owed menu_sent application r m
 
   pub reads_exactly : (c : ℕ) → Bytes r → (read_menu application r ≡ accepted m c) ↔ (Says application r m × (c ≡ mended_control r))
-  reads_exactly c b = Kinds.reads-exactly navigation owed menu_sent application r m c (λ t. b)
+  reads_exactly c b = Kinds.reads_exactly navigation owed menu_sent application r m c (λ t. b)
 
 -- a count is at most 5 and twice the greatest control size
 pub mended_most_lem : (application : ℕ) (r : List ℕ) → Every (read_rules application r) → mended_control r ≤ 2051
-mended_most_lem = Kinds.mended-most navigation owed
+mended_most_lem = Kinds.mended_most navigation owed

@@ -56,7 +56,7 @@ pub parity_refused :
     (application k : ℕ) (r : List ℕ) (m : Menu) (c : ℕ) → k < length (string_part (drop 4 r)) → is_odd (get_or (string_part (drop 4 r)) k 0) ≡ false
     → read_menu application r ≡ accepted m c
     → ⊥
-parity_refused application k r m c h b e = Kinds.parity-refused navigation owed menu_sent application k r m c e h b
+parity_refused application k r m c h b e = Kinds.parity_refused navigation owed menu_sent application k r m c e h b
 
 -- the ones of two numbers, and the bits in which they differ, are an even number
 even_in_all : (k a b : ℕ) → (ones k a + ones k b + differing k a b) % 2 ≡ 0

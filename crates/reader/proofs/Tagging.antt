@@ -57,7 +57,7 @@ module _ (k : ℕ) (l : List ℕ) (n : ℕ) (out₀ : List ℕ) (to : ℕ) where
 
   -- one record
   module _ (p : ℕ) (b : Block) (others : List ℕ) (h : Sized b) (e : drop p l ≡ record_of b ++ others) where
-    its-head : get_or l p 0 + 256 * get_or l (p + 1) 0 ≡ b.head
+    its_head : get_or l p 0 + 256 * get_or l (p + 1) 0 ≡ b.head
     its-head =
         let x : get_or l (p + 0) 0 ≡ b.head % 256 = sym (get_or-drop p l 0 0) ∙ ap (λ (m : List ℕ). get_or m 0 0) e in
         let y : get_or l (p + 1) 0 ≡ b.head / 256 = sym (get_or-drop p l 1 0) ∙ ap (λ (m : List ℕ). get_or m 1 0) e in

@@ -52,7 +52,7 @@ loops_fit kind (d ∷ ds) (more p ps) o = go (ltb 15 (entries kind d.words)) ref
     go true e f ih = let x : ◌≡◌ {A = ℕ} 0 1 = cc in absurd (omega arith)
     go false e f ih =
         let small : entries kind d.words < 16 = omega (arith, ltb-false 15 (entries kind d.words) e) in
-        let id-fits : d.id < 64 = omega (arith, p.small) in
+        let id_fits : d.id < 64 = omega (arith, p.small) in
         let these : fitting (alike 24 d.words) ≡ true = rw p.made (words_fit kind p.rows p.each) in
         rw (lt-ltb d.id 64 id-fits, lt-ltb (entries kind d.words) 16 small, fitting-append (alike 24 d.words) (loops kind ds), these) (ih f)
 
@@ -107,14 +107,14 @@ module _ (kind block network : ℕ) (ds : List Descriptor) where
       all m c o w =
           sends made_table
           (record {
-            kind-known = k;
+            kind_known = k;
             edition = m;
-            entire-all = all-entire kind ds each;
-            control-fits = omega (arith, wide);
+            entire_all = all-entire kind ds each;
+            control_fits = omega (arith, wide);
             kind_fits = kind-small;
-            copyright-fits = omega arith;
-            block-fits = omega arith;
-            network-fits = omega arith;
+            copyright_fits = omega arith;
+            block_fits = omega arith;
+            network_fits = omega arith;
             count_fits = omega arith;
             loops_fit = loops_fit kind ds each o;
           })
@@ -136,7 +136,7 @@ module _ (kind block network : ℕ) (ds : List Descriptor) where
           let s = sendable made_table e in
           let z : true ≡ false = sym p ∙ none_over kind ds s.loops-fit in
           sym z
-      go true e true m true c false p false q = let s = sendable made_table e in absurd (omega (arith, leb-false bits_are 8184 q, s.control-fits, wide))
+      go true e true m true c false p false q = let s = sendable made_table e in absurd (omega (arith, leb-false bits_are 8184 q, s.control_fits, wide))
 
 -- an entry has words: more of them than there are bits can't be written
 pub entries_over : (kind c e : ℕ) → 8184 < e → leb (58 + 10 * c + 24 * (per kind * e)) 8184 ≡ false

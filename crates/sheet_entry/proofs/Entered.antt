@@ -105,21 +105,21 @@ headed form = lines_told (head_faithful form)
 
 -- the values that fit are those of an entry
 pub record Values (form : Form) (vs : List ℕ) : Type 0 where
-  pub stamp-fits : get_or vs 0 0 ≤ stamp_most
-  pub mended-fits : get_or vs 1 0 ≤ mended_most form
-  pub kind-known : known (kind_in vs) ≡ true
-  pub network-fits : network_in vs ≤ 255
-  pub block-fits : block_in vs ≤ 65535
+  pub stamp_fits : get_or vs 0 0 ≤ stamp_most
+  pub mended_fits : get_or vs 1 0 ≤ mended_most form
+  pub kind_known : known (kind_in vs) ≡ true
+  pub network_fits : network_in vs ≤ 255
+  pub block_fits : block_in vs ≤ 65535
   pub all : (ds : List Descriptor) → head_values (entry_from vs ds) ≡ vs
 
 pub values_of : (form : Form) {vs : List ℕ} → Fit (head_fits form) vs → Values form vs
 values_of form (and-value {v = s} a (and-value {v = z} y (and-value {v = k} b (and-value {v = n} c (and-value {v = m} d no-values))))) =
     record {
-      stamp-fits = leb-true s stamp_most a;
-      mended-fits = leb-true z (mended_most form) y;
-      kind-known = b;
-      network-fits = leb-true n 255 c;
-      block-fits = leb-true m 65535 d;
+      stamp_fits = leb-true s stamp_most a;
+      mended_fits = leb-true z (mended_most form) y;
+      kind_known = b;
+      network_fits = leb-true n 255 c;
+      block_fits = leb-true m 65535 d;
       all = λ ds. refl;
     }
 
@@ -152,17 +152,17 @@ subtitles_of_lem kind e (suc k) (w ∷ p ∷ ws) l h =
     )
 
 describes : (kind : ℕ) (d : Descriptor) → Sound kind d → Described kind d
-describes kind d s = go (eqb kind TI) refl s.whole-entries
+describes kind d s = go (eqb kind TI) refl s.whole_entries
   where
     go : (z : Bool) → eqb kind TI ≡ z → per kind * entries kind d.words ≡ length d.words → Described kind d
     go true e w =
         let two : per kind ≡ 2 = (unfold per in rw e) in
         let l : length d.words ≡ 2 * entries kind d.words = sym w ∙ ap (λ (n : ℕ). n * entries kind d.words) two in
         let r = subtitles_of_lem kind e (entries kind d.words) d.words l s.words-fit in
-        record { small = omega (arith, s.id-fits); rows = r.0; made = r.1; each = r.2 }
+        record { small = omega (arith, s.id_fits); rows = r.0; made = r.1; each = r.2 }
     go false e w =
         let r = languages-of kind e d.words s.words-fit in
-        record { small = omega (arith, s.id-fits); rows = r.0; made = r.1; each = r.2 }
+        record { small = omega (arith, s.id_fits); rows = r.0; made = r.1; each = r.2 }
 
 pub all_described :
     (kind : ℕ) (ds : List Descriptor) → entire kind ds ≡ true → fitting (loops kind ds) ≡ true → Each same descriptor_at Described kind ds
@@ -178,8 +178,8 @@ pub record Standing (form : Form) (least : ℕ) (e : Entry) : Type 0 where
 
 -- what an entry that can be written has
 pub record Written (form : Form) (e : Entry) : Type 0 where
-  pub stamp-fits : leb e.stamp stamp_most ≡ true
-  pub mended-fits : leb e.mended (mended_most form) ≡ true
+  pub stamp_fits : leb e.stamp stamp_most ≡ true
+  pub mended_fits : leb e.mended (mended_most form) ≡ true
   pub uncopied : e.table.copyright ≡ 0
   pub fit : fits e.table ≡ true
 
@@ -189,7 +189,7 @@ written-parts form e w =
     let a = both_true (leb e.stamp stamp_most) _ w in
     let b = both_true (leb e.mended (mended_most form)) _ a.1 in
     let c = both_true (eqb e.table.copyright 0) _ b.1 in
-    record { stamp-fits = a.0; mended-fits = b.0; uncopied = eqb-true e.table.copyright 0 c.0; fit = c.1 }
+    record { stamp_fits = a.0; mended_fits = b.0; uncopied = eqb-true e.table.copyright 0 c.0; fit = c.1 }
 
 abbrev pub text_of : Form → ℕ → Entry → List ℕ
 text_of form least e = entry_text form e
@@ -240,7 +240,7 @@ ended-seen form least bytes h ds head lines size inside =
         let long : at + 1 ≡ length (entry_text form e) =
         rw (length-append, length-append, head_lines_lem form h ds.items head) (omega (arith, head.size, size)) in
         let v = values_of form head.fit in
-        let can : written form e ≡ true = rw (le-leb (get_or h.items 0 0) stamp_most v.stamp-fits, le-leb (get_or h.items 1 0) (mended_most form) v.mended-fits) b.0 in
+        let can : written form e ≡ true = rw (le-leb (get_or h.items 0 0) stamp_most v.stamp_fits, le-leb (get_or h.items 1 0) (mended_most form) v.mended_fits) b.0 in
         read (record { rises = leb-true least (key_of e) b.1; can = can }) there long
 
 table-seen :
@@ -349,9 +349,9 @@ entry-back form least e rest p =
     let long : length head + length lines + 1 ≡ length (entry_text form e) =
     rw (length-append head (lines ++ empty_line), length-append lines empty_line) (add_assoc (length head) (length lines) 1) in
     let fit =
-    and-value w.stamp-fits (and-value w.mended-fits (and-value s.kind-known (and-value (le-leb t.network 255 (omega (arith, s.network-fits))) (and-value (le-leb t.block 65535 (omega (arith, s.block-fits))) no-values)))) in
+    and-value w.stamp_fits (and-value w.mended_fits (and-value s.kind_known (and-value (le-leb t.network 255 (omega (arith, s.network_fits))) (and-value (le-leb t.block 65535 (omega (arith, s.block_fits))) no-values)))) in
     let made =
-    made_back form least (head_values e) t.descriptors rest fit (all_described t.kind t.descriptors s.entire-all s.loops-fit)
+    made_back form least (head_values e) t.descriptors rest fit (all_described t.kind t.descriptors s.entire_all s.loops-fit)
     (ap (λ (x : Entry). fits x.table) same-entry ∙ w.fit) (subst (λ (x : Entry). least ≤ key_of x) (sym same-entry) p.rises) in
     rw split (entry-begins form least (head ++ (lines ++ (10 ∷ rest))) some ∙ made ∙ ap (λ (x : Entry). item x (length head + length lines + 1)) same-entry ∙ ap (item e) long)
 

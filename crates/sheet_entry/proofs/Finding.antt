@@ -73,9 +73,9 @@ module _ (form : Form) (least : ℕ) (bytes : List ℕ) (h : Many ℕ) (ds : Man
       → by_tests least bytes (head_of h) (summary_of (head_of h).kind ds) ≡ found_of form (with_table least bytes h ds)
   unfolding with_table ended found_of key_of
   table-found r e each =
-      let known-kind : known (kind_in h.items) ≡ true = (values_of form r.fit).kind-known in
-      let small-network : network_in h.items ≤ 255 = (values_of form r.fit).network-fits in
-      let small-block : block_in h.items ≤ 65535 = (values_of form r.fit).block-fits in
+      let known-kind : known (kind_in h.items) ≡ true = (values_of form r.fit).kind_known in
+      let small-network : network_in h.items ≤ 255 = (values_of form r.fit).network_fits in
+      let small-block : block_in h.items ≤ 65535 = (values_of form r.fit).block_fits in
       let f = fits-counts (kind_in h.items) (block_in h.items) (network_in h.items) ds.items known-kind small-network small-block each in
       let l : length (head_lines form (entry_from h.items ds.items)) ≡ h.long = ap length (head_lines_lem form h ds.items r) ∙ sym r.size in
       let t = both (begins_with empty_line (drop (h.long + ds.long) bytes)) (both (fits (entry_from h.items ds.items).table) (leb least (key_of (entry_from h.items ds.items)))) in
@@ -114,7 +114,7 @@ module _
         let v = values_of form head-is.fit in
         let a : head.network ≡ network_in (lines_at (heading form) (drop at sheet)).items = ap (λ (x : Head). x.network) reads-h in
         let b : head.block ≡ block_in (lines_at (heading form) (drop at sheet)).items = ap (λ (x : Head). x.block) reads-h in
-        (rw a v.network-fits, rw b v.block-fits)
+        (rw a v.network_fits, rw b v.block_fits)
 
     module _ (t : Summary) (reads-t : t ≡ summary_of head.kind (descriptors_of head.kind (drop (at + head.long) sheet))) where
       ds : Many Descriptor
@@ -243,5 +243,5 @@ unfolding key_of
 key_small form e w = go (eqb e.table.kind TI) (sendable e.table (written-parts form e w).fit)
   where
     go : (z : Bool) → Sendable e.table → (e.table.network * 2 + pick z 1 0) * 65536 + e.table.block ≤ 33554431
-    go true s = omega (arith, s.network-fits, s.block-fits)
-    go false s = omega (arith, s.network-fits, s.block-fits)
+    go true s = omega (arith, s.network_fits, s.block_fits)
+    go false s = omega (arith, s.network_fits, s.block_fits)

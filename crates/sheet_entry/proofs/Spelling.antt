@@ -53,7 +53,7 @@ judged_every f j =
     let l = length-form (table_in f) in
     more (form-said f s.edition)
     (more (le-leb opening (length f) (omega (arith, j.whole)))
-    (more s.kind-known (more (eq-eqb (length f) (length (form (table_in f))) j.whole) (more j.fit none))))
+    (more s.kind_known (more (eq-eqb (length f) (length (form (table_in f))) j.whole) (more j.fit none))))
 
 -- so many descriptors and words as 8,184 bits hold: 63 descriptors leave room for 312 words, and more words cost more than they give
 text_most_lem : (d w : ℕ) → d ≤ 63 → 58 + 10 * d + 24 * w ≤ 8184 → 14 * d + 16 * w + 1 ≤ 5875
@@ -65,11 +65,11 @@ unfolding descriptor_lines_of
 lines_most_lem f j =
     let t = table_in f in
     let s = sendable t j.fit in
-    let r = descriptors_room t.kind t.descriptors s.entire-all s.loops-fit in
+    let r = descriptors_room t.kind t.descriptors s.entire_all s.loops-fit in
     let w = listed_words t.kind t.descriptors in
     let b = bits_of t in
     let e = eights t.kind t.descriptors in
-    let c : bits t ≤ 8184 = omega (arith, s.control-fits) in
+    let c : bits t ≤ 8184 = omega (arith, s.control_fits) in
     omega (arith, text_most_lem (length t.descriptors) (words_of t.descriptors) (omega (arith, s.count_fits)) (omega arith))
 
 -- and so are those of its head
@@ -101,14 +101,14 @@ unfolding fields width
 uncopied t s =
     sends (record { kind = t.kind; copyright = 0; block = t.block; network = t.network; descriptors = t.descriptors })
     (record {
-      kind-known = s.kind-known;
+      kind_known = s.kind_known;
       edition = s.edition;
-      entire-all = s.entire-all;
-      control-fits = s.control-fits;
+      entire_all = s.entire_all;
+      control_fits = s.control_fits;
       kind_fits = s.kind_fits;
-      copyright-fits = omega arith;
-      block-fits = s.block-fits;
-      network-fits = s.network-fits;
+      copyright_fits = omega arith;
+      block_fits = s.block_fits;
+      network_fits = s.network_fits;
       count_fits = s.count_fits;
       loops_fit = s.loops-fit;
     })
@@ -190,7 +190,7 @@ unfolding entry_text head_lines stamped descriptor_lines_of
 entry_most_lem form stamp mended f h d j =
     let t = table_in f in
     let s = sendable t j.fit in
-    let m = head_most_lem form stamp mended t.kind t.network t.block h d (omega (arith, s.network-fits)) (omega (arith, s.block-fits)) in
+    let m = head_most_lem form stamp mended t.kind t.network t.block h d (omega (arith, s.network_fits)) (omega (arith, s.block_fits)) in
     simp length-append (omega (arith, m, lines_most_lem f j))
 
 -- held in an array, and then handed out

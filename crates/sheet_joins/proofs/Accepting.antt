@@ -47,9 +47,9 @@ module _ (form : Form) where
   pub long-enough : List ℕ
   long-enough = replicate (byte_limit form) 0
 
-  pub is-long : byte_limit form ≤ length long-enough
+  pub is_long : byte_limit form ≤ length long-enough
   unfolding long-enough
-  is-long = let l = length-replicate {A = ℕ} (byte_limit form) 0 in omega arith
+  is_long = let l = length-replicate {A = ℕ} (byte_limit form) 0 in omega arith
 
   -- ---- join
 

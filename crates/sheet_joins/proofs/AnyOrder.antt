@@ -150,7 +150,7 @@ module _ (form : Form) where
       let o = text-length ys in
       let p = text-length (joined xs ys) in
       let f = a.entries in
-      let b = a.length-in-all in
+      let b = a.length_in_all in
       let kept : Every (limited form (joined xs ys)) =
       more (le-leb (length (joined xs ys)) entry_limit f)
       (more (le-leb (length (sheet_text form (joined xs ys))) (byte_limit form) (omega arith)) all_hold) in
@@ -244,7 +244,7 @@ module _ (form : Form) where
       let m = joined_merged (whole s) (whole t) in
       call (runs s a p) (runs t b q)
       (subst (λ (es : List Entry). Joins form (sheet_text form (whole s)) (sheet_text form (whole t)) (sheet_text form es)) m
-      (joins (sheet-at s a) (sheet-at t b) (allowed_at s a p).length-in-all (allowed_at t b q).length-in-all
+      (joins (sheet-at s a) (sheet-at t b) (allowed_at s a p).length_in_all (allowed_at t b q).length_in_all
       (rw m (allowed_at (two s t) e r))))
 
   -- every tree of calls over every order of the sheets gives the same sheet, and no call of it is refused
@@ -281,7 +281,7 @@ module _ (form : Form) where
       let i : joined (entries_of form sheet) (entries_of form sheet) ≡ entries_of form sheet =
       joined_merged (entries_of form sheet) (entries_of form sheet) ∙ itself key_of (Fit form) at_most decides 0 (entries_of form sheet) g.rises in
       let m : length (sheet_text form (entries_of form sheet)) ≤ byte_limit form = rw (sym e.0) l in
-      let a : Allowed (size_of form) entry_limit (byte_limit form) (entries_of form sheet) = record { entries = n; length-in-all = omega arith } in
+      let a : Allowed (size_of form) entry_limit (byte_limit form) (entries_of form sheet) = record { entries = n; length_in_all = omega arith } in
       let j : Joins form (sheet_text form (entries_of form sheet)) (sheet_text form (entries_of form sheet)) (sheet_text form (joined (entries_of form sheet) (entries_of form sheet))) =
       joins g g (omega arith) (omega arith) (subst (Allowed (size_of form) entry_limit (byte_limit form)) (sym i) a) in
       let t : Joins form (sheet_text form (entries_of form sheet)) (sheet_text form (entries_of form sheet)) (sheet_text form (entries_of form sheet)) = rw i at j in

@@ -127,4 +127,4 @@ module _ (form : Form) where
   room-itself sheet f k l =
       let t = text-length form (entries_of form sheet) in
       let m = ap length (read-written form sheet 0 f).0 in
-      within-itself key_of (size_of form) (Fit form) at_most (decides form) (sheet-of form sheet f) (record { entries = k; length-in-all = omega arith })
+      within-itself key_of (size_of form) (Fit form) at_most (decides form) (sheet-of form sheet f) (record { entries = k; length_in_all = omega arith })

@@ -84,13 +84,13 @@ module _ (form : Form) where
   -- what one turn does: it goes on in at least one sheet, what stands there is the first of the walk along both, and what it leaves are sheets
   -- in form that give the rest
   pub record Turned (a b : List ℕ) (t : Turn) : Type 0 where
-    pub first-in : t.first.long ≤ length a
-    pub second-in : t.second.long ≤ length b
-    pub first-span : t.first.more ≡ true → t.first.head + 1 ≤ t.first.long
-    pub second-span : t.second.more ≡ true → t.second.head + 1 ≤ t.second.long
+    pub first_in : t.first.long ≤ length a
+    pub second_in : t.second.long ≤ length b
+    pub first_span : t.first.more ≡ true → t.first.head + 1 ≤ t.first.long
+    pub second_span : t.second.more ≡ true → t.second.head + 1 ≤ t.second.long
     pub goes_on : 0 < t.first.long + t.second.long
     pub first_fine : InForm form (drop t.first.long a)
-    pub second-fine : InForm form (drop t.second.long b)
+    pub second_fine : InForm form (drop t.second.long b)
     pub here : Stands
     pub front : Front a b t here
     pub on :
@@ -119,13 +119,13 @@ module _ (form : Form) where
       let c = text_of form f' in
       let d = text_of form g' in
       record {
-        first-in = l;
-        second-in = m;
-        first-span = had-span v;
-        second-span = had-span w;
+        first_in = l;
+        second_in = m;
+        first_span = had-span v;
+        second_span = had-span w;
         goes_on = o;
         first_fine = rw p c.0;
-        second-fine = rw q d.0;
+        second_fine = rw q d.0;
         here = s;
         front = r;
         on = rw ((text_of form f).1, (text_of form g).1, p, q, c.1, d.1) j;

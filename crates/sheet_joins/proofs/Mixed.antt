@@ -59,8 +59,8 @@ module _ (form : Form) where
   -- the sheet of a table's one entry
   pub one_table : (c : Captured) → Takes form c → InForm form (sheet_of_one form c) × (entries_of form (sheet_of_one form c) ≡ stamped c.stamp c.mended c.table ∷ [])
   one_table c t =
-      let j = entry-judged form c.mended c.table t.form-holds in
-      one-read form (stamped c.stamp c.mended c.table) (stamped-written form c.stamp c.mended c.table t.stamp-fits j.1 j.0)
+      let j = entry-judged form c.mended c.table t.form_holds in
+      one-read form (stamped c.stamp c.mended c.table) (stamped-written form c.stamp c.mended c.table t.stamp_fits j.1 j.0)
 
   -- a sheet that is in form was made of its sheets, and one that just stands there is alone
   settled : {xs : List (List ℕ)} {sheet : List ℕ} → Made xs sheet ⊎ (xs ≡ sheet ∷ []) → InForm form sheet → Made xs sheet
@@ -74,7 +74,7 @@ module _ (form : Form) where
       let s = joins-said form a b j in inl (made-two (settled (made-or-alone v) s.0) (settled (made-or-alone w) s.1) s.2)
   made-or-alone (added {c = c} {a = a} w h d) =
       let s = adds-said form a c d in
-      let t = one_table c (record { form-holds = s.0; stamp-fits = h }) in
+      let t = one_table c (record { form_holds = s.0; stamp_fits = h }) in
       inl
       (made-two (settled (made-or-alone w) s.1) (made_one (sheet_of_one form c) t.0)
       (s.2 ∙ ap (λ (es : List Entry). sheet_text form (joined (entries_of form a) es)) (sym t.1)))

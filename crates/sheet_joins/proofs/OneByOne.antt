@@ -39,19 +39,19 @@ module _ (form : Form) where
   pub joins-adds : (sheet : List ℕ) (c : Captured) (result : List ℕ) → Takes form c → Joins form sheet (sheet_of_one form c) result → Adds form sheet c result
   joins-adds sheet c result t j =
       let f = c.table in
-      let g = entry-judged form c.mended f t.form-holds in
+      let g = entry-judged form c.mended f t.form_holds in
       let l = second_short sheet (sheet_of_one form c) result j in
-      let p = sym (passes refused (Done 0) t.form-holds) in
+      let p = sym (passes refused (Done 0) t.form_holds) in
       record {
         answers =
             λ out big.
             sym (add-goes-on form c.stamp c.mended sheet f out 0 p refl).0
-            ∙ sym (add-answers form c.stamp c.mended sheet f t.stamp-fits g l out)
+            ∙ sym (add-answers form c.stamp c.mended sheet f t.stamp_fits g l out)
             ∙ j.answers out big;
         writes =
             λ out big.
             sym (add-goes-on form c.stamp c.mended sheet f out 0 p refl).1
-            ∙ sym (add-leaves form c.stamp c.mended sheet f t.stamp-fits g l out)
+            ∙ sym (add-leaves form c.stamp c.mended sheet f t.stamp_fits g l out)
             ∙ j.writes out big;
       }
 
@@ -88,8 +88,8 @@ module _ (form : Form) where
   ones-in-form e =
       each_map (sheet_of_one form)
       (λ x p.
-      let j = entry-judged form x.mended x.table p.form-holds in
-      (one-read form (stamped x.stamp x.mended x.table) (stamped-written form x.stamp x.mended x.table p.stamp-fits j.1 j.0)).0)
+      let j = entry-judged form x.mended x.table p.form_holds in
+      (one-read form (stamped x.stamp x.mended x.table) (stamped-written form x.stamp x.mended x.table p.stamp_fits j.1 j.0)).0)
       e
 
   -- tables added one by one in any order give the same sheet, and no call is refused, where the premise holds of the sheet and of the sheets of

@@ -141,7 +141,7 @@ module _ (form : Form) where
         let u = small-two s t in
         let r = u.long in
         let n = as_many key_of 0 ks _ u.good.rises u.keyed in
-        joins form s.good t.good (omega arith) (omega arith) (record { entries = omega arith; length-in-all = omega arith })
+        joins form s.good t.good (omega arith) (omega arith) (record { entries = omega arith; length_in_all = omega arith })
 
     accept :
         {w : Work} → Ready form w → Each (λ (sheet : List ℕ). Keyed (entries_of form sheet)) (sheets_of form w) → bytes_of (sheets_of form w) ≤ byte_limit form
@@ -161,7 +161,7 @@ module _ (form : Form) where
         let y = small_one (sheet_of_one form c) o.0 (each_first (each_right (sheets_of form w) (sheet_of_one form c ∷ []) k)) in
         let es = joined x.0 (entries_of form (sheet_of_one form c)) in
         let j : Joins form (sheet_text form x.0) (sheet_of_one form c) (sheet_text form es) = rw (sym (read-written form (sheet_of_one form c) 0 o.0).0) at (small-joins x.2 y h) in
-        (es, added x.1 t.stamp-fits (joins-adds form (sheet_text form x.0) c (sheet_text form es) t j), small-two x.2 y)
+        (es, added x.1 t.stamp_fits (joins-adds form (sheet_text form x.0) c (sheet_text form es) t j), small-two x.2 y)
 
   -- in the customer's words: sheets in form and tables that block writing takes, which together have at most 64 keys and 16,384 bytes, are joined
   -- and added in any two orders and groupings: every call is accepted, and the same sheet is written

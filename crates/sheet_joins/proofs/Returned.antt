@@ -113,10 +113,10 @@ module _ (form : Form) where
         here : (k : ℕ) → key_of e ≡ k → chosen (greater at_most) (lookup key_of k rest) (lookup key_of k (e ∷ [])) ≡ lookup key_of k (entries_of form sheet)
         here k h =
             let s = written-sendable form e can in
-            let b = s.block-fits in
+            let b = s.block_fits in
             let gone : lookup key_of k rest ≡ none =
             subst (λ (x : ℕ). lookup key_of x rest ≡ none) h
-            (unfold key_of in none_left form e.table.network e.table.kind e.table.block (omega arith) s.kind-known (entries_of form sheet) (read-written form sheet 0 f).2) in
+            (unfold key_of in none_left form e.table.network e.table.kind e.table.block (omega arith) s.kind_known (entries_of form sheet) (read-written form sheet 0 f).2) in
             rw (gone, lookup-here key_of k e [] h) (sym (subst (λ (x : ℕ). lookup key_of x (entries_of form sheet) ≡ some e) h there))
 
         other : (k : ℕ) → (key_of e ≡ k → ⊥) → chosen (greater at_most) (lookup key_of k rest) (lookup key_of k (e ∷ [])) ≡ lookup key_of k (entries_of form sheet)
@@ -131,10 +131,10 @@ module _ (form : Form) where
         record { whole = ap (λ (t : Table). length (table_form t)) (sym i); fit = rw i (written-parts form e can).fit }
 
     stamp-in : e.stamp ≤ stamp_most
-    stamp-in = leb-true e.stamp stamp_most (written-parts form e can).stamp-fits
+    stamp-in = leb-true e.stamp stamp_most (written-parts form e can).stamp_fits
 
     mended-in : e.mended ≤ mended_most form
-    mended-in = leb-true e.mended (mended_most form) (written-parts form e can).mended-fits
+    mended-in = leb-true e.mended (mended_most form) (written-parts form e can).mended_fits
 
     one-fits : total (size_of form) (e ∷ []) ≤ byte_limit form
     unfolding total
@@ -144,7 +144,7 @@ module _ (form : Form) where
         omega (arith, entry-within form)
 
     takes : Takes form (captured e)
-    takes = record { form-holds = entry_every form e.mended (table_form e.table) judged mended-in; stamp-fits = stamp-in }
+    takes = record { form_holds = entry_every form e.mended (table_form e.table) judged mended-in; stamp_fits = stamp-in }
 
     -- dropped, and then added with its stamp and its table: the same sheet, with room in both calls
     pub drop-and-add :
@@ -159,7 +159,7 @@ module _ (form : Form) where
         let u = text-length form rest in
         let v = text-length form (entries_of form sheet) in
         let j : Joins form (sheet_text form rest) (sheet_text form (e ∷ [])) (sheet_text form (joined rest (e ∷ []))) =
-        joins form s one (omega arith) one-fits (rw joined-again (record { entries = n; length-in-all = omega arith })) in
+        joins form s one (omega arith) one-fits (rw joined-again (record { entries = n; length_in_all = omega arith })) in
         let c : sheet_text form (e ∷ []) ≡ sheet_of_one form (captured e) = one-text ∙ ap (entry_text form) (sym (stamped-again e can)) in
         let k : Joins form (sheet_text form rest) (sheet_of_one form (captured e)) sheet =
         subst (λ (x : List ℕ). Joins form (sheet_text form rest) (sheet_of_one form (captured e)) x) (ap (sheet_text form) joined-again ∙ sym same)

@@ -34,24 +34,24 @@ use Rattle.sheet_entry.specs.declared.Form.{Form}
 module _ (form : Form) where
   first-stays : (e : Entry) (other : Option Entry) → (z : Entry) × (chosen (greater at_most) (some e) other ≡ some z) × Stays e other z
   unfolding chosen
-  first-stays e none = (e, refl, record { not-older = omega arith; newest = λ h. refl })
+  first-stays e none = (e, refl, record { not_older = omega arith; newest = λ h. refl })
   first-stays e (some o) = (
     greater at_most e o,
     refl,
     record {
-      not-older = later_stamp e (greater at_most e o) (greater-first (decides form).ordered e o);
+      not_older = later_stamp e (greater at_most e o) (greater-first (decides form).ordered e o);
       newest = λ h. rw (lt-leb e.stamp o.stamp (h o refl));
     },
   )
 
   second-stays : (e : Entry) (other : Option Entry) → (z : Entry) × (chosen (greater at_most) other (some e) ≡ some z) × Stays e other z
   unfolding chosen
-  second-stays e none = (e, refl, record { not-older = omega arith; newest = λ h. refl })
+  second-stays e none = (e, refl, record { not_older = omega arith; newest = λ h. refl })
   second-stays e (some o) = (
     greater at_most o e,
     refl,
     record {
-      not-older = later_stamp e (greater at_most o e) (greater-second (decides form).ordered o e);
+      not_older = later_stamp e (greater at_most o e) (greater-second (decides form).ordered o e);
       newest =
           λ h.
           let l = h o refl in rw (le-leb o.stamp e.stamp (omega arith), lt-leb e.stamp o.stamp l);
@@ -73,9 +73,9 @@ module _ (form : Form) where
       let at : (k : ℕ) → stands_at form k sheet ≡ chosen (greater at_most) (stands_at form k first) (stands_at form k second) =
       λ k. ap (lookup key_of k) r ∙ join-lookup key_of (Fit form) at_most (decides form) 0 k xs ys p q in
       record {
-        in_form_lem = rw e t.0;
-        of-first = λ k x h. rw (at k, h) (first-stays x (stands_at form k second));
-        of-second = λ k x h. rw (at k, h) (second-stays x (stands_at form k first));
+        in_form = rw e t.0;
+        of_first = λ k x h. rw (at k, h) (first-stays x (stands_at form k second));
+        of_second = λ k x h. rw (at k, h) (second-stays x (stands_at form k first));
         theirs = λ k z h. join_one key_of (Fit form) at_most (decides form) 0 k xs ys p q (sym (ap (lookup key_of k) r) ∙ h);
       }
 
@@ -90,7 +90,7 @@ module _ (form : Form) where
   unfolding add_result
   add-never-back {sheet} c h a =
       let s = adds-said form sheet c a in
-      let t = one_table form c (record { form-holds = s.0; stamp-fits = h }) in
+      let t = one_table form c (record { form_holds = s.0; stamp_fits = h }) in
       joined-stays s.1 t.0 (s.2 ∙ ap (λ (es : List Entry). sheet_text form (joined (entries_of form sheet) es)) (sym t.1))
 
   -- ---- of all that came together
@@ -105,7 +105,7 @@ module _ (form : Form) where
       further (inr j) = inr j
 
   itself : {s sheet : List ℕ} → In s (sheet ∷ []) → (k : ℕ) (e : Entry) → stands_at form k s ≡ some e → Kept form k e sheet
-  itself i k e h = record { entry = e; stands = rw (in_one_lem i) at h; not-older = omega arith }
+  itself i k e h = record { entry = e; stands = rw (in_one_lem i) at h; not_older = omega arith }
 
   -- what stood in either of two, or in what they came from
   of-both :
@@ -113,12 +113,12 @@ module _ (form : Form) where
       → In s xs ⊎ In s ys → Kept form k e sheet
   of-both {k} {e} {sheet = sheet} n f g (inl i) =
       let x = f i in
-      let y = n.of-first k x.entry x.stands in
-      record { entry = y.0; stands = y.1; not-older = let l = x.not-older in let m = y.2.not-older in omega arith }
+      let y = n.of_first k x.entry x.stands in
+      record { entry = y.0; stands = y.1; not_older = let l = x.not_older in let m = y.2.not_older in omega arith }
   of-both {k} {e} {sheet = sheet} n f g (inr i) =
       let x = g i in
-      let y = n.of-second k x.entry x.stands in
-      record { entry = y.0; stands = y.1; not-older = let l = x.not-older in let m = y.2.not-older in omega arith }
+      let y = n.of_second k x.entry x.stands in
+      record { entry = y.0; stands = y.1; not_older = let l = x.not_older in let m = y.2.not_older in omega arith }
 
   -- of each entry of each sheet and table, however they came together
   pub work-never-back :
@@ -130,11 +130,11 @@ module _ (form : Form) where
   work-never-back (added {w = w} {c = c} p l a) i k e h =
       of-both (add-never-back c l a) (λ i. work-never-back p i k e h) (λ i. itself i k e h) (in_either (sheets_of form w) i)
 
-  in-first : {B : Type 0} {x : B} {xs : List B} (ys : List B) → In x xs → In x (xs ++ ys)
+  in_first : {B : Type 0} {x : B} {xs : List B} (ys : List B) → In x xs → In x (xs ++ ys)
   in-first ys here = here
   in-first ys (there i) = there (in-first ys i)
 
-  in-second : {B : Type 0} {x : B} (xs : List B) {ys : List B} → In x ys → In x (xs ++ ys)
+  in_second : {B : Type 0} {x : B} (xs : List B) {ys : List B} → In x ys → In x (xs ++ ys)
   in-second [] i = i
   in-second (y ∷ xs) i = there (in-second xs i)
 

@@ -167,24 +167,24 @@ turn-length t a b = go (second_put t a b)
 module _ (form : Form) where
   -- what holds before each turn: what is left of both gives what is still to be put
   pub record Along (first second out₀ out : List ℕ) (i j n q : ℕ) : Type 0 where
-    pub in-first : Halfway form first i
-    pub in-second : Halfway form second j
-    pub to-put :
+    pub in_first : Halfway form first i
+    pub in_second : Halfway form second j
+    pub to_put :
         sets out q (sheet_text form (join_result form (drop i first) (drop j second))) ≡ sets out₀ 0 (sheet_text form (join_result form first second))
-    pub to-go : q + length (sheet_text form (join_result form (drop i first) (drop j second))) ≡ length (sheet_text form (join_result form first second))
-    pub to-count : n + length (join_result form (drop i first) (drop j second)) ≡ length (join_result form first second)
-    pub place-small : q ≤ i + j
+    pub to_go : q + length (sheet_text form (join_result form (drop i first) (drop j second))) ≡ length (sheet_text form (join_result form first second))
+    pub to_count : n + length (join_result form (drop i first) (drop j second)) ≡ length (join_result form first second)
+    pub place_small : q ≤ i + j
     pub count_small : n ≤ i + j
 
   pub along-start : (first second out : List ℕ) → Halfway form first 0 → Halfway form second 0 → Along first second out out 0 0 0 0
   along-start first second out f g =
       record {
-        in-first = f;
-        in-second = g;
-        to-put = refl;
-        to-go = zero-add (length (sheet_text form (join_result form first second)));
-        to-count = zero-add (length (join_result form first second));
-        place-small = omega arith;
+        in_first = f;
+        in_second = g;
+        to_put = refl;
+        to_go = zero-add (length (sheet_text form (join_result form first second)));
+        to_count = zero-add (length (join_result form first second));
+        place_small = omega arith;
         count_small = omega arith;
       }
 
@@ -193,11 +193,11 @@ module _ (form : Form) where
         i + j < length first + length second → {t : Turn} → t ≡ turn_of form (drop i first) (drop j second)
         → Turned form (drop i first) (drop j second) t
     along-turn h e =
-        let f = v.in-first.within.inside in
-        let g = v.in-second.within.inside in
+        let f = v.in_first.within.inside in
+        let g = v.in_second.within.inside in
         let k = length-drop i first in
         let l = length-drop j second in
-        rw e (turned form (drop i first) (drop j second) v.in-first.fine v.in-second.fine (omega arith))
+        rw e (turned form (drop i first) (drop j second) v.in_first.fine v.in_second.fine (omega arith))
 
     pub along-on :
         {t : Turn} {out' : List ℕ} {q' : ℕ} → Turned form (drop i first) (drop j second) t
@@ -209,8 +209,8 @@ module _ (form : Form) where
         let f = drop-drop t.first.long i first in
         let g = drop-drop t.second.long j second in
         let r : join_result form (drop (i + t.first.long) first) (drop (j + t.second.long) second) ≡ join_result form (drop t.first.long a) (drop t.second.long b) = rw (f, g) in
-        let x = u.first-in in
-        let y = u.second-in in
+        let x = u.first_in in
+        let y = u.second_in in
         let z = u.goes_on in
         let c = count-on form u in
         let l = length-drop i first in
@@ -219,16 +219,16 @@ module _ (form : Form) where
         let w = length-append (turn_text t a b) (sheet_text form (join_result form (drop t.first.long a) (drop t.second.long b))) in
         let d : length (sheet_text form (join_result form a b)) ≡ length (turn_text t a b) + length (sheet_text form (join_result form (drop t.first.long a) (drop t.second.long b))) = ap length (text-on form u) ∙ w in
         record {
-          in-first = record { within = record { inside = let h = v.in-first.within.inside in omega arith; short = v.in-first.within.short }; fine = rw (sym f) u.first_fine };
-          in-second = record { within = record { inside = let h = v.in-second.within.inside in omega arith; short = v.in-second.within.short }; fine = rw (sym g) u.second-fine };
+          in_first = record { within = record { inside = let h = v.in_first.within.inside in omega arith; short = v.in_first.within.short }; fine = rw (sym f) u.first_fine };
+          in_second = record { within = record { inside = let h = v.in_second.within.inside in omega arith; short = v.in_second.within.short }; fine = rw (sym g) u.second_fine };
           to-put =
               rw (r, e, k)
               (sym (sets-append out q (turn_text t a b) (sheet_text form (join_result form (drop t.first.long a) (drop t.second.long b))))
               ∙ ap (sets out q) (sym (text-on form u))
-              ∙ v.to-put);
-          to-go = rw r (let h = v.to-go in omega arith);
-          to-count = rw r (let h = v.to-count in omega arith);
-          place-small = let h = v.place-small in omega arith;
+              ∙ v.to_put);
+          to_go = rw r (let h = v.to_go in omega arith);
+          to_count = rw r (let h = v.to_count in omega arith);
+          place_small = let h = v.place_small in omega arith;
           count_small = let h = v.count_small in omega arith;
         }
 
@@ -240,12 +240,12 @@ module _ (form : Form) where
     along-end h =
         let k = length-drop i first in
         let l = length-drop j second in
-        let f = v.in-first.within.inside in
-        let g = v.in-second.within.inside in
+        let f = v.in_first.within.inside in
+        let g = v.in_second.within.inside in
         let r = turned-out form (drop i first) (drop j second) (omega arith) in
-        let a : sets out q (sheet_text form []) ≡ sets out₀ 0 (sheet_text form (join_result form first second)) = rw r at v.to-put in
-        let b : n + 0 ≡ length (join_result form first second) = rw r at v.to-count in
-        let c : q + 0 ≡ length (sheet_text form (join_result form first second)) = rw r at v.to-go in
+        let a : sets out q (sheet_text form []) ≡ sets out₀ 0 (sheet_text form (join_result form first second)) = rw r at v.to_put in
+        let b : n + 0 ≡ length (join_result form first second) = rw r at v.to_count in
+        let c : q + 0 ≡ length (sheet_text form (join_result form first second)) = rw r at v.to_go in
         (a, omega arith, omega arith)
 
     -- no place is far on, and what was met lies within the sheets
@@ -253,14 +253,14 @@ module _ (form : Form) where
         {t : Turn} → Turned form (drop i first) (drop j second) t
         → Met first i t.first × Met second j t.second × (q + t.first.long + t.second.long ≤ 200000)
     along-fits {t} u =
-        let x = u.first-in in
-        let y = u.second-in in
+        let x = u.first_in in
+        let y = u.second_in in
         let l = length-drop i first in
         let m = length-drop j second in
-        let f = v.in-first.within in
-        let g = v.in-second.within in
-        let s = v.place-small in (
-          record { span = u.first-span; inside = omega arith; small = f.short },
-          record { span = u.second-span; inside = omega arith; small = g.short },
+        let f = v.in_first.within in
+        let g = v.in_second.within in
+        let s = v.place_small in (
+          record { span = u.first_span; inside = omega arith; small = f.short },
+          record { span = u.second_span; inside = omega arith; small = g.short },
           omega arith,
         )

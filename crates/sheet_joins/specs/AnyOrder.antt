@@ -67,5 +67,5 @@ module _ (form : Form) where
 
   -- a table that block writing takes, a stamp within its range, and a number that the sheet's form can say
   pub record Takes (c : Captured) : Type 0 where
-    pub form-holds : Every (entry_rules form c.mended c.table)
-    pub stamp-fits : c.stamp ≤ stamp_most
+    pub form_holds : Every (entry_rules form c.mended c.table)
+    pub stamp_fits : c.stamp ≤ stamp_most

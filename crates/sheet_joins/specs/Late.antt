@@ -10,7 +10,7 @@ use Rattle.sheet_entry.specs.declared.Form.{Form}
 -- e stood at a key of the one sheet, and this at that of the other: z stands there afterwards
 pub record Stays (e : Entry) (other : Option Entry) (z : Entry) : Type 0 where
   -- its stamp is at least e's
-  pub not-older : e.stamp ≤ z.stamp
+  pub not_older : e.stamp ≤ z.stamp
   -- where the other sheet has no entry of that key, or one with a smaller stamp, it is e, its stamp and its lines
   pub newest : ((o : Entry) → other ≡ some o → o.stamp < e.stamp) → z ≡ e
 
@@ -21,10 +21,10 @@ module _ (form : Form) where
 
   -- of two sheets a third was written: read again, it has each key of either, none that was set back, and none that is made up
   pub record NeverBack (first second sheet : List ℕ) : Type 0 where
-    pub in_form_lem : InForm form sheet
-    pub of-first :
+    pub in_form : InForm form sheet
+    pub of_first :
         (k : ℕ) (e : Entry) → stands_at k first ≡ some e → (z : Entry) × (stands_at k sheet ≡ some z) × Stays e (stands_at k second) z
-    pub of-second :
+    pub of_second :
         (k : ℕ) (e : Entry) → stands_at k second ≡ some e → (z : Entry) × (stands_at k sheet ≡ some z) × Stays e (stands_at k first) z
     pub theirs : (k : ℕ) (z : Entry) → stands_at k sheet ≡ some z → (stands_at k first ≡ some z) ⊎ (stands_at k second ≡ some z)
 
@@ -32,4 +32,4 @@ module _ (form : Form) where
   pub record Kept (k : ℕ) (e : Entry) (sheet : List ℕ) : Type 0 where
     pub entry : Entry
     pub stands : stands_at k sheet ≡ some entry
-    pub not-older : e.stamp ≤ entry.stamp
+    pub not_older : e.stamp ≤ entry.stamp

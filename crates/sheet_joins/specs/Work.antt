@@ -30,7 +30,7 @@ pub data Wrote (form : Form) : Work → List ℕ → Type 0 where
 
 -- what is there before the calls: sheets in form, tables that block writing takes, stamps within their range
 pub data Ready (form : Form) : Work → Type 0 where
-  in_form_lem : {sheet : List ℕ} → InForm form sheet → Ready form (stands sheet)
+  in_form : {sheet : List ℕ} → InForm form sheet → Ready form (stands sheet)
   each : {v w : Work} → Ready form v → Ready form w → Ready form (join v w)
   takes : {w : Work} {c : Captured} → Ready form w → Takes form c → Ready form (add w c)
 

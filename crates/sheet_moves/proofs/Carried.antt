@@ -113,7 +113,7 @@ module _ (from to : Form) where
       let p = entry-parts from e z.0 in
       let whole : bytes ≡ x ++ (m ++ (y ++ t)) =
       b ∙ ap (λ (v : List ℕ). v ++ t) p ∙ append_assoc x (m ++ y) t ∙ ap (λ (v : List ℕ). x ++ v) (append_assoc m y t) in
-      let fits = leb-true e.stamp stamp_most (written-parts from e (both_true (written from e) (all_written from es) w).0).stamp-fits in
+      let fits = leb-true e.stamp stamp_most (written-parts from e (both_true (written from e) (all_written from es) w).0).stamp_fits in
       let a : l.long ≡ length x = ap (λ (v : Line). v.long) (r ∙ ap (number_at stamp_name stamp_most) whole ∙ number-back stamp_name stamp_most e.stamp (m ++ (y ++ t)) fits (omega arith)) in
       let k = mark-long from in
       let q = n ∙ ap length p ∙ length-append x (m ++ y) ∙ ap (λ (v : ℕ). length x + v) (length-append m y) in
@@ -133,7 +133,7 @@ module _ (from to : Form) where
     pub stood-cut : Cut from to (drop at sheet) (entries_of from (drop at sheet)) long l.long
     stood-cut =
         let r = read-written from (drop at sheet) 0 s.plainly.halfway.fine in
-        cut (drop at sheet) (entries_of from (drop at sheet)) r.0 r.2 s.plainly.zeros long s.is-long s.some reads
+        cut (drop at sheet) (entries_of from (drop at sheet)) r.0 r.2 s.plainly.zeros long s.is_long s.some reads
 
     pub cut_fits : (l.long + marks_of from 1 ≤ long) × (at + long ≤ 65000)
     cut_fits =
@@ -168,7 +168,7 @@ module _ (from to : Form) where
 pub record Ahead (form : Form) (sheet : List ℕ) (at : ℕ) (f : Found) : Type 0 where
   pub first : Entry
   pub entries : entries_of form (drop at sheet) ≡ first ∷ entries_of form (drop (at + f.long) sheet)
-  pub is-long : f.long ≡ length (entry_text form first)
+  pub is_long : f.long ≡ length (entry_text form first)
   pub number : f.mended ≡ first.mended
   pub some : 1 ≤ f.long
   pub inside : at + f.long ≤ length sheet
@@ -194,7 +194,7 @@ module _ (form : Form) (sheet : List ℕ) (at : ℕ) (h : Halfway form sheet at)
           record {
             first = x;
             entries = rw (l, ← c) n;
-            is-long = l;
+            is_long = l;
             number = ap (λ (y : Found). y.mended) i;
             some = omega arith;
             inside = inside;
@@ -223,7 +223,7 @@ module _ {form : Form} {sheet : List ℕ} {at : ℕ} {f : Found} (a : Ahead form
 
   pub stood-here : Plainly form sheet at → Stood form sheet at f.long
   unfolding front_text
-  stood-here p = record { plainly = p; is-long = rw a.entries a.is-long; some = a.some }
+  stood-here p = record { plainly = p; is_long = rw a.entries a.is_long; some = a.some }
 
   pub plainly-on : Plainly form sheet at → Plainly form sheet (at + f.long)
   plainly-on p = record { halfway = a.on; zeros = (zero_first a.first _ (rw a.entries at p.zeros)).1 }
@@ -347,7 +347,7 @@ unfolding all_written unmended
 old_unmended [] w = refl
 old_unmended (e ∷ es) w =
     let p = both_true (written Old e) (all_written Old es) w in
-    let m = leb-true e.mended 0 (written-parts Old e p.0).mended-fits in
+    let m = leb-true e.mended 0 (written-parts Old e p.0).mended_fits in
     rw (eq-eqb e.mended 0 (omega arith)) (old_unmended es p.1)
 
 -- so no old sheet is refused for one, and with 64 entries none gets too long

@@ -29,7 +29,7 @@ written-other :
 unfolding written
 written-other from to e w m =
     let p = written-parts from e w in
-    both-holds (leb e.stamp stamp_most) _ p.stamp-fits
+    both-holds (leb e.stamp stamp_most) _ p.stamp_fits
     (both-holds (leb e.mended (mended_most to)) _ (le-leb e.mended (mended_most to) m)
     (both-holds (eqb e.table.copyright 0) (fits e.table) (eqb-holds e.table.copyright p.uncopied) p.fit))
   where

@@ -35,5 +35,5 @@ pub record Plainly (form : Form) (sheet : List ℕ) (at : ℕ) : Type 0 where
 -- an entry stands there, so long
 pub record Stood (form : Form) (sheet : List ℕ) (at long : ℕ) : Type 0 where
   pub plainly : Plainly form sheet at
-  pub is-long : long ≡ length (front_text form (entries_of form (drop at sheet)))
+  pub is_long : long ≡ length (front_text form (entries_of form (drop at sheet)))
   pub some : 1 ≤ long

@@ -51,12 +51,12 @@ packet_in pes at = pick (stuffing_id (byte_at pes at)) [] (packet_at pes at)
 
 record Counted (records packets : List ℕ) : Type 0 where
   units : ℕ
-  in-records : length records ≡ 44 * units
-  in-packets : length packets ≡ 42 * units
+  in_records : length records ≡ 44 * units
+  in_packets : length packets ≡ 42 * units
 
 counted : (pes ps : List ℕ) → Every (flat_map (rules_at pes) ps) → Counted (flat_map (given_at pes) ps) (flat_map (packet_in pes) ps)
 unfolding flat_map
-counted pes [] e = record { units = 0; in-records = refl; in-packets = refl }
+counted pes [] e = record { units = 0; in_records = refl; in_packets = refl }
 counted pes (at ∷ ps) e =
     go (stuffing_id (byte_at pes at)) refl (counted pes ps (back-holds (rules_at pes at) (flat_map (rules_at pes) ps) e))
   where
@@ -70,8 +70,8 @@ counted pes (at ∷ ps) e =
         let p = packet_length_lem pes at t.ends in
         record {
           units = suc c.units;
-          in-records = length-append (record_at pes at) (flat_map (given_at pes) ps) ∙ omega (arith, r, c.in-records);
-          in-packets = length-append (packet_at pes at) (flat_map (packet_in pes) ps) ∙ omega (arith, p, c.in-packets);
+          in_records = length-append (record_at pes at) (flat_map (given_at pes) ps) ∙ omega (arith, r, c.in_records);
+          in_packets = length-append (packet_at pes at) (flat_map (packet_in pes) ps) ∙ omega (arith, p, c.in_packets);
         }
 
 -- ---- the call
@@ -115,7 +115,7 @@ module _ (pes packets : List ℕ) where
       record {
         rules = units;
         whole = passes (λ n o. unreadable) (packets_of pes) every;
-        need = omega (arith, v, c.in-records, c.in-packets);
+        need = omega (arith, v, c.in_records, c.in_packets);
         is_whole = passes (λ n o. Lost (refusal n o)) _ every;
       }
 

@@ -34,8 +34,8 @@ pub raw_length :
     {l : List ℕ} {p head raw next : ℕ} → Standing l p head raw next → length (block_of (drop p l)).raw ≡ next - raw
 raw_length {l} {p} s =
     length-take-le (size_of (head_of (drop p l))) (drop head_length (drop p l))
-    (omega (arith, begins-fits (drop p l) s.whole-there, length-drop head_length (drop p l)))
-    ∙ omega (arith, s.its-raw, s.its-next)
+    (omega (arith, begins-fits (drop p l) s.whole_there, length-drop head_length (drop p l)))
+    ∙ omega (arith, s.its_raw, s.its_next)
 
 -- ---- a block's symbols by number
 
@@ -108,8 +108,8 @@ pub block_at_lem :
     {l : List ℕ} {p head from next : ℕ} → Standing l p head from next → cells_of (block_at l head from next) ≡ cells_of (block_of (drop p l))
 unfolding cells_of symbols
 block_at_lem {l} {p} {head} {from} {next} s =
-    let e : next - from ≡ size_of (head_of (drop p l)) = omega (arith, s.its-raw, s.its-next) in
-    rw (s.its-head, e, s.its-raw, drop-drop head_length p l)
+    let e : next - from ≡ size_of (head_of (drop p l)) = omega (arith, s.its_raw, s.its_next) in
+    rw (s.its_head, e, s.its_raw, drop-drop head_length p l)
 
 -- ---- what is left
 
@@ -158,8 +158,8 @@ pub sent_symbol :
     → record { byte = b; starts = eqb pen.sent 0; pen = p } ≡ sent_of l pen
 unfolding sent_of
 sent_symbol l pen head from next s b p eb ep =
-    let n : next - from ≡ size_of (head_of (drop pen.at l)) = omega (arith, s.its-raw, s.its-next) in
-    rw (eb, ep, block_at_lem s, n, s.its-next, s.whole-there)
+    let n : next - from ≡ size_of (head_of (drop pen.at l)) = omega (arith, s.its_raw, s.its_next) in
+    rw (eb, ep, block_at_lem s, n, s.its_next, s.whole_there)
 
 -- where there is none
 pub sent-filler : (l : List ℕ) (pen : Pen) → begins (drop pen.at l) ≡ false → (r : Sent) → r ≡ filler_at pen → r ≡ sent_of l pen
@@ -182,14 +182,14 @@ module _ (l : List ℕ) (pen : Pen) (head from next : ℕ) (s : Standing l pen.a
   lasts = cells_length block ∙ ap (λ (n : ℕ). (n + 7) / 3 * 3) (raw_length s)
 
   pub unsent : pen.sent < (next - from + 7) / 3 * 3
-  unsent = omega (arith, lasts, w.among s.whole-there)
+  unsent = omega (arith, lasts, w.among s.whole_there)
 
   first : get_or (rest_of l pen) 0 fill ≡ get_or (cells_of block) pen.sent fill
   first =
       ap (λ (ss : List Symbol). get_or ss 0 fill) (rest_at s pen.sent)
-      ∙ next_symbol (cells_of block) following pen.sent (w.among s.whole-there)
+      ∙ next_symbol (cells_of block) following pen.sent (w.among s.whole_there)
 
-  moves-on : pen.sent + 1 < (next - from + 7) / 3 * 3 → Goes l pen 1 (record { at = pen.at; sent = pen.sent + 1 })
+  moves_on : pen.sent + 1 < (next - from + 7) / 3 * 3 → Goes l pen 1 (record { at = pen.at; sent = pen.sent + 1 })
   unfolding rest_of
   moves-on h =
       record {
@@ -225,16 +225,16 @@ module _ (l : List ℕ) (pen : Pen) (head from next : ℕ) (s : Standing l pen.a
       })
   sends-symbol =
       record {
-        its-byte = ap byte_of (ap (λ (ss : List Symbol). get_or ss pen.sent fill) (block_at_lem s) ∙ sym first);
-        its-start = sym (ap is_start first ∙ starts_first block pen.sent);
+        its_byte = ap byte_of (ap (λ (ss : List Symbol). get_or ss pen.sent fill) (block_at_lem s) ∙ sym first);
+        its_start = sym (ap is_start first ∙ starts_first block pen.sent);
         goes = moves;
       }
 
 sends-filler : (l : List ℕ) (pen : Pen) → begins (drop pen.at l) ≡ false → Sends l pen (filler_at pen)
 sends-filler l pen b =
     record {
-      its-byte = rw (rest-none l pen b);
-      its-start = rw (rest-none l pen b);
+      its_byte = rw (rest-none l pen b);
+      its_start = rw (rest-none l pen b);
       goes =
           record {
             rest = rw (rest-none l pen b);
@@ -246,10 +246,10 @@ sends-filler l pen b =
 there : (l : List ℕ) (p : ℕ) → begins (drop p l) ≡ true → Standing l p (head_of (drop p l)) (p + head_length) (p + record_length (drop p l))
 there l p b =
     record {
-      whole-there = b;
-      its-head = refl;
-      its-raw = refl;
-      its-next = refl;
+      whole_there = b;
+      its_head = refl;
+      its_raw = refl;
+      its_next = refl;
       within = omega (arith, begins-head (drop p l) b, begins-fits (drop p l) b, length-drop p l);
     }
 

@@ -35,6 +35,6 @@ pub record Goes (l : List ℕ) (pen : Pen) (n : ℕ) (after : Pen) : Type 0 wher
 
 -- one symbol is sent: its byte, whether it is a start, and where the writer stands then
 pub record Sends (l : List ℕ) (pen : Pen) (r : Sent) : Type 0 where
-  pub its-byte : r.byte ≡ byte_of (get_or (rest_of l pen) 0 fill)
-  pub its-start : r.starts ≡ is_start (get_or (rest_of l pen) 0 fill)
+  pub its_byte : r.byte ≡ byte_of (get_or (rest_of l pen) 0 fill)
+  pub its_start : r.starts ≡ is_start (get_or (rest_of l pen) 0 fill)
   pub goes : Goes l pen 1 r.pen

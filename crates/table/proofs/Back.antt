@@ -77,7 +77,7 @@ accepted-writable application r t c e =
       more (lt-ltb application 32 s.says.within)
           (more (form-said (form t) (ap (λ (x : Table). numbered x.block) back ∙ can.edition))
           (more (le-leb 6 (length (form t)) (omega (arith, length-form t)))
-          (more (ap known (form_kind t) ∙ can.kind-known)
+          (more (ap known (form_kind t) ∙ can.kind_known)
           (more (eq-eqb (length (form t)) (length (form (table_in (form t)))) (ap (λ (x : Table). length (form x)) (sym back)))
           (more (ap fits back ∙ sends t can) none))))),
       back,

@@ -41,4 +41,4 @@ module _ (application : ℕ) (r : List ℕ) (old : List ℕ) where
       × (m ≡ mended_in r)
       × (left (read_rules application r) (form (table_read r)) old ≡ form (table_read r) ++ drop (length (form (table_read r))) old)
   unfolding sent_in table_of nibbles_of mended_in mended_of
-  call_says n m = Kinds.call-says tables owed table_sent form application r old n m (unspoken r)
+  call_says n m = Kinds.call_says tables owed table_sent form application r old n m (unspoken r)

@@ -42,7 +42,7 @@ module _ (application : ℕ) (r : List ℕ) (t : Table) where
 
   pub reads_exactly : (c : ℕ) → (read_block application r ≡ accepted t c) ↔ (Says application r t × (c ≡ mended_in r))
   unfolding mended_in mended_of
-  reads_exactly c = Kinds.reads-exactly tables owed table_sent application r t c (unspoken r)
+  reads_exactly c = Kinds.reads_exactly tables owed table_sent application r t c (unspoken r)
 
   -- in particular each of its bytes decodes
   pub decodes-all : (c : ℕ) → read_block application r ≡ accepted t c → sound (nibbles_of r) ≡ length (nibbles_of r)
@@ -53,4 +53,4 @@ module _ (application : ℕ) (r : List ℕ) (t : Table) where
 -- a count is at most 5 and the greatest size that a table can have
 pub mended_most_lem : (application : ℕ) (r : List ℕ) → Every (read_rules application r) → mended_in r ≤ 2051
 unfolding mended_in mended_of
-mended_most_lem = Kinds.mended-most tables owed
+mended_most_lem = Kinds.mended_most tables owed

@@ -15,9 +15,9 @@ use Rattle.table_writer.proofs.Looped.{heading, heading-laid, heading-width, loo
 -- a descriptor is left, its id, its number of entries and their words are read, and what is left fits
 pub record Ahead (kind left i id c words : ℕ) (f : List ℕ) : Type 0 where
   pub some : 0 < left
-  pub its-id : id ≡ get_or f i 0
-  pub its-entries : c ≡ get_or f (i + 1) 0
-  pub its-words : words ≡ per kind * c
+  pub its_id : id ≡ get_or f i 0
+  pub its_entries : c ≡ get_or f (i + 1) 0
+  pub its_words : words ≡ per kind * c
   pub fit : fitting (loops kind (descriptors_in (per kind) left (drop i f))) ≡ true
 
 module _ {kind left i id c words : ℕ} {f : List ℕ} (a : Ahead kind left i id c words f) where
@@ -32,11 +32,11 @@ module _ {kind left i id c words : ℕ} {f : List ℕ} (a : Ahead kind left i id
 
   split : all ≡ heading id c ++ (words-laid ++ rest)
   unfolding all words-laid rest
-  split = loops-on kind left i id c words f a.some a.its-id a.its-entries a.its-words
+  split = loops-on kind left i id c words f a.some a.its_id a.its_entries a.its_words
 
   small : (id < 64) × (c < 16) × (fitting rest ≡ true)
   unfolding rest
-  small = fits_now kind left i id c words f a.some a.its-id a.its-entries a.its-words a.fit
+  small = fits_now kind left i id c words f a.some a.its_id a.its_entries a.its_words a.fit
 
   pub few_words : c < 16
   few_words = small.1

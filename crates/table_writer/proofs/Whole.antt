@@ -78,8 +78,8 @@ unfolding table_in
 first_of f c k y ek ey h hc =
     let s = sendable (table_in f) h in
     let hk : k < 64 = rw ek s.kind_fits in
-    let hy : y < 2 = rw ey s.copyright-fits in (
-      ap₂ (λ (a b : ℕ). ((a * 256 + b) * 1024 + c) * 256) ey ek ∙ first-laid c (table_in f) hc s.kind_fits s.copyright-fits,
+    let hy : y < 2 = rw ey s.copyright_fits in (
+      ap₂ (λ (a b : ℕ). ((a * 256 + b) * 1024 + c) * 256) ey ek ∙ first-laid c (table_in f) hc s.kind_fits s.copyright_fits,
       omega arith,
     )
 
@@ -93,10 +93,10 @@ second_of_lem f b₀ b₁ n d e₀ e₁ en ed h₀ h₁ h =
     let count : length (table_in f).descriptors ≡ d = length_in (per (get_or f 0 0)) (get_or f 5 0) (drop 6 f) ∙ sym ed in
     let block : (table_in f).block ≡ b₀ + 256 * b₁ =
     ap₂ (λ (a b : ℕ). whole 8 (a ∷ b ∷ [])) (sym e₀) (sym e₁) ∙ sym (two_bytes b₀ b₁ h₀ h₁) in
-    let hn : n < 256 = rw en s.network-fits in
+    let hn : n < 256 = rw en s.network_fits in
     let hd : d < 64 = rw count at s.count_fits in (
       ap₂ (λ (a b : ℕ). a * 65536 + b) (ap₂ (λ (a b : ℕ). a * 256 + b) (sym count) en) (sym block)
-          ∙ second-laid (table_in f) s.block-fits s.network-fits s.count_fits,
+          ∙ second-laid (table_in f) s.block_fits s.network_fits s.count_fits,
       omega arith,
     )
 

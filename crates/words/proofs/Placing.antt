@@ -63,7 +63,7 @@ module _ (w : List ℕ) {c : ℕ} where
   unfolding fits
   fits-stamp here said = rw (here, said)
 
-  pub fits-block : c ≡ 98 → {n : ℕ} → n ≡ number_of w → leb n 65535 ≡ fits c w
+  pub fits_block : c ≡ 98 → {n : ℕ} → n ≡ number_of w → leb n 65535 ≡ fits c w
   unfolding fits
   fits-block here said = rw (here, said)
 

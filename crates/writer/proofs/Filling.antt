@@ -77,9 +77,9 @@ stored_more {l} {pen} {entry} {q} {n} {out} {at} {before} {i} s h r t b e =
       passed = omega arith;
       same = length-set out (q + i) r.byte ∙ s.same;
       goes = record { rest = t.goes.rest ∙ ap (drop 1) s.goes.rest ∙ drop-drop 1 i (rest_of l pen); stands = t.goes.stands };
-      bytes = rw (f, t.its-byte) (ap (λ (ss : List Symbol). sets out (q + i) (map byte_of ss)) (sym ahead) ∙ s.bytes);
+      bytes = rw (f, t.its_byte) (ap (λ (ss : List Symbol). sets out (q + i) (map byte_of ss)) (sym ahead) ∙ s.bytes);
       found =
-          rw (e, t.its-start)
+          rw (e, t.its_start)
           (first_step (get_or (rest_of l at) 0 fill) (grab (n - (i + 1)) (rest_of l r.pen)) before i
           ∙ ap (λ (ss : List Symbol). min before (i + before_start ss)) (sym ahead) ∙ s.found);
       small = rw e (first_small r.starts before i n s.small);

@@ -49,7 +49,7 @@ measure-broken l p cells h b =
 
 -- a record's cells are no more than its bytes
 pub record_cells : {l : List ℕ} {p head raw next : ℕ} → Standing l p head raw next → (next - raw + 7) / 3 ≤ next - p
-record_cells {l} {p} s = omega (arith, s.its-raw, s.its-next)
+record_cells {l} {p} s = omega (arith, s.its_raw, s.its_next)
 
 -- the cells of a list of records are no more than its bytes
 cells_within : (f : ℕ) (l : List ℕ) → length (stream_of (blocks_within f l)) / cell ≤ length l

@@ -33,7 +33,7 @@ packet_length_lem s y ss = omega (arith, length-map (grab per_packet ss) byte_of
 -- the packets before y are stored, the next goes to `to`
 pub record Rowed (s : Setting) (k : ℕ) (l : List ℕ) (pen : Pen) (entry : List ℕ) (q : ℕ) (out : List ℕ) (at : Pen) (to y : ℕ) : Type 0 where
   pub from_one : 1 ≤ y
-  pub up-to : y ≤ suc k
+  pub up_to : y ≤ suc k
   pub same : length out ≡ length entry
   pub place : to ≡ q + packet_length * (y - 1)
   pub goes : Goes l pen ((y - 1) * per_packet) at
@@ -45,7 +45,7 @@ pub rowed-none :
 rowed-none s k l pen entry q w =
     record {
       from_one = le_refl 1;
-      up-to = omega arith;
+      up_to = omega arith;
       same = refl;
       place = omega arith;
       goes = record { rest = refl; stands = w };
@@ -60,7 +60,7 @@ unfolding data_packets joined
 rowed-more {s} {k} {l} {pen} {entry} {q} {out} {at} {to} {y} r h out' at' e g =
     record {
       from_one = omega arith;
-      up-to = omega arith;
+      up_to = omega arith;
       same = ap length e ∙ length-sets out to (data_packet s y (rest_of l at)) ∙ r.same;
       place = omega (arith, r.from_one, r.place);
       goes =
@@ -83,8 +83,8 @@ pub rowed-all :
     → (out ≡ sets entry q (joined (data_packets s k 1 (rest_of l pen)))) × Goes l pen (k * per_packet) at
 unfolding data_packets joined
 rowed-all {s} {k} {l} {pen} {entry} {q} {out} {at} {to} {y} r h =
-    let z : suc k - y ≡ 0 = omega (arith, r.up-to) in
-    let e : y - 1 ≡ k = omega (arith, r.up-to) in
+    let z : suc k - y ≡ 0 = omega (arith, r.up_to) in
+    let e : y - 1 ≡ k = omega (arith, r.up_to) in
     (rw z at r.bytes, rw e at r.goes)
 
 -- ---- a page

@@ -38,5 +38,3 @@ returns-then-left-size c = left_over _ _ (search rules) c.if-left-size.true
 
 pub returns : goal.returns
 returns c = left-whole _ _ (search rules) (search rules) c.if-left-size.false
-
-pub record-at-spec : {M : Type 1} → statement M

@@ -21,7 +21,7 @@ returns c =
     let a = c.args in
     let o : List ℕ = a.out.now in
     let sum : c.checksum-sum.result ≡ checksum a.head (map nib (take a.control (drop 4 o))) =
-    c.checksum-sum.ensures ∙ ap (λ (l : List ℕ). checksum a.head (map nib l)) (part-there o a.control _ c.control_end.ensures) in
+    c.checksum-sum.ensures ∙ ap (λ (l : List ℕ). checksum a.head (map nib l)) (part-there o a.control _ c.control_end-end.ensures) in
     c.put-2.ensures
     ∙ ap₂ (λ (x : ℕ) (l : List ℕ). set l 5 x) (c.image-2.ensures ∙ ap (λ (s : ℕ). image (s / 16 % 16)) sum)
     (c.put.ensures ∙ ap (λ (x : ℕ). set o 4 x) (c.image.ensures ∙ ap (λ (s : ℕ). image (s % 16)) sum))

@@ -46,13 +46,13 @@ pub slice_bounds-see-count : goal.slice_bounds-see-count
 slice_bounds-see-count c =
     let stands-c : (Standing c.args.records.now c.loop-next.at c.in-Record.head
     c.in-Record.raw c.in-Record.next) = (standing _ _ _ _ _ (sym c.record_at.ensures ∙ c.in-Record.is)) in
-    let s = stands-c in omega (arith, s.its-next)
+    let s = stands-c in omega (arith, s.its_next)
 
 pub loop-next-smaller : goal.loop-next-smaller
 loop-next-smaller c =
     let stands-c : (Standing c.args.records.now c.loop-next.at c.in-Record.head
     c.in-Record.raw c.in-Record.next) = (standing _ _ _ _ _ (sym c.record_at.ensures ∙ c.in-Record.is)) in
-    let s = stands-c in omega (arith, s.its-next, s.within)
+    let s = stands-c in omega (arith, s.its_next, s.within)
 
 pub loop-next-preserved : goal.loop-next-preserved
 loop-next-preserved c =
@@ -65,4 +65,4 @@ loop-next-preserved c =
     let see = c.see-seen.ensures in
     let channel = channel-on s.application small t see l.channel c.channel_after-channel.ensures in
     let tally = tally-on s.application small t see l.tally c.count.ensures in
-    (t.within, c.count.auto.0 ∙ l.invariant.1, sym (whole-at t) ∙ l.invariant.2, channel ∙ l.invariant.3, tally ∙ l.invariant.4)
+    (t.within, c.count.auto.tally ∙ l.invariant.1, sym (whole-at t) ∙ l.invariant.2, channel ∙ l.invariant.3, tally ∙ l.invariant.4)

@@ -19,8 +19,8 @@ loop-i-init c =
 
 pub overflow_add-i : goal.overflow_add-i
 overflow_add-i c =
-    let f = c.loop-i.invariant.0.in-first.within in
-    let g = c.loop-i.invariant.0.in-second.within in
+    let f = c.loop-i.invariant.0.in_first.within in
+    let g = c.loop-i.invariant.0.in_second.within in
     omega arith
 
 pub put_change-q-requires : goal.put_change-q-requires

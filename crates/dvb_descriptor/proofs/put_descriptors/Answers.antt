@@ -36,7 +36,7 @@ loop-left-preserved c =
     let on : all ≡ one ++ rest = descriptor-on l.left l.i n.result f (search rules) n.ensures.0 in
     let long : length (fives 2 one) ≡ 5 * n.result =
     length-fives 2 one ∙ ap (λ (x : ℕ). 5 * x) (length-paired n.result (drop (l.i + 2) f)) in (
-      p.auto.1.1.1.0 ∙ l.invariant.0,
+      p.auto.out ∙ l.invariant.0,
       omega (arith, l.invariant.1, n.ensures.1),
       omega (arith, l.invariant.2, n.ensures.1),
       sets_next l.out _ l.to (5 * n.result) (fives 2 one) (fives 2 rest) (fives 2 all) (ap (fives 2) on ∙ fives-append 2 one rest) long

@@ -32,7 +32,7 @@ loop-left-preserved c =
     let rest : List ℕ = fives 2 (paired (words_in (2 * (l.left - 1)) (drop (l.i + 6) f))) in
     let on : all ≡ five 2 s.result ++ rest =
     rw s.ensures.0 (ap (fives 2) (pair-on l.left l.i v.result w.result f (search rules) v.ensures.0 w.ensures.0)) in (
-      p.auto.1.1.0 ∙ l.invariant.0,
+      p.auto.out ∙ l.invariant.0,
       omega (arith, l.invariant.1),
       omega (arith, l.invariant.2),
       sets_next l.out _ l.q 5 (five 2 s.result) rest all on (length-five 2 s.result) p.ensures ∙ l.invariant.3,

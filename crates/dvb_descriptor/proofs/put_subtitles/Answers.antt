@@ -23,13 +23,13 @@ loop-left-preserved c =
     let a = c.args in
     let b : List ℕ = a.bytes.now in
     let p = c.put_subtitle-to in
-    let new : List ℕ = p.new.1.1.0 in
+    let new : List ℕ = p.new.out in
     let one : List Subtitle = kept_in 1 (drop l.i b) in
     let rest : List Subtitle = kept_in (l.left - 1) (drop (l.i + 5) b) in
     let all : List Subtitle = kept_in l.left (drop l.i b) in
     let on : all ≡ one ++ rest = kept_on l.left l.i b (search rules) in
     let long : length all ≡ length one + length rest = ap length on ∙ length-append one rest in (
-      p.auto.1.1.0 ∙ l.invariant.0,
+      p.auto.out ∙ l.invariant.0,
       omega (arith, l.invariant.1),
       omega (arith, l.invariant.2, p.ensures.1),
       omega (arith, l.invariant.3, p.ensures.0, long),

@@ -41,5 +41,5 @@ returns c =
     let laid = k.ensures ∙ control-laid f n.result m.result n.ensures.0 n.ensures.1 m.ensures.0 m.ensures.1 c.requires.4 _ _ hd.0 (omega (arith, n.ensures.1)) in
     let put = names-put f n.result m.result n.ensures.0 n.ensures.1 m.ensures.0 m.ensures.1 c.requires.4 _ _ _ _ t.ensures p.ensures in
     record_put c.args.application f _ c.args.out.now c.requires.0 c.requires.2 hd.1 c.requires.3 _ _ _ _ h.ensures laid
-    (put ∙ ap (λ (x : ℕ). sets k.new.1.1.1.1.0 (4 + 2 * x) (map letter (strings information (content (information_in f))))) hd.0)
-    (z.ensures ∙ ap (λ (x : ℕ). sealed (c.args.application + 32 * (2 * (20 + (25 * n.result + n.result % 2) / 2) + c.args.codes)) (2 * x) p.new.1.1.1.0) hd.0)
+    (put ∙ ap (λ (x : ℕ). sets k.new.out (4 + 2 * x) (map letter (strings information (content (information_in f))))) hd.0)
+    (z.ensures ∙ ap (λ (x : ℕ). sealed (c.args.application + 32 * (2 * (20 + (25 * n.result + n.result % 2) / 2) + c.args.codes)) (2 * x) p.new.out) hd.0)

@@ -38,7 +38,7 @@ loop-left-preserved c =
     let n = c.byte_at-entries in
     let p = c.put_descriptor-p in
     let w = c.words_of in (
-      p.auto.1.1.1.1.0 ∙ l.invariant.0,
+      p.auto.out ∙ l.invariant.0,
       omega (arith, l.invariant.1, w.ensures.1, n.ensures.1),
       omega (arith, l.invariant.2, p.ensures.1),
       left-on (descriptors_on kind l.left l.i n.result w.result f (search rules) n.ensures.0 (words_counted _ _ _ _ w.ensures.0 n.ensures.1 refl)) p.ensures.0 l.invariant.3,

@@ -17,7 +17,7 @@ loop-left-preserved c =
     let f : List ℕ = c.args.table.now in
     let w = c.words_of-step in
     let p = c.put_entry-p in (
-      p.auto.1.1.1.0 ∙ l.invariant.0,
+      p.auto.out ∙ l.invariant.0,
       omega (arith, l.invariant.1, w.ensures.1),
       omega (arith, l.invariant.2, p.ensures.1),
       left-on (entries-on c.args.kind l.left l.i w.result f (search rules) w.ensures.0) p.ensures.0 l.invariant.3,

@@ -11,7 +11,7 @@ returns c =
     let a = c.args in
     let p = c.requires in
     let f : List ℕ = a.form.now in
-    record-sent a.application a.whole.control (menu_in f) p.0 p.2 p.1.takes a.out.now p.3 c.put_head.new.1.0
-    c.put_control.new.1.1.0 c.put_all_strings.new.1.0 _ (2 * a.whole.control) _ refl
+    record-sent a.application a.whole.control (menu_in f) p.0 p.2 p.1.takes a.out.now p.3 c.put_head.new.out
+    c.put_control.new.out c.put_all_strings.new.out _ (2 * a.whole.control) _ refl
     (ap (λ (n : ℕ). a.application + 32 * n) (size_is a.whole f p.1)) c.put_head.ensures c.put_control.ensures
     c.put_all_strings.ensures c.seal.ensures

@@ -11,7 +11,7 @@ pub bounds-out-to-2 : goal.bounds-out-to-2
 bounds-out-to-2 c = simp length-set (omega arith)
 
 pub shape_of-out : goal.shape_of-out
-shape_of-out c = c.turn_run.auto.1.1.0 ∙ simp length-set
+shape_of-out c = c.turn_run.auto.out ∙ simp length-set
 
 pub returns : goal.returns
 unfolding record_at

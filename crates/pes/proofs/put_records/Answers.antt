@@ -44,7 +44,7 @@ pub loop-next-preserved-in-Text : goal.loop-next-preserved-in-Text
 loop-next-preserved-in-Text c =
     let text-c : (Whole c.args.pes.now c.loop-next.at c.in-Text.next false) = (met_by _ _ c.unit_at.ensures c.in-Text.is) in
     let l = c.loop-next in
-    filled-text _ _ _ _ _ _ l.invariant 44 (record_length_lem _ _) _ _ text-c c.put_record.auto.1.1.0 c.put_record.ensures
+    filled-text _ _ _ _ _ _ l.invariant 44 (record_length_lem _ _) _ _ text-c c.put_record.auto.out c.put_record.ensures
 
 pub loop-next-smaller : goal.loop-next-smaller
 loop-next-smaller c =

@@ -37,11 +37,11 @@ fill-requires c = simp length-set (omega arith)
 pub bounds-out-45 : goal.bounds-out-45
 bounds-out-45 c =
     let f = c.fill in
-    let k : length f.new.1.1.0 ≡ length c.args.out.now = f.auto.1.1.0 ∙ simp length-set in
+    let k : length f.new.out ≡ length c.args.out.now = f.auto.out ∙ simp length-set in
     omega arith
 
 pub shape_of-out : goal.shape_of-out
-shape_of-out c = simp length-set (c.fill.auto.1.1.0 ∙ simp length-set)
+shape_of-out c = simp length-set (c.fill.auto.out ∙ simp length-set)
 
 pub returns : goal.returns
 unfolding header_of

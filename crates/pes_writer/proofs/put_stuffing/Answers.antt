@@ -15,10 +15,10 @@ unfolding stuffing_units
 loop-left-preserved c =
     let l = c.loop-left in
     let p = c.put_stuffing_unit in
-    let k = p.auto.1.0 in (
+    let k = p.auto.out in (
       k ∙ l.invariant.0,
       rw k (omega arith),
-      sets_next l.out p.new.1.0 l.to 46 stuffing_unit (stuffing_units (l.left - 1)) _ (at_more stuffing_units l.left (search rules))
+      sets_next l.out p.new.out l.to 46 stuffing_unit (stuffing_units (l.left - 1)) _ (at_more stuffing_units l.left (search rules))
           stuffing_unit-length p.ensures ∙ l.invariant.2,
     )
 

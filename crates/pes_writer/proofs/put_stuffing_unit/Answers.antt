@@ -13,7 +13,7 @@ pub fill-requires : goal.fill-requires
 fill-requires c = simp length-set (omega arith)
 
 pub shape_of-out : goal.shape_of-out
-shape_of-out c = c.fill.auto.1.1.0 ∙ simp length-set
+shape_of-out c = c.fill.auto.out ∙ simp length-set
 
 pub returns : goal.returns
 unfolding stuffing_unit

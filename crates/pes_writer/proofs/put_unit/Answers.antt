@@ -17,7 +17,7 @@ pub bounds-out-to-4 : goal.bounds-out-to-4
 bounds-out-to-4 c = simp length-set (omega arith)
 
 pub shape_of-out : goal.shape_of-out
-shape_of-out c = c.turn_run.auto.1.1.0 ∙ simp length-set
+shape_of-out c = c.turn_run.auto.out ∙ simp length-set
 
 pub returns : goal.returns
 unfolding unit_of

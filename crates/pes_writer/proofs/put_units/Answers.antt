@@ -16,11 +16,11 @@ loop-more-preserved c =
     let l = c.loop-more in
     let rs = c.args.records.now in
     let p = c.put_unit in
-    let k = p.auto.1.1.0 in (
+    let k = p.auto.out in (
       omega arith,
       k ∙ l.invariant.1,
       rw k (omega arith),
-      sets_next l.out p.new.1.1.0 l.to 46 (unit_of rs l.at) (units_of (l.more - 1) rs (l.at + 44)) _
+      sets_next l.out p.new.out l.to 46 (unit_of rs l.at) (units_of (l.more - 1) rs (l.at + 44)) _
           (at_more (λ (n : ℕ). units_of n rs l.at) l.more (search rules)) (unit_length rs l.at (omega arith)) p.ensures ∙ l.invariant.3,
     )
 

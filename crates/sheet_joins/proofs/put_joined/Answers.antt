@@ -19,8 +19,8 @@ loop-i-init c =
 
 pub overflow_add-i : goal.overflow_add-i
 overflow_add-i c =
-    let f = c.loop-i.invariant.0.in-first.within in
-    let g = c.loop-i.invariant.0.in-second.within in
+    let f = c.loop-i.invariant.0.in_first.within in
+    let g = c.loop-i.invariant.0.in_second.within in
     omega arith
 
 pub put_turn-q-requires : goal.put_turn-q-requires
@@ -56,8 +56,8 @@ overflow_add-j c =
 pub overflow_add-n : goal.overflow_add-n
 overflow_add-n c =
     let l = c.loop-i in
-    let f = l.invariant.0.in-first.within in
-    let g = l.invariant.0.in-second.within in
+    let f = l.invariant.0.in_first.within in
+    let g = l.invariant.0.in_second.within in
     omega (arith, l.invariant.0.count_small)
 
 pub loop-i-smaller : goal.loop-i-smaller

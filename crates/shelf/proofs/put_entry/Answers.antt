@@ -8,6 +8,6 @@ returns c =
     let a = c.args in
     let e = c.number_at.ensures in record {
       heads = c.put_three.ensures ∙ head-stored a.form.now a.heads.now c.number_at.result e a.used;
-      shelf = entry-stored a.form.now a.heads.now c.number_at.result e a.shelf.now c.put_three-2.new.1.0 c.copy.new.1.1.1.0 a.used c.three-last.result
+      shelf = entry-stored a.form.now a.heads.now c.number_at.result e a.shelf.now c.put_three-2.new.list c.copy.new.dst a.used c.three-last.result
           c.three-last.ensures.0 c.put_three-2.ensures c.copy.ensures;
     }

@@ -50,7 +50,7 @@ loop-next-preserved-in-Text c =
     let t = text-c in
     let u = text_unit _ _ t.kind t.every in
     let r = filled-room _ _ _ _ _ _ l.invariant 42 (packet_length_lem _ _) _ t in
-    filled-text _ _ _ _ _ _ l.invariant 42 (packet_length_lem _ _) _ _ t c.turn_run.auto.1.1.0
+    filled-text _ _ _ _ _ _ l.invariant 42 (packet_length_lem _ _) _ _ t c.turn_run.auto.out
     (c.turn_run.ensures ∙ packet-stored _ _ _ _ u.ends (omega arith))
 
 pub loop-next-smaller : goal.loop-next-smaller

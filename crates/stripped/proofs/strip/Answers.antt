@@ -47,7 +47,7 @@ returns-else-packets-lt-PACKET c =
       answer = g;
       packets = c.blank.ensures ∙ blank-fits a.packets.now c.if-packets-lt-PACKET.false
           ∙ stands a.pes.now a.packets.now unreadable 42 r.blank refl c.if-packets-lt-PACKET.false ∙ after _ _ _ g;
-      within = omega (arith, c.if-packets-lt-PACKET.false, c.blank.auto.0);
+      within = omega (arith, c.if-packets-lt-PACKET.false, c.blank.auto.packets);
     }
 
 pub returns-else-packets-need : goal.returns-else-packets-need
@@ -60,5 +60,5 @@ returns-else-packets-need c =
     ∙ goes a.pes.now a.packets.now _ (rw t.whole (omega (arith, t.need, c.if-packets-need.false))) t.is_whole in record {
       answer = g;
       packets = c.put_packets.ensures ∙ stands a.pes.now a.packets.now _ _ t.whole t.need c.if-packets-need.false ∙ after _ _ _ g;
-      within = omega (arith, c.if-packets-need.false, c.put_packets.auto.1.0);
+      within = omega (arith, c.if-packets-need.false, c.put_packets.auto.packets);
     }

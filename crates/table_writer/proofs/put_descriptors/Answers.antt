@@ -44,9 +44,9 @@ put_words-p-requires c =
     let ahead : Ahead kind l.left l.i d.result n.result w.result f =
     record {
       some = c.loop-left-test.true;
-      its-id = d.ensures.0;
-      its-entries = n.ensures.0;
-      its-words = words_counted _ _ _ _ w.ensures.0 n.ensures.1 refl;
+      its_id = d.ensures.0;
+      its_entries = n.ensures.0;
+      its_words = words_counted _ _ _ _ w.ensures.0 n.ensures.1 refl;
       fit = l.invariant.3;
     } in (
       fine-heading ahead l.p q.ensures.0,
@@ -76,13 +76,13 @@ loop-left-preserved c =
     let ahead : Ahead kind l.left l.i d.result n.result w.result f =
     record {
       some = c.loop-left-test.true;
-      its-id = d.ensures.0;
-      its-entries = n.ensures.0;
-      its-words = words_counted _ _ _ _ w.ensures.0 n.ensures.1 refl;
+      its_id = d.ensures.0;
+      its_entries = n.ensures.0;
+      its_words = words_counted _ _ _ _ w.ensures.0 n.ensures.1 refl;
       fit = l.invariant.3;
     } in (
       fine-descriptor ahead l.p q.ensures.0 r.ensures.0,
-      r.auto.1.1.1.1.0 ∙ q.auto.1.1.1.0 ∙ l.invariant.1,
+      r.auto.out ∙ q.auto.out ∙ l.invariant.1,
       omega (arith, l.invariant.2, w.ensures.1, few_words ahead),
       fit_on ahead,
       on-descriptor ahead l.p q.ensures.0 r.ensures.0 ∙ l.invariant.4,

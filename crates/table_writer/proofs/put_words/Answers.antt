@@ -26,7 +26,7 @@ loop-left-preserved c =
     let now-left : List Field = alike 24 (words_in l.left (drop l.i f)) in
     let e = alike-on l.left l.i w.result f (search rules) w.ensures.0 in (
       on_fine l.p ((24, w.result) ∷ []) rest now-left e d.ensures.0,
-      d.auto.1.1.1.0 ∙ l.invariant.1,
+      d.auto.out ∙ l.invariant.1,
       search rules,
       on-moved l.p ((24, w.result) ∷ []) rest now-left e d.ensures.0 ∙ l.invariant.3,
       on-inked l.p ((24, w.result) ∷ []) rest now-left e d.ensures.0 l.out (omega (arith, l.invariant.1, c.well_formed.1.1.1.1.0.0)) d.ensures.1 ∙ l.invariant.4,

@@ -23,7 +23,7 @@ overflow_add-need c =
     let k = c.in-Done.is in
     let e = lent-value (write_rules a.application f) (record_of a.application (table_in f)) a.out.now _ j k in
     let s = sendable (table_in f) (writable a.application f _ _ (sym j ∙ k)).1 in
-    omega (arith, e, s.control-fits)) in
+    omega (arith, e, s.control_fits)) in
     omega (arith, short-c)
 
 pub overflow_mul-need : goal.overflow_mul-need
@@ -34,7 +34,7 @@ overflow_mul-need c =
     let k = c.in-Done.is in
     let e = lent-value (write_rules a.application f) (record_of a.application (table_in f)) a.out.now _ j k in
     let s = sendable (table_in f) (writable a.application f _ _ (sym j ∙ k)).1 in
-    omega (arith, e, s.control-fits)) in
+    omega (arith, e, s.control_fits)) in
     omega (arith, short-c)
 
 pub overflow_add-need-in-Done : goal.overflow_add-need-in-Done
@@ -45,7 +45,7 @@ overflow_add-need-in-Done c =
     let k = c.in-Done.is in
     let e = lent-value (write_rules a.application f) (record_of a.application (table_in f)) a.out.now _ j k in
     let s = sendable (table_in f) (writable a.application f _ _ (sym j ∙ k)).1 in
-    omega (arith, e, s.control-fits)) in
+    omega (arith, e, s.control_fits)) in
     omega (arith, short-c)
 
 pub returns-then-out-need : goal.returns-then-out-need

@@ -15,11 +15,11 @@ use Rattle.table_writer.proofs.write_fields.Goals as goal
 
 pub overflow_add-control : goal.overflow_add-control
 overflow_add-control c =
-    omega (arith, c.requires.1, (sendable (table_in c.args.table.now) c.requires.0).control-fits)
+    omega (arith, c.requires.1, (sendable (table_in c.args.table.now) c.requires.0).control_fits)
 
 pub first_fields-first-requires : goal.first_fields-first-requires
 first_fields-first-requires c =
-    (c.requires.0, omega (arith, c.requires.1, (sendable (table_in c.args.table.now) c.requires.0).control-fits))
+    (c.requires.0, omega (arith, c.requires.1, (sendable (table_in c.args.table.now) c.requires.0).control_fits))
 
 pub put_descriptors-c-requires : goal.put_descriptors-c-requires
 put_descriptors-c-requires c =
@@ -33,7 +33,7 @@ put_descriptors-c-requires c =
 
 pub overflow_mul-control : goal.overflow_mul-control
 overflow_mul-control c =
-    omega (arith, c.requires.1, (sendable (table_in c.args.table.now) c.requires.0).control-fits)
+    omega (arith, c.requires.1, (sendable (table_in c.args.table.now) c.requires.0).control_fits)
 
 pub returns : goal.returns
 returns c =
@@ -48,5 +48,5 @@ returns c =
     let few : min (8 * ((c.args.bits + 7) / 8) - c.args.bits) 32 ≡ 8 * ((c.args.bits + 7) / 8) - c.args.bits = omega arith in
     all-stored t x.result ex a.ensures.0 y.result y.ensures.0 b.ensures.0 c.args.out.now (omega (arith, c.well_formed.1.1.0.0)) d.ensures.0
     a.ensures.1 b.ensures.1 d.ensures.1
-    (e.ensures.1 ∙ ap (λ (n : ℕ). inked d.result ((n, 0) ∷ []) d.new.1.1.0) few
-    ∙ ap (λ (n : ℕ). inked d.result ((8 * ((n + 7) / 8) - n, 0) ∷ []) d.new.1.1.0) c.requires.1)
+    (e.ensures.1 ∙ ap (λ (n : ℕ). inked d.result ((n, 0) ∷ []) d.new.out) few
+    ∙ ap (λ (n : ℕ). inked d.result ((8 * ((n + 7) / 8) - n, 0) ∷ []) d.new.out) c.requires.1)

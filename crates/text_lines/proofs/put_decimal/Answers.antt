@@ -8,7 +8,7 @@ pub returns : goal.returns
 returns c =
     let p = c.put in
     let d = c.set_digits-from in
-    let line = d.new.1.0 in (
+    let line = d.new.line in (
       put_rest line _ 21 d.result (search rules) (search rules) d.ensures.1 p.ensures.0,
       omega (arith, rest-length line 21 d.result, p.ensures.1),
     )

@@ -30,6 +30,6 @@ pub returns : goal.returns
 returns c =
     let w = c.write_pages in
     let a = c.args in
-    let it = room-enough (pages_bytes a.s a.index a.k a.count a.records.now) a.out.now w.new.1.1.1.1.1.0 a.count (page_length a.k)
+    let it = room-enough (pages_bytes a.s a.index a.k a.count a.records.now) a.out.now w.new.out a.count (page_length a.k)
     (pages-length a.s a.k a.count a.index (stream_of (blocks a.records.now))) (omega arith) c.if-out-size.false w.ensures in
     record { value = it.0; out_after = it.1 }

@@ -19,8 +19,8 @@ overflow_cast-sent c =
 pub shape_of-out : goal.shape_of-out
 shape_of-out c =
     simp length-set
-    (c.write_symbols-sent.auto.1.1.0
-    ∙ c.write_address.auto.1.1.0)
+    (c.write_symbols-sent.auto.out
+    ∙ c.write_address.auto.out)
 
 pub returns : goal.returns
 returns c =
@@ -28,7 +28,7 @@ returns c =
     let ss = rest_of a.records.now a.pen in
     let row = c.write_symbols-sent in
     let head = written a.out.now _ _ a.q 2 (search rules) c.write_address.ensures in
-    let laid = packet-laid a.s a.y ss a.out.now c.write_address.new.1.1.0 row.new.1.1.0 a.q row.result.before in
+    let laid = packet-laid a.s a.y ss a.out.now c.write_address.new.out row.new.out a.q row.result.before in
     record {
       out_after = laid c.image.result head row.ensures.0 row.ensures.1.0 c.image.ensures;
       goes = row.ensures.1.1;

@@ -15,13 +15,13 @@ pub loop-y-preserved : goal.loop-y-preserved
 loop-y-preserved c =
     let w = c.write_packet-at in
     rowed-more c.loop-y.invariant c.loop-y-test.true
-    w.new.1.1.1.1.0 w.result w.ensures.0 w.ensures.1
+    w.new.out w.result w.ensures.0 w.ensures.1
 
 pub returns : goal.returns
 returns c =
     let a = c.args in
     let e = rowed-all c.loop-y.invariant c.loop-y-test.false in record {
-      out_after = page-laid a.s a.k a.index (rest_of a.records.now a.pen) a.out.now c.write_zero.new.1.1.1.0 c.loop-y.out
-          a.q (written a.out.now c.write_zero.new.1.1.1.0 (sets a.out.now a.q (packet_zero a.s a.index a.k)) a.q 42 (search rules) c.write_zero.ensures) e.0;
+      out_after = page-laid a.s a.k a.index (rest_of a.records.now a.pen) a.out.now c.write_zero.new.out c.loop-y.out
+          a.q (written a.out.now c.write_zero.new.out (sets a.out.now a.q (packet_zero a.s a.index a.k)) a.q 42 (search rules) c.write_zero.ensures) e.0;
       goes = e.1;
     }

@@ -14,8 +14,8 @@ use Rattle.changes.proofs.lines.put_key.Goals as goal
 pub slice_bounds-put_number-end : goal.slice_bounds-put_number-end
 slice_bounds-put_number-end c =
     let w = c.put_front-end in
-    let l : List _ = w.new.1.1.0 in
-    let k : length l ≡ 60 = w.auto.1.1.0 in
+    let l : List _ = w.new.line in
+    let k : length l ≡ 60 = w.auto.line in
     sym (length-take-le w.result l (omega (arith, k, w.ensures.1)))
 
 pub returns : goal.returns

@@ -33,13 +33,13 @@ loop-held-preserved c =
     let l = c.loop-held in
     let h : 4 ≤ l.held = search rules in
     let i = c.image in
-    let long = p.auto.1.0 ∙ l.invariant.0 in (
+    let long = p.auto.out ∙ l.invariant.0 in (
       long,
       omega (arith, c.further-at.ensures),
       omega (arith, c.further-at.ensures, l.invariant.2),
       omega (arith, l.invariant.3),
       next-bits l.at l.held l.bits h ∙ l.invariant.4,
-      next-stored l.at l.held l.bits h i.result c.further-at.result l.out p.new.1.0 _ (omega (arith, long, c.well_formed.1.1.1.0.0)) i.ensures c.further-at.ensures p.ensures l.invariant.5,
+      next-stored l.at l.held l.bits h i.result c.further-at.result l.out p.new.out _ (omega (arith, long, c.well_formed.1.1.1.0.0)) i.ensures c.further-at.ensures p.ensures l.invariant.5,
     )
 
 pub shape_of-out : goal.shape_of-out

@@ -34,11 +34,11 @@ loop-j-preserved c =
     let next : a.count - (l.j + 1) ≡ left - 1 = omega arith in
     let names = names-on a.control.now a.strings.now left l.j l.from p.result (omega arith) p.ensures.0 _ l.invariant.3 in
     let all = networks-on a.control.now a.strings.now left l.j l.from p.result (omega arith) p.ensures.0 l.out _ _ p.ensures.2 l.invariant.4 in (
-      p.auto.1.1.1.1.0 ∙ l.invariant.0,
+      p.auto.out ∙ l.invariant.0,
       search rules,
       omega (arith, l.invariant.2, p.ensures.1),
       ap (λ (k : ℕ). p.result + named (networks_from k (l.j + 1) p.result a.control.now a.strings.now)) next ∙ names,
-      ap (λ (k : ℕ). sets p.new.1.1.1.1.0 (20 + 17 * (l.j + 1) + p.result) (each network_form (networks_from k (l.j + 1) p.result a.control.now a.strings.now))) next ∙ all,
+      ap (λ (k : ℕ). sets p.new.out (20 + 17 * (l.j + 1) + p.result) (each network_form (networks_from k (l.j + 1) p.result a.control.now a.strings.now))) next ∙ all,
     )
 
 pub returns : goal.returns

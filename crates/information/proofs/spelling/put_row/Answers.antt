@@ -23,7 +23,7 @@ loop-i-preserved c =
     let wide : min w.result 24 ≡ w.result = omega (arith, w.ensures.1) in
     let value : f.result ≡ field l.p w.result (compound a.control.now) =
     f.ensures.0 ∙ ap (λ (x : ℕ). field l.p x (compound a.control.now)) wide in (
-      p.auto.1.1.0 ∙ l.invariant.0,
+      p.auto.out ∙ l.invariant.0,
       search rules,
       omega (arith, l.invariant.2, w.ensures.1),
       omega (arith, l.invariant.3, w.ensures.1),

@@ -41,11 +41,11 @@ loop-j-preserved c =
     let all : List Field = laid_from left l.j l.codes f in
     let e = laid-split f left l.j l.codes k.result codes (omega arith) name refl in (
       on_fine l.p fs rest all e d.ensures.0,
-      d.auto.1.1.1.1.0 ∙ l.invariant.1,
+      d.auto.out ∙ l.invariant.1,
       search rules,
       omega (arith, l.invariant.3, k.ensures.1),
       ap (λ (x : ℕ). moved d.result (laid_from x (l.j + 1) codes f)) next ∙ on-moved l.p fs rest all e d.ensures.0 ∙ l.invariant.4,
-      ap (λ (x : ℕ). inked d.result (laid_from x (l.j + 1) codes f) d.new.1.1.1.1.0) next
+      ap (λ (x : ℕ). inked d.result (laid_from x (l.j + 1) codes f) d.new.out) next
           ∙ on-inked l.p fs rest all e d.ensures.0 l.out (omega (arith, l.invariant.1, c.well_formed)) d.ensures.1
           ∙ l.invariant.5,
     )

@@ -32,7 +32,7 @@ loop-i-preserved c =
     let m = d.ensures.0 ∙ ap (λ (x : ℕ). moved l.p ((x, v.result) ∷ [])) wide in
     let k = d.ensures.1 ∙ ap (λ (x : ℕ). inked l.p ((x, v.result) ∷ []) l.out) wide in (
       on_fine l.p fs rest all e m,
-      d.auto.1.1.1.0 ∙ l.invariant.1,
+      d.auto.out ∙ l.invariant.1,
       search rules,
       omega (arith, l.invariant.3, w.ensures.1),
       on-moved l.p fs rest all e m ∙ l.invariant.4,

@@ -15,7 +15,7 @@ loop-left-preserved c =
     let v = c.byte_at in
     let t = c.letter in
     let p = c.put in (
-      p.auto.1.0 ∙ l.invariant.0,
+      p.auto.out ∙ l.invariant.0,
       search rules,
       search rules,
       letters-on a.form.now l.left l.i l.q v.result t.result l.out _ _ (search rules) v.ensures.0

@@ -30,10 +30,10 @@ loop-j-preserved c =
     let name = sym (network-codes f at k.result k.ensures.0 k.ensures.1) in
     let all = names-on f left l.j l.codes k.result (l.codes + k.result) (omega arith) name refl a.to _ l.out _ _
     (network-name f at k.result k.ensures.0 k.ensures.1) p.ensures l.invariant.3 in (
-      p.auto.1.1.1.0 ∙ l.invariant.0,
+      p.auto.out ∙ l.invariant.0,
       search rules,
       omega (arith, l.invariant.2, k.ensures.1),
-      ap (λ (x : ℕ). sets p.new.1.1.1.0 (a.to + (l.codes + k.result)) (map letter (spoken_from x (l.j + 1) (l.codes + k.result) f))) next ∙ all,
+      ap (λ (x : ℕ). sets p.new.out (a.to + (l.codes + k.result)) (map letter (spoken_from x (l.j + 1) (l.codes + k.result) f))) next ∙ all,
     )
 
 pub returns : goal.returns

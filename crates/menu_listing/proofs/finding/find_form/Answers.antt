@@ -14,10 +14,10 @@ pub returns-in-Records : goal.returns-in-Records
 returns-in-Records c =
     let s = c.args in
     let w = c.find_menu in
-    subst (λ (x : Source). Held (menus_from x s.list.now s.heads.now s.number) w.new.1.1.1.0 w.result) (sym c.in-Records.is) w.ensures
+    subst (λ (x : Source). Held (menus_from x s.list.now s.heads.now s.number) w.new.form w.result) (sym c.in-Records.is) w.ensures
 
 pub returns-in-Shelf : goal.returns-in-Shelf
 returns-in-Shelf c =
     let s = c.args in
     let w = c.find_kept in
-    subst (λ (x : Source). Held (menus_from x s.list.now s.heads.now s.number) w.new.1.1.1.0 w.result) (sym c.in-Shelf.is) w.ensures
+    subst (λ (x : Source). Held (menus_from x s.list.now s.heads.now s.number) w.new.form w.result) (sym c.in-Shelf.is) w.ensures

@@ -35,7 +35,7 @@ pub slice_bounds-judge-count : goal.slice_bounds-judge-count
 slice_bounds-judge-count c =
     let stands-c : (Standing c.args.records.now c.loop-next.at c.in-Record.head
     c.in-Record.raw c.in-Record.next) = (standing _ _ _ _ _ (sym c.record_at.ensures ∙ c.in-Record.is)) in
-    let s = stands-c in omega (arith, s.its-next)
+    let s = stands-c in omega (arith, s.its_next)
 
 pub judge-requires : goal.judge-requires
 judge-requires c =
@@ -46,7 +46,7 @@ judge-requires c =
     let g : List ℕ = drop l.at c.args.records.now in
     let n = c.in-Record.next in
     let e = length-take-le (n - l.at) g (omega (arith, s.within, length-drop l.at c.args.records.now)) in
-    (omega (arith, e, s.its-next), l.invariant.1)
+    (omega (arith, e, s.its_next), l.invariant.1)
 
 pub returns-then-judge : goal.returns-then-judge
 returns-then-judge c =
@@ -60,7 +60,7 @@ pub loop-next-smaller : goal.loop-next-smaller
 loop-next-smaller c =
     let stands-c : (Standing c.args.records.now c.loop-next.at c.in-Record.head
     c.in-Record.raw c.in-Record.next) = (standing _ _ _ _ _ (sym c.record_at.ensures ∙ c.in-Record.is)) in
-    let s = stands-c in omega (arith, s.its-next, s.within)
+    let s = stands-c in omega (arith, s.its_next, s.within)
 
 pub loop-next-preserved : goal.loop-next-preserved
 loop-next-preserved c =
@@ -71,4 +71,4 @@ loop-next-preserved c =
     let s = c.args in
     let t = stands-c in
     let e = passed_over s.application s.number t j.ensures c.if-judge.false in
-    (t.within, j.auto.1.1.1.0 ∙ l.invariant.1, sym e ∙ l.invariant.2)
+    (t.within, j.auto.form ∙ l.invariant.1, sym e ∙ l.invariant.2)

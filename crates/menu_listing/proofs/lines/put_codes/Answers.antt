@@ -18,7 +18,7 @@ loop-left-preserved c =
     let p = c.put-p in
     let s = c.shown in
     let b = c.byte_at in (
-      p.auto.1.0 ∙ l.invariant.0,
+      p.auto.out ∙ l.invariant.0,
       omega (arith, l.invariant.1),
       omega (arith, l.invariant.2, p.ensures.1),
       left-on {first = s.result ∷ []} (code-on l.left l.i s.result _ (search rules) (s.ensures ∙ ap shown b.ensures.0)) (put-at (search rules) p.ensures.0) l.invariant.3,

@@ -13,8 +13,8 @@ use Rattle.menu_listing.proofs.lines.put_line.Goals as goal
 pub slice_bounds-put-end : goal.slice_bounds-put-end
 slice_bounds-put-end c =
     let w = c.put_number-end in
-    let k : length w.new.1.1.0 ≡ 60 = w.auto.1.1.0 in
-    sym (length-take-le w.result w.new.1.1.0 (omega (arith, k, w.ensures.1, c.requires.0)))
+    let k : length w.new.out ≡ 60 = w.auto.out in
+    sym (length-take-le w.result w.new.out (omega (arith, k, w.ensures.1, c.requires.0)))
 
 pub returns : goal.returns
 returns c =

@@ -21,21 +21,21 @@ overflow_sub-name c =
 pub slice_bounds-name-end : goal.slice_bounds-name-end
 slice_bounds-name-end c =
     let w = c.put_number-end in
-    let k : length w.new.1.1.0 ≡ 60 = w.auto.1.1.0 in
+    let k : length w.new.out ≡ 60 = w.auto.out in
     rw length-set (omega (arith, k, w.ensures.1))
 
 pub slice_bounds-put_line-end : goal.slice_bounds-put_line-end
 slice_bounds-put_line-end c =
     let w = c.put_number-end in
-    let l : List ℕ = w.new.1.1.0 in
-    let k : length l ≡ 60 = w.auto.1.1.0 in
+    let l : List ℕ = w.new.out in
+    let k : length l ≡ 60 = w.auto.out in
     sym (length-take-le w.result (set l (w.result - 1) 44) (rw length-set (omega (arith, k, w.ensures.1))))
 
 pub put_line-requires : goal.put_line-requires
 put_line-requires c =
     let w = c.put_number-end in
-    let l : List ℕ = w.new.1.1.0 in
-    let k : length l ≡ 60 = w.auto.1.1.0 in
+    let l : List ℕ = w.new.out in
+    let k : length l ≡ 60 = w.auto.out in
     let e = length-take-le w.result (set l (w.result - 1) 44) (rw length-set (omega (arith, k, w.ensures.1))) in
     (omega (arith, e, w.ensures.1), omega (arith, c.requires))
 
@@ -48,7 +48,7 @@ returns c =
     let a = put-there {xs = xs ++ 10 ∷ []} (search rules) w.ensures.0 in
     let h : length (xs ++ 10 ∷ []) ≤ 60 = omega (arith, a.moved, w.ensures.1) in
     let e = ends-otherwise {line = replicate 60 0} xs 10 44 h a in
-    let l : List ℕ = w.new.1.1.0 in
-    let k : length l ≡ 60 = w.auto.1.1.0 in
+    let l : List ℕ = w.new.out in
+    let k : length l ≡ 60 = w.auto.out in
     let n = length-take-le w.result (set l (w.result - 1) 44) (rw length-set (omega (arith, k, w.ensures.1))) in
     (put_as (ap (λ (name : List ℕ). number_line name c.args.link) e) p.ensures.0, omega (arith, p.ensures.1, n, w.ensures.1))

@@ -14,7 +14,7 @@ returns c =
     let k = c.info_bytes-k in
     let p = c.put_bytes in
     let l : List ℕ = drop a.s.at (map nib a.control.now) in (
-      attribute-put a.s l a.out.now _ b.result k.result p.new.1.1.0 b.ensures.0 k.ensures.0 b.ensures.1 p.ensures
+      attribute-put a.s l a.out.now _ b.result k.result p.new.out b.ensures.0 k.ensures.0 b.ensures.1 p.ensures
           c.put_info.ensures,
       (omega (arith, k.ensures.2), omega arith, omega (arith, k.ensures.2)),
     )

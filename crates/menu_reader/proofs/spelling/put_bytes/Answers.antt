@@ -11,9 +11,9 @@ pub loop-left-preserved : goal.loop-left-preserved
 loop-left-preserved c =
     let l = c.loop-left in
     let p = c.put in (
-      p.auto.1.0 ∙ l.invariant.0,
+      p.auto.out ∙ l.invariant.0,
       search rules,
-      bytes_on l.left l.q l.rest _ l.out p.new.1.0 _ (search rules) refl p.ensures l.invariant.2,
+      bytes_on l.left l.q l.rest _ l.out p.new.out _ (search rules) refl p.ensures l.invariant.2,
     )
 
 pub returns : goal.returns

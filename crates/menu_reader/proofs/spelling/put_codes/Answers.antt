@@ -13,10 +13,10 @@ loop-left-preserved c =
     let l = c.loop-left in
     let b = c.byte_at in
     let p = c.put in (
-      p.auto.1.0 ∙ l.invariant.0,
+      p.auto.out ∙ l.invariant.0,
       search rules,
       search rules,
-      codes-on a.strings.now l.left l.i l.q b.result l.out p.new.1.0 _ (search rules) b.ensures.0 p.ensures l.invariant.3,
+      codes-on a.strings.now l.left l.i l.q b.result l.out p.new.out _ (search rules) b.ensures.0 p.ensures l.invariant.3,
     )
 
 pub returns : goal.returns

@@ -20,7 +20,7 @@ loop-left-preserved c =
     let p = c.put_entry-p in
     let some = c.loop-left-test.true in
     let w = p.ensures.0 in (
-      p.auto.1.1.1.0 ∙ l.invariant.0,
+      p.auto.out ∙ l.invariant.0,
       omega (arith, l.invariant.1, p.ensures.1, some),
       omega (arith, l.invariant.2, p.ensures.1),
       omega (arith, l.invariant.3, p.ensures.1, some),

@@ -13,7 +13,7 @@ returns-in-Descriptors c =
     let a = c.args in
     let l : List ℕ = drop a.s.at (map nib a.control.now) in
     let p = c.put_descriptor in (
-      subst (λ (x : Loop). Went a.s p.result (entry_nibbles x l) 0 (entry_form x l) a.out.now p.new.1.1.0)
+      subst (λ (x : Loop). Went a.s p.result (entry_nibbles x l) 0 (entry_form x l) a.out.now p.new.out)
           (sym c.in-Descriptors.is) p.ensures.0,
       p.ensures.1,
     )
@@ -23,7 +23,7 @@ returns-in-Escapes c =
     let a = c.args in
     let l : List ℕ = drop a.s.at (map nib a.control.now) in
     let p = c.put_escape in (
-      subst (λ (x : Loop). Went a.s p.result (entry_nibbles x l) 0 (entry_form x l) a.out.now p.new.1.1.0)
+      subst (λ (x : Loop). Went a.s p.result (entry_nibbles x l) 0 (entry_form x l) a.out.now p.new.out)
           (sym c.in-Escapes.is) p.ensures.0,
       p.ensures.1,
     )
@@ -33,7 +33,7 @@ returns-in-Attributes c =
     let a = c.args in
     let l : List ℕ = drop a.s.at (map nib a.control.now) in
     let p = c.put_attribute in (
-      subst (λ (x : Loop). Went a.s p.result (entry_nibbles x l) 0 (entry_form x l) a.out.now p.new.1.1.0)
+      subst (λ (x : Loop). Went a.s p.result (entry_nibbles x l) 0 (entry_form x l) a.out.now p.new.out)
           (sym c.in-Attributes.is) p.ensures.0,
       p.ensures.1,
     )

@@ -16,7 +16,7 @@ returns c =
     let e = c.put_entries-a in
     let t = c.put_text in (
       event-put (map nib a.control.now) (map code_of a.strings.now) a.s x.result y.result n.result e.result t.result a.out.now
-          b.new.1.1.0 e.new.1.1.1.1.0 _ x.ensures.0 y.ensures.0 n.ensures.0 x.ensures.1 y.ensures.1 n.ensures.1
+          b.new.out e.new.out _ x.ensures.0 y.ensures.0 n.ensures.0 x.ensures.1 y.ensures.1 n.ensures.1
           b.ensures e.ensures.0 t.ensures.0,
       (omega (arith, e.ensures.1, t.ensures.1, n.ensures.1), omega (arith, e.ensures.1, t.ensures.1), omega (arith, e.ensures.1, t.ensures.1, n.ensures.1)),
     )

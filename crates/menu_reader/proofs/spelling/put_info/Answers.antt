@@ -12,10 +12,10 @@ loop-left-preserved c =
     let l = c.loop-left in
     let b = c.info_at in
     let p = c.put in (
-      p.auto.1.0 ∙ l.invariant.0,
+      p.auto.out ∙ l.invariant.0,
       search rules,
       search rules,
-      info_on _ _ l.left l.q b.result l.out p.new.1.0 _ (search rules) (search rules) b.ensures p.ensures l.invariant.3,
+      info_on _ _ l.left l.q b.result l.out p.new.out _ (search rules) (search rules) b.ensures p.ensures l.invariant.3,
     )
 
 pub returns : goal.returns

@@ -26,7 +26,7 @@ returns c =
     let b = c.put_bytes in
     let e = c.put_entries-e in
     let k = c.put_codes in (
-      text-put (map nib a.control.now) (map code_of a.strings.now) a.s x.result y.result e.result a.out.now b.new.1.1.0
-          e.new.1.1.1.1.0 _ x.ensures.0 y.ensures.0 x.ensures.1 y.ensures.1 b.ensures e.ensures.0 k.ensures,
+      text-put (map nib a.control.now) (map code_of a.strings.now) a.s x.result y.result e.result a.out.now b.new.out
+          e.new.out _ x.ensures.0 y.ensures.0 x.ensures.1 y.ensures.1 b.ensures e.ensures.0 k.ensures,
       (omega (arith, e.ensures.1, x.ensures.1), omega (arith, y.ensures.1), omega (arith, e.ensures.1, x.ensures.1, y.ensures.1)),
     )

@@ -32,7 +32,7 @@ returns c =
     let f₂ = h.ensures.1 in
     let f₃ = e.ensures.1 in (
       spelled-all (map nib a.control.now) (map code_of a.strings.now) x.result y.result _ z.result m.result d.result h.result e.result
-          a.out.now o.new.1.1.0 d.new.1.1.1.1.0 h.new.1.1.1.0 _ x.ensures.0 y.ensures.0 refl z.ensures.0 m.ensures.0
+          a.out.now o.new.out d.new.out h.new.out _ x.ensures.0 y.ensures.0 refl z.ensures.0 m.ensures.0
           o.ensures d.ensures.0 h.ensures.0 e.ensures.0,
       (omega (arith, n, k, f₂, f₃), omega (arith, k, f₂, f₃), omega (arith, n, k, f₁, f₂, f₃)),
     )

@@ -19,12 +19,12 @@ loop-left-preserved c =
     let l = c.loop-left in
     let p = c.put_entry-q in
     let n = c.entry_length-at in (
-      p.auto.1.1.1.0 ∙ l.invariant.0,
+      p.auto.out ∙ l.invariant.0,
       search rules,
       search rules,
       length-on a.what f l.at l.left n.result (search rules) n.ensures.0 ∙ l.invariant.3,
       sent-on a.what f l.at l.left n.result (search rules) n.ensures.0 l.q p.result p.ensures.0 ∙ l.invariant.4,
-      stores-on a.what f l.at l.left n.result (search rules) n.ensures.0 l.q p.result l.out p.new.1.1.1.0 p.ensures.0
+      stores-on a.what f l.at l.left n.result (search rules) n.ensures.0 l.q p.result l.out p.new.out p.ensures.0
           p.ensures.2
           ∙ l.invariant.5,
     )

@@ -23,6 +23,6 @@ returns c =
     let h = c.put_string-h in
     let xs = map letter (text_in (drop p.result.end f)).codes in
     let ys = map letter (each codes_of (events_in n.result (drop h.result.at f))) in
-    two-stores xs ys a.to h.result.to h.ensures.1 a.out.now h.new.1.1.0 _ h.ensures.4 c.put_strings.ensures
+    two-stores xs ys a.to h.result.to h.ensures.1 a.out.now h.new.out _ h.ensures.4 c.put_strings.ensures
     ∙ ap (λ (l : List ℕ). sets a.out.now a.to l)
     (sym (all_codes f d.result n.result p.result.end h.result.at d.ensures.0 n.ensures.0 p.ensures.0 h.ensures.0))

@@ -34,9 +34,9 @@ put_events-requires c =
 
 pub shape_of-out : goal.shape_of-out
 shape_of-out c =
-    c.put_events.auto.1.1.1.0 ∙ c.put_field.auto.1.1.0 ∙ c.put_text-t.auto.1.1.0 ∙ c.put_fill-filled.auto.1.0
-    ∙ c.put_entries-s.auto.1.1.1.1.0
-    ∙ c.put_opening.auto.1.1.0
+    c.put_events.auto.out ∙ c.put_field.auto.out ∙ c.put_text-t.auto.out ∙ c.put_fill-filled.auto.out
+    ∙ c.put_entries-s.auto.out
+    ∙ c.put_opening.auto.out
 
 pub returns : goal.returns
 returns c =
@@ -62,11 +62,11 @@ returns c =
     ∙ ap (λ (x : ℕ). O ++ (D ++ (F ++ (H ++ (map image (parts 4 2 x) ++ E))))) (sym g.ensures.0) in
     let last : t.result.to + 2 ≡ t.result.to + length M = ap (λ (k : ℕ). t.result.to + k) (sym (sent-length 2 g.result)) in
     e.ensures.1
-    ∙ store-on M E t.result.to (t.result.to + 2) last t.new.1.1.0 m.new.1.1.0 (m.ensures ∙ run-inked _ 2 _ _)
-    ∙ store-on H (M ++ E) w.result t.result.to t.ensures.1 w.new.1.0 t.new.1.1.0 t.ensures.4
-    ∙ store-on F (H ++ (M ++ E)) s.result.to w.result w.ensures.0 s.new.1.1.1.1.0 w.new.1.0 w.ensures.2
-    ∙ store-on D (F ++ (H ++ (M ++ E))) 19 s.result.to s.ensures.1 o.new.1.1.0 s.new.1.1.1.1.0 s.ensures.4
-    ∙ store-on O (D ++ (F ++ (H ++ (M ++ E)))) 4 19 (opening-long f a.control) a.out.now o.new.1.1.0 o.ensures
+    ∙ store-on M E t.result.to (t.result.to + 2) last t.new.out m.new.out (m.ensures ∙ run-inked _ 2 _ _)
+    ∙ store-on H (M ++ E) w.result t.result.to t.ensures.1 w.new.out t.new.out t.ensures.4
+    ∙ store-on F (H ++ (M ++ E)) s.result.to w.result w.ensures.0 s.new.out w.new.out w.ensures.2
+    ∙ store-on D (F ++ (H ++ (M ++ E))) 19 s.result.to s.ensures.1 o.new.out s.new.out s.ensures.4
+    ∙ store-on O (D ++ (F ++ (H ++ (M ++ E)))) 4 19 (opening-long f a.control) a.out.now o.new.out o.ensures
     ∙ ap (λ (l : List ℕ). sets a.out.now 4 l) (sym sent)
     ∙ ap (λ (x : ℕ). sets a.out.now 4 (map image (in_nibbles (fields 0 x zeros (menu_in f))))) c.requires
     ∙ ap (λ (l : List ℕ). sets a.out.now 4 (map image l)) (sym (nibbles_are 0 zeros (menu_in f)))

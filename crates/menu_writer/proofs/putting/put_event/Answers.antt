@@ -43,8 +43,8 @@ returns c =
       t.ensures.1 ∙ two-places (xs ++ ys) zs a.to s.result.to q ∙ ap (λ (l : List ℕ). a.to + length l) (grouped ∙ sym sent),
       omega (arith, s.ensures.2, t.ensures.2, n.ensures.1),
       omega (arith, s.ensures.3, t.ensures.3, n.ensures.1),
-      two-stores (xs ++ ys) zs a.to s.result.to q a.out.now s.new.1.1.1.1.0 _
-          (two-stores xs ys a.to (a.to + 6) first a.out.now c.put_field.new.1.1.0 _ (c.put_field.ensures ∙ run-inked _ 6 _ _) s.ensures.4)
+      two-stores (xs ++ ys) zs a.to s.result.to q a.out.now s.new.out _
+          (two-stores xs ys a.to (a.to + 6) first a.out.now c.put_field.new.out _ (c.put_field.ensures ∙ run-inked _ 6 _ _) s.ensures.4)
           t.ensures.4
           ∙ ap (λ (l : List ℕ). sets a.out.now a.to l) (grouped ∙ sym sent),
     )

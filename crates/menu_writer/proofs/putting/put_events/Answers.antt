@@ -34,11 +34,11 @@ loop-left-preserved c =
     let e : whole ≡ xs ++ ys =
     ap (λ (es : List Event). map image (in_nibbles (each event_fields es))) (events_split f l.p.at l.left p.result.at (search rules) p.ensures.0)
     ∙ sent-split ev rest in (
-      p.auto.1.1.0 ∙ l.invariant.0,
+      p.auto.out ∙ l.invariant.0,
       omega (arith, l.invariant.1, p.ensures.2, c.loop-left-test.true),
       omega (arith, l.invariant.2, p.ensures.3, c.loop-left-test.true),
       two-places xs ys l.p.to p.result.to p.ensures.1 ∙ ap (λ (x : List ℕ). l.p.to + length x) (sym e) ∙ l.invariant.3,
-      two-stores xs ys l.p.to p.result.to p.ensures.1 l.out p.new.1.1.0 _ p.ensures.4 refl
+      two-stores xs ys l.p.to p.result.to p.ensures.1 l.out p.new.out _ p.ensures.4 refl
           ∙ ap (λ (x : List ℕ). sets l.out l.p.to x) (sym e)
           ∙ l.invariant.4,
     )

@@ -29,7 +29,7 @@ returns c =
     let xs = map image (parts 4 7 first) in
     let ys = map image (parts 4 8 second) in
     let place : 11 ≡ 4 + length xs = ap (λ (k : ℕ). 4 + k) (sym (sent-length 7 first)) in
-    two-stores xs ys 4 11 place a.out.now c.put_field.new.1.1.0 _ (c.put_field.ensures ∙ run-inked _ 7 _ _) (c.put_field-2.ensures ∙ run-inked _ 8 _ _)
+    two-stores xs ys 4 11 place a.out.now c.put_field.new.out _ (c.put_field.ensures ∙ run-inked _ 7 _ _) (c.put_field-2.ensures ∙ run-inked _ 8 _ _)
     ∙ ap (λ (l : List ℕ). sets a.out.now 4 l)
     (sym
     (opening-numbers f a.control v.result x.result y.result h.result m.result d.result n.result v.ensures.0 x.ensures.0 y.ensures.0

@@ -34,11 +34,11 @@ loop-left-preserved c =
     let e : map letter (each codes_of (events_in l.left (drop l.p.at f))) ≡ xs ++ ys =
     ap (λ (es : List Event). map letter (each codes_of es)) (events_split f l.p.at l.left p.result.at (search rules) past) ∙ codes-split ev rest in
     let place : p.result.to ≡ l.p.to + length xs = p.ensures.1 ∙ ap (λ (x : List ℕ). l.p.to + length (map letter x)) (sym same) in
-    let stored : p.new.1.1.0 ≡ sets l.out l.p.to xs = p.ensures.4 ∙ ap (λ (x : List ℕ). sets l.out l.p.to (map letter x)) (sym same) in (
-      p.auto.1.1.0 ∙ l.invariant.0,
+    let stored : p.new.out ≡ sets l.out l.p.to xs = p.ensures.4 ∙ ap (λ (x : List ℕ). sets l.out l.p.to (map letter x)) (sym same) in (
+      p.auto.out ∙ l.invariant.0,
       omega (arith, l.invariant.1, p.ensures.2, q.ensures.2, n.ensures.1, c.loop-left-test.true),
       omega (arith, l.invariant.2, p.ensures.3, c.loop-left-test.true),
-      two-stores xs ys l.p.to p.result.to place l.out p.new.1.1.0 _ stored refl ∙ ap (λ (x : List ℕ). sets l.out l.p.to x) (sym e) ∙ l.invariant.3,
+      two-stores xs ys l.p.to p.result.to place l.out p.new.out _ stored refl ∙ ap (λ (x : List ℕ). sets l.out l.p.to x) (sym e) ∙ l.invariant.3,
     )
 
 pub returns : goal.returns

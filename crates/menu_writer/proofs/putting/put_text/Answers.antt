@@ -35,8 +35,8 @@ returns c =
       last ∙ two-places (xs ++ ys) zs a.to s.result.to q ∙ ap (λ (l : List ℕ). a.to + length l) (grouped ∙ sym sent),
       omega (arith, s.ensures.2, e.ensures.1, n.ensures.1),
       omega (arith, s.ensures.3, e.ensures.1),
-      two-stores (xs ++ ys) zs a.to s.result.to q a.out.now s.new.1.1.1.1.0 _
-          (two-stores xs ys a.to (a.to + 2) first a.out.now c.put_field.new.1.1.0 _ (c.put_field.ensures ∙ run-inked _ 2 _ _) s.ensures.4)
+      two-stores (xs ++ ys) zs a.to s.result.to q a.out.now s.new.out _
+          (two-stores xs ys a.to (a.to + 2) first a.out.now c.put_field.new.out _ (c.put_field.ensures ∙ run-inked _ 2 _ _) s.ensures.4)
           (c.put_field-2.ensures ∙ run-inked _ 2 _ _)
           ∙ ap (λ (l : List ℕ). sets a.out.now a.to l) (grouped ∙ sym sent),
     )

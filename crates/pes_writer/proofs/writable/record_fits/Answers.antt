@@ -8,5 +8,3 @@ returns-then-not-is_text c = rw (← c.is_text.ensures, c.if-not-is_text.true)
 pub returns : goal.returns
 returns c =
     rw (← c.is_text.ensures, c.if-not-is_text.false) c.line_fits.ensures
-
-pub record-fits-spec : {M : Type 1} → statement M

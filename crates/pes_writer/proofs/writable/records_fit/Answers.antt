@@ -27,5 +27,3 @@ returns c =
     let l = c.loop-more in
     let rs : List ℕ = c.args.records.now in
     sym (at_none (λ (n : ℕ). records_fit n rs l.at) l.more (search rules)) ∙ l.invariant.1
-
-pub records-fit-spec : {M : Type 1} → statement M

@@ -16,7 +16,7 @@ pub bounds-out-q-4 : goal.bounds-out-q-4
 bounds-out-q-4 c = simp length-set (omega arith)
 
 pub shape_of-out : goal.shape_of-out
-shape_of-out c = c.copy.auto.1.1.1.0 ∙ simp length-set
+shape_of-out c = c.copy.auto.dst ∙ simp length-set
 
 pub returns : goal.returns
 returns c =

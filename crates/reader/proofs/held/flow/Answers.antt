@@ -135,7 +135,7 @@ loop-g-preserved c =
       omega (arith, n),
       omega (arith, n),
       omega (arith, n),
-      c.emit.auto.1.1.1.1.1.1.0 ∙ l.invariant.3,
+      c.emit.auto.out ∙ l.invariant.3,
       l.invariant.4,
       λ r store new y. l.invariant.5 r store new
           (flow-on (drop l.at a.s.now) (place a.got.dropped l.blocks l.q) is_whole-c (rw length-drop (omega (arith, n)))

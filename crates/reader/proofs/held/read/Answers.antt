@@ -35,7 +35,7 @@ flow-requires c =
     let m = mode_of a.got.run a.store.now in
     let g = carried_room true a.joined m (take (n - 3) (drop 3 p)) q.0.good in
     let t = head-each (ended a.joined (continues true m (take (n - 3) (drop 3 p)))) in
-    let k = c.continue_to-carried.auto.1.1.1.1.1.0 in
+    let k = c.continue_to-carried.auto.out in
     let l : length (take (length p - n) (drop n p)) ≡ length p - n = ap length (part-rest n p) ∙ length-drop n p in
     record {
       store_value = x.holds.kept;

@@ -99,7 +99,7 @@ loop-at-preserved-then-y-lt26 c =
     (as-packet a.setting p long k o.0 o.1 (omega (arith, c.if-y-lt26.true))) in
     let y = acted a.setting p (state_in l.a l.store) _ _ _ _ _ e.0 v c.heed-a.ensures in
     went_one a.setting false a.packets.now a.limit a.start a.from a.store.now a.out.now w h r (λ q. rw e.0 at u)
-    c.heed-a.auto.1.1.1.1.0 y
+    c.heed-a.auto.out y
 
 pub loop-at-preserved : goal.loop-at-preserved
 loop-at-preserved c =

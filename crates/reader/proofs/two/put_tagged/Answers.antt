@@ -68,7 +68,7 @@ loop-p-preserved c =
     let t = left_one a.stream a.records.now a.n a.out.now a.to l.p l.out l.q (omega arith) l.invariant.2 in
     let k = c.copy in
     let e = c.long_at-long.ensures in
-    (l.invariant.0, k.auto.1.1.1.0 ∙ length-set l.out l.q a.stream ∙ l.invariant.1, rw (k.ensures, e) t.left)
+    (l.invariant.0, k.auto.dst ∙ length-set l.out l.q a.stream ∙ l.invariant.1, rw (k.ensures, e) t.left)
 
 pub shape_of-out : goal.shape_of-out
 shape_of-out c =

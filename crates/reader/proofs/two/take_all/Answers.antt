@@ -124,8 +124,8 @@ loop-at-preserved-then-at-packets c =
     let g = still_room_two a.setting p (packet_length_lem a.packets.now at h) (holds_kept _ q.1.first.holds) (holds_kept _ q.1.second.holds) y x.few in (
       h,
       omega (arith, x.even, h),
-      k.auto.1.1.1.1.1.1.0 ∙ l.invariant.2,
-      k.auto.1.1.1.1.1.1.1.1.0 ∙ l.invariant.3,
+      k.auto.hold ∙ l.invariant.2,
+      k.auto.out ∙ l.invariant.3,
       omega (arith, g.0, r),
       g.1,
       further_two a.setting long a.packets.now at h r y q,
@@ -141,8 +141,8 @@ loop-at-preserved-else-at-packets c =
     let q = went_reached a.setting a.packets.now long l.invariant.3 x l.invariant.6 in (
       x.within,
       x.even,
-      k.auto.1.1.1.1.1.1.0 ∙ l.invariant.2,
-      k.auto.1.1.1.1.1.1.1.1.0 ∙ l.invariant.3,
+      k.auto.hold ∙ l.invariant.2,
+      k.auto.out ∙ l.invariant.3,
       omega (arith, x.fits, l.invariant.3),
       x.few,
       q,
@@ -162,8 +162,8 @@ loop-at-preserved c =
     let q = went_reached a.setting a.packets.now long l.invariant.3 x l.invariant.6 in (
       x.within,
       x.even,
-      k.auto.1.1.1.1.1.1.0 ∙ l.invariant.2,
-      k.auto.1.1.1.1.1.1.1.1.0 ∙ l.invariant.3,
+      k.auto.hold ∙ l.invariant.2,
+      k.auto.out ∙ l.invariant.3,
       omega (arith, x.fits, l.invariant.3),
       x.few,
       q,

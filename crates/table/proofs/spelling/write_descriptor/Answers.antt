@@ -30,14 +30,14 @@ returns c =
     let p₂ = c.put-2 in
     let v = c.write_words in
     let ws = spelled (parts 24 w.result (n / 2 ^ (a.at + 10))) in
-    let l₃ : List ℕ = v.new.1.1.1.0 in
+    let l₃ : List ℕ = v.new.out in
     let e : w.result ≡ per a.kind * field (a.at + 6) 4 n =
     words_counted _ _ _ _ w.ensures.0 (omega (arith, g.ensures.1)) g.ensures.0 in
     let ef : f.result % 256 ≡ field a.at 6 n = omega (arith, f.ensures) in
     let eg : g.result % 256 ≡ field (a.at + 6) 4 n = omega (arith, g.ensures) in (
       e,
       omega (arith, w.ensures.1, g.ensures.1),
-      stored l p.new.1.0 l₃ a.q (a.q + 1) (f.result % 256) (g.result % 256 ∷ ws) (omega arith) p.ensures
-          (stored p.new.1.0 p₂.new.1.0 l₃ (a.q + 1) (a.q + 2) (g.result % 256) ws (omega arith) p₂.ensures v.ensures)
+      stored l p.new.out l₃ a.q (a.q + 1) (f.result % 256) (g.result % 256 ∷ ws) (omega arith) p.ensures
+          (stored p.new.out p₂.new.out l₃ (a.q + 1) (a.q + 2) (g.result % 256) ws (omega arith) p₂.ensures v.ensures)
           ∙ ap₂ (λ (x y : ℕ). sets l a.q (x ∷ y ∷ ws)) ef eg,
     )

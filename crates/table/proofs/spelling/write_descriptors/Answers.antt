@@ -19,10 +19,10 @@ loop-left-preserved c =
     let d = c.write_descriptor-words in
     let n = compound a.body.now in
     let kind = a.kind in (
-      d.auto.1.1.1.0 ∙ l.invariant.0,
+      d.auto.out ∙ l.invariant.0,
       omega (arith, d.ensures.1, l.invariant.1),
       omega (arith, d.ensures.1, l.invariant.2),
-      descriptor-on kind l.left n l.at d.result (search rules) d.ensures.0 l.q l.out d.new.1.1.1.0 _
+      descriptor-on kind l.left n l.at d.result (search rules) d.ensures.0 l.q l.out d.new.out _
           d.ensures.2 l.invariant.3,
     )
 

@@ -16,15 +16,15 @@ returns c =
     let p₄ = c.put-4 in
     let p₅ = c.put-5 in
     let p₆ = c.put-6 in
-    let l₆ : List ℕ = p₆.new.1.0 in
+    let l₆ : List ℕ = p₆.new.out in
     let v₅ : List ℕ = o.count ∷ [] in
     let v₄ : List ℕ = o.network ∷ v₅ in
     let v₃ : List ℕ = o.block / 256 ∷ v₄ in
     let v₂ : List ℕ = o.block % 256 ∷ v₃ in
     let v₁ : List ℕ = o.copyright ∷ v₂ in
-    stored l p₁.new.1.0 l₆ 0 1 o.kind v₁ refl p₁.ensures
-    (stored p₁.new.1.0 p₂.new.1.0 l₆ 1 2 o.copyright v₂ refl p₂.ensures
-    (stored p₂.new.1.0 p₃.new.1.0 l₆ 2 3 (o.block % 256) v₃ refl p₃.ensures
-    (stored p₃.new.1.0 p₄.new.1.0 l₆ 3 4 (o.block / 256) v₄ refl p₄.ensures
-    (stored p₄.new.1.0 p₅.new.1.0 l₆ 4 5 o.network v₅ refl p₅.ensures
-    (stored p₅.new.1.0 l₆ l₆ 5 6 o.count [] refl p₆.ensures refl)))))
+    stored l p₁.new.out l₆ 0 1 o.kind v₁ refl p₁.ensures
+    (stored p₁.new.out p₂.new.out l₆ 1 2 o.copyright v₂ refl p₂.ensures
+    (stored p₂.new.out p₃.new.out l₆ 2 3 (o.block % 256) v₃ refl p₃.ensures
+    (stored p₃.new.out p₄.new.out l₆ 3 4 (o.block / 256) v₄ refl p₄.ensures
+    (stored p₄.new.out p₅.new.out l₆ 4 5 o.network v₅ refl p₅.ensures
+    (stored p₅.new.out l₆ l₆ 5 6 o.count [] refl p₆.ensures refl)))))

@@ -16,7 +16,7 @@ returns c =
     let a = c.args in
     let q = a.q in
     let w = a.w in
-    let l₃ : List ℕ = p₃.new.1.0 in
-    stored a.out.now p₁.new.1.0 l₃ q (q + 1) (w / 256 / 256 % 256) (w / 256 % 256 ∷ w % 256 ∷ []) (omega arith) p₁.ensures
-    (stored p₁.new.1.0 p₂.new.1.0 l₃ (q + 1) (q + 2) (w / 256 % 256) (w % 256 ∷ []) (omega arith) p₂.ensures
-    (stored p₂.new.1.0 l₃ l₃ (q + 2) (q + 3) (w % 256) [] (omega arith) p₃.ensures refl))
+    let l₃ : List ℕ = p₃.new.out in
+    stored a.out.now p₁.new.out l₃ q (q + 1) (w / 256 / 256 % 256) (w / 256 % 256 ∷ w % 256 ∷ []) (omega arith) p₁.ensures
+    (stored p₁.new.out p₂.new.out l₃ (q + 1) (q + 2) (w / 256 % 256) (w % 256 ∷ []) (omega arith) p₂.ensures
+    (stored p₂.new.out l₃ l₃ (q + 2) (q + 3) (w % 256) [] (omega arith) p₃.ensures refl))

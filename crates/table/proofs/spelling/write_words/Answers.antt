@@ -11,13 +11,13 @@ loop-left-init c = (refl, search rules, search rules, refl)
 pub loop-left-preserved : goal.loop-left-preserved
 loop-left-preserved c =
     let l = c.loop-left in
-    let k = c.write_word.auto.1.0 in
+    let k = c.write_word.auto.out in
     let a = c.args in
     let f = c.field_of-w in (
       k ∙ l.invariant.0,
       search rules,
       search rules,
-      word_on l.left (compound a.body.now) l.at l.p f.result l.out c.write_word.new.1.0 _ (search rules)
+      word_on l.left (compound a.body.now) l.at l.p f.result l.out c.write_word.new.out _ (search rules)
           f.ensures.0 c.write_word.ensures l.invariant.3,
     )
 

@@ -15,7 +15,7 @@ loop-i-preserved c =
     let l = c.loop-i in
     let t : List ℕ = c.args.text.now in
     let p = c.put_byte-p in
-    (search rules, p.auto.1.0 ∙ l.invariant.1, omega (arith, l.invariant.2, p.ensures.1), left-on (text-on t l.i (search rules)) p.ensures.0 l.invariant.3)
+    (search rules, p.auto.out ∙ l.invariant.1, omega (arith, l.invariant.2, p.ensures.1), left-on (text-on t l.i (search rules)) p.ensures.0 l.invariant.3)
 
 pub returns : goal.returns
 returns c =

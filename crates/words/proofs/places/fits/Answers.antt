@@ -21,4 +21,4 @@ returns-in-107 c = fits-kind _ c.in-107.is c.is_kind.ensures
 
 pub returns-in_default : goal.returns-in_default
 unfolding fits
-returns-in_default c = let r = c.in_default.rest in simp (ne_eqb _ _ r.0.0.0.0.1, ne_eqb _ _ r.0.0.0.1, ne_eqb _ _ r.0.0.1, ne_eqb _ _ r.0.1, ne_eqb _ _ r.1)
+returns-in_default c = let r = c.in_default.in_default-own.rest in simp (ne_eqb _ _ r.0.0.0.0.1, ne_eqb _ _ r.0.0.0.1, ne_eqb _ _ r.0.0.1, ne_eqb _ _ r.0.1, ne_eqb _ _ r.1)

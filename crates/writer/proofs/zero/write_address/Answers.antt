@@ -12,4 +12,4 @@ returns-then-out-q-lt-ADDRESS c = unplaced _ _ _ 2 (search rules)
 pub returns : goal.returns
 returns c =
     let a = c.args in
-    placed a.out.now c.write_images.new.1.0 _ a.q 2 (search rules) (search rules) c.write_images.ensures
+    placed a.out.now c.write_images.new.out _ a.q 2 (search rules) (search rules) c.write_images.ensures

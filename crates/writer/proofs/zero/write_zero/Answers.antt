@@ -12,5 +12,5 @@ returns-then-out-q-lt-PACKET c = unplaced _ _ _ 42 (search rules)
 pub returns : goal.returns
 returns c =
     let a = c.args in
-    placed a.out.now c.write_blanks.new.0 _ a.q 42 (search rules) (search rules)
-    (zero_laid a.s a.index a.n a.out.now c.write_images.new.1.0 c.write_blanks.new.0 a.q c.write_images.ensures c.write_blanks.ensures)
+    placed a.out.now c.write_blanks.new.out _ a.q 42 (search rules) (search rules)
+    (zero_laid a.s a.index a.n a.out.now c.write_images.new.out c.write_blanks.new.out a.q c.write_images.ensures c.write_blanks.ensures)
