@@ -45,6 +45,13 @@ pub fn not_text() -> Error {
     Error::from_raw_os_error(EILSEQ)
 }
 
+// What an error is where a name is longer than any path.
+pub fn too_long() -> Error {
+    Error::from_raw_os_error(ENAMETOOLONG)
+}
+
+const ENAMETOOLONG: i32 = 36;
+
 const EILSEQ: i32 = 84;
 
 // Puts the text of an error at the start of the bytes, and answers how long it is.

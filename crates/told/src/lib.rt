@@ -5,6 +5,7 @@
 mod console;
 pub mod failures;
 pub mod names;
+mod opening;
 
 ghost use Rattle.std.specs.Prelude.{◌≡◌};
 ghost use Rattle.io.specs.Counts.{IsPrefixLen};
@@ -12,6 +13,7 @@ ghost use Rattle.told.specs.Fronts.{front_of};
 
 pub use console::Console;
 pub use names::plain;
+pub use opening::{open, path};
 use std::env::{Env, FillError};
 use std::io::{Error, Print, Result};
 
