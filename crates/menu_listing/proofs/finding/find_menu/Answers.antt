@@ -77,7 +77,7 @@ pub slice_bounds-judge-start : goal.slice_bounds-judge-start
 slice_bounds-judge-start c =
     let stands-c : (Standing c.args.records.now c.loop-next.at c.in-Record.head
     c.in-Record.raw c.in-Record.next) = (standing _ _ _ _ _ (sym c.record_at.ensures ∙ c.in-Record.is)) in
-    let s = stands-c in omega (arith, s.its-next)
+    let s = stands-c in omega (arith, s.its_next)
 
 pub slice_bounds-judge-end : goal.slice_bounds-judge-end
 slice_bounds-judge-end c =
