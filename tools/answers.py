@@ -368,6 +368,8 @@ def turn(crate, folder, names):
             b["kind"] = "goal"
             b["goal"] = need.get(norm(m.group(2)))
             if b["goal"] is None:
+                b["goal"] = next((new for old, new in info["needs"] if norm(new) == norm(m.group(2))), None)
+            if b["goal"] is None:
                 cands = [v for k, v in need.items() if k.replace("shared_", "") == norm(m.group(2)).replace("shared_", "")]
                 b["goal"] = cands[0] if cands else None
             b["wanted"] = m.group(2)

@@ -78,7 +78,7 @@ module _ (form : Form) where
   unfolding descriptor_lines_of
   lines_read e tail w c =
       let s = written-sendable form e w in
-      table_before e.table.kind e.table.descriptors tail (all_described e.table.kind e.table.descriptors s.entire_all s.loops-fit) c
+      table_before e.table.kind e.table.descriptors tail (all_described e.table.kind e.table.descriptors s.entire_all s.loops_fit) c
 
   -- the key and the lines are the table's own
   pub same-table : (x y : Entry) → Fit form x → Fit form y → key_of x ≡ key_of y → table_lines x ≡ table_lines y → table_of x ≡ table_of y

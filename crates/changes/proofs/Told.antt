@@ -63,7 +63,7 @@ module _ (form : Form) where
 
   in_form : (sheet : List ℕ) → Every (rewrite_rules form sheet) → InForm form sheet
   unfolding rewrite_rules
-  in_form_lem sheet h = first_holds (others_hold h)
+  in_form sheet h = first_holds (others_hold h)
 
   -- the call writes the print, of sheets that it accepts
   prints-text : {first second text : List ℕ} → Prints form first second text → (text ≡ compare_text form first second) × InForm form first × InForm form second
@@ -80,8 +80,8 @@ module _ (form : Form) where
       ∙ ap (λ (n : ℕ). take n (print ++ drop (length print) p.out)) a.2
       ∙ take-append_seam print (drop (length print) p.out) in (
         t,
-        in_form_lem first (front-holds (rewrite_rules form first) (rewrite_rules form second) a.0),
-        in_form_lem second (back-holds (rewrite_rules form first) (rewrite_rules form second) a.0),
+        in_form first (front-holds (rewrite_rules form first) (rewrite_rules form second) a.0),
+        in_form second (back-holds (rewrite_rules form first) (rewrite_rules form second) a.0),
       )
 
   -- given room, two sheets that `rewrite` accepts are accepted

@@ -40,7 +40,7 @@ descriptor-back kind d ds s =
     let count = s.whole_entries in
     let n = per kind * entries kind d.words in
     let words : words_in n (spelled d.words ++ listed kind ds) ≡ d.words =
-    ap (λ (x : ℕ). words_in x (spelled d.words ++ listed kind ds)) count ∙ words_back d.words (listed kind ds) s.words-fit in
+    ap (λ (x : ℕ). words_in x (spelled d.words ++ listed kind ds)) count ∙ words_back d.words (listed kind ds) s.words_fit in
     let rest : drop (2 + 3 * n) (listed kind (d ∷ ds)) ≡ listed kind ds =
     sym (drop-drop (3 * n) 2 (listed kind (d ∷ ds)))
     ∙ drop_at (spelled d.words) (listed kind ds) (3 * n) (length-spelled d.words ∙ ap (λ (x : ℕ). 3 * x) (sym count)) in
@@ -67,7 +67,7 @@ form_in t s =
       copyright = t.copyright;
       block = b i;
       network = t.network;
-      descriptors = descriptors_back t.kind t.descriptors s.entire_all s.loops-fit i;
+      descriptors = descriptors_back t.kind t.descriptors s.entire_all s.loops_fit i;
     }
 
 -- ---- the form out of its table
@@ -289,7 +289,7 @@ out_count f h =
 
 pub out_loops : (f : List ℕ) → fitting (loops (table_in f).kind (table_in f).descriptors) ≡ false → fits (table_in f) ≡ false
 out_loops f h =
-    unfit (table_in f) (λ s. let k = s.loops-fit in let z : ◌≡◌ {A = ℕ} 0 1 = cc in omega arith)
+    unfit (table_in f) (λ s. let k = s.loops_fit in let z : ◌≡◌ {A = ℕ} 0 1 = cc in omega arith)
 
 pub out_bits : (f : List ℕ) → 8184 < bits (table_in f) → fits (table_in f) ≡ false
 out_bits f h = unfit (table_in f) (λ s. let k = s.control_fits in omega arith)

@@ -91,7 +91,7 @@ content-sends reserved t s hr =
             lt-ltb t.network 256 s.network_fits,
             lt-ltb (length t.descriptors) 64 s.count_fits,
           )
-          s.loops-fit;
+          s.loops_fit;
       seven = ap sevens (no_strings c);
       small = omega (arith, s.control_fits, none);
     })

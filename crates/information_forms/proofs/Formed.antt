@@ -48,5 +48,5 @@ module _ (f : List ℕ) (h : Bytes f) where
       (begins_at 0 f _ (begins_at 1 f _ rows))
 
   -- a form of its own length, of bytes and of this kind, is that of the information that it stands for
-  pub in_form : get_or f 0 0 ≡ AI → length f ≡ length (form (information_in f)) → form (information_in f) ≡ f
+  pub in_form_lem : get_or f 0 0 ≡ AI → length f ≡ length (form (information_in f)) → form (information_in f) ≡ f
   in_form_lem kind long = sym (begins-all f (form (information_in f)) (information-begins kind) long)

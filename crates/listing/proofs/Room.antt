@@ -123,7 +123,7 @@ lines_room head mended second t m s = go head
   where
     each : length (descriptor_lines_of t) ≤ 9 * length (listed t.kind t.descriptors)
     each =
-        let r = descriptors_room t.kind t.descriptors s.entire_all s.loops-fit in
+        let r = descriptors_room t.kind t.descriptors s.entire_all s.loops_fit in
         omega (arith, r, listed_words t.kind t.descriptors)
 
     go : (h : Bool) → length (pick h (lines_of mended second t) (descriptor_lines_of t)) ≤ 9 * length (form t)

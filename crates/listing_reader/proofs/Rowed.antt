@@ -313,7 +313,7 @@ unfolding descriptors_of
 table_before kind ds tail each closed =
     let back =
     row_back same descriptor_at descriptor_stepping Described descriptor_text (λ r. (language_at r).long ≡ 0)
-    (λ s d r p m. descriptor-back s d r p m) (λ s d r p. ends_words s d r) tail closed.no-language closed.no-descriptor ds
+    (λ s d r p m. descriptor-back s d r p m) (λ s d r p. ends_words s d r) tail closed.no_language closed.no_descriptor ds
     (length (texts same descriptor_at descriptor_text kind ds ++ tail)) kind each (omega arith) in
     rw (descriptor_lines_lem kind ds) at back
 

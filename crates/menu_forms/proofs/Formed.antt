@@ -182,5 +182,5 @@ module _ (f : List ℕ) (h : Bytes f) where
       (subst (λ (x : ℕ). Begins f (opened x a b (get_or f 7 0) (get_or f 8 0))) kind all-begins)))
 
   -- a form of its own length, of bytes and of this kind, is that of the menu that it stands for
-  pub in_form : get_or f 0 0 ≡ NI → length f ≡ length (form (menu_in f)) → form (menu_in f) ≡ f
+  pub in_form_lem : get_or f 0 0 ≡ NI → length f ≡ length (form (menu_in f)) → form (menu_in f) ≡ f
   in_form_lem kind long = sym (begins-all f (form (menu_in f)) (menu-begins kind) long)

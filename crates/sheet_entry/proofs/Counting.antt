@@ -134,7 +134,7 @@ module _ (kind block network : ℕ) (ds : List Descriptor) where
       go true e true m false c o p w q = let s = sendable made_table e in absurd (omega (arith, leb-false (length ds) 63 c, s.count_fits))
       go true e true m true c true p w q =
           let s = sendable made_table e in
-          let z : true ≡ false = sym p ∙ none_over kind ds s.loops-fit in
+          let z : true ≡ false = sym p ∙ none_over kind ds s.loops_fit in
           sym z
       go true e true m true c false p false q = let s = sendable made_table e in absurd (omega (arith, leb-false bits_are 8184 q, s.control_fits, wide))
 

@@ -158,10 +158,10 @@ describes kind d s = go (eqb kind TI) refl s.whole_entries
     go true e w =
         let two : per kind ≡ 2 = (unfold per in rw e) in
         let l : length d.words ≡ 2 * entries kind d.words = sym w ∙ ap (λ (n : ℕ). n * entries kind d.words) two in
-        let r = subtitles_of_lem kind e (entries kind d.words) d.words l s.words-fit in
+        let r = subtitles_of_lem kind e (entries kind d.words) d.words l s.words_fit in
         record { small = omega (arith, s.id_fits); rows = r.0; made = r.1; each = r.2 }
     go false e w =
-        let r = languages-of kind e d.words s.words-fit in
+        let r = languages-of kind e d.words s.words_fit in
         record { small = omega (arith, s.id_fits); rows = r.0; made = r.1; each = r.2 }
 
 pub all_described :
@@ -351,7 +351,7 @@ entry-back form least e rest p =
     let fit =
     and-value w.stamp_fits (and-value w.mended_fits (and-value s.kind_known (and-value (le-leb t.network 255 (omega (arith, s.network_fits))) (and-value (le-leb t.block 65535 (omega (arith, s.block_fits))) no-values)))) in
     let made =
-    made_back form least (head_values e) t.descriptors rest fit (all_described t.kind t.descriptors s.entire_all s.loops-fit)
+    made_back form least (head_values e) t.descriptors rest fit (all_described t.kind t.descriptors s.entire_all s.loops_fit)
     (ap (λ (x : Entry). fits x.table) same-entry ∙ w.fit) (subst (λ (x : Entry). least ≤ key_of x) (sym same-entry) p.rises) in
     rw split (entry-begins form least (head ++ (lines ++ (10 ∷ rest))) some ∙ made ∙ ap (λ (x : Entry). item x (length head + length lines + 1)) same-entry ∙ ap (item e) long)
 

@@ -65,7 +65,7 @@ unfolding descriptor_lines_of
 lines_most_lem f j =
     let t = table_in f in
     let s = sendable t j.fit in
-    let r = descriptors_room t.kind t.descriptors s.entire_all s.loops-fit in
+    let r = descriptors_room t.kind t.descriptors s.entire_all s.loops_fit in
     let w = listed_words t.kind t.descriptors in
     let b = bits_of t in
     let e = eights t.kind t.descriptors in
@@ -110,7 +110,7 @@ uncopied t s =
       block_fits = s.block_fits;
       network_fits = s.network_fits;
       count_fits = s.count_fits;
-      loops_fit = s.loops-fit;
+      loops_fit = s.loops_fit;
     })
 
 pub stamped-written :

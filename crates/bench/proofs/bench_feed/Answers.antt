@@ -28,12 +28,12 @@ loop-left-preserved c =
     let k = c.counted-count in
     let more : 0 < l.left = search rules in (
       search rules,
-      k.ensures.1,
+      k.ensures.upper_bound,
       search rules,
-      count-on l.state f.result.reader a.packets.now l.out _ l.at f.ensures.1.0 f.ensures.1.1 l.left l.count
-          k.result f.result.heard more f.ensures.0 k.ensures.0
+      count-on l.state f.result.reader a.packets.now l.out _ l.at f.ensures.reader_value f.ensures.out_after l.left l.count
+          k.result f.result.heard more f.ensures.heard_value k.ensures.value
           ∙ l.invariant.3,
-      out-on l.state f.result.reader a.packets.now l.out _ l.at f.ensures.1.0 f.ensures.1.1 l.left more
+      out-on l.state f.result.reader a.packets.now l.out _ l.at f.ensures.reader_value f.ensures.out_after l.left more
           ∙ l.invariant.4,
     )
 

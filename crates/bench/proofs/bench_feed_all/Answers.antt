@@ -10,5 +10,5 @@ returns c =
     let f = c.feed_all-fed in
     let a = c.args in
     let it = all_fed (λ (r : Reader). feed_all_heard desk r a.packets.now a.out.now) (λ (r : Reader). feed_all_out desk r a.packets.now a.out.now)
-    c.fresh-state.ensures f.ensures.0 f.ensures.1.1 c.handed_out.ensures in
+    c.fresh-state.ensures f.ensures.heard_value f.ensures.out_after c.handed_out.ensures in
     record { count = it.0; bytes = it.1 }

@@ -7,14 +7,14 @@ pub returns-in-Done : goal.returns-in-Done
 returns-in-Done c =
     let e = c.read.ensures in
     record {
-      count = ap written_of (sym c.in-Done.is ∙ e.0);
-      bytes = e.1;
+      count = ap written_of (sym c.in-Done.is ∙ e.answer);
+      bytes = e.bytes;
     }
 
 pub returns-in-Refused : goal.returns-in-Refused
 returns-in-Refused c =
     let e = c.read.ensures in
     record {
-      count = ap written_of (sym c.in-Refused.is ∙ e.0);
-      bytes = e.1;
+      count = ap written_of (sym c.in-Refused.is ∙ e.answer);
+      bytes = e.bytes;
     }

@@ -7,14 +7,14 @@ pub returns-in-Taken : goal.returns-in-Taken
 returns-in-Taken c =
     let e = c.read_block.ensures in
     record {
-      count = ap written_of (sym c.in-Taken.is ∙ e.0);
-      bytes = e.1;
+      count = ap written_of (sym c.in-Taken.is ∙ e.answer);
+      bytes = e.output;
     }
 
 pub returns-in-Refused : goal.returns-in-Refused
 returns-in-Refused c =
     let e = c.read_block.ensures in
     record {
-      count = ap written_of (sym c.in-Refused.is ∙ e.0);
-      bytes = e.1;
+      count = ap written_of (sym c.in-Refused.is ∙ e.answer);
+      bytes = e.output;
     }

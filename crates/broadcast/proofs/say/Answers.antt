@@ -14,8 +14,8 @@ returns-then-letter-eq0 c =
     let s = c.args in
     let e : said [] ≡ said (name_by s.letter) = said_yes s.letter c.if-letter-eq0.true in
     record {
-      answer = w.0 ∙ ap (λ (l : List ℕ). answered [] l s.out.now) e;
-      output = w.1 ∙ ap (λ (l : List ℕ). left [] l s.out.now) e;
+      answer = w.answer ∙ ap (λ (l : List ℕ). answered [] l s.out.now) e;
+      output = w.output ∙ ap (λ (l : List ℕ). left [] l s.out.now) e;
     }
 
 pub returns : goal.returns
@@ -24,6 +24,6 @@ returns c =
     let s = c.args in
     let e = said_no s.letter c.if-letter-eq0.false in
     record {
-      answer = w.0 ∙ ap (λ (l : List ℕ). answered [] l s.out.now) e;
-      output = w.1 ∙ ap (λ (l : List ℕ). left [] l s.out.now) e;
+      answer = w.answer ∙ ap (λ (l : List ℕ). answered [] l s.out.now) e;
+      output = w.output ∙ ap (λ (l : List ℕ). left [] l s.out.now) e;
     }

@@ -66,3 +66,15 @@ loop-next-preserved c =
     let channel = channel-on s.application small t see l.channel c.channel_after-channel.ensures in
     let tally = tally-on s.application small t see l.tally c.count.ensures in
     (t.within, c.count.auto.tally ∙ l.invariant.1, sym (whole-at t) ∙ l.invariant.2, channel ∙ l.invariant.3, tally ∙ l.invariant.4)
+
+pub slice_bounds-see-start : goal.slice_bounds-see-start
+slice_bounds-see-start c =
+    let stands-c : (Standing c.args.records.now c.loop-next.at c.in-Record.head
+    c.in-Record.raw c.in-Record.next) = (standing _ _ _ _ _ (sym c.record_at.ensures ∙ c.in-Record.is)) in
+    let s = stands-c in omega (arith, s.its_next)
+
+pub slice_bounds-see-end : goal.slice_bounds-see-end
+slice_bounds-see-end c =
+    let stands-c : (Standing c.args.records.now c.loop-next.at c.in-Record.head
+    c.in-Record.raw c.in-Record.next) = (standing _ _ _ _ _ (sym c.record_at.ensures ∙ c.in-Record.is)) in
+    let s = stands-c in omega (arith, s.within)

@@ -31,7 +31,7 @@ returns-else-course-whole_end c =
     let e = c.whole_end in
     let w = c.look.ensures in
     at_stage a.capture c.in-Last.is
-    (pulled-end a.capture a.piece.now a.records.now a.pages.now e.result e.ensures c.if-course-whole_end.false w.0 w.1.0 w.1.1 c.end.ensures)
+    (pulled-end a.capture a.piece.now a.records.now a.pages.now e.result e.ensures c.if-course-whole_end.false w.value w.piece_after w.pages_after c.end.ensures)
 
 pub returns-else-course-whole_end-2 : goal.returns-else-course-whole_end-2
 returns-else-course-whole_end-2 c =
@@ -39,4 +39,4 @@ returns-else-course-whole_end-2 c =
     let e = c.whole_end-in-More in
     let w = c.look-in-More.ensures in
     at_stage a.capture c.in-More.is
-    (pulled-read a.capture a.piece.now a.records.now a.pages.now e.result e.ensures c.if-course-whole_end-2.false w.0 w.1.0 w.1.1 (search rules) c.read_on.ensures)
+    (pulled-read a.capture a.piece.now a.records.now a.pages.now e.result e.ensures c.if-course-whole_end-2.false w.value w.piece_after w.pages_after (search rules) c.read_on.ensures)

@@ -44,7 +44,7 @@ returns-in-Done-judge c =
     let w = c.write-answer.ensures in
     let p =
     neither c.args.form f g a.out.now (sound c.args.form f c.judge.ensures c.in-Done.is)
-    (sound c.args.form g c.judge-in-Done.ensures c.in-Done-judge.is) w.0 w.1 in
+    (sound c.args.form g c.judge-in-Done.ensures c.in-Done-judge.is) w.answer w.output in
     record {
       answer = p.0;
       sheet = p.1;

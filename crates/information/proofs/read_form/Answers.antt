@@ -36,6 +36,12 @@ returns-in-Done c =
     let j = c.judge.ensures in
     let d = c.in-Done.is in
     let p = c.read_parts in record {
-      answer = p.ensures.0 ∙ sum-taken a.application a.rec.now j d a.out.now;
-      output = p.ensures.1 ∙ sum-leaves a.application a.rec.now j d a.out.now;
+      answer = p.ensures.answer ∙ sum-taken a.application a.rec.now j d a.out.now;
+      output = p.ensures.output ∙ sum-leaves a.application a.rec.now j d a.out.now;
     }
+
+pub slice_bounds-read_parts-end : goal.slice_bounds-read_parts-end
+slice_bounds-read_parts-end c =
+    let inside-c : (4 + c.in-Done.length ≤ length c.args.rec.now) = (let a = c.args in
+    within a.application a.rec.now c.judge.ensures c.in-Done.is) in
+    omega (arith, inside-c)

@@ -55,3 +55,12 @@ returns-in-Head c =
     ∙ ap₂ (λ (h : ℕ) (l : List ℕ). judged refused (body_rules asks a.spoken h l) (Done (length (control_part a.spoken l))))
     (head-value rules (head_of r) j d) (part-rest 4 r)
     ∙ goes_on rules (body_rules asks a.spoken (head_of r) (drop 4 r)) (head_of r) (frame_same rules (head_of r) j) _ (ap as_answer d)
+
+pub slice_bounds-judge_body-start : goal.slice_bounds-judge_body-start
+slice_bounds-judge_body-start c =
+    let taken-c : (let r = c.args.rec.now in
+    (length r ≡ 4 + head_of r / 32) × (8 ≤ head_of r / 32)) = (let a = c.args in
+    let rules = framing a.application a.rec.now in
+    let k = framed a.application a.rec.now (head-every rules _ c.judge.ensures c.in-Head.is) in
+    (k.long, k.eight)) in
+    omega (arith, taken-c)

@@ -5,4 +5,4 @@ use Rattle.listing.proofs.list_descriptors.Goals as goal
 pub returns : goal.returns
 returns c =
     let it = c.list.ensures in
-    record { answer = it.0; output = it.1 }
+    record { answer = it.answer; output = it.output }

@@ -64,8 +64,17 @@ returns-in-Done c =
     let one = control-lent (one_of NI NI) true a.application r j e in
     let two = strings-lent (one_of NI NI) true a.application r j e in
     let on = sum-taken (one_of NI NI) true a.application r j (length_rules (head_of r / 32) (carried navigation (drop 4 r))) bytes out e in record {
-      answer = p.0 ∙ (λ i. answered (length_rules (size i) (sent_held (one i) (two i))) (form (menu_held (one i) (two i))) out) ∙ on;
-      output = p.1
+      answer = p.answer ∙ (λ i. answered (length_rules (size i) (sent_held (one i) (two i))) (form (menu_held (one i) (two i))) out) ∙ on;
+      output = p.output
           ∙ (λ i. left (length_rules (size i) (sent_held (one i) (two i))) (form (menu_held (one i) (two i))) out)
           ∙ ap (λ (x : Answer). after x bytes out) on;
     }
+
+pub slice_bounds-read_parts-end : goal.slice_bounds-read_parts-end
+slice_bounds-read_parts-end c =
+    let taken-c : (let r = c.args.rec.now in
+    (12 ≤ length r) × (4 + c.in-Done.length ≤ length r)) = (let a = c.args in
+    let j = c.judge.ensures in
+    let e = c.in-Done.is in
+    (long-lent (one_of NI NI) true a.application a.rec.now j e, count-in (one_of NI NI) true a.application a.rec.now j e)) in
+    omega (arith, taken-c)

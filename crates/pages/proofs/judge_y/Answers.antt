@@ -6,8 +6,7 @@ use Rattle.pages.proofs.judge_y.Goals as goal
 pub returns-then-y-n : goal.returns-then-y-n
 returns-then-y-n c =
     let a = c.args in
-    let page = c.page-1.given in
-    rw (c.is_wrong-wrong.ensures, page.1, lt-leb a.y page.0.0 (omega arith))
+    rw (c.is_wrong-wrong.ensures, c.in-Open.is, lt-leb a.y c.in-Open.n (omega arith))
 
 pub returns-in-Shut : goal.returns-in-Shut
 returns-in-Shut c = rw c.in-Shut.is

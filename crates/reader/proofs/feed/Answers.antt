@@ -16,5 +16,5 @@ returns c =
     let a = c.args in
     let f = c.feed_all-fed.ensures in
     let it = one (tuned_to a.setting) records_none a.reader a.packet.now a.out.now c.if-packet-ne-PACKET.false
-    f.0 c.told.ensures f.1.0 f.1.1 in
+    f.heard_value c.told.ensures f.reader_value f.out_after in
     record { heard_value = it.0; reader_value = it.1.0; out_after = it.1.1 }

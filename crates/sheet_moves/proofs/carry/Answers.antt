@@ -40,6 +40,6 @@ returns-else-not-none_mended c =
     let p = move-goes-on a.from a.to a.sheet.now a.out.now c.count.ensures c.in-Done.is (sym c.if-not-none_mended.false ∙ c.none_mended.ensures) in
     let e = c.carry_counted.ensures in
     record {
-      answer = e.0 ∙ p.0;
-      output = e.1 ∙ p.1;
+      answer = e.answer ∙ p.0;
+      output = e.output ∙ p.1;
     }

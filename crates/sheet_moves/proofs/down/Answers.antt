@@ -8,6 +8,6 @@ returns c =
     let a = c.args in
     let e = c.carry.ensures in
     record {
-      answer = e.0 ∙ down_answers a.new.now a.out.now;
-      output = e.1 ∙ down-leaves a.new.now a.out.now;
+      answer = e.answer ∙ down_answers a.new.now a.out.now;
+      output = e.output ∙ down-leaves a.new.now a.out.now;
     }

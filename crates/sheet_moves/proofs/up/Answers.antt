@@ -8,6 +8,6 @@ returns c =
     let a = c.args in
     let e = c.carry.ensures in
     record {
-      answer = e.0 ∙ up-answers a.old.now a.out.now;
-      output = e.1 ∙ up-leaves a.old.now a.out.now;
+      answer = e.answer ∙ up-answers a.old.now a.out.now;
+      output = e.output ∙ up-leaves a.old.now a.out.now;
     }

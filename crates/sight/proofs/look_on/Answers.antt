@@ -10,11 +10,11 @@ returns-then-sight c =
     let k = c.count_all-sight.ensures in
     let w =
     looked-came a.setting a.sight a.n a.piece.now c.front.ensures c.begin-sight.ensures
-    c.front-2.ensures k.0 c.if-sight.true in
+    c.front-2.ensures k.value c.if-sight.true in
     record {
       value = w.0;
       piece_after = w.1;
-      pages_after = noted-front a.n a.piece.now a.pages.now c.front-2.ensures k.1;
+      pages_after = noted-front a.n a.piece.now a.pages.now c.front-2.ensures k.pages_after;
     }
 
 pub returns : goal.returns
@@ -23,11 +23,11 @@ returns c =
     let k = c.count_all-sight.ensures in
     let w =
     looked-lacking a.setting a.sight a.n a.piece.now c.front.ensures c.begin-sight.ensures
-    c.front-2.ensures k.0 c.if-sight.false c.front-3.ensures
+    c.front-2.ensures k.value c.if-sight.false c.front-3.ensures
     (c.fit_from.ensures ∙ ap (fit_from c.begin-sight.result.plain) c.find.ensures) c.turn_all.ensures c.front-4.ensures
     (c.fit_from-2.ensures ∙ ap (fit_from c.begin-sight.result.turned) c.find-2.ensures) in
     record {
       value = w.0;
       piece_after = w.1;
-      pages_after = noted-front a.n a.piece.now a.pages.now c.front-2.ensures k.1;
+      pages_after = noted-front a.n a.piece.now a.pages.now c.front-2.ensures k.pages_after;
     }

@@ -30,9 +30,8 @@ unfolding reader_in_range
 returns-then-joined c =
     let page-fits-c : (page_in_range c.args.page ≡ true) = (sym c.is_page.ensures ∙ c.if-not-is_page.false) in
     let index-fits-c : (leb c.args.index 15 ≡ true) = (le-leb _ _ c.if-index-gt15.false) in
-    let run = c.enum_told-1.given in
     record {
-      value = rw (page-fits-c, index-fits-c, run.1, c.if-joined.true);
+      value = rw (page-fits-c, index-fits-c, c.in-Idle.is, c.if-joined.true);
       sixteen = λ e. untrue e;
     }
 
@@ -41,10 +40,9 @@ unfolding reader_in_range
 returns-then-not-is_head c =
     let page-fits-c : (page_in_range c.args.page ≡ true) = (sym c.is_page.ensures ∙ c.if-not-is_page.false) in
     let index-fits-c : (leb c.args.index 15 ≡ true) = (le-leb _ _ c.if-index-gt15.false) in
-    let run = c.run-1.given in
     let lost = sym c.is_head.ensures ∙ c.if-not-is_head.true in
     record {
-      value = rw (page-fits-c, index-fits-c, run.1, lost);
+      value = rw (page-fits-c, index-fits-c, c.in-Head.is, lost);
       sixteen = λ e. untrue e;
     }
 
@@ -53,9 +51,8 @@ unfolding reader_in_range
 returns-then-part-gt-LEAD c =
     let page-fits-c : (page_in_range c.args.page ≡ true) = (sym c.is_page.ensures ∙ c.if-not-is_page.false) in
     let index-fits-c : (leb c.args.index 15 ≡ true) = (le-leb _ _ c.if-index-gt15.false) in
-    let run = c.run-in-Body-1.given in
     record {
-      value = rw (page-fits-c, index-fits-c, run.1, lt-leb run.0.1.0 5 (omega arith));
+      value = rw (page-fits-c, index-fits-c, c.in-Body.is, lt-leb c.in-Body.part 5 (omega arith));
       sixteen = λ e. untrue e;
     }
 
@@ -64,10 +61,9 @@ unfolding reader_in_range
 returns-then-held-head c =
     let page-fits-c : (page_in_range c.args.page ≡ true) = (sym c.is_page.ensures ∙ c.if-not-is_page.false) in
     let index-fits-c : (leb c.args.index 15 ≡ true) = (le-leb _ _ c.if-index-gt15.false) in
-    let run = c.run-in-Body-1.given in
-    let fits = le-leb run.0.1.0 5 (omega arith) in
+    let fits = le-leb c.in-Body.part 5 (omega arith) in
     record {
-      value = rw (page-fits-c, index-fits-c, run.1, fits, lt-leb run.0.1.1.0 (size_of run.0.0) (omega arith));
+      value = rw (page-fits-c, index-fits-c, c.in-Body.is, fits, lt-leb c.in-Body.held (size_of c.in-Body.head) (omega arith));
       sixteen = λ e. untrue e;
     }
 
@@ -76,10 +72,9 @@ unfolding reader_in_range
 returns-else-joined c =
     let page-fits-c : (page_in_range c.args.page ≡ true) = (sym c.is_page.ensures ∙ c.if-not-is_page.false) in
     let index-fits-c : (leb c.args.index 15 ≡ true) = (le-leb _ _ c.if-index-gt15.false) in
-    let run = c.enum_told-1.given in
     record {
-      value = rw (page-fits-c, index-fits-c, run.1, c.if-joined.false) c.is_clear.ensures;
-      sixteen = λ e. rw run.1 tt;
+      value = rw (page-fits-c, index-fits-c, c.in-Idle.is, c.if-joined.false) c.is_clear.ensures;
+      sixteen = λ e. rw c.in-Idle.is tt;
     }
 
 pub returns-else-not-is_head : goal.returns-else-not-is_head
@@ -87,11 +82,10 @@ unfolding reader_in_range
 returns-else-not-is_head c =
     let page-fits-c : (page_in_range c.args.page ≡ true) = (sym c.is_page.ensures ∙ c.if-not-is_page.false) in
     let index-fits-c : (leb c.args.index 15 ≡ true) = (le-leb _ _ c.if-index-gt15.false) in
-    let run = c.run-1.given in
     let fits = sym c.is_head.ensures ∙ c.if-not-is_head.false in
     record {
-      value = rw (page-fits-c, index-fits-c, run.1, fits) c.is_clear-in-Head.ensures;
-      sixteen = λ e. rw run.1 (omega arith);
+      value = rw (page-fits-c, index-fits-c, c.in-Head.is, fits) c.is_clear-in-Head.ensures;
+      sixteen = λ e. rw c.in-Head.is (omega arith);
     }
 
 pub returns-else-held-head : goal.returns-else-held-head
@@ -99,10 +93,9 @@ unfolding reader_in_range
 returns-else-held-head c =
     let page-fits-c : (page_in_range c.args.page ≡ true) = (sym c.is_page.ensures ∙ c.if-not-is_page.false) in
     let index-fits-c : (leb c.args.index 15 ≡ true) = (le-leb _ _ c.if-index-gt15.false) in
-    let run = c.run-in-Body-1.given in
-    let part = le-leb run.0.1.0 5 (omega arith) in
-    let fits = le-leb run.0.1.1.0 (size_of run.0.0) (omega arith) in
+    let part = le-leb c.in-Body.part 5 (omega arith) in
+    let fits = le-leb c.in-Body.held (size_of c.in-Body.head) (omega arith) in
     record {
-      value = rw (page-fits-c, index-fits-c, run.1, part, fits) c.is_clear-in-Body.ensures;
-      sixteen = λ e. rw run.1 (omega arith);
+      value = rw (page-fits-c, index-fits-c, c.in-Body.is, part, fits) c.is_clear-in-Body.ensures;
+      sixteen = λ e. rw c.in-Body.is (omega arith);
     }

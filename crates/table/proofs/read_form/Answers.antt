@@ -74,3 +74,12 @@ returns-in-Head c =
       answer = c.read_body.ensures.answer ∙ one ∙ two;
       output = c.read_body.ensures.output ∙ all ∙ ap (λ (x : Answer). after x (form (table_read r)) out) two;
     }
+
+pub slice_bounds-read_body-start : goal.slice_bounds-read_body-start
+slice_bounds-read_body-start c =
+    let taken-c : (let r = c.args.rec.now in
+    (length r ≡ 4 + head_of r / 32) × (8 ≤ head_of r / 32)) = (let a = c.args in
+    let rules = framing a.application a.rec.now in
+    let k = framed a.application a.rec.now (head-every rules _ c.judge.ensures c.in-Head.is) in
+    (k.long, k.eight)) in
+    omega (arith, taken-c)

@@ -29,7 +29,7 @@ put_descriptors-c-requires c =
     let a = c.lay-a in
     let b = c.lay-b in
     let ex : x.result ≡ laid (first_fields (control t) t) 0 = x.ensures.0 ∙ ap (λ (b : ℕ). laid (first_fields ((b + 7) / 8) t) 0) c.requires.1 in
-    (fine-2 t x.result ex a.ensures.0 y.result y.ensures.0 b.ensures.0, (sendable t c.requires.0).loops-fit)
+    (fine-2 t x.result ex a.ensures.0 y.result y.ensures.0 b.ensures.0, (sendable t c.requires.0).loops_fit)
 
 pub overflow_mul-control : goal.overflow_mul-control
 overflow_mul-control c =

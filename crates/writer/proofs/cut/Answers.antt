@@ -5,4 +5,4 @@ use Rattle.writer.proofs.cut.Goals as goal
 pub returns : goal.returns
 returns c =
     let it = c.cut_pages.ensures in
-    record { answer = it.0; bytes = it.1 }
+    record { answer = it.answer; bytes = it.bytes }

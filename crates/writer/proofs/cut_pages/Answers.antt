@@ -55,5 +55,5 @@ returns-in-Cells c =
     let n = counted-c in
     let it = cut-written a.s a.index a.k a.records.now a.out.now in_range_lem-c n.0 c.pages_for.result
     (c.pages_for.ensures ∙ ap (pages_for a.k) (ap (λ (m : ℕ). m * cell) n.1 ∙ stream_cells (blocks a.records.now)))
-    w.result w.new.out w.ensures.0 w.ensures.1 in
+    w.result w.new.out w.ensures.value w.ensures.out_after in
     record { answer = it.0; bytes = it.1 }

@@ -30,6 +30,6 @@ returns c =
     let head = written a.out.now _ _ a.q 2 (search rules) c.write_address.ensures in
     let laid = packet-laid a.s a.y ss a.out.now c.write_address.new.out row.new.out a.q row.result.before in
     record {
-      out_after = laid c.image.result head row.ensures.0 row.ensures.1.0 c.image.ensures;
-      goes = row.ensures.1.1;
+      out_after = laid c.image.result head row.ensures.out_after row.ensures.before_value c.image.ensures;
+      goes = row.ensures.goes;
     }

@@ -15,7 +15,7 @@ pub loop-y-preserved : goal.loop-y-preserved
 loop-y-preserved c =
     let w = c.write_packet-at in
     rowed-more c.loop-y.invariant c.loop-y-test.true
-    w.new.out w.result w.ensures.0 w.ensures.1
+    w.new.out w.result w.ensures.out_after w.ensures.goes
 
 pub returns : goal.returns
 returns c =

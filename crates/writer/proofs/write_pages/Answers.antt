@@ -15,7 +15,7 @@ pub loop-left-preserved : goal.loop-left-preserved
 loop-left-preserved c =
     let w = c.write_page-at in
     paged_more c.loop-left.invariant c.loop-left-test.true
-    w.new.out w.result w.ensures.0 w.ensures.1
+    w.new.out w.result w.ensures.out_after w.ensures.goes
 
 pub returns : goal.returns
 returns c = paged_all c.loop-left.invariant (search rules)

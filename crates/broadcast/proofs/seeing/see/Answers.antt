@@ -41,3 +41,13 @@ returns c =
     let kind = c.field_of-kind.ensures.0 ∙ ap (λ (l : List ℕ). field 18 6 (compound l)) (part-rest 4 r) in
     seen_read s.application r k kind (sym c.is_read.ensures ∙ c.if-not-is_read.false)
     (c.network_in-network.ensures ∙ ap (network_in c.field_of-kind.result) (part-rest 4 r))
+
+pub slice_bounds-field_of-start : goal.slice_bounds-field_of-start
+slice_bounds-field_of-start c =
+    let s = c.args in
+    omega (arith, kind-long s.application s.rec.now (sym c.has_kind.ensures ∙ c.if-not-has_kind.false))
+
+pub slice_bounds-network_in-start : goal.slice_bounds-network_in-start
+slice_bounds-network_in-start c =
+    let s = c.args in
+    omega (arith, kind-long s.application s.rec.now (sym c.has_kind.ensures ∙ c.if-not-has_kind.false))

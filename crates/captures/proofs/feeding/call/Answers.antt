@@ -7,12 +7,12 @@ returns-then-is_one c =
     let a = c.args in
     let h = c.feed_all-fed.ensures in
     let it = answered-one a.setting a.reader a.readers a.packets.now a.out.now c.is_one.ensures c.if-is_one.true
-    c.first-one.ensures h.0 h.1.0 h.1.1 in
+    c.first-one.ensures h.heard_value h.reader_value h.out_after in
     record { value = it.0; out_after = it.1 }
 
 pub returns : goal.returns
 returns c =
     let a = c.args in
     let h = c.feed_all-fed-2.ensures in
-    let it = answered-two a.setting a.reader a.readers a.packets.now a.out.now c.is_one.ensures c.if-is_one.false h.0 h.1.0 h.1.1 in
+    let it = answered-two a.setting a.reader a.readers a.packets.now a.out.now c.is_one.ensures c.if-is_one.false h.heard_value h.readers_value h.out_after in
     record { value = it.0; out_after = it.1 }

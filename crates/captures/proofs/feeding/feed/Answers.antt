@@ -18,6 +18,6 @@ pub returns : goal.returns
 returns c =
     let a = c.args in
     let f = c.call-fed.ensures in
-    let it = some-given a.capture a.piece.now a.records.now c.up_to-end.ensures c.if-end-at.false c.if-piece-end.false f.0 f.1
+    let it = some-given a.capture a.piece.now a.records.now c.up_to-end.ensures c.if-end-at.false c.if-piece-end.false f.value f.out_after
     c.heed-step.ensures in
     record { value = it.0; records_after = it.1 }

@@ -29,6 +29,6 @@ returns-in-Done c =
     let es = entries_of c.args.form c.args.sheet.now in
     let key = c.key_asked-key.ensures in
     let e = c.drop_key.ensures in record {
-      answer = e.0 ∙ ap (λ (k : ℕ). answered (limited c.args.form (without_key k es)) (sheet_text c.args.form (without_key k es)) c.args.out.now) key ∙ p.0;
-      output = e.1 ∙ ap (λ (k : ℕ). left (limited c.args.form (without_key k es)) (sheet_text c.args.form (without_key k es)) c.args.out.now) key ∙ p.1;
+      answer = e.answer ∙ ap (λ (k : ℕ). answered (limited c.args.form (without_key k es)) (sheet_text c.args.form (without_key k es)) c.args.out.now) key ∙ p.0;
+      output = e.output ∙ ap (λ (k : ℕ). left (limited c.args.form (without_key k es)) (sheet_text c.args.form (without_key k es)) c.args.out.now) key ∙ p.1;
     }

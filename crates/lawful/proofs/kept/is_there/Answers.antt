@@ -26,3 +26,17 @@ loop-at-preserved c =
     let w = after-within a.records.now c.loop-at.at (search rules) in
     (omega (arith, w.0, c.after-next.ensures), omega (arith, w.1, c.after-next.ensures))) in
     omega (arith, goes_on-c)
+
+pub slice_bounds-same-start : goal.slice_bounds-same-start
+slice_bounds-same-start c =
+    let goes_on-c : ((c.loop-at.at < c.after-next.result) × (c.after-next.result ≤ length c.args.records.now)) = (let a = c.args in
+    let w = after-within a.records.now c.loop-at.at (search rules) in
+    (omega (arith, w.0, c.after-next.ensures), omega (arith, w.1, c.after-next.ensures))) in
+    omega (arith, goes_on-c)
+
+pub slice_bounds-same-end : goal.slice_bounds-same-end
+slice_bounds-same-end c =
+    let goes_on-c : ((c.loop-at.at < c.after-next.result) × (c.after-next.result ≤ length c.args.records.now)) = (let a = c.args in
+    let w = after-within a.records.now c.loop-at.at (search rules) in
+    (omega (arith, w.0, c.after-next.ensures), omega (arith, w.1, c.after-next.ensures))) in
+    omega (arith, goes_on-c)

@@ -72,3 +72,15 @@ loop-next-preserved c =
     let t = stands-c in
     let e = passed_over s.application s.number t j.ensures c.if-judge.false in
     (t.within, j.auto.form ∙ l.invariant.1, sym e ∙ l.invariant.2)
+
+pub slice_bounds-judge-start : goal.slice_bounds-judge-start
+slice_bounds-judge-start c =
+    let stands-c : (Standing c.args.records.now c.loop-next.at c.in-Record.head
+    c.in-Record.raw c.in-Record.next) = (standing _ _ _ _ _ (sym c.record_at.ensures ∙ c.in-Record.is)) in
+    let s = stands-c in omega (arith, s.its_next)
+
+pub slice_bounds-judge-end : goal.slice_bounds-judge-end
+slice_bounds-judge-end c =
+    let stands-c : (Standing c.args.records.now c.loop-next.at c.in-Record.head
+    c.in-Record.raw c.in-Record.next) = (standing _ _ _ _ _ (sym c.record_at.ensures ∙ c.in-Record.is)) in
+    let s = stands-c in omega (arith, s.within)

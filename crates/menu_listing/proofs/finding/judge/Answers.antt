@@ -26,8 +26,8 @@ returns-in-Taken c =
     let r : List ℕ = s.rec.now in
     let bytes : Bytes r = λ (i : ℕ). omega (arith, c.type_inv.rec i) in
     let n = c.field_of.ensures.0 ∙ ap (λ (l : List ℕ). field 28 16 (compound l)) (part-rest 4 r) in
-    let taken = sym w.0 ∙ c.in-Taken.is in
-    judged-taken s.application s.number r _ bytes s.form.now (mended_control r) (sym n ∙ c.if-field_of-number.false) taken w.1
+    let taken = sym w.answer ∙ c.in-Taken.is in
+    judged-taken s.application s.number r _ bytes s.form.now (mended_control r) (sym n ∙ c.if-field_of-number.false) taken w.output
 
 pub returns-in-Refused : goal.returns-in-Refused
 returns-in-Refused c =
@@ -35,5 +35,5 @@ returns-in-Refused c =
     let s = c.args in
     let r : List ℕ = s.rec.now in
     let bytes : Bytes r = λ (i : ℕ). omega (arith, c.type_inv.rec i) in
-    let refused = sym w.0 ∙ c.in-Refused.is in
+    let refused = sym w.answer ∙ c.in-Refused.is in
     judged-refused s.application s.number r _ bytes s.form.now (mended_control r) c.requires.1 refused

@@ -26,3 +26,17 @@ loop-at-preserved c =
     subst (Further a.records.now c.loop-at.at) (sym c.span_at-span.ensures)
     (span_within a.setting a.records.now c.loop-at.at (search rules))) in
     let g = goes_on-c in search rules
+
+pub slice_bounds-keep_record-start : goal.slice_bounds-keep_record-start
+slice_bounds-keep_record-start c =
+    let goes_on-c : (Further c.args.records.now c.loop-at.at c.span_at-span.result) = (let a = c.args in
+    subst (Further a.records.now c.loop-at.at) (sym c.span_at-span.ensures)
+    (span_within a.setting a.records.now c.loop-at.at (search rules))) in
+    omega (arith, goes_on-c)
+
+pub slice_bounds-keep_record-end : goal.slice_bounds-keep_record-end
+slice_bounds-keep_record-end c =
+    let goes_on-c : (Further c.args.records.now c.loop-at.at c.span_at-span.result) = (let a = c.args in
+    subst (Further a.records.now c.loop-at.at) (sym c.span_at-span.ensures)
+    (span_within a.setting a.records.now c.loop-at.at (search rules))) in
+    omega (arith, goes_on-c)

@@ -4,10 +4,8 @@ use Rattle.pages.proofs.two.page_of.Goals as goal
 
 pub returns-in-First-whose : goal.returns-in-First-whose
 returns-in-First-whose c =
-    let page = c.page-1.given in
-    rw (page.1, c.in-First.is, c.in-First-whose.is)
+    rw (c.in-One.is, c.in-First.is, c.in-First-whose.is)
 
 pub returns-in-Second-whose-2 : goal.returns-in-Second-whose-2
 returns-in-Second-whose-2 c =
-    let page = c.page-1.given in
-    rw (page.1, c.in-Second.is, c.in-Second-whose-2.is)
+    rw (c.in-One.is, c.in-Second.is, c.in-Second-whose-2.is)

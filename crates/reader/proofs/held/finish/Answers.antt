@@ -37,4 +37,4 @@ pub returns-else-held-head : goal.returns-else-held-head
 returns-else-held-head c =
     let a = c.args in
     let o = c.hand_out.ensures in
-    goes_out_lem a.got a.joined a.out.now c.requires.kept c.in-Body.is c.if-held-head.false o.0 o.1
+    goes_out_lem a.got a.joined a.out.now c.requires.kept c.in-Body.is c.if-held-head.false o.store_after o.out_after

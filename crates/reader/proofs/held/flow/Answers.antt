@@ -68,7 +68,7 @@ pub overflow_sub-there : goal.overflow_sub-there
 overflow_sub-there c =
     let past-header-c : ((c.in-Whole.next ≤ length c.args.s.now)
     × (c.loop-g.at + 5 ≤ c.in-Whole.next)) = (let f = c.find in
-    (next-within f.result c.in-Whole.is f.ensures.1.1, next-from f.result (c.loop-g.at + 5) c.in-Whole.is f.ensures.1.0)) in
+    (next-within f.result c.in-Whole.is f.ensures.result_in_bounds, next-from f.result (c.loop-g.at + 5) c.in-Whole.is f.ensures.from_bound)) in
     past-header-c.0
 
 pub returns-then-there-size : goal.returns-then-there-size
@@ -91,35 +91,35 @@ pub emit-requires : goal.emit-requires
 emit-requires c =
     let past-header-c : ((c.in-Whole.next ≤ length c.args.s.now)
     × (c.loop-g.at + 5 ≤ c.in-Whole.next)) = (let f = c.find in
-    (next-within f.result c.in-Whole.is f.ensures.1.1, next-from f.result (c.loop-g.at + 5) c.in-Whole.is f.ensures.1.0)) in
+    (next-within f.result c.in-Whole.is f.ensures.result_in_bounds, next-from f.result (c.loop-g.at + 5) c.in-Whole.is f.ensures.from_bound)) in
     let n = past-header-c in (omega (arith, n), omega (arith, n))
 
 pub overflow_add-q : goal.overflow_add-q
 overflow_add-q c =
     let past-header-c : ((c.in-Whole.next ≤ length c.args.s.now)
     × (c.loop-g.at + 5 ≤ c.in-Whole.next)) = (let f = c.find in
-    (next-within f.result c.in-Whole.is f.ensures.1.1, next-from f.result (c.loop-g.at + 5) c.in-Whole.is f.ensures.1.0)) in
+    (next-within f.result c.in-Whole.is f.ensures.result_in_bounds, next-from f.result (c.loop-g.at + 5) c.in-Whole.is f.ensures.from_bound)) in
     omega (arith, past-header-c)
 
 pub overflow_add-q-in-Whole : goal.overflow_add-q-in-Whole
 overflow_add-q-in-Whole c =
     let past-header-c : ((c.in-Whole.next ≤ length c.args.s.now)
     × (c.loop-g.at + 5 ≤ c.in-Whole.next)) = (let f = c.find in
-    (next-within f.result c.in-Whole.is f.ensures.1.1, next-from f.result (c.loop-g.at + 5) c.in-Whole.is f.ensures.1.0)) in
+    (next-within f.result c.in-Whole.is f.ensures.result_in_bounds, next-from f.result (c.loop-g.at + 5) c.in-Whole.is f.ensures.from_bound)) in
     omega (arith, past-header-c)
 
 pub overflow_add-at : goal.overflow_add-at
 overflow_add-at c =
     let past-header-c : ((c.in-Whole.next ≤ length c.args.s.now)
     × (c.loop-g.at + 5 ≤ c.in-Whole.next)) = (let f = c.find in
-    (next-within f.result c.in-Whole.is f.ensures.1.1, next-from f.result (c.loop-g.at + 5) c.in-Whole.is f.ensures.1.0)) in
+    (next-within f.result c.in-Whole.is f.ensures.result_in_bounds, next-from f.result (c.loop-g.at + 5) c.in-Whole.is f.ensures.from_bound)) in
     omega (arith, past-header-c)
 
 pub loop-g-smaller : goal.loop-g-smaller
 loop-g-smaller c =
     let past-header-c : ((c.in-Whole.next ≤ length c.args.s.now)
     × (c.loop-g.at + 5 ≤ c.in-Whole.next)) = (let f = c.find in
-    (next-within f.result c.in-Whole.is f.ensures.1.1, next-from f.result (c.loop-g.at + 5) c.in-Whole.is f.ensures.1.0)) in
+    (next-within f.result c.in-Whole.is f.ensures.result_in_bounds, next-from f.result (c.loop-g.at + 5) c.in-Whole.is f.ensures.from_bound)) in
     omega (arith, past-header-c)
 
 pub loop-g-preserved : goal.loop-g-preserved
@@ -128,7 +128,7 @@ loop-g-preserved c =
     found (drop c.loop-g.at s) ≡ whole c.in-Whole.head c.in-Whole.part (drop c.in-Whole.next s))) = (c.find.ensures.s_value ∙ ap (ahead_in c.args.s.now) c.in-Whole.is) in
     let past-header-c : ((c.in-Whole.next ≤ length c.args.s.now)
     × (c.loop-g.at + 5 ≤ c.in-Whole.next)) = (let f = c.find in
-    (next-within f.result c.in-Whole.is f.ensures.1.1, next-from f.result (c.loop-g.at + 5) c.in-Whole.is f.ensures.1.0)) in
+    (next-within f.result c.in-Whole.is f.ensures.result_in_bounds, next-from f.result (c.loop-g.at + 5) c.in-Whole.is f.ensures.from_bound)) in
     let n = past-header-c in
     let a = c.args in
     let l = c.loop-g in (

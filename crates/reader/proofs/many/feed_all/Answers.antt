@@ -32,12 +32,12 @@ take_all-t-requires c =
     let long-c : (length c.args.reader.store ≡ store_length) = (search rules) in
     let r = c.is_ready.ensures in
     let n = c.if-not-is_ready.false in
-    rw c.start-from.ensures (ready-kept c.args.setting c.args.reader r.0 n (r.1 n) long-c, (omega arith, (refl, refl, refl)))
+    rw c.start-from.ensures (ready-kept c.args.setting c.args.reader r.value n (r.sixteen n) long-c, (omega arith, (refl, refl, refl)))
 
 pub returns : goal.returns
 returns c =
     let a = c.args in
     let t = c.take_all-t.ensures in
     let it = taken-all a.setting a.reader a.packets.now a.out.now c.is_ready.ensures.value c.if-not-is_ready.false (omega arith)
-    (omega arith) c.start-from.ensures t.1 t.0 in
+    (omega arith) c.start-from.ensures t.written_in_bounds t.ran_to in
     record { heard_value = it.0; reader_value = it.1.0; out_after = it.1.1 }

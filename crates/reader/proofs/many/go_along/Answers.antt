@@ -136,3 +136,10 @@ returns c =
       met = λ e h. absurd (omega arith);
       mark = λ e h. absurd (omega arith);
     }
+
+pub slice_bounds-heed-end : goal.slice_bounds-heed-end
+slice_bounds-heed-end c =
+    let m = c.pass_on-met in
+    let u = sym c.is_mark.ensures ∙ c.if-is_mark.false in
+    let t = m.ensures.2 (unmarked-within c.args.setting m.result.address u) in
+    omega (arith, m.ensures.0.even, t)

@@ -117,3 +117,7 @@ returns c =
       met = λ e h. absurd (omega arith);
       mark = λ e h. absurd (omega arith);
     }
+
+pub slice_bounds-judge-end : goal.slice_bounds-judge-end
+slice_bounds-judge-end c =
+    omega (arith, c.go_along-t.ensures.went.start.even, c.if-at-packets.true)

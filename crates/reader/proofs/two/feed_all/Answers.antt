@@ -33,13 +33,13 @@ take_all-t-requires c =
     let long2-c : (length c.args.readers.store2 ≡ store_length) = (search rules) in
     let r = c.is_ready.ensures in
     let n = c.if-not-is_ready.false in
-    let k = both-kept c.args.setting c.args.readers r.0 n (r.1 n) long1-c long2-c in
-    rw c.start-from.ensures (both-fits c.args.setting c.args.readers r.0 n, (k.0, (k.1, (omega (arith, c.if-packets-ne0.false), (length-replicate {A = ℕ} 4224 0, (refl, refl, refl))))))
+    let k = both-kept c.args.setting c.args.readers r.value n (r.sixteen n) long1-c long2-c in
+    rw c.start-from.ensures (both-fits c.args.setting c.args.readers r.value n, (k.0, (k.1, (omega (arith, c.if-packets-ne0.false), (length-replicate {A = ℕ} 4224 0, (refl, refl, refl))))))
 
 pub returns : goal.returns
 returns c =
     let a = c.args in
     let t = c.take_all-t.ensures in
     let it = taken-two a.setting a.readers a.packets.now a.out.now c.is_ready.ensures.value c.if-not-is_ready.false (omega (arith, c.if-packets-ne0.false)) (omega (arith, c.if-out-lt-ROOM_OF_TWO.false))
-    c.start-from.ensures t.1 t.0 in
+    c.start-from.ensures t.written_in_bounds t.ran_of_two_to in
     record { heard_value = it.0; readers_value = it.1.0; out_after = it.1.1 }

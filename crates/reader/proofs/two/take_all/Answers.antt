@@ -187,3 +187,7 @@ returns c =
       ran_of_two_to = rw (sym (e ∙ q)) w;
       written_in_bounds = l.invariant.4;
     }
+
+pub slice_bounds-turn-end : goal.slice_bounds-turn-end
+slice_bounds-turn-end c =
+    omega (arith, c.go_on-t.ensures.even, c.if-at-packets.true)

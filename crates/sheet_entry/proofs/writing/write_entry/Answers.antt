@@ -28,6 +28,6 @@ returns-in-Done c =
     c.judge_entry.ensures c.in-Done.is in
     let e = c.write_judged.ensures in
     record {
-      answer = e.0 ∙ p.0;
-      output = e.1 ∙ p.1;
+      answer = e.answer ∙ p.0;
+      output = e.output ∙ p.1;
     }

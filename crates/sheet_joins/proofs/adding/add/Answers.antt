@@ -19,12 +19,12 @@ use Rattle.sheet_joins.proofs.adding.add.Goals as goal
 pub slice_bounds-text-end : goal.slice_bounds-text-end
 slice_bounds-text-end c =
     let w = c.write_entry in
-    (all_held c.args.form c.args.mended c.args.table.now (entry_text c.args.form (stamped c.args.stamp c.args.mended c.args.table.now)) (replicate entry_room 0) w.ensures.0 c.in-Done.is w.ensures.1).3
+    (all_held c.args.form c.args.mended c.args.table.now (entry_text c.args.form (stamped c.args.stamp c.args.mended c.args.table.now)) (replicate entry_room 0) w.ensures.answer c.in-Done.is w.ensures.output).3
 
 pub slice_bounds-join-end : goal.slice_bounds-join-end
 slice_bounds-join-end c =
     let w = c.write_entry in
-    (all_held c.args.form c.args.mended c.args.table.now (entry_text c.args.form (stamped c.args.stamp c.args.mended c.args.table.now)) (replicate entry_room 0) w.ensures.0 c.in-Done.is w.ensures.1).2
+    (all_held c.args.form c.args.mended c.args.table.now (entry_text c.args.form (stamped c.args.stamp c.args.mended c.args.table.now)) (replicate entry_room 0) w.ensures.answer c.in-Done.is w.ensures.output).2
 
 pub returns-in-Refused : goal.returns-in-Refused
 returns-in-Refused c =
@@ -34,7 +34,7 @@ returns-in-Refused c =
     let w = c.write_entry in
     let room : entry_most a.form ≤ length {A = ℕ} (replicate entry_room 0) = omega (arith, entry-held a.form) in
     let it = add-refused a.form a.stamp a.mended a.sheet.now a.table.now a.out.now _
-    (w.ensures.0 ∙ entry_answers a.form a.stamp a.mended a.table.now (replicate entry_room 0) h room) c.in-Refused.is in
+    (w.ensures.answer ∙ entry_answers a.form a.stamp a.mended a.table.now (replicate entry_room 0) h room) c.in-Refused.is in
     record { answer = it.0; output = it.1 }
 
 pub returns-in-Done : goal.returns-in-Done
@@ -45,18 +45,18 @@ returns-in-Done c =
     let h : c.args.stamp ≤ stamp_most = search rules in
     let w = c.write_entry in
     let n = c.n-1 in
-    let k = all_held c.args.form c.args.mended c.args.table.now (entry_text c.args.form (stamped c.args.stamp c.args.mended c.args.table.now)) (replicate entry_room 0) w.ensures.0 n.given.1 w.ensures.1 in
+    let k = all_held c.args.form c.args.mended c.args.table.now (entry_text c.args.form (stamped c.args.stamp c.args.mended c.args.table.now)) (replicate entry_room 0) w.ensures.answer n.given.1 w.ensures.output in
     let l = length-replicate {A = ℕ} entry_room 0 in
     let room : entry_most c.args.form ≤ length {A = ℕ} (replicate entry_room 0) = omega (arith, entry-held c.args.form) in
     let long : length (entry_text c.args.form (stamped c.args.stamp c.args.mended f)) ≤ byte_limit c.args.form =
     omega (arith, entry_most_lem c.args.form c.args.stamp c.args.mended f h k.0.1 k.0.0, entry-within c.args.form) in
     let p =
-    add-goes-on c.args.form c.args.stamp c.args.mended sheet f old _ (w.ensures.0 ∙ entry_answers c.args.form c.args.stamp c.args.mended f (replicate entry_room 0) h room) n.given.1 in
+    add-goes-on c.args.form c.args.stamp c.args.mended sheet f old _ (w.ensures.answer ∙ entry_answers c.args.form c.args.stamp c.args.mended f (replicate entry_room 0) h room) n.given.1 in
     let e = c.join.ensures in record {
-      answer = e.0
+      answer = e.answer
           ∙ ap (λ (x : List ℕ). answered (join_rules c.args.form sheet x) (sheet_text c.args.form (join_result c.args.form sheet x)) old) k.1
           ∙ add-answers c.args.form c.args.stamp c.args.mended sheet f h k.0 long old ∙ p.0;
-      output = e.1
+      output = e.output
           ∙ ap (λ (x : List ℕ). left (join_rules c.args.form sheet x) (sheet_text c.args.form (join_result c.args.form sheet x)) old) k.1
           ∙ add-leaves c.args.form c.args.stamp c.args.mended sheet f h k.0 long old ∙ p.1;
     }

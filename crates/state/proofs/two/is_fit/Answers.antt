@@ -4,5 +4,4 @@ use Rattle.state.proofs.two.is_fit.Goals as goal
 
 pub returns : goal.returns
 returns c =
-    let it = rw c.page_of-own.ensures at c.in_range.ensures in
-    record { value = it.0; sixteen = it.1 }
+    record { value = rw c.page_of-own.ensures at c.in_range.ensures.value; sixteen = c.in_range.ensures.sixteen }

@@ -42,7 +42,7 @@ returns c =
     let n = mark-nib m.result b m.ensures in
     let h = c.head_on.ensures in record {
       s_value = found_at a.s.now a.from at e ∙ found-start a.s.now at (omega arith) (omega (arith, n))
-          ∙ rw (← mark-harm m.result b m.ensures) h.0;
-      from_bound = next_later c.head_on.result (at + 1 + (4 - 0)) (a.from + 5) h.1.0 (omega arith);
-      result_in_bounds = h.1.1 (omega arith);
+          ∙ rw (← mark-harm m.result b m.ensures) h.s_value;
+      from_bound = next_later c.head_on.result (at + 1 + (4 - 0)) (a.from + 5) h.got_value (omega arith);
+      result_in_bounds = h.result_in_bounds (omega arith);
     }
