@@ -38,7 +38,7 @@ reads_exactly application r i m b = Kinds.reads_exactly information owed value a
 
 -- a count is at most 5 and twice the greatest control size
 pub mended_most_lem : (application : ℕ) (r : List ℕ) → Every (read_rules application r) → mended_control r ≤ 2051
-mended_most_lem application r e = Kinds.mended_most information owed application r e
+mended_most_lem application r e = Kinds.mended_most_lem information owed application r e
 
 -- what is written reads back, with nothing mended
 pub writes-back :

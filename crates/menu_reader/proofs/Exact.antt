@@ -27,4 +27,4 @@ module _ (application : ℕ) (r : List ℕ) (m : Menu) where
 
 -- a count is at most 5 and twice the greatest control size
 pub mended_most_lem : (application : ℕ) (r : List ℕ) → Every (read_rules application r) → mended_control r ≤ 2051
-mended_most_lem = Kinds.mended_most navigation owed
+mended_most_lem = Kinds.mended_most_lem navigation owed

@@ -18,7 +18,7 @@ ghost use Rattle.state.proofs.Beside.{owner_of};
 ghost use Rattle.reader.specs.Internal.{marks};
 ghost use Rattle.reader.specs.Many.{refused_all};
 ghost use Rattle.reader.specs.Two.{room_of_two, stream_for, feed_heard_of_two, feed_readers_of_two, feed_out_of_two, feed_all_heard_of_two, feed_all_readers_of_two, feed_all_out_of_two};
-ghost use Rattle.reader.specs.InternalTwo.{tagged, long_at, Laid, alone_in, ActedOfTwo, started_of_two, ran_of_two_from, RanOfTwoTo, none-yet, which, owned_by, TurnedTo, Ample, WentFor, WentOnOfTwo};
+ghost use Rattle.reader.specs.InternalTwo.{tagged, long_at, Laid, alone_in, ActedOfTwo, started_of_two, ran_of_two_from, RanOfTwoTo, none_yet, which, owned_by, TurnedTo, Ample, WentFor, WentOnOfTwo};
 
 use crate::{Heard, HeardAll, ROOM, many};
 use answer::Refusal;
@@ -180,7 +180,7 @@ fn take_all(
     requires kept_2 { Kept from.second.run store2.old }
     requires packet_length_len { length packets.now % packet_length ≡ 0 }
     requires hold_len { length hold.old ≡ 2 * room }
-    requires none_yet { none-yet from }
+    requires none_yet { none_yet from }
     ensures ran_of_two_to { RanOfTwoTo setting (ran_of_two_from setting (length out.old) from store1.old store2.old packets.now) result.pair result.packets store1.new store2.new out.old out.new }
     ensures written_in_bounds { result.pair.written ≤ length out.old }
 {

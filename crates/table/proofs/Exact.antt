@@ -53,4 +53,4 @@ module _ (application : ℕ) (r : List ℕ) (t : Table) where
 -- a count is at most 5 and the greatest size that a table can have
 pub mended_most_lem : (application : ℕ) (r : List ℕ) → Every (read_rules application r) → mended_in r ≤ 2051
 unfolding mended_in mended_of
-mended_most_lem = Kinds.mended_most tables owed
+mended_most_lem = Kinds.mended_most_lem tables owed

@@ -9,11 +9,11 @@ finish-requires c =
     let p = c.requires in
     record {
       kept = holds_kept _ c.drop_if-kept.ensures;
-      room = record { long = p.1.long; few = p.1.few };
+      room = record { long = p.room.long; few = p.room.few };
     }
 
 pub returns : goal.returns
-returns c =
+returns c m e t =
     let a = c.args in
     continued-to a.joined m a.s.now a.got t c.falls-lost.ensures c.drop_if-kept.ensures
     (c.either-dropped.ensures ∙ rw (c.both.ensures, c.is_running.ensures, e))

@@ -34,7 +34,10 @@ returns-then-limit-q-lt-ROOM c =
 pub pass_on-met-requires : goal.pass_on-met-requires
 pass_on-met-requires c =
     let l = c.loop-at in
-    (l.invariant.start.within, l.invariant.start.even)
+    record {
+      from_in_bounds = l.invariant.start.within;
+      packet_length_value = l.invariant.start.even;
+    }
 
 pub shape_of-out-then-is_mark : goal.shape_of-out-then-is_mark
 shape_of-out-then-is_mark c =

@@ -20,7 +20,10 @@ loop-at-init c =
 pub go_along-t-requires : goal.go_along-t-requires
 go_along-t-requires c =
     let l = c.loop-at in
-    (l.invariant.kept, l.invariant.start)
+    record {
+      kept = l.invariant.kept;
+      startable = l.invariant.start;
+    }
 
 pub shape_of-out-then-t : goal.shape_of-out-then-t
 shape_of-out-then-t c =

@@ -6,22 +6,27 @@ use Rattle.reader.proofs.two.go_on.Goals as goal
 pub go_on_for-t-requires : goal.go_on_for-t-requires
 go_on_for-t-requires c =
     let p = c.requires in
-    (p.1.0, (p.1.1.0, (p.1.1.1.0, p.1.1.1.1.held)))
+    record {
+      kept = p.kept;
+      kept_2 = p.kept_2;
+      at_in_bounds = p.at_in_bounds;
+      limit_in_bounds = p.ample.held;
+    }
 
 pub put_tagged-requires : goal.put_tagged-requires
 put_tagged-requires c =
     let a = c.args in
     let p = c.requires in
     let g = c.go_on_for-t.ensures in
-    gone-laid a.setting p.0 a.packets.now a.at a.a a.store1.now a.store2.now a.out.now a.hold.now a.limit p.1.0 p.1.1.0 p.1.1.1.1 _ _ _ g c.stream_of.result
+    gone-laid a.setting p.setting_value a.packets.now a.at a.a a.store1.now a.store2.now a.out.now a.hold.now a.limit p.kept p.kept_2 p.ample _ _ _ g c.stream_of.result
 
 pub overflow_add-result : goal.overflow_add-result
 overflow_add-result c =
     let a = c.args in
     let p = c.requires in
     let g = c.go_on_for-t.ensures in
-    let l = gone-fits a.setting p.0 a.packets.now a.at a.a a.store1.now a.store2.now a.out.now a.hold.now a.limit p.1.0 p.1.1.0 p.1.1.1.1 _ _ _ g in
-    let k = gone-few a.setting p.0 a.packets.now a.at a.a a.store1.now a.store2.now a.out.now a.hold.now a.limit p.1.0 p.1.1.0 p.1.1.1.1 _ _ _ g in
+    let l = gone-fits a.setting p.setting_value a.packets.now a.at a.a a.store1.now a.store2.now a.out.now a.hold.now a.limit p.kept p.kept_2 p.ample _ _ _ g in
+    let k = gone-few a.setting p.setting_value a.packets.now a.at a.a a.store1.now a.store2.now a.out.now a.hold.now a.limit p.kept p.kept_2 p.ample _ _ _ g in
     omega (arith, l, k, c.well_formed.1.1.1.1.1.1.1.1.0.0)
 
 pub overflow_add-result-2 : goal.overflow_add-result-2
@@ -29,7 +34,7 @@ overflow_add-result-2 c =
     let a = c.args in
     let p = c.requires in
     let g = c.go_on_for-t.ensures in
-    let l = gone-fits a.setting p.0 a.packets.now a.at a.a a.store1.now a.store2.now a.out.now a.hold.now a.limit p.1.0 p.1.1.0 p.1.1.1.1 _ _ _ g in
+    let l = gone-fits a.setting p.setting_value a.packets.now a.at a.a a.store1.now a.store2.now a.out.now a.hold.now a.limit p.kept p.kept_2 p.ample _ _ _ g in
     omega (arith, l, c.well_formed.1.1.1.1.1.1.1.1.0.0)
 
 pub overflow_add-result-3 : goal.overflow_add-result-3
@@ -37,7 +42,7 @@ overflow_add-result-3 c =
     let a = c.args in
     let p = c.requires in
     let g = c.go_on_for-t.ensures in
-    let l = gone-fits a.setting p.0 a.packets.now a.at a.a a.store1.now a.store2.now a.out.now a.hold.now a.limit p.1.0 p.1.1.0 p.1.1.1.1 _ _ _ g in
+    let l = gone-fits a.setting p.setting_value a.packets.now a.at a.a a.store1.now a.store2.now a.out.now a.hold.now a.limit p.kept p.kept_2 p.ample _ _ _ g in
     omega (arith, l, c.well_formed.1.1.1.1.1.1.1.1.0.0)
 
 pub shape_of-hold : goal.shape_of-hold
@@ -48,5 +53,5 @@ returns c =
     let a = c.args in
     let p = c.requires in
     let g = c.go_on_for-t.ensures in
-    gone-on a.setting p.0 a.packets.now a.at a.a a.store1.now a.store2.now a.out.now a.hold.now a.limit p.1.0 p.1.1.0 p.1.1.1.1 _ _ _ g c.owner-whose.ensures c.stream_of.ensures c.put_tagged.ensures c.owned.ensures c.chosen.ensures
+    gone-on a.setting p.setting_value a.packets.now a.at a.a a.store1.now a.store2.now a.out.now a.hold.now a.limit p.kept p.kept_2 p.ample _ _ _ g c.owner-whose.ensures c.stream_of.ensures c.put_tagged.ensures c.owned.ensures c.chosen.ensures
     c.chosen-2.ensures c.either.ensures

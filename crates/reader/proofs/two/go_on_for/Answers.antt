@@ -11,7 +11,8 @@ go_on-requires c =
 pub go_on-requires-in-Second : goal.go_on-requires-in-Second
 go_on-requires-in-Second c =
     let a = c.args in
-    started_for a.packets.now a.at a.limit a.hold.now c.chosen-half.ensures c.start-from.ensures (rw c.in-Second.is c.requires.kept_2) c.requires.at_in_bounds c.requires.limit_in_bounds
+    let it = started_for a.packets.now a.at a.limit a.hold.now c.chosen-half.ensures c.start-from.ensures (rw c.in-Second.is c.requires.kept_2) c.requires.at_in_bounds c.requires.limit_in_bounds in
+    record { kept = it.0; startable = it.1 }
 
 pub returns-in-First : goal.returns-in-First
 returns-in-First c =

@@ -19,14 +19,14 @@ loop-at-init c =
     let a = c.args in
     let p = c.requires in
     let e : length a.packets.now - 0 ≡ length a.packets.now = omega arith in
-    let z = p.1.1.1.1.1 in (
+    let z = p.none_yet in (
       omega arith,
-      omega (arith, p.1.1.1.0),
-      p.1.1.1.1.0,
+      omega (arith, p.packet_length_len),
+      p.hold_len,
       refl,
       omega (arith, z.1),
       omega (arith, z.0),
-      (begun (pair_in a.from a.store1.now a.store2.now), begins_two a.setting a.from a.out.now p.1.0 p.1.1.0 z, rw e),
+      (begun (pair_in a.from a.store1.now a.store2.now), begins_two a.setting a.from a.out.now p.kept p.kept_2 z, rw e),
     )
 
 pub shape_of-hold-then-out-q-lt-ROOM_OF_TWO : goal.shape_of-hold-then-out-q-lt-ROOM_OF_TWO

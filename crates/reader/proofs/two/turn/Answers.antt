@@ -9,13 +9,19 @@ pub turn_for-one-requires : goal.turn_for-one-requires
 turn_for-one-requires c =
     let a = c.args in
     let p = c.requires in
-    (p.0, first-unread a.setting a.a a.store1.now a.store2.now a.packet.now p.1.1.0 p.1.1.1.0 c.judge-v.ensures p.1.1.1.1)
+    record {
+      kept = p.kept;
+      reads_value = first-unread a.setting a.a a.store1.now a.store2.now a.packet.now p.packet_len p.address_value c.judge-v.ensures p.address_value_2;
+    }
 
 pub turn_for-two-requires : goal.turn_for-two-requires
 turn_for-two-requires c =
     let a = c.args in
     let p = c.requires in
-    (p.1.0, second-unread a.setting a.a a.store1.now a.store2.now a.packet.now p.1.1.0 p.1.1.1.0 c.judge-v.ensures p.1.1.1.1)
+    record {
+      kept = p.kept_2;
+      reads_value = second-unread a.setting a.a a.store1.now a.store2.now a.packet.now p.packet_len p.address_value c.judge-v.ensures p.address_value_2;
+    }
 
 pub returns : goal.returns
 returns c =
@@ -26,4 +32,4 @@ returns c =
     let two = c.turn_for-two.ensures (page_for Second a.a.page) (pointer_in x) (bytes_in x) in
     λ out.
     rw (c.either.ensures, c.either-dropped.ensures)
-    (both-turned a.setting a.a a.store1.now a.store2.now a.packet.now p.1.1.0 p.1.1.1.0 c.judge-v.ensures p.1.1.1.1 one two out)
+    (both-turned a.setting a.a a.store1.now a.store2.now a.packet.now p.packet_len p.address_value c.judge-v.ensures p.address_value_2 one two out)
