@@ -3,7 +3,7 @@
 
 The captures are made by the model: the hotel's sample round and round, the largest guide that is lawful three times, and as many of the longest and of the smallest
 messages as `lawful` keeps, twice. Each program runs on each capture in turn; the best of three runs counts, in CPU time, and the most memory. A run is ended
-after two minutes. BENCH_START, or tests/start, starts them; both stand in target/bin."""
+after two minutes. BENCH_START, or tests/start, starts them; both stand where rt builds them (tests/build desk lawful)."""
 
 import pathlib
 import subprocess

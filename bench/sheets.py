@@ -2,8 +2,8 @@
 """Times `sheet add` beside the desk, on captures of some two million packets: bench/sheets.py
 
 The captures are made by the model: 40 and 62 tables of up to three descriptors round and round, as they were sent, and with a bit flipped in about one byte of fifty. Each
-program runs on each capture in turn, the sheet into a new file; the best of three runs counts, in CPU time. BENCH_START, or tests/start, starts them; both stand in
-target/bin."""
+program runs on each capture in turn, the sheet into a new file; the best of three runs counts, in CPU time. BENCH_START, or tests/start, starts them; both stand where rt builds
+them (tests/build desk sheet)."""
 
 import pathlib
 import subprocess

@@ -4,7 +4,7 @@
  *
  * At the root of the repository, this makes the library for x86-64 (it needs no
  * other), and compiles and links a program:
- *     rt staticlib firmware
+ *     firmware/library
  *     cc -std=c99 -Ifirmware -o example firmware/example.c target/staticlib/libfirmware.a
  *
  * Every function takes any value of its arguments and answers; there is no
