@@ -5,5 +5,4 @@ use Rattle.captures.proofs.look.Goals as goal
 pub returns : goal.returns
 returns c =
     let e = c.look-sight.ensures in
-    let it = (rw e.value, e.1) in
-    record { value = it.0; piece_after = it.1.0; pages_after = it.1.1 }
+    record { value = rw e.value; piece_after = e.piece_after; pages_after = e.pages_after }
