@@ -1,9 +1,7 @@
 -- The answers that the cycle of calls {walk_event, walk_menu} wants beside its invariants. Assumes nothing.
 use mathlib.Core.List.{List}
-use mathlib.Core.Path.{◌∙◌}
-use Prim.Native.Nat.{ℕ, ◌+◌, ◌-◌, ◌≤◌, ◌<◌}
+use Prim.Native.Nat.{ℕ, ◌-◌}
 use native.Mathlib.Omega.{arith}
-use lib.ListN.{drop}
 use Rattle.text_lines.proofs.Printed.{put_as, put-none}
 use Rattle.menu_listing.specs.Listing.{lines_of}
 use Rattle.menu_listing.specs.Internal.{menus_from}
