@@ -1,7 +1,6 @@
 -- The answers that `menu_listing::finding::is_whole` wants beside its invariants. Assumes nothing.
 use borrow.Author.Rules.{rules}
 use mathlib.Core.Path.{◌∙◌, refl, sym}
-use Prim.Native.Nat.{◌-◌}
 use native.Mathlib.Omega.{arith}
 use Rattle.blocks.proofs.Walking.{Standing, standing, ended, broken, whole-at}
 use Rattle.menu_listing.proofs.Records.{whole-ended, whole-broken}
