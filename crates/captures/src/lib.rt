@@ -1,4 +1,4 @@
-// A capture, from a descriptor, a setting and a fresh reader to the records of the blocks that its packets finish (SCOPE 10.6, 10.7), of one
+// A capture, from a source, a setting and a fresh reader to the records of the blocks that its packets finish (SCOPE 10.6, 10.7), of one
 // stream or of two (SCOPE 27.8): a setting that names one stream twice is of that stream alone. It is pulled: each call of `next` reads a piece or feeds packets of it, and says how many bytes of records that gave. The caller lends the
 // piece, the space for records and a list of pages, which are its own to look at between two calls, and hands the capture on from call to
 // call. Each piece is also looked at by `sight`: what is counted (SCOPE 13.10), and what the capture may be (SCOPE 13.9).
@@ -19,9 +19,10 @@ use packet::PACKET;
 use packet::two::Streams;
 use reader::Reader;
 use reader::two::Readers;
-pub use reading::{Got, fill};
+pub use reading::{Got, Source, fill};
 use sight::{PAGES, Sight};
 pub use spans::{Span, is_one, span_at};
+use std::io::Read;
 
 // 1,560 packets. A piece is read until it is full, so only the last can end within a packet.
 pub const PIECE: usize = 65520;
@@ -70,7 +71,7 @@ pub enum Came {
     Records(usize),
     // The end: so many bytes behind the last packet make no packet.
     Ended(usize),
-    // A read failed, and errno says why.
+    // A read failed, and the source says why.
     Unread,
     // The reader took nothing, which never comes.
     Stuck,
@@ -103,8 +104,8 @@ pub fn start(setting: Streams, verbose: bool) -> Capture
 
 // The next records of a capture, its end, or what failed. Packets of the piece are fed while some are left; then the piece is looked at, and
 // the next one read. Of the piece, only a read and a look change bytes.
-pub fn next(
-    fd: i32,
+pub fn next<R: Read>(
+    source: &mut Source<R>,
     capture: Capture,
     piece: &mut [u8; PIECE],
     records: &mut [u8; RECORDS],
@@ -112,10 +113,16 @@ pub fn next(
 ) -> Turn
     ensures { Pulled capture piece.old piece.new records.old records.new pages.old pages.new result }
 {
-    pull(fd, capture, piece, records, pages)
+    pull(source, capture, piece, records, pages)
 }
 
-fn pull(fd: i32, capture: Capture, piece: &mut [u8], records: &mut [u8], pages: &mut [u16]) -> Turn
+fn pull<R: Read>(
+    source: &mut Source<R>,
+    capture: Capture,
+    piece: &mut [u8],
+    records: &mut [u8],
+    pages: &mut [u16],
+) -> Turn
     ensures { Pulled capture piece.old piece.new records.old records.new pages.old pages.new result }
 {
     let course = capture.course;
@@ -139,7 +146,7 @@ fn pull(fd: i32, capture: Capture, piece: &mut [u8], records: &mut [u8], pages: 
             if course.at < feeding::whole_end(course.held) {
                 return feeding::feed(capture, piece, records);
             }
-            read_on(fd, look(capture, piece, pages), piece)
+            read_on(source, look(capture, piece, pages), piece)
         }
     }
 }
@@ -205,11 +212,11 @@ pub(crate) fn staged(course: Course, stage: Stage) -> Course
 }
 
 // Another piece is read. One that isn't full is the last.
-fn read_on(fd: i32, capture: Capture, piece: &mut [u8]) -> Turn
+fn read_on<R: Read>(source: &mut Source<R>, capture: Capture, piece: &mut [u8]) -> Turn
     ensures { ReadOn capture (length piece.old) result }
 {
     let full = piece.len();
-    let got = reading::fill(fd, piece);
+    let got = reading::fill(source, piece);
     heed(capture, got, full)
 }
 

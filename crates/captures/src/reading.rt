@@ -2,6 +2,8 @@
 ghost use Rattle.std.specs.Prelude.{true, ◌≡◌, length};
 ghost use Rattle.captures.specs.Reading.{fits_in};
 
+use std::io::{Error, Read};
+
 // What was read: so many bytes, fewer than asked for only where the input ended.
 #[derive(Clone, Copy)]
 pub enum Got {
@@ -9,21 +11,37 @@ pub enum Got {
     Failed,
 }
 
+// What is read from, and why the last read that failed did.
+#[derive(Drop)]
+pub struct Source<R> {
+    pub from: R,
+    pub why: Error,
+}
+
+impl<R: Read> Source<R> {
+    // One of which nothing is read yet.
+    pub fn new(from: R) -> Source<R> {
+        Source {
+            from,
+            why: told::failures::none(),
+        }
+    }
+}
+
 // Reads until the slice is full, the input ends or a read fails.
-pub fn fill(fd: i32, slice: &mut [u8]) -> Got
+pub fn fill<R: Read>(source: &mut Source<R>, slice: &mut [u8]) -> Got
     ensures { fits_in result (length slice.old) ≡ true }
 {
     let mut n = 0;
     while n < slice.len() {
-        let got = libc::read(fd, &mut slice[n..]);
-        if got < 0 {
-            return Got::Failed;
+        match source.from.read(&mut slice[n..]) {
+            Ok(0) => return Got::Bytes(n),
+            Ok(more) => n += more,
+            Err(e) => {
+                source.why = e;
+                return Got::Failed;
+            }
         }
-        let more = io::count(got, &slice[n..]);
-        if more == 0 {
-            return Got::Bytes(n);
-        }
-        n += more;
     }
     Got::Bytes(n)
 }

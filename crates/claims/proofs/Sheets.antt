@@ -25,7 +25,7 @@ use Rattle.day_sheet.specs.Reading.{InForm}
 use Rattle.day_sheet.specs.Saying.{Says, rewrite_answer, rewrite_left}
 use Rattle.day_sheet.specs.Faults.{FirstFault}
 use Rattle.sheet_joins.specs.Late.{NeverBack}
-use Rattle.sheet_joins.specs.Work.{Work, sheets_of, Wrote, stood, joined, added, Ready, in_form_lem, each, takes, Same, AllTogether}
+use Rattle.sheet_joins.specs.Work.{Work, sheets_of, Wrote, stood, joined, added, Ready, in_form, each, takes, Same, AllTogether}
 use Rattle.day_sheet.proofs.Calls.{call-takes, call_says}
 use Rattle.day_sheet.proofs.Emptied.{counts-entries}
 use Rattle.day_sheet.proofs.Telling.{rewrite-told, drop-told}
@@ -225,7 +225,7 @@ module _ (form : Form) where
 
   -- for all sheets and tables that are ready there are such calls, with outputs of whatever length
   pub works-happen : (least : ℕ) {w : Work} → Ready form w → (xs : List Answer) × (sheet : List ℕ) × Called form least w xs sheet
-  works-happen least (in_form_lem {sheet} f) = ([], sheet, none sheet)
+  works-happen least (in_form {sheet} f) = ([], sheet, none sheet)
   works-happen least (each r q) =
       let p = works-happen least r in
       let o = works-happen least q in

@@ -6,6 +6,7 @@ ghost use Rattle.std.specs.Prelude.{◌≡◌};
 ghost use Rattle.command_line.specs.Hearing.{heard_word, setting_by, second_by, byte_of};
 
 use packet::two::Streams;
+use std::env::Env;
 use words::Said;
 use words::options::NO_VALUE;
 
@@ -21,20 +22,20 @@ pub struct Heard {
 }
 
 // Whether the first word is this one.
-pub fn is_first(word: &[u8]) -> bool {
+pub fn is_first(rt: &impl Env, word: &[u8]) -> bool {
     let mut first = io::buffer();
-    let n = told::argument(1, &mut first);
+    let n = told::argument(rt, 1, &mut first);
     texts::same(told::front(&first, n), word)
 }
 
 // All words.
-pub fn hear_all(options: &[u32], tasks: &[u8]) -> Said {
+pub fn hear_all(rt: &impl Env, options: &[u32], tasks: &[u8]) -> Said {
     let mut word = io::buffer();
-    let count = os::arg_count();
+    let count = told::argument_count(rt);
     let mut said = words::start(tasks);
     let mut i = 1;
     while i < count {
-        let heard = hear(options, tasks, said, i, &mut word);
+        let heard = hear(rt, options, tasks, said, i, &mut word);
         said = heard.said;
         i += 1;
     }
@@ -42,10 +43,17 @@ pub fn hear_all(options: &[u32], tasks: &[u8]) -> Said {
 }
 
 // One more word, which is left at the start of the buffer.
-pub fn hear(options: &[u32], tasks: &[u8], said: Said, i: usize, word: &mut [u8; 4096]) -> Heard
+pub fn hear(
+    rt: &impl Env,
+    options: &[u32],
+    tasks: &[u8],
+    said: Said,
+    i: usize,
+    word: &mut [u8; 4096],
+) -> Heard
     ensures { result ≡ heard_word options.now tasks.now said result.long word.new }
 {
-    let long = told::argument(i, word);
+    let long = told::argument(rt, i, word);
     let place = words::place(tasks, said, told::front(word, long));
     let said = words::next(options, tasks, said, told::front(word, long));
     Heard { said, place, long }

@@ -5,9 +5,11 @@ ghost use Rattle.std.specs.Prelude.{◌≡◌, ◌≤◌, length};
 use crate::says;
 use answer::Answer;
 use blocks::Read;
-use captures::{Came, Course, PIECE, RECORDS};
+use captures::{Came, Course, PIECE, RECORDS, Source};
 use packet::two::Streams;
 use sight::PAGES;
+use std::io::Error;
+use told::Console;
 
 const TEXT: usize = 65536;
 
@@ -28,9 +30,16 @@ struct Tally {
     sound: bool,
 }
 
-// Lists what comes from a descriptor, under a line with its name where that is asked for. A read that fails is told with the name, and the
+// Lists what comes from a source, under a line with its name where that is asked for. A read that fails is told with the name, and the
 // list then lacks its last line. Answers whether standard output took all.
-pub fn list(fd: i32, name: &[u8], is_titled: bool, setting: Streams, is_verbose: bool) -> bool {
+pub fn list<F: std::io::Read>(
+    rt: &impl Console,
+    source: &mut Source<F>,
+    name: &[u8],
+    is_titled: bool,
+    setting: Streams,
+    is_verbose: bool,
+) -> bool {
     let mut piece = [0u8; PIECE];
     let mut records = [0u8; RECORDS];
     let mut pages = sight::pages(setting);
@@ -41,14 +50,23 @@ pub fn list(fd: i32, name: &[u8], is_titled: bool, setting: Streams, is_verbose:
     let mut turns = u64::MAX;
     while turns > 0 {
         turns -= 1;
-        let turn = captures::next(fd, capture, &mut piece, &mut records, &mut pages);
+        let turn = captures::next(source, capture, &mut piece, &mut records, &mut pages);
         capture = turn.capture;
         let came = turn.came;
         let Came::Records(n) = came else {
-            return end(came, tally, &text, name, capture.course, &pages);
+            return end(
+                rt,
+                came,
+                source.why,
+                tally,
+                &text,
+                name,
+                capture.course,
+                &pages,
+            );
         };
-        tally = title(tally, name);
-        tally = list_all(tally, setting, &records, n, &mut text, &mut form);
+        tally = title(rt, tally, name);
+        tally = list_all(rt, tally, setting, &records, n, &mut text, &mut form);
         if !tally.sound {
             return false;
         }
@@ -67,17 +85,18 @@ fn fresh(is_titled: bool) -> Tally {
 }
 
 // Writes the title where it is due.
-fn title(tally: Tally, name: &[u8]) -> Tally {
+fn title(rt: &impl Console, tally: Tally, name: &[u8]) -> Tally {
     let mut tally = tally;
     if tally.due {
         tally.due = false;
-        tally.sound = told::put_title(b"desk", name);
+        tally.sound = told::put_title(rt, b"desk", name);
     }
     tally
 }
 
 // Lists the records at the front of their space.
 fn list_all(
+    rt: &impl Console,
     tally: Tally,
     setting: Streams,
     records: &[u8; RECORDS],
@@ -85,10 +104,11 @@ fn list_all(
     text: &mut [u8; TEXT],
     form: &mut [u8; FORM],
 ) -> Tally {
-    list_records(tally, setting, told::front(records, n), text, form)
+    list_records(rt, tally, setting, told::front(records, n), text, form)
 }
 
 fn list_records(
+    rt: &impl Console,
     tally: Tally,
     setting: Streams,
     records: &[u8],
@@ -102,6 +122,7 @@ fn list_records(
         let from = span.from;
         let next = span.next;
         tally = list_record(
+            rt,
             tally,
             setting,
             span.stream,
@@ -116,6 +137,7 @@ fn list_records(
 
 // Lists a record where block reading accepts it.
 fn list_record(
+    rt: &impl Console,
     tally: Tally,
     setting: Streams,
     stream: u8,
@@ -127,7 +149,7 @@ fn list_record(
     match answer {
         Read::Taken { written, mended } => {
             let second = blocks::second_of(record);
-            let tally = make_room(tally, text);
+            let tally = make_room(rt, tally, text);
             let at = put_stream(setting, stream, text, tally.used);
             let form = told::front(form, written);
             list_form(tally, form, mended, second, text, at)
@@ -205,25 +227,25 @@ fn one_more(count: u64) -> u64 {
 }
 
 // Writes the text out where less room is left than one table may need.
-fn make_room(tally: Tally, text: &[u8]) -> Tally
+fn make_room(rt: &impl Console, tally: Tally, text: &[u8]) -> Tally
     ensures { result.used ≤ length text.now }
 {
     if text.len() < tally.used {
-        return flush(tally, text);
+        return flush(rt, tally, text);
     }
     if text.len() - tally.used < LINES {
-        return flush(tally, text);
+        return flush(rt, tally, text);
     }
     tally
 }
 
 // Writes the text out, unless standard output failed before.
-fn flush(tally: Tally, text: &[u8]) -> Tally
+fn flush(rt: &impl Console, tally: Tally, text: &[u8]) -> Tally
     ensures { result.used ≡ 0 }
 {
     let mut tally = tally;
     if tally.sound {
-        tally.sound = told::put(b"desk", told::front(text, tally.used));
+        tally.sound = told::put(rt, b"desk", told::front(text, tally.used));
     }
     tally.used = 0;
     tally
@@ -231,7 +253,9 @@ fn flush(tally: Tally, text: &[u8]) -> Tally
 
 // The capture has ended, or nothing more is read of it.
 fn end(
+    rt: &impl Console,
     came: Came,
+    why: Error,
     tally: Tally,
     text: &[u8; TEXT],
     name: &[u8],
@@ -241,36 +265,36 @@ fn end(
     match came {
         Came::Records(_) => true,
         Came::Ended(short) => {
-            if !put_end(tally, text, course, short) {
+            if !put_end(rt, tally, text, course, short) {
                 return false;
             }
-            says::lacking(name, course, pages, short > 0);
+            says::lacking(rt, name, course, pages, short > 0);
             true
         }
         Came::Unread => {
-            told::tell(b"desk", name);
-            stop(tally, text)
+            told::tell(rt, b"desk", name, why);
+            stop(rt, tally, text)
         }
         Came::Stuck => {
-            told::tell_stuck(b"desk", name);
-            stop(tally, text)
+            told::tell_stuck(rt, b"desk", name);
+            stop(rt, tally, text)
         }
     }
 }
 
 // Writes what is left of a list that lacks its last line.
-fn stop(tally: Tally, text: &[u8]) -> bool {
-    let tally = flush(tally, text);
+fn stop(rt: &impl Console, tally: Tally, text: &[u8]) -> bool {
+    let tally = flush(rt, tally, text);
     tally.sound
 }
 
 // Writes what is left of a list, its last line, and the line of counts where that is asked for.
-fn put_end(tally: Tally, text: &[u8], course: Course, short: usize) -> bool {
-    let tally = flush(tally, text);
+fn put_end(rt: &impl Console, tally: Tally, text: &[u8], course: Course, short: usize) -> bool {
+    let tally = flush(rt, tally, text);
     if !tally.sound {
         return false;
     }
-    if !says::put_last(tally.accepted, tally.refused, short as u64) {
+    if !says::put_last(rt, tally.accepted, tally.refused, short as u64) {
         return false;
     }
     if !course.verbose {
@@ -278,6 +302,7 @@ fn put_end(tally: Tally, text: &[u8], course: Course, short: usize) -> bool {
     }
     let counts = course.sight.counts;
     says::put_counts(
+        rt,
         counts.packets,
         counts.ours,
         counts.unreadable,

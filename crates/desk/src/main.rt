@@ -11,8 +11,11 @@ mod capture;
 mod help;
 mod says;
 
-use libc::STDIN_FILENO;
+use captures::Source;
 use packet::two::Streams;
+use std::env::Env;
+use std::rt::Files;
+use told::Console;
 use words::Said;
 
 // The options, five numbers each: letter, form, least, greatest and usual value (words::options).
@@ -37,28 +40,28 @@ struct Listed {
     sound: bool,
 }
 
-fn main() {
-    if command_line::is_first(b"--help") {
-        help::put();
+fn main(rt: HostRuntime) {
+    if command_line::is_first(&rt, b"--help") {
+        help::put(&rt);
         return;
     }
-    if command_line::is_first(b"--version") {
-        told::put_version(b"desk");
+    if command_line::is_first(&rt, b"--version") {
+        told::put_version(&rt, b"desk");
         return;
     }
-    let said = command_line::hear_all(&OPTIONS, &TASKS);
+    let said = command_line::hear_all(&rt, &OPTIONS, &TASKS);
     if words::is_good(&TASKS, said) {
         let setting = command_line::setting(&OPTIONS, said);
-        list_all(setting, command_line::byte(&OPTIONS, said, 4) == 1);
+        list_all(&rt, setting, command_line::byte(&OPTIONS, said, 4) == 1);
         return;
     }
-    told::begin(b"desk");
-    told::say(&help::USAGE);
+    told::begin(&rt, b"desk");
+    told::say(&rt, &help::USAGE);
 }
 
 // Lists each file that is named, or standard input where none is.
-fn list_all(setting: Streams, is_verbose: bool) {
-    let count = os::arg_count();
+fn list_all(rt: &(impl Env + Files + Input + Console), setting: Streams, is_verbose: bool) {
+    let count = told::argument_count(rt);
     let mut listed = Listed {
         said: words::start(&TASKS),
         named: false,
@@ -66,19 +69,33 @@ fn list_all(setting: Streams, is_verbose: bool) {
     };
     let mut i = 1;
     while i < count {
-        listed = visit(listed, i, setting, is_verbose);
+        listed = visit(rt, listed, i, setting, is_verbose);
         i += 1;
     }
     if !listed.named {
-        capture::list(STDIN_FILENO, b"standard input", false, setting, is_verbose);
+        let mut source = Source::new(rt.reader());
+        capture::list(
+            rt,
+            &mut source,
+            b"standard input",
+            false,
+            setting,
+            is_verbose,
+        );
     }
 }
 
 // Hears a word again, and lists the file where it is a name.
-fn visit(listed: Listed, i: usize, setting: Streams, is_verbose: bool) -> Listed {
+fn visit(
+    rt: &(impl Env + Files + Console),
+    listed: Listed,
+    i: usize,
+    setting: Streams,
+    is_verbose: bool,
+) -> Listed {
     let mut word = io::buffer();
     let mut listed = listed;
-    let heard = command_line::hear(&OPTIONS, &TASKS, listed.said, i, &mut word);
+    let heard = command_line::hear(rt, &OPTIONS, &TASKS, listed.said, i, &mut word);
     let said = heard.said;
     listed.said = said;
     if heard.place == 0 {
@@ -86,20 +103,36 @@ fn visit(listed: Listed, i: usize, setting: Streams, is_verbose: bool) -> Listed
     }
     listed.named = true;
     if listed.sound {
-        listed.sound = list_file(&mut word, heard.long, setting, is_verbose);
+        listed.sound = list_file(rt, &mut word, heard.long, setting, is_verbose);
     }
     listed
 }
 
 // Lists the file of a name, which is told with a `?` for each byte that isn't printed. Answers whether standard output took all.
-fn list_file(word: &mut [u8; 4096], n: usize, setting: Streams, is_verbose: bool) -> bool {
-    let fd = os::open_read(told::front(word, n));
+fn list_file(
+    rt: &(impl Files + Console),
+    word: &mut [u8; 4096],
+    n: usize,
+    setting: Streams,
+    is_verbose: bool,
+) -> bool {
+    let opened = told::open(rt, told::front(word, n));
     told::plain(word);
-    if fd < 0 {
-        told::tell(b"desk", told::front(word, n));
-        return true;
+    match opened {
+        Ok(file) => {
+            let mut source = Source::new(file);
+            capture::list(
+                rt,
+                &mut source,
+                told::front(word, n),
+                true,
+                setting,
+                is_verbose,
+            )
+        }
+        Err(e) => {
+            told::tell(rt, b"desk", told::front(word, n), e);
+            true
+        }
     }
-    let sound = capture::list(fd, told::front(word, n), true, setting, is_verbose);
-    libc::close(fd);
-    sound
 }

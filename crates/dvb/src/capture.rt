@@ -3,10 +3,12 @@
 use crate::says;
 use answer::Answer;
 use blocks::Read;
-use captures::{Came, PIECE, RECORDS};
+use captures::{Came, PIECE, RECORDS, Source};
 use dvb_descriptor::LONGEST;
 use forms::TI;
 use packet::two::Streams;
+use std::io::Error;
+use told::Console;
 
 // More than the longest table form.
 const FORM: usize = 2048;
@@ -21,9 +23,15 @@ struct Tally {
     sound: bool,
 }
 
-// Writes the lines of the capture that comes from a file descriptor, under a line with its name where that is asked for. A read that fails is
+// Writes the lines of the capture that comes from a source, under a line with its name where that is asked for. A read that fails is
 // told with the name, and the last line is then missing. Answers whether standard output took all.
-pub fn list(fd: i32, name: &[u8], is_titled: bool, setting: Streams) -> bool {
+pub fn list<F: std::io::Read>(
+    rt: &impl Console,
+    source: &mut Source<F>,
+    name: &[u8],
+    is_titled: bool,
+    setting: Streams,
+) -> bool {
     let mut piece = [0u8; PIECE];
     let mut records = [0u8; RECORDS];
     let mut pages = sight::pages(setting);
@@ -33,14 +41,14 @@ pub fn list(fd: i32, name: &[u8], is_titled: bool, setting: Streams) -> bool {
     let mut turns = u64::MAX;
     while turns > 0 {
         turns -= 1;
-        let turn = captures::next(fd, capture, &mut piece, &mut records, &mut pages);
+        let turn = captures::next(source, capture, &mut piece, &mut records, &mut pages);
         capture = turn.capture;
         let came = turn.came;
         let Came::Records(n) = came else {
-            return end(came, tally, name);
+            return end(rt, came, source.why, tally, name);
         };
-        tally = title(tally, name);
-        tally = list_all(tally, name, setting, &records, n, &mut form);
+        tally = title(rt, tally, name);
+        tally = list_all(rt, tally, name, setting, &records, n, &mut form);
         if !tally.sound {
             return false;
         }
@@ -58,17 +66,18 @@ fn fresh(is_titled: bool) -> Tally {
 }
 
 // Writes the title where it is due.
-fn title(tally: Tally, name: &[u8]) -> Tally {
+fn title(rt: &impl Console, tally: Tally, name: &[u8]) -> Tally {
     let mut tally = tally;
     if tally.due {
         tally.due = false;
-        tally.sound = told::put_title(b"dvb", name);
+        tally.sound = told::put_title(rt, b"dvb", name);
     }
     tally
 }
 
 // Goes along the records at the front of their space.
 fn list_all(
+    rt: &impl Console,
     tally: Tally,
     name: &[u8],
     setting: Streams,
@@ -76,10 +85,11 @@ fn list_all(
     n: usize,
     form: &mut [u8; FORM],
 ) -> Tally {
-    list_records(tally, name, setting, told::front(records, n), form)
+    list_records(rt, tally, name, setting, told::front(records, n), form)
 }
 
 fn list_records(
+    rt: &impl Console,
     tally: Tally,
     name: &[u8],
     setting: Streams,
@@ -92,7 +102,14 @@ fn list_records(
         let span = captures::span_at(setting, records, at);
         let from = span.from;
         let next = span.next;
-        tally = list_record(tally, name, setting.application, &records[from..next], form);
+        tally = list_record(
+            rt,
+            tally,
+            name,
+            setting.application,
+            &records[from..next],
+            form,
+        );
         at = next;
     }
     tally
@@ -100,6 +117,7 @@ fn list_records(
 
 // A record where block reading accepts it, until standard output has failed. A block that isn't a table of ours is passed over.
 fn list_record(
+    rt: &impl Console,
     tally: Tally,
     name: &[u8],
     application: u8,
@@ -111,39 +129,44 @@ fn list_record(
     }
     let answer = table::read_block(application, record, form);
     match answer {
-        Read::Taken { written, mended: _ } => list_form(tally, name, told::front(form, written)),
+        Read::Taken { written, mended: _ } => list_form(
+            rt,
+            tally,
+            name,
+            told::front(form, written),
+        ),
         Read::Refused(_) => tally,
     }
 }
 
 // A table; one of languages alone is passed over.
-fn list_form(tally: Tally, name: &[u8], form: &[u8]) -> Tally {
+fn list_form(rt: &impl Console, tally: Tally, name: &[u8], form: &[u8]) -> Tally {
     if lent_bytes::byte_at(form, 0) != TI {
         return tally;
     }
     let mut descriptor = [0u8; LONGEST];
     let answer = dvb_descriptor::write_descriptor(form, &mut descriptor);
     match answer {
-        Answer::Done(n) => put(tally, form, told::front(&descriptor, n)),
-        Answer::Refused(_) => leave_out(tally, name, form),
+        Answer::Done(n) => put(rt, tally, form, told::front(&descriptor, n)),
+        Answer::Refused(_) => leave_out(rt, tally, name, form),
     }
 }
 
 // The line of a table goes out.
-fn put(tally: Tally, form: &[u8], descriptor: &[u8]) -> Tally {
+fn put(rt: &impl Console, tally: Tally, form: &[u8], descriptor: &[u8]) -> Tally {
     let mut tally = tally;
     tally.tables = one_more(tally.tables);
-    tally.sound = says::put_table(network(form), block(form), descriptor);
+    tally.sound = says::put_table(rt, network(form), block(form), descriptor);
     tally
 }
 
 // A table has more subtitles than a descriptor can hold (26), which is told. None is refused for another cause: block reading hands out forms that
 // can be written, and there is room for the longest descriptor.
-fn leave_out(tally: Tally, name: &[u8], form: &[u8]) -> Tally {
+fn leave_out(rt: &impl Console, tally: Tally, name: &[u8], form: &[u8]) -> Tally {
     let mut tally = tally;
     tally.tables = one_more(tally.tables);
     tally.over = one_more(tally.over);
-    says::say_over(name, network(form), block(form));
+    says::say_over(rt, name, network(form), block(form));
     tally
 }
 
@@ -160,16 +183,16 @@ fn block(form: &[u8]) -> u64 {
 }
 
 // The capture has ended, or nothing more is read of it.
-fn end(came: Came, tally: Tally, name: &[u8]) -> bool {
+fn end(rt: &impl Console, came: Came, why: Error, tally: Tally, name: &[u8]) -> bool {
     match came {
         Came::Records(_) => true,
-        Came::Ended(_) => says::put_last(tally.tables, tally.over),
+        Came::Ended(_) => says::put_last(rt, tally.tables, tally.over),
         Came::Unread => {
-            told::tell(b"dvb", name);
+            told::tell(rt, b"dvb", name, why);
             true
         }
         Came::Stuck => {
-            told::tell_stuck(b"dvb", name);
+            told::tell_stuck(rt, b"dvb", name);
             true
         }
     }

@@ -10,8 +10,11 @@ mod capture;
 mod help;
 mod says;
 
-use libc::STDIN_FILENO;
+use captures::Source;
 use packet::two::Streams;
+use std::env::Env;
+use std::rt::Files;
+use told::Console;
 use words::Said;
 
 // The options, five numbers each: letter, form, least, greatest and usual value (words::options).
@@ -35,27 +38,27 @@ struct Listed {
     sound: bool,
 }
 
-fn main() {
-    if command_line::is_first(b"--help") {
-        help::put();
+fn main(rt: HostRuntime) {
+    if command_line::is_first(&rt, b"--help") {
+        help::put(&rt);
         return;
     }
-    if command_line::is_first(b"--version") {
-        told::put_version(b"dvb");
+    if command_line::is_first(&rt, b"--version") {
+        told::put_version(&rt, b"dvb");
         return;
     }
-    let said = command_line::hear_all(&OPTIONS, &TASKS);
+    let said = command_line::hear_all(&rt, &OPTIONS, &TASKS);
     if words::is_good(&TASKS, said) {
-        list_all(command_line::setting(&OPTIONS, said));
+        list_all(&rt, command_line::setting(&OPTIONS, said));
         return;
     }
-    told::begin(b"dvb");
-    told::say(&help::USAGE);
+    told::begin(&rt, b"dvb");
+    told::say(&rt, &help::USAGE);
 }
 
 // Lists each file that is named, or standard input where none is.
-fn list_all(setting: Streams) {
-    let count = os::arg_count();
+fn list_all(rt: &(impl Env + Files + Input + Console), setting: Streams) {
+    let count = told::argument_count(rt);
     let mut listed = Listed {
         said: words::start(&TASKS),
         named: false,
@@ -63,19 +66,20 @@ fn list_all(setting: Streams) {
     };
     let mut i = 1;
     while i < count {
-        listed = visit(listed, i, setting);
+        listed = visit(rt, listed, i, setting);
         i += 1;
     }
     if !listed.named {
-        capture::list(STDIN_FILENO, b"standard input", false, setting);
+        let mut source = Source::new(rt.reader());
+        capture::list(rt, &mut source, b"standard input", false, setting);
     }
 }
 
 // Hears a word again, and lists the file where it is a name.
-fn visit(listed: Listed, i: usize, setting: Streams) -> Listed {
+fn visit(rt: &(impl Env + Files + Console), listed: Listed, i: usize, setting: Streams) -> Listed {
     let mut word = io::buffer();
     let mut listed = listed;
-    let heard = command_line::hear(&OPTIONS, &TASKS, listed.said, i, &mut word);
+    let heard = command_line::hear(rt, &OPTIONS, &TASKS, listed.said, i, &mut word);
     let said = heard.said;
     listed.said = said;
     if heard.place == 0 {
@@ -83,20 +87,28 @@ fn visit(listed: Listed, i: usize, setting: Streams) -> Listed {
     }
     listed.named = true;
     if listed.sound {
-        listed.sound = list_file(&mut word, heard.long, setting);
+        listed.sound = list_file(rt, &mut word, heard.long, setting);
     }
     listed
 }
 
 // Lists the file of a name, which is told with a `?` for each byte that isn't printed. Answers whether standard output took all.
-fn list_file(word: &mut [u8; 4096], n: usize, setting: Streams) -> bool {
-    let fd = os::open_read(told::front(word, n));
+fn list_file(
+    rt: &(impl Files + Console),
+    word: &mut [u8; 4096],
+    n: usize,
+    setting: Streams,
+) -> bool {
+    let opened = told::open(rt, told::front(word, n));
     told::plain(word);
-    if fd < 0 {
-        told::tell(b"dvb", told::front(word, n));
-        return true;
+    match opened {
+        Ok(file) => {
+            let mut source = Source::new(file);
+            capture::list(rt, &mut source, told::front(word, n), true, setting)
+        }
+        Err(e) => {
+            told::tell(rt, b"dvb", told::front(word, n), e);
+            true
+        }
     }
-    let sound = capture::list(fd, told::front(word, n), true, setting);
-    libc::close(fd);
-    sound
 }

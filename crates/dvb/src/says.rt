@@ -1,17 +1,18 @@
 // What `dvb` writes and says. The first write that standard output doesn't take is told, and the caller stops.
+use told::Console;
 
 // More than the longest line of a table: that of 51 subtitles, of network 255 and block 32768, has 543 bytes.
 const LINE: usize = 640;
 
 // The line of a table: its network, its block number and its descriptor, in one write.
-pub fn put_table(network: u64, block: u64, descriptor: &[u8]) -> bool {
+pub fn put_table(rt: &impl Console, network: u64, block: u64, descriptor: &[u8]) -> bool {
     let mut line = [0u8; LINE];
     let at = put_number(b"network=", network, &mut line, 0);
     let at = put_number(b" block=", block, &mut line, at);
     let at = text_lines::put(b" dvb=", &mut line, at);
     let at = put_hex(descriptor, &mut line, at);
     let at = text_lines::put(b"\n", &mut line, at);
-    told::put(b"dvb", told::front(&line, at))
+    told::put(rt, b"dvb", told::front(&line, at))
 }
 
 // Puts a number behind its name at a place of the line, and answers the place behind it.
@@ -40,21 +41,21 @@ fn put_byte(byte: u8, line: &mut [u8], at: usize) -> usize {
 }
 
 // The last line: how many TI tables were accepted, and how many of them were left out.
-pub fn put_last(tables: u64, over: u64) -> bool {
-    if !told::put_count(b"dvb", b"tables=", tables) {
+pub fn put_last(rt: &impl Console, tables: u64, over: u64) -> bool {
+    if !told::put_count(rt, b"dvb", b"tables=", tables) {
         return false;
     }
-    if !told::put_count(b"dvb", b" over=", over) {
+    if !told::put_count(rt, b"dvb", b" over=", over) {
         return false;
     }
-    told::put(b"dvb", b"\n")
+    told::put(rt, b"dvb", b"\n")
 }
 
 // Tells of a table that a descriptor can't hold.
-pub fn say_over(name: &[u8], network: u64, block: u64) {
-    told::begin(b"dvb");
-    told::say(name);
-    told::say_count(b": network ", network);
-    told::say_count(b", block ", block);
-    told::say(b": more than 51 subtitles\n");
+pub fn say_over(rt: &impl Console, name: &[u8], network: u64, block: u64) {
+    told::begin(rt, b"dvb");
+    told::say(rt, name);
+    told::say_count(rt, b": network ", network);
+    told::say_count(rt, b", block ", block);
+    told::say(rt, b": more than 51 subtitles\n");
 }

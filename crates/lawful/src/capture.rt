@@ -2,28 +2,37 @@
 use crate::kept::{Kept, STORE};
 use crate::{kept, says};
 use answer::Answer;
-use captures::{Came, PIECE, RECORDS};
+use captures::{Came, PIECE, RECORDS, Source};
 use packet::two::Streams;
+use std::io::Error;
+use told::Console;
 
 // The longest text of a verdict: a no.
 const TEXT: usize = 28;
 
-// The verdict on what comes from a descriptor, under a line with its name where that is asked for. A read that fails is told with the name, and
+// The verdict on what comes from a source, under a line with its name where that is asked for. A read that fails is told with the name, and
 // nothing is printed. Answers whether standard output took all.
-pub fn judge(fd: i32, name: &[u8], is_titled: bool, setting: Streams) -> bool {
+pub fn judge<F: std::io::Read>(
+    rt: &impl Console,
+    source: &mut Source<F>,
+    name: &[u8],
+    is_titled: bool,
+    setting: Streams,
+) -> bool {
     let mut store = [0u8; STORE];
-    let kept = gather(fd, name, setting, &mut store);
+    let kept = gather(rt, source, name, setting, &mut store);
     if !kept.whole {
         return true;
     }
     if kept.full {
-        says::tell_full(name);
+        says::tell_full(rt, name);
         return true;
     }
-    judge_kept(name, is_titled, setting.application, &store, kept)
+    judge_kept(rt, name, is_titled, setting.application, &store, kept)
 }
 
 fn judge_kept(
+    rt: &impl Console,
     name: &[u8],
     is_titled: bool,
     application: u8,
@@ -35,21 +44,27 @@ fn judge_kept(
     match answer {
         Answer::Done(n) => {
             let numbers = kept.numbers;
-            if !says::put_verdict(name, is_titled, told::front(&text, n), &numbers) {
+            if !says::put_verdict(rt, name, is_titled, told::front(&text, n), &numbers) {
                 return false;
             }
-            says::tell_no(name, told::front(&text, n));
+            says::tell_no(rt, name, told::front(&text, n));
             true
         }
         Answer::Refused(why) => {
-            says::tell_none(name, why.no);
+            says::tell_none(rt, name, why.no);
             true
         }
     }
 }
 
-// The blocks that come from a descriptor.
-fn gather(fd: i32, name: &[u8], setting: Streams, store: &mut [u8; STORE]) -> Kept {
+// The blocks that come from a source.
+fn gather<F: std::io::Read>(
+    rt: &impl Console,
+    source: &mut Source<F>,
+    name: &[u8],
+    setting: Streams,
+    store: &mut [u8; STORE],
+) -> Kept {
     let mut piece = [0u8; PIECE];
     let mut records = [0u8; RECORDS];
     let mut pages = sight::pages(setting);
@@ -58,11 +73,11 @@ fn gather(fd: i32, name: &[u8], setting: Streams, store: &mut [u8; STORE]) -> Ke
     let mut turns = u64::MAX;
     while turns > 0 {
         turns -= 1;
-        let turn = captures::next(fd, capture, &mut piece, &mut records, &mut pages);
+        let turn = captures::next(source, capture, &mut piece, &mut records, &mut pages);
         capture = turn.capture;
         let came = turn.came;
         let Came::Records(n) = came else {
-            return end(came, kept, name);
+            return end(rt, came, source.why, kept, name);
         };
         kept = keep_all(kept, setting, &records, n, store);
     }
@@ -70,16 +85,16 @@ fn gather(fd: i32, name: &[u8], setting: Streams, store: &mut [u8; STORE]) -> Ke
 }
 
 // The capture has ended, or nothing more is read of it.
-fn end(came: Came, kept: Kept, name: &[u8]) -> Kept {
+fn end(rt: &impl Console, came: Came, why: Error, kept: Kept, name: &[u8]) -> Kept {
     match came {
         Came::Records(_) => kept,
         Came::Ended(_) => kept::ended(kept),
         Came::Unread => {
-            told::tell(b"lawful", name);
+            told::tell(rt, b"lawful", name, why);
             kept
         }
         Came::Stuck => {
-            told::tell_stuck(b"lawful", name);
+            told::tell_stuck(rt, b"lawful", name);
             kept
         }
     }

@@ -13,8 +13,11 @@ mod help;
 mod kept;
 mod says;
 
-use libc::STDIN_FILENO;
+use captures::Source;
 use packet::two::Streams;
+use std::env::Env;
+use std::rt::Files;
+use told::Console;
 use words::Said;
 
 // The options, five numbers each: letter, form, least, greatest and usual value (words::options).
@@ -38,27 +41,27 @@ struct Judged {
     sound: bool,
 }
 
-fn main() {
-    if command_line::is_first(b"--help") {
-        help::put();
+fn main(rt: HostRuntime) {
+    if command_line::is_first(&rt, b"--help") {
+        help::put(&rt);
         return;
     }
-    if command_line::is_first(b"--version") {
-        told::put_version(b"lawful");
+    if command_line::is_first(&rt, b"--version") {
+        told::put_version(&rt, b"lawful");
         return;
     }
-    let said = command_line::hear_all(&OPTIONS, &TASKS);
+    let said = command_line::hear_all(&rt, &OPTIONS, &TASKS);
     if words::is_good(&TASKS, said) {
-        judge_all(command_line::setting(&OPTIONS, said));
+        judge_all(&rt, command_line::setting(&OPTIONS, said));
         return;
     }
-    told::begin(b"lawful");
-    told::say(&help::USAGE);
+    told::begin(&rt, b"lawful");
+    told::say(&rt, &help::USAGE);
 }
 
 // Judges each file that is named, or standard input where none is.
-fn judge_all(setting: Streams) {
-    let count = os::arg_count();
+fn judge_all(rt: &(impl Env + Files + Input + Console), setting: Streams) {
+    let count = told::argument_count(rt);
     let mut judged = Judged {
         said: words::start(&TASKS),
         named: false,
@@ -66,19 +69,20 @@ fn judge_all(setting: Streams) {
     };
     let mut i = 1;
     while i < count {
-        judged = visit(judged, i, setting);
+        judged = visit(rt, judged, i, setting);
         i += 1;
     }
     if !judged.named {
-        capture::judge(STDIN_FILENO, b"standard input", false, setting);
+        let mut source = Source::new(rt.reader());
+        capture::judge(rt, &mut source, b"standard input", false, setting);
     }
 }
 
 // Hears a word again, and judges the file where it is a name.
-fn visit(judged: Judged, i: usize, setting: Streams) -> Judged {
+fn visit(rt: &(impl Env + Files + Console), judged: Judged, i: usize, setting: Streams) -> Judged {
     let mut word = io::buffer();
     let mut judged = judged;
-    let heard = command_line::hear(&OPTIONS, &TASKS, judged.said, i, &mut word);
+    let heard = command_line::hear(rt, &OPTIONS, &TASKS, judged.said, i, &mut word);
     let said = heard.said;
     judged.said = said;
     if heard.place == 0 {
@@ -86,20 +90,28 @@ fn visit(judged: Judged, i: usize, setting: Streams) -> Judged {
     }
     judged.named = true;
     if judged.sound {
-        judged.sound = judge_file(&mut word, heard.long, setting);
+        judged.sound = judge_file(rt, &mut word, heard.long, setting);
     }
     judged
 }
 
 // Judges the file of a name, which is told with a `?` for each byte that isn't printed. Answers whether standard output took all.
-fn judge_file(word: &mut [u8; 4096], n: usize, setting: Streams) -> bool {
-    let fd = os::open_read(told::front(word, n));
+fn judge_file(
+    rt: &(impl Files + Console),
+    word: &mut [u8; 4096],
+    n: usize,
+    setting: Streams,
+) -> bool {
+    let opened = told::open(rt, told::front(word, n));
     told::plain(word);
-    if fd < 0 {
-        told::tell(b"lawful", told::front(word, n));
-        return true;
+    match opened {
+        Ok(file) => {
+            let mut source = Source::new(file);
+            capture::judge(rt, &mut source, told::front(word, n), true, setting)
+        }
+        Err(e) => {
+            told::tell(rt, b"lawful", told::front(word, n), e);
+            true
+        }
     }
-    let sound = capture::judge(fd, told::front(word, n), true, setting);
-    libc::close(fd);
-    sound
 }

@@ -65,6 +65,8 @@ unfolding entry_lines subtitle_lines
 subtitle_lines_lem kind l p e = rw e (append-nil (language_line l ++ page_line p))
 
 words_some : (kind : ℕ) (ws : List ℕ) → Words kind ws → 1 ≤ length (entry_lines kind ws)
+words_some kind [] x' = elim x' [ ]
+words_some kind (l ∷ (p ∷ (_ ∷ _))) x8 = elim x8 [ ]
 words_some kind (l ∷ []) (language e h) = rw (language_lines_lem kind l e) (language_some l)
 words_some kind (l ∷ p ∷ []) (subtitle e h g) =
     rw (subtitle_lines_lem kind l p e, length-append) (omega (arith, language_some l))
@@ -124,6 +126,8 @@ words_stepping = stepping same words_at Words entry_lines words_seen words_none 
 words_back :
     (kind : ℕ) (ws rest : List ℕ) → Words kind ws → words_at kind (entry_lines kind ws ++ rest) ≡ item ws (length (entry_lines kind ws))
 unfolding with_language with_page
+words_back kind [] rest x' = elim x' [ ]
+words_back kind (l ∷ (p ∷ (_ ∷ _))) rest x8 = elim x8 [ ]
 words_back kind (l ∷ []) rest (language e h) =
     rw (language_lines_lem kind l e, language_back l rest h, ne_eqb (length (language_line l)) 0 (λ z. omega (arith, language_some l)), e)
 words_back kind (l ∷ p ∷ []) rest (subtitle e h g) =
@@ -151,6 +155,8 @@ lines_none kind = go (eqb kind TI)
 
 lines_more :
     (kind : ℕ) (ws rest : List ℕ) → Words kind ws → entry_lines kind ws ++ entry_lines kind rest ≡ entry_lines kind (ws ++ rest)
+lines_more kind [] rest x' = elim x' [ ]
+lines_more kind (l ∷ (p ∷ (_ ∷ _))) rest x8 = elim x8 [ ]
 lines_more kind (l ∷ []) rest (language e h) =
     ap (λ (x : List ℕ). x ++ entry_lines kind rest) (language_lines_lem kind l e) ∙ (unfold entry_lines language_lines in rw e)
 lines_more kind (l ∷ p ∷ []) rest (subtitle e h g) =

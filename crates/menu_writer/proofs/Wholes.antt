@@ -255,7 +255,13 @@ module _ (f : List ℕ) (d n b h : ℕ) (hd : d ≡ get_or f 7 0) (hn : n ≡ ge
       ∙ ap (λ (x : List ℕ). in_nibbles (fill_fields d 0) ++ x)
       (spelled-append hdr ((8, get_or f 6 0) ∷ ev) (text_nibbled (text_in (drop b f)))
       ∙ ap (λ (x : List ℕ). in_nibbles hdr ++ x) (spelled-first 8 2 (get_or f 6 0) ev refl)))))
-      ∙ (rw (map-append, map-append, map-append, map-append, map-append)
+      ∙ (rw (
+        map-append image (in_nibbles open'),
+        map-append image (in_nibbles each'),
+        map-append image (in_nibbles (fill_fields d 0)),
+        map-append image (in_nibbles hdr),
+        map-append image (parts 4 2 (get_or f 6 0)),
+      )
       (ap (λ (x : List ℕ). map image (in_nibbles open') ++ (x ++ (map image (in_nibbles (fill_fields d 0)) ++ (map image (in_nibbles hdr) ++ (map image (parts 4 2 (get_or f 6 0)) ++ map image (in_nibbles ev))))))
       (row-bytes Descriptors descriptor_form descriptor_in (λ (l : List ℕ). refl) descriptor_fields descriptor_nibbled (λ (l : List ℕ). refl) d (drop 9 f))))
 

@@ -5,31 +5,40 @@ use crate::kept::{FORM, Kept, NUMBERS, SHELF};
 use crate::{Asked, kept, says};
 use answer::Answer;
 use blocks::Read;
-use captures::{Came, PIECE, RECORDS};
+use captures::{Came, PIECE, RECORDS, Source};
 use packet::two::Streams;
 use shelf::HEADS;
+use std::io::Error;
+use told::Console;
 
 // The longest listing that is printed.
 const TEXT: usize = 1048576;
 
-// Lists the menu of a block that comes from a descriptor, under a line with its name where that is asked for. A read that fails is told with
+// Lists the menu of a block that comes from a source, under a line with its name where that is asked for. A read that fails is told with
 // the name, and nothing is listed. Answers whether standard output took all.
-pub fn list(fd: i32, name: &[u8], is_titled: bool, asked: Asked) -> bool {
+pub fn list<F: std::io::Read>(
+    rt: &impl Console,
+    source: &mut Source<F>,
+    name: &[u8],
+    is_titled: bool,
+    asked: Asked,
+) -> bool {
     let mut heads = [0u8; HEADS];
     let mut store = [0u8; SHELF];
-    let kept = gather(fd, name, asked, &mut heads, &mut store);
+    let kept = gather(rt, source, name, asked, &mut heads, &mut store);
     if !kept.whole {
         return true;
     }
-    says::say_left(name, is_titled, kept.left);
+    says::say_left(rt, name, is_titled, kept.left);
     if !kept.came {
         let first = kept.first;
-        says::note(name, asked.block, kept.count, &first);
+        says::note(rt, name, asked.block, kept.count, &first);
     }
-    list_kept(name, is_titled, asked, &heads, &store, kept.used)
+    list_kept(rt, name, is_titled, asked, &heads, &store, kept.used)
 }
 
 fn list_kept(
+    rt: &impl Console,
     name: &[u8],
     is_titled: bool,
     asked: Asked,
@@ -39,6 +48,7 @@ fn list_kept(
 ) -> bool {
     let mut text = [0u8; TEXT];
     show(
+        rt,
         name,
         is_titled,
         asked,
@@ -50,6 +60,7 @@ fn list_kept(
 
 // Prints the listing of a block, if it isn't too long.
 fn show(
+    rt: &impl Console,
     name: &[u8],
     is_titled: bool,
     asked: Asked,
@@ -61,9 +72,9 @@ fn show(
     let levels = asked.levels;
     let answer = menu_listing::list_kept(block, levels, heads, shelf, text);
     match answer {
-        Answer::Done(n) => says::put_listing(name, is_titled, told::front(text, n)),
+        Answer::Done(n) => says::put_listing(rt, name, is_titled, told::front(text, n)),
         Answer::Refused(_) => {
-            says::refuse(name, block, fitting(block, levels, heads, shelf, text));
+            says::refuse(rt, name, block, fitting(block, levels, heads, shelf, text));
             true
         }
     }
@@ -89,9 +100,10 @@ fn fits(block: u16, levels: u8, heads: &[u8], shelf: &[u8], text: &mut [u8]) -> 
     }
 }
 
-// The menus that come from a descriptor.
-fn gather(
-    fd: i32,
+// The menus that come from a source.
+fn gather<F: std::io::Read>(
+    rt: &impl Console,
+    source: &mut Source<F>,
     name: &[u8],
     asked: Asked,
     heads: &mut [u8; HEADS],
@@ -107,11 +119,11 @@ fn gather(
     let mut turns = u64::MAX;
     while turns > 0 {
         turns -= 1;
-        let turn = captures::next(fd, capture, &mut piece, &mut records, &mut pages);
+        let turn = captures::next(source, capture, &mut piece, &mut records, &mut pages);
         capture = turn.capture;
         let came = turn.came;
         let Came::Records(n) = came else {
-            return end(came, kept, name);
+            return end(rt, came, source.why, kept, name);
         };
         kept = keep_all(
             kept,
@@ -128,16 +140,16 @@ fn gather(
 }
 
 // The capture has ended, or nothing more is read of it.
-fn end(came: Came, kept: Kept, name: &[u8]) -> Kept {
+fn end(rt: &impl Console, came: Came, why: Error, kept: Kept, name: &[u8]) -> Kept {
     match came {
         Came::Records(_) => kept,
         Came::Ended(_) => kept::ended(kept),
         Came::Unread => {
-            told::tell(b"menus", name);
+            told::tell(rt, b"menus", name, why);
             kept
         }
         Came::Stuck => {
-            told::tell_stuck(b"menus", name);
+            told::tell_stuck(rt, b"menus", name);
             kept
         }
     }

@@ -12,8 +12,11 @@ mod help;
 mod kept;
 mod says;
 
-use libc::STDIN_FILENO;
+use captures::Source;
 use packet::two::Streams;
+use std::env::Env;
+use std::rt::Files;
+use told::Console;
 use words::Said;
 
 // The options, five numbers each: letter, form, least, greatest and usual value (words::options).
@@ -47,22 +50,22 @@ pub struct Asked {
     pub levels: u8,
 }
 
-fn main() {
-    if command_line::is_first(b"--help") {
-        help::put();
+fn main(rt: HostRuntime) {
+    if command_line::is_first(&rt, b"--help") {
+        help::put(&rt);
         return;
     }
-    if command_line::is_first(b"--version") {
-        told::put_version(b"menus");
+    if command_line::is_first(&rt, b"--version") {
+        told::put_version(&rt, b"menus");
         return;
     }
-    let said = command_line::hear_all(&OPTIONS, &TASKS);
+    let said = command_line::hear_all(&rt, &OPTIONS, &TASKS);
     if words::is_good(&TASKS, said) {
-        list_all(asked_by(said));
+        list_all(&rt, asked_by(said));
         return;
     }
-    told::begin(b"menus");
-    told::say(&help::USAGE);
+    told::begin(&rt, b"menus");
+    told::say(&rt, &help::USAGE);
 }
 
 fn asked_by(said: Said) -> Asked {
@@ -74,8 +77,8 @@ fn asked_by(said: Said) -> Asked {
 }
 
 // Lists each file that is named, or standard input where none is.
-fn list_all(asked: Asked) {
-    let count = os::arg_count();
+fn list_all(rt: &(impl Env + Files + Input + Console), asked: Asked) {
+    let count = told::argument_count(rt);
     let mut listed = Listed {
         said: words::start(&TASKS),
         named: false,
@@ -83,19 +86,20 @@ fn list_all(asked: Asked) {
     };
     let mut i = 1;
     while i < count {
-        listed = visit(listed, i, asked);
+        listed = visit(rt, listed, i, asked);
         i += 1;
     }
     if !listed.named {
-        capture::list(STDIN_FILENO, b"standard input", false, asked);
+        let mut source = Source::new(rt.reader());
+        capture::list(rt, &mut source, b"standard input", false, asked);
     }
 }
 
 // Hears a word again, and lists the file where it is a name.
-fn visit(listed: Listed, i: usize, asked: Asked) -> Listed {
+fn visit(rt: &(impl Env + Files + Console), listed: Listed, i: usize, asked: Asked) -> Listed {
     let mut word = io::buffer();
     let mut listed = listed;
-    let heard = command_line::hear(&OPTIONS, &TASKS, listed.said, i, &mut word);
+    let heard = command_line::hear(rt, &OPTIONS, &TASKS, listed.said, i, &mut word);
     let said = heard.said;
     listed.said = said;
     if heard.place == 0 {
@@ -103,20 +107,23 @@ fn visit(listed: Listed, i: usize, asked: Asked) -> Listed {
     }
     listed.named = true;
     if listed.sound {
-        listed.sound = list_file(&mut word, heard.long, asked);
+        listed.sound = list_file(rt, &mut word, heard.long, asked);
     }
     listed
 }
 
 // Lists the file of a name, which is told with a `?` for each byte that isn't printed. Answers whether standard output took all.
-fn list_file(word: &mut [u8; 4096], n: usize, asked: Asked) -> bool {
-    let fd = os::open_read(told::front(word, n));
+fn list_file(rt: &(impl Files + Console), word: &mut [u8; 4096], n: usize, asked: Asked) -> bool {
+    let opened = told::open(rt, told::front(word, n));
     told::plain(word);
-    if fd < 0 {
-        told::tell(b"menus", told::front(word, n));
-        return true;
+    match opened {
+        Ok(file) => {
+            let mut source = Source::new(file);
+            capture::list(rt, &mut source, told::front(word, n), true, asked)
+        }
+        Err(e) => {
+            told::tell(rt, b"menus", told::front(word, n), e);
+            true
+        }
     }
-    let sound = capture::list(fd, told::front(word, n), true, asked);
-    libc::close(fd);
-    sound
 }

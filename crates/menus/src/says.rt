@@ -1,72 +1,73 @@
 // What `menus` writes and says. The first write that standard output doesn't take is told, and the caller stops. A line on standard error
 // that tells of a failure begins `menus: `, and one that tells of none `note: `.
+use told::Console;
 
 // A listing, under a line with the file's name where that is asked for.
-pub fn put_listing(name: &[u8], is_titled: bool, listing: &[u8]) -> bool {
+pub fn put_listing(rt: &impl Console, name: &[u8], is_titled: bool, listing: &[u8]) -> bool {
     if is_titled {
-        if !told::put_title(b"menus", name) {
+        if !told::put_title(rt, b"menus", name) {
             return false;
         }
     }
-    told::put(b"menus", listing)
+    told::put(rt, b"menus", listing)
 }
 
 // Tells of a listing that isn't printed, and of how many levels would be; none are named where none would.
-pub fn refuse(name: &[u8], block: u16, levels: u8) {
-    told::begin(b"menus");
-    told::say(name);
-    told::say_count(b": the listing of menu ", block as u64);
-    told::say(b" is longer than 1 MB and isn't printed");
+pub fn refuse(rt: &impl Console, name: &[u8], block: u16, levels: u8) {
+    told::begin(rt, b"menus");
+    told::say(rt, name);
+    told::say_count(rt, b": the listing of menu ", block as u64);
+    told::say(rt, b" is longer than 1 MB and isn't printed");
     if levels > 0 {
-        told::say_count(b"; -l ", levels as u64);
-        told::say(b" fits");
+        told::say_count(rt, b"; -l ", levels as u64);
+        told::say(rt, b" fits");
     }
-    told::say(b"\n");
+    told::say(rt, b"\n");
 }
 
 // Notes that the asked number didn't come, and the first that did; a count past those says that there are more.
-pub fn note(name: &[u8], block: u16, count: usize, first: &[u16]) {
-    told::say(b"note: ");
-    told::say(name);
-    told::say_count(b": menu ", block as u64);
-    told::say(b" is missing; ");
+pub fn note(rt: &impl Console, name: &[u8], block: u16, count: usize, first: &[u16]) {
+    told::say(rt, b"note: ");
+    told::say(rt, name);
+    told::say_count(rt, b": menu ", block as u64);
+    told::say(rt, b" is missing; ");
     if count == 0 {
-        told::say(b"none came\n");
+        told::say(rt, b"none came\n");
         return;
     }
-    told::say(b"came:");
-    say_first(count, first);
+    told::say(rt, b"came:");
+    say_first(rt, count, first);
     if first.len() < count {
-        told::say(b" ..");
+        told::say(rt, b" ..");
     }
-    told::say(b"\n");
+    told::say(rt, b"\n");
 }
 
-fn say_first(count: usize, first: &[u16]) {
+fn say_first(rt: &impl Console, count: usize, first: &[u16]) {
     let mut i = 0;
     while i < count {
         if first.len() <= i {
             return;
         }
-        say_word(first[i]);
+        say_word(rt, first[i]);
         i += 1;
     }
 }
 
-fn say_word(number: u16) {
-    told::say_count(b" ", number as u64);
+fn say_word(rt: &impl Console, number: u16) {
+    told::say_count(rt, b" ", number as u64);
 }
 
 // How many numbers were left out of the menus kept, where some were.
-pub fn say_left(name: &[u8], is_titled: bool, left: u64) {
+pub fn say_left(rt: &impl Console, name: &[u8], is_titled: bool, left: u64) {
     if left == 0 {
         return;
     }
     if is_titled {
-        told::say(b"file=");
-        told::say(name);
-        told::say(b"\n");
+        told::say(rt, b"file=");
+        told::say(rt, name);
+        told::say(rt, b"\n");
     }
-    told::say_count(b"left=", left);
-    told::say(b"\n");
+    told::say_count(rt, b"left=", left);
+    told::say(rt, b"\n");
 }

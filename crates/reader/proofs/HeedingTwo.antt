@@ -86,11 +86,15 @@ turning_whose foreign junk t = tt
 turning_whose foreign other t = tt
 turning_whose foreign foreign t = tt
 turning_whose foreign (packet_y y p l) t = tt
+turning_whose other y t = elim t [ ]
+turning_whose (packet_y _ _ _) y t = elim t [ ]
 
 turning_unread : (w : Whose) (page : SharedPage) (x : SeenByTwo) → TurningTwo x → reads_for w page x ≡ false
 turning_unread w page unreadable t = refl
 turning_unread w page neither t = refl
 turning_unread w page (header owner i n) t = refl
+turning_unread w page passing t = elim t [ ]
+turning_unread w page (numbered _ _ _) t = elim t [ ]
 
 -- what the stream's own reader makes of it, whatever page is open to it
 pub turned_alone :

@@ -146,6 +146,8 @@ pub turning_silent : (page : Page) (i : ℕ) (x : Seen) → Turning x → (verdi
 turning_silent page i junk t = refl
 turning_silent page i foreign t = refl
 turning_silent page i (ours j n) t = refl
+turning_silent page i other t = elim t [ ]
+turning_silent page i (packet_y _ _ _) t = elim t [ ]
 
 -- ---- packets one after the other
 

@@ -29,7 +29,7 @@ use Rattle.pages.specs.declared.two.Whose.{Whose}
 use Rattle.pages.specs.declared.two.Whose.TheVariants.{First, Second}
 use Rattle.pages.specs.declared.two.SharedPage.{SharedPage}
 use Rattle.pages.specs.declared.two.SharedPage.TheVariants.{None, One}
-use Rattle.pages.specs.Headers.{Seen, other, packet_y}
+use Rattle.pages.specs.Headers.{Seen, junk, other, foreign, ours, packet_y}
 use Rattle.pages.specs.Seen.{see, seen_as}
 use Rattle.pages.specs.Two.{SeenByTwo, unreadable, passing, neither, header, numbered, whose_of, seen_by_two_as, see_by_two, seen_for, page_for, setting_for}
 use Rattle.pages.specs.Judging.{verdict_of}
@@ -72,6 +72,9 @@ StayingTwo (numbered y p l) = Unit {0}
 staying_whose : (x y : Seen) → Staying x → StayingTwo (whose_of x y)
 staying_whose other y t = tt
 staying_whose (packet_y n p l) y t = tt
+staying_whose junk y t = elim t [ ]
+staying_whose foreign y t = elim t [ ]
+staying_whose (ours _ _) y t = elim t [ ]
 
 stays_two : (s : Streams) (p : List ℕ) → length p ≡ packet_length → marks (first_of s) (address_of p) ≡ false → StayingTwo (see_by_two s p)
 unfolding see_by_two seen_by_two_as
@@ -107,6 +110,18 @@ module _ (i : ℕ) (m : Mode) (j : Bool) (o : TwoState) where
   stays-act Second Shut (numbered y p l) t = refl
   stays-act First (Open n last) (numbered y p l) t = rw (owned_picked First (leb y n))
   stays-act Second (Open n last) (numbered y p l) t = rw (owned_picked Second (leb y n))
+  stays-act First Shut unreadable t = elim t [ ]
+  stays-act First Shut neither t = elim t [ ]
+  stays-act First Shut (header _ _ _) t = elim t [ ]
+  stays-act First (Open n last) unreadable t = elim t [ ]
+  stays-act First (Open n last) neither t = elim t [ ]
+  stays-act First (Open n last) (header _ _ _) t = elim t [ ]
+  stays-act Second Shut unreadable t = elim t [ ]
+  stays-act Second Shut neither t = elim t [ ]
+  stays-act Second Shut (header _ _ _) t = elim t [ ]
+  stays-act Second (Open n last) unreadable t = elim t [ ]
+  stays-act Second (Open n last) neither t = elim t [ ]
+  stays-act Second (Open n last) (header _ _ _) t = elim t [ ]
 
   stays-handed :
       (w : Whose) (page : Page) (x : SeenByTwo) → StayingTwo x
@@ -120,6 +135,18 @@ module _ (i : ℕ) (m : Mode) (j : Bool) (o : TwoState) where
   stays-handed Second Shut (numbered y p l) t = refl
   stays-handed First (Open n last) (numbered y p l) t = append-nil _
   stays-handed Second (Open n last) (numbered y p l) t = refl
+  stays-handed First Shut unreadable t = elim t [ ]
+  stays-handed First Shut neither t = elim t [ ]
+  stays-handed First Shut (header _ _ _) t = elim t [ ]
+  stays-handed First (Open n last) unreadable t = elim t [ ]
+  stays-handed First (Open n last) neither t = elim t [ ]
+  stays-handed First (Open n last) (header _ _ _) t = elim t [ ]
+  stays-handed Second Shut unreadable t = elim t [ ]
+  stays-handed Second Shut neither t = elim t [ ]
+  stays-handed Second Shut (header _ _ _) t = elim t [ ]
+  stays-handed Second (Open n last) unreadable t = elim t [ ]
+  stays-handed Second (Open n last) neither t = elim t [ ]
+  stays-handed Second (Open n last) (header _ _ _) t = elim t [ ]
 
   stays-dropped :
       (w : Whose) (page : Page) (x : SeenByTwo) → StayingTwo x → dropped_of_two (joined_in w (alone page) o) x ≡ dropped (alone page) (seen_for w x)
@@ -132,6 +159,18 @@ module _ (i : ℕ) (m : Mode) (j : Bool) (o : TwoState) where
   stays-dropped Second Shut (numbered y p l) t = refl
   stays-dropped First (Open n last) (numbered y p l) t = either_false _
   stays-dropped Second (Open n last) (numbered y p l) t = refl
+  stays-dropped First Shut unreadable t = elim t [ ]
+  stays-dropped First Shut neither t = elim t [ ]
+  stays-dropped First Shut (header _ _ _) t = elim t [ ]
+  stays-dropped First (Open n last) unreadable t = elim t [ ]
+  stays-dropped First (Open n last) neither t = elim t [ ]
+  stays-dropped First (Open n last) (header _ _ _) t = elim t [ ]
+  stays-dropped Second Shut unreadable t = elim t [ ]
+  stays-dropped Second Shut neither t = elim t [ ]
+  stays-dropped Second Shut (header _ _ _) t = elim t [ ]
+  stays-dropped Second (Open n last) unreadable t = elim t [ ]
+  stays-dropped Second (Open n last) neither t = elim t [ ]
+  stays-dropped Second (Open n last) (header _ _ _) t = elim t [ ]
 
 -- what is whose at the start
 joined-own :

@@ -10,6 +10,10 @@ use captures::{Came, Capture, Course, PIECE, RECORDS};
 use packet::two::Streams;
 use sheet_entry::Form;
 use sight::PAGES;
+use std::env::Env;
+use std::io::Error;
+use std::rt::Files;
+use told::Console;
 
 // More than the longest table form.
 const FORM: usize = 2048;
@@ -56,6 +60,7 @@ struct Kept {
 // Adds the tables of the capture of a name, unless something failed before. The name is told with a `?` for each byte that isn't
 // printed.
 pub fn open(
+    rt: &(impl Files + Console),
     word: &mut [u8; 4096],
     n: usize,
     source: Source,
@@ -68,31 +73,38 @@ pub fn open(
     if !work.sound {
         return work;
     }
-    let fd = os::open_read(told::front(word, n));
+    let opened = told::open(rt, told::front(word, n));
     told::plain(word);
-    if fd < 0 {
-        says::fail(
-            told::front(word, n),
-            b"it can't be opened, and the sheet stays as it was",
-        );
-        return work::broken(work);
+    match opened {
+        Ok(file) => {
+            let mut from = captures::Source::new(file);
+            read(
+                rt,
+                &mut from,
+                told::front(word, n),
+                source,
+                setting,
+                work,
+                sheet,
+                spare,
+                kept,
+            )
+        }
+        Err(why) => {
+            says::fail(
+                rt,
+                told::front(word, n),
+                b"it can't be opened, and the sheet stays as it was",
+                why,
+            );
+            work::broken(work)
+        }
     }
-    let work = read(
-        fd,
-        told::front(word, n),
-        source,
-        setting,
-        work,
-        sheet,
-        spare,
-        kept,
-    );
-    libc::close(fd);
-    work
 }
 
-fn read(
-    fd: i32,
+fn read<F: std::io::Read>(
+    rt: &impl Console,
+    from: &mut captures::Source<F>,
     name: &[u8],
     source: Source,
     setting: Streams,
@@ -110,7 +122,8 @@ fn read(
     while turns > 0 {
         turns -= 1;
         going = pull(
-            fd,
+            rt,
+            from,
             name,
             source,
             going,
@@ -156,8 +169,9 @@ fn end(going: Going) -> Work {
 }
 
 // One call of the room, and what it is for.
-fn pull(
-    fd: i32,
+fn pull<F: std::io::Read>(
+    rt: &impl Console,
+    from: &mut captures::Source<F>,
     name: &[u8],
     source: Source,
     going: Going,
@@ -171,12 +185,13 @@ fn pull(
 ) -> Going {
     let work = going.work;
     let before = going.before;
-    let turn = captures::next(fd, going.capture, piece, records, pages);
+    let turn = captures::next(from, going.capture, piece, records, pages);
     let capture = turn.capture;
     let came = turn.came;
     let course = capture.course;
     let step = heed(
-        name, source, course, before, work, came, records, pages, form, sheet, spare, kept,
+        rt, name, source, course, before, work, came, from.why, records, pages, form, sheet, spare,
+        kept,
     );
     let work = step.work;
     Going {
@@ -189,12 +204,14 @@ fn pull(
 
 // What came of the capture. Whatever fails is told, and ends it.
 fn heed(
+    rt: &impl Console,
     name: &[u8],
     source: Source,
     course: Course,
     before: u64,
     work: Work,
     came: Came,
+    why: Error,
     records: &[u8; RECORDS],
     pages: &[u16; PAGES],
     form: &mut [u8; FORM],
@@ -215,38 +232,50 @@ fn heed(
                 spare,
                 kept,
             );
-            judge(name, added)
+            judge(rt, name, added)
         }
         Came::Ended(short) => {
-            tell_end(name, course, pages, work.tables > before, short);
+            tell_end(rt, name, course, pages, work.tables > before, short);
             Step { work, on: false }
         }
         Came::Unread => {
-            says::fail(name, b"it can't be read, and the sheet stays as it was");
+            says::fail(
+                rt,
+                name,
+                b"it can't be read, and the sheet stays as it was",
+                why,
+            );
             stop(work)
         }
         Came::Stuck => {
-            says::stuck(name);
+            says::stuck(rt, name);
             stop(work)
         }
     }
 }
 
 // A capture that gave no table is told, and bytes at its end that make no packet are noted.
-fn tell_end(name: &[u8], course: Course, pages: &[u16; PAGES], has_tables: bool, short: usize) {
+fn tell_end(
+    rt: &impl Console,
+    name: &[u8],
+    course: Course,
+    pages: &[u16; PAGES],
+    has_tables: bool,
+    short: usize,
+) {
     if !has_tables {
-        says::no_table(name, course, pages, short > 0);
+        says::no_table(rt, name, course, pages, short > 0);
     }
     if short > 0 {
-        says::note_left(name, short as u64);
+        says::note_left(rt, name, short as u64);
     }
 }
 
 // It goes on where no table was refused.
-fn judge(name: &[u8], added: Added) -> Step {
+fn judge(rt: &impl Console, name: &[u8], added: Added) -> Step {
     let work = added.work;
     if added.no > 0 {
-        says::refuse_table(name, added.no, added.at);
+        says::refuse_table(rt, name, added.no, added.at);
         return stop(work);
     }
     Step { work, on: true }
@@ -398,7 +427,13 @@ fn in_slot(work: Work) -> Kept {
 }
 
 // Adds what was kept to another sheet. A refusal is told with the capture's name.
-pub fn add_again(work: Work, sheet: &mut [u8], spare: &mut [u8], kept: &mut [u8]) -> Work {
+pub fn add_again(
+    rt: &(impl Env + Console),
+    work: Work,
+    sheet: &mut [u8],
+    spare: &mut [u8],
+    kept: &mut [u8],
+) -> Work {
     let mut form = [0u8; FORM];
     let mut added = done(work);
     let mut left = work.came;
@@ -407,7 +442,7 @@ pub fn add_again(work: Work, sheet: &mut [u8], spare: &mut [u8], kept: &mut [u8]
         left -= 1;
         added = add_kept(added, i, &mut form, sheet, spare, kept);
     }
-    end_again(added)
+    end_again(rt, added)
 }
 
 // How many of so many were passed, where so many are left.
@@ -483,15 +518,15 @@ fn fall_again(work: Work, i: usize, at: usize, kept: &mut [u8]) -> Work {
     work::falls(work)
 }
 
-fn end_again(added: Added) -> Work {
+fn end_again(rt: &(impl Env + Console), added: Added) -> Work {
     let work = added.work;
     if added.no == 0 {
         return work;
     }
     let mut name = io::buffer();
-    let n = told::argument(added.word, &mut name);
+    let n = told::argument(rt, added.word, &mut name);
     told::plain(&mut name);
-    says::refuse_table(told::front(&name, n), added.no, added.at);
+    says::refuse_table(rt, told::front(&name, n), added.no, added.at);
     work::broken(work)
 }
 

@@ -3,10 +3,12 @@ use crate::files::SHEET;
 use crate::help::PROGRAM;
 use crate::says;
 use answer::Answer;
-use captures::Got;
+use captures::{Got, Source};
 use sheet_entry::Form;
 use sheet_file::modes;
-use sheet_file::modes::NOT_PLAIN;
+use sheet_file::modes::Opened;
+use std::rt::Files;
+use told::Console;
 
 // The most that is printed: two sheets together.
 const PRINT: usize = 34304;
@@ -19,35 +21,49 @@ struct Read {
 }
 
 // Compares the sheets of two names.
-pub fn compare(name: &mut [u8; 4096], n: usize, other: &mut [u8; 4096], m: usize) {
+pub fn compare(
+    rt: &(impl Files + Console),
+    name: &mut [u8; 4096],
+    n: usize,
+    other: &mut [u8; 4096],
+    m: usize,
+) {
     let mut first = [0u8; SHEET];
     let mut second = [0u8; SHEET];
-    let a = open(name, n, &mut first);
+    let a = open(rt, name, n, &mut first);
     if !a.sound {
         return;
     }
-    let b = open(other, m, &mut second);
+    let b = open(rt, other, m, &mut second);
     if !b.sound {
         return;
     }
-    print(name, n, &first, a.length, other, m, &second, b.length);
+    print(rt, name, n, &first, a.length, other, m, &second, b.length);
 }
 
 // Reads the sheet of a name. What can't be read, or is no plain file, is told.
-fn open(word: &mut [u8; 4096], n: usize, sheet: &mut [u8; SHEET]) -> Read {
-    let fd = modes::open_plain(told::front(word, n));
+fn open(
+    rt: &(impl Files + Console),
+    word: &mut [u8; 4096],
+    n: usize,
+    sheet: &mut [u8; SHEET],
+) -> Read {
+    let opened = modes::open_plain(rt, told::front(word, n));
     told::plain(word);
-    if fd == NOT_PLAIN {
-        says::tell(told::front(word, n), b"it is no plain file");
-        return unread();
+    match opened {
+        Opened::Plain(file) => {
+            let mut source = Source::new(file);
+            fill(rt, &mut source, told::front(word, n), sheet)
+        }
+        Opened::NotPlain => {
+            says::tell(rt, told::front(word, n), b"it is no plain file");
+            unread()
+        }
+        Opened::Failed(why) => {
+            says::fail(rt, told::front(word, n), b"it can't be opened", why);
+            unread()
+        }
     }
-    if fd < 0 {
-        says::fail(told::front(word, n), b"it can't be opened");
-        return unread();
-    }
-    let read = fill(fd, told::front(word, n), sheet);
-    libc::close(fd);
-    read
 }
 
 fn unread() -> Read {
@@ -57,10 +73,15 @@ fn unread() -> Read {
     }
 }
 
-fn fill(fd: i32, name: &[u8], sheet: &mut [u8; SHEET]) -> Read {
-    let got = captures::fill(fd, sheet);
+fn fill<F: std::io::Read>(
+    rt: &impl Console,
+    source: &mut Source<F>,
+    name: &[u8],
+    sheet: &mut [u8; SHEET],
+) -> Read {
+    let got = captures::fill(source, sheet);
     let Got::Bytes(length) = got else {
-        says::fail(name, b"it can't be read");
+        says::fail(rt, name, b"it can't be read", source.why);
         return unread();
     };
     Read {
@@ -71,6 +92,7 @@ fn fill(fd: i32, name: &[u8], sheet: &mut [u8; SHEET]) -> Read {
 
 // Prints what changed, or tells which sheet is at fault.
 fn print(
+    rt: &impl Console,
     name: &[u8; 4096],
     n: usize,
     first: &[u8; SHEET],
@@ -88,14 +110,14 @@ fn print(
     let answer = found.answer;
     match answer {
         Answer::Done(n) => {
-            told::put(&PROGRAM, told::front(&out, n));
+            told::put(rt, &PROGRAM, told::front(&out, n));
         }
         Answer::Refused(r) => {
             if sheet == 2 {
-                says::refuse_compared(told::front(other, m), r.no, r.at, second);
+                says::refuse_compared(rt, told::front(other, m), r.no, r.at, second);
                 return;
             }
-            says::refuse_compared(told::front(name, n), r.no, r.at, first);
+            says::refuse_compared(rt, told::front(name, n), r.no, r.at, first);
         }
     }
 }

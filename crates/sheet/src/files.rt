@@ -2,21 +2,24 @@
 use crate::work::Work;
 use crate::{says, work};
 use answer::Answer;
-use captures::Got;
+use captures::{Got, Source};
 use sheet_entry::Form;
 use sheet_file::modes;
-use sheet_file::modes::NOT_PLAIN;
+use sheet_file::modes::Opened;
+use std::io::Read;
+use std::rt::Files;
+use told::Console;
 
 // One more than the most that a sheet has, so that a longer one is seen.
 pub const SHEET: usize = 17153;
 
 // Whether the sheet is in form, in order and within its limits; what it isn't is told.
-pub fn is_judged(name: &[u8], sheet: &[u8], spare: &mut [u8]) -> bool {
+pub fn is_judged(rt: &impl Console, name: &[u8], sheet: &[u8], spare: &mut [u8]) -> bool {
     let answer = day_sheet::rewrite(Form::New, sheet, spare);
     match answer {
         Answer::Done(_) => true,
         Answer::Refused(r) => {
-            says::refuse_sheet(name, r.no, r.at, sheet);
+            says::refuse_sheet(rt, name, r.no, r.at, sheet);
             false
         }
     }
@@ -24,6 +27,7 @@ pub fn is_judged(name: &[u8], sheet: &[u8], spare: &mut [u8]) -> bool {
 
 // Joins the sheet of a name to the first, unless something failed before.
 pub fn open_other(
+    rt: &(impl Files + Console),
     word: &mut [u8; 4096],
     n: usize,
     work: Work,
@@ -33,42 +37,58 @@ pub fn open_other(
     if !work.sound {
         return work;
     }
-    let fd = modes::open_plain(told::front(word, n));
+    let opened = modes::open_plain(rt, told::front(word, n));
     told::plain(word);
-    if fd == NOT_PLAIN {
-        says::tell(
-            told::front(word, n),
-            b"it is no plain file, and the first sheet stays as it was",
-        );
-        return work::broken(work);
+    match opened {
+        Opened::Plain(file) => {
+            let mut source = Source::new(file);
+            read_other(rt, &mut source, told::front(word, n), work, sheet, spare)
+        }
+        Opened::NotPlain => {
+            says::tell(
+                rt,
+                told::front(word, n),
+                b"it is no plain file, and the first sheet stays as it was",
+            );
+            work::broken(work)
+        }
+        Opened::Failed(why) => {
+            says::fail(
+                rt,
+                told::front(word, n),
+                b"it can't be opened, and the first sheet stays as it was",
+                why,
+            );
+            work::broken(work)
+        }
     }
-    if fd < 0 {
-        says::fail(
-            told::front(word, n),
-            b"it can't be opened, and the first sheet stays as it was",
-        );
-        return work::broken(work);
-    }
-    let work = read_other(fd, told::front(word, n), work, sheet, spare);
-    libc::close(fd);
-    work
 }
 
 // It is judged by itself first, so that it is told where it is at fault.
-fn read_other(fd: i32, name: &[u8], work: Work, sheet: &mut [u8], spare: &mut [u8]) -> Work {
+fn read_other<F: Read>(
+    rt: &impl Console,
+    source: &mut Source<F>,
+    name: &[u8],
+    work: Work,
+    sheet: &mut [u8],
+    spare: &mut [u8],
+) -> Work {
     let mut other = [0u8; SHEET];
-    let got = fill_sheet(fd, &mut other);
+    let got = fill_sheet(source, &mut other);
     let Got::Bytes(n) = got else {
         says::fail(
+            rt,
             name,
             b"it can't be read, and the first sheet stays as it was",
+            source.why,
         );
         return work::broken(work);
     };
-    join_read(name, &other, n, work, sheet, spare)
+    join_read(rt, name, &other, n, work, sheet, spare)
 }
 
 fn join_read(
+    rt: &impl Console,
     name: &[u8],
     other: &[u8; SHEET],
     n: usize,
@@ -77,17 +97,24 @@ fn join_read(
     spare: &mut [u8],
 ) -> Work {
     let other = told::front(other, n);
-    if !is_judged(name, other, spare) {
+    if !is_judged(rt, name, other, spare) {
         return work::broken(work);
     }
-    join(name, other, work, sheet, spare)
+    join(rt, name, other, work, sheet, spare)
 }
 
-fn fill_sheet(fd: i32, sheet: &mut [u8; SHEET]) -> Got {
-    captures::fill(fd, sheet)
+fn fill_sheet<F: Read>(source: &mut Source<F>, sheet: &mut [u8; SHEET]) -> Got {
+    captures::fill(source, sheet)
 }
 
-fn join(name: &[u8], other: &[u8], work: Work, sheet: &mut [u8], spare: &mut [u8]) -> Work {
+fn join(
+    rt: &impl Console,
+    name: &[u8],
+    other: &[u8],
+    work: Work,
+    sheet: &mut [u8],
+    spare: &mut [u8],
+) -> Work {
     let answer = sheet_joins::join(Form::New, told::front(sheet, work.length), other, spare);
     match answer {
         Answer::Done(n) => {
@@ -95,7 +122,7 @@ fn join(name: &[u8], other: &[u8], work: Work, sheet: &mut [u8], spare: &mut [u8
             work::resized(work, n, texts::entries(told::front(spare, n)) as u64)
         }
         Answer::Refused(r) => {
-            says::refuse_other(name, r.no, r.at);
+            says::refuse_other(rt, name, r.no, r.at);
             work::broken(work)
         }
     }
@@ -103,6 +130,7 @@ fn join(name: &[u8], other: &[u8], work: Work, sheet: &mut [u8], spare: &mut [u8
 
 // Drops the entry of a network, kind and block. One that isn't there is told, and so is a sheet that is refused.
 pub fn drop(
+    rt: &impl Console,
     shown: &[u8],
     network: u8,
     kind: u8,
@@ -120,9 +148,9 @@ pub fn drop(
         spare,
     );
     match answer {
-        Answer::Done(n) => dropped(shown, network, kind, block, n, work, sheet, spare),
+        Answer::Done(n) => dropped(rt, shown, network, kind, block, n, work, sheet, spare),
         Answer::Refused(r) => {
-            says::refuse_sheet(shown, r.no, r.at, told::front(sheet, work.length));
+            says::refuse_sheet(rt, shown, r.no, r.at, told::front(sheet, work.length));
             work::broken(work)
         }
     }
@@ -130,6 +158,7 @@ pub fn drop(
 
 // The sheet without the entry is in the first n bytes of the spare space.
 fn dropped(
+    rt: &impl Console,
     shown: &[u8],
     network: u8,
     kind: u8,
@@ -140,7 +169,7 @@ fn dropped(
     spare: &[u8],
 ) -> Work {
     if n == work.length {
-        says::no_entry(shown, network, kind, block);
+        says::no_entry(rt, shown, network, kind, block);
         return work::broken(work);
     }
     lent_bytes::copy(spare, 0, n, sheet, 0);
@@ -148,37 +177,46 @@ fn dropped(
 }
 
 // Looks at the sheet of a name, and prints its line. Answers whether standard output took it.
-pub fn check(word: &mut [u8; 4096], n: usize) -> bool {
-    let fd = modes::open_plain(told::front(word, n));
+pub fn check(rt: &(impl Files + Console), word: &mut [u8; 4096], n: usize) -> bool {
+    let opened = modes::open_plain(rt, told::front(word, n));
     told::plain(word);
-    if fd == NOT_PLAIN {
-        says::tell(told::front(word, n), b"it is no plain file");
-        return true;
+    match opened {
+        Opened::Plain(file) => {
+            let mut source = Source::new(file);
+            check_read(rt, &mut source, told::front(word, n))
+        }
+        Opened::NotPlain => {
+            says::tell(rt, told::front(word, n), b"it is no plain file");
+            true
+        }
+        Opened::Failed(why) => {
+            says::fail(rt, told::front(word, n), b"it can't be opened", why);
+            true
+        }
     }
-    if fd < 0 {
-        says::fail(told::front(word, n), b"it can't be opened");
-        return true;
-    }
-    let is_sound = check_read(fd, told::front(word, n));
-    libc::close(fd);
-    is_sound
 }
 
-fn check_read(fd: i32, name: &[u8]) -> bool {
+fn check_read<F: Read>(rt: &impl Console, source: &mut Source<F>, name: &[u8]) -> bool {
     let mut sheet = [0u8; SHEET];
     let mut spare = [0u8; SHEET];
-    let got = fill_sheet(fd, &mut sheet);
+    let got = fill_sheet(source, &mut sheet);
     let Got::Bytes(n) = got else {
-        says::fail(name, b"it can't be read");
+        says::fail(rt, name, b"it can't be read", source.why);
         return true;
     };
-    check_bytes(name, &sheet, n, &mut spare)
+    check_bytes(rt, name, &sheet, n, &mut spare)
 }
 
-fn check_bytes(name: &[u8], sheet: &[u8; SHEET], n: usize, spare: &mut [u8; SHEET]) -> bool {
+fn check_bytes(
+    rt: &impl Console,
+    name: &[u8],
+    sheet: &[u8; SHEET],
+    n: usize,
+    spare: &mut [u8; SHEET],
+) -> bool {
     let sheet = told::front(sheet, n);
-    if !is_judged(name, sheet, spare) {
+    if !is_judged(rt, name, sheet, spare) {
         return true;
     }
-    says::put_sheet(name, texts::entries(sheet) as u64, n as u64)
+    says::put_sheet(rt, name, texts::entries(sheet) as u64, n as u64)
 }

@@ -26,6 +26,10 @@ use packet::two::Streams;
 use sheet_file::paths::Way;
 use sheet_file::placing::Placed;
 use sheet_file::{Stand, paths, placing};
+use std::env::Env;
+use std::random::RandomSource;
+use std::rt::Files;
+use told::Console;
 use words::Said;
 use words::numbers::{MOST, NO_NUMBER};
 use work::Work;
@@ -58,7 +62,7 @@ const DOWN: u8 = 5;
 const TURNS: usize = 17;
 
 // What is to be done: the task, and the setting in which captures are read.
-#[derive(Drop)]
+#[derive(Clone, Copy)]
 struct Job {
     task: u8,
     setting: Streams,
@@ -74,34 +78,37 @@ struct Visited {
     work: Work,
 }
 
-fn main() {
-    if command_line::is_first(b"--help") {
-        help::put();
+fn main(rt: HostRuntime) {
+    if command_line::is_first(&rt, b"--help") {
+        help::put(&rt);
         return;
     }
-    if command_line::is_first(b"--version") {
-        told::put_version(&help::PROGRAM);
+    if command_line::is_first(&rt, b"--version") {
+        told::put_version(&rt, &help::PROGRAM);
         return;
     }
-    let said = command_line::hear_all(&OPTIONS, &TASKS);
+    let said = command_line::hear_all(&rt, &OPTIONS, &TASKS);
     if !words::is_good(&TASKS, said) {
-        if !tell_stamp() {
-            says::usage();
+        if !tell_stamp(&rt) {
+            says::usage(&rt);
         }
         return;
     }
     if words::is_task(&TASKS, said, b"check") {
-        check_all();
+        check_all(&rt);
         return;
     }
     if words::is_task(&TASKS, said, b"compare") {
-        compare();
+        compare(&rt);
         return;
     }
-    change(Job {
-        task: task_of(said),
-        setting: command_line::setting(&OPTIONS, said),
-    });
+    change(
+        &rt,
+        Job {
+            task: task_of(said),
+            setting: command_line::setting(&OPTIONS, said),
+        },
+    );
 }
 
 fn task_of(said: Said) -> u8 {
@@ -121,14 +128,14 @@ fn task_of(said: Said) -> u8 {
 }
 
 // Tells of the first word that has to be a stamp and isn't. Answers whether there is one.
-fn tell_stamp() -> bool {
+fn tell_stamp(rt: &(impl Env + Console)) -> bool {
     let mut word = io::buffer();
-    let count = os::arg_count();
+    let count = told::argument_count(rt);
     let mut said = words::start(&TASKS);
     let mut i = 1;
     while i < count {
-        let heard = command_line::hear(&OPTIONS, &TASKS, said, i, &mut word);
-        if is_bad_stamp(heard.place, heard.long, &mut word) {
+        let heard = command_line::hear(rt, &OPTIONS, &TASKS, said, i, &mut word);
+        if is_bad_stamp(rt, heard.place, heard.long, &mut word) {
             return true;
         }
         said = heard.said;
@@ -137,7 +144,7 @@ fn tell_stamp() -> bool {
     false
 }
 
-fn is_bad_stamp(place: u8, n: usize, word: &mut [u8; 4096]) -> bool {
+fn is_bad_stamp(rt: &impl Console, place: u8, n: usize, word: &mut [u8; 4096]) -> bool {
     if place != b's' {
         return false;
     }
@@ -145,35 +152,35 @@ fn is_bad_stamp(place: u8, n: usize, word: &mut [u8; 4096]) -> bool {
         return false;
     }
     told::plain(word);
-    says::bad_stamp(told::front(word, n));
+    says::bad_stamp(rt, told::front(word, n));
     true
 }
 
 // Adds captures to a sheet, or joins sheets to it, all of them or none; drops an entry of it; or moves it. A link leads to the sheet's own place.
-fn change(job: Job) {
-    let named = word_of(b'f');
+fn change(rt: &(impl Env + Files + Alloc + RandomSource + Console), job: Job) {
+    let named = word_of(rt, b'f');
     let mut shown = io::buffer();
-    let m = told::argument(named, &mut shown);
+    let m = told::argument(rt, named, &mut shown);
     told::plain(&mut shown);
     let mut path = io::buffer();
-    let n = told::argument(named, &mut path);
-    let way = paths::follow(&mut path, n);
+    let n = told::argument(rt, named, &mut path);
+    let way = paths::follow(rt, &mut path, n);
     let path = told::front(&path, way.length);
     let shown = told::front(&shown, m);
-    if !is_place(way, path, shown) {
+    if !is_place(rt, way, path, shown) {
         return;
     }
-    change_at(job, way.linked, path, shown);
+    change_at(rt, job, way.linked, path, shown);
 }
 
 // Which word is the first name at a place.
-fn word_of(place: u8) -> usize {
+fn word_of(rt: &impl Env, place: u8) -> usize {
     let mut word = io::buffer();
-    let count = os::arg_count();
+    let count = told::argument_count(rt);
     let mut said = words::start(&TASKS);
     let mut i = 1;
     while i < count {
-        let heard = command_line::hear(&OPTIONS, &TASKS, said, i, &mut word);
+        let heard = command_line::hear(rt, &OPTIONS, &TASKS, said, i, &mut word);
         if heard.place == place {
             return i;
         }
@@ -184,9 +191,19 @@ fn word_of(place: u8) -> usize {
 }
 
 // Whether a sheet can stand where a name leads to, with a temporary file beside it. What is wrong is told.
-fn is_place(way: Way, path: &[u8], shown: &[u8]) -> bool {
+fn is_place(rt: &impl Console, way: Way, path: &[u8], shown: &[u8]) -> bool {
+    if let Some(why) = way.lost {
+        says::fail(
+            rt,
+            shown,
+            b"it leads through a link that can't be followed, and stays as it was",
+            why,
+        );
+        return false;
+    }
     if !way.ends {
         says::tell(
+            rt,
             shown,
             b"it leads through more than 40 links, and stays as it was",
         );
@@ -194,6 +211,7 @@ fn is_place(way: Way, path: &[u8], shown: &[u8]) -> bool {
     }
     if !paths::has_room(path) {
         says::tell(
+            rt,
             shown,
             b"its name is too long for a temporary file beside it, and it stays as it was",
         );
@@ -203,43 +221,57 @@ fn is_place(way: Way, path: &[u8], shown: &[u8]) -> bool {
 }
 
 // Reads the sheet at its path and judges it. Where tables are added, one that is missing is empty, but for one that a link names.
-fn change_at(job: Job, is_linked: bool, path: &[u8], shown: &[u8]) {
+fn change_at(
+    rt: &(impl Env + Files + RandomSource + Console),
+    job: Job,
+    is_linked: bool,
+    path: &[u8],
+    shown: &[u8],
+) {
     let mut base = [0u8; SHEET];
     let mut spare = [0u8; SHEET];
-    let stand = sheet_file::read(path, shown, &mut base);
+    let stand = sheet_file::read(rt, path, shown, &mut base);
     if !stand.sound {
         return;
     }
     if !stand.there {
         if is_linked {
             says::fail(
+                rt,
                 shown,
                 b"it is a link that names no file, and stays as it was",
+                stand.why,
             );
             return;
         }
         if job.task != ADD {
-            says::fail(shown, b"it can't be opened, and stays as it was");
+            says::fail(
+                rt,
+                shown,
+                b"it can't be opened, and stays as it was",
+                stand.why,
+            );
             return;
         }
     }
-    if !is_fit(job, shown, told::front(&base, stand.length), &mut spare) {
+    if !is_fit(rt, job, shown, told::front(&base, stand.length), &mut spare) {
         return;
     }
-    change_all(job, stand, path, shown, &mut base, &mut spare);
+    change_all(rt, job, stand, path, shown, &mut base, &mut spare);
 }
 
 // Whether a sheet is one to begin with. Where an entry is dropped, the call that drops it judges that, since one entry too many may be the one; and so does the call
 // that moves a sheet, which may have the old form.
-fn is_fit(job: Job, shown: &[u8], sheet: &[u8], spare: &mut [u8]) -> bool {
+fn is_fit(rt: &impl Console, job: Job, shown: &[u8], sheet: &[u8], spare: &mut [u8]) -> bool {
     if job.task >= DROP {
         return true;
     }
-    files::is_judged(shown, sheet, spare)
+    files::is_judged(rt, shown, sheet, spare)
 }
 
 // The work, and the work anew as long as the sheet has changed meanwhile.
 fn change_all(
+    rt: &(impl Env + Files + RandomSource + Console),
     job: Job,
     stand: Stand,
     path: &[u8],
@@ -251,29 +283,30 @@ fn change_all(
     let mut again = [0u8; SHEET];
     let mut kept = [0u8; KEPT];
     let mut stand = stand;
-    let mut work = visit_all(job, stand, shown, base, &mut sheet, spare, &mut kept);
+    let mut work = visit_all(rt, job, stand, shown, base, &mut sheet, spare, &mut kept);
     let mut left = TURNS;
     while left > 0 {
         left -= 1;
-        if is_idle(job, work) {
+        if is_idle(rt, job, work) {
             return;
         }
-        let placed = put(stand, work, path, shown, base, &sheet, &mut again);
+        let placed = put(rt, stand, work, path, shown, base, &sheet, &mut again);
         if placed.over {
-            finish(job, work, shown, placed.renamed);
+            finish(rt, job, work, shown, placed.renamed);
             return;
         }
         stand = placed.stand;
         work = redo(
-            job, stand, work, shown, &again, base, &mut sheet, spare, &mut kept,
+            rt, job, stand, work, shown, &again, base, &mut sheet, spare, &mut kept,
         );
     }
-    give_up(work, shown);
+    give_up(rt, work, shown);
 }
 
-fn give_up(work: Work, shown: &[u8]) {
+fn give_up(rt: &impl Console, work: Work, shown: &[u8]) {
     if work.sound {
         says::tell(
+            rt,
             shown,
             b"it changed sixteen times meanwhile, and stays as it is",
         );
@@ -281,7 +314,7 @@ fn give_up(work: Work, shown: &[u8]) {
 }
 
 // Whether nothing is to be put in the sheet's place: something failed, or no table came. Then the line is all.
-fn is_idle(job: Job, work: Work) -> bool {
+fn is_idle(rt: &impl Console, job: Job, work: Work) -> bool {
     if !work.sound {
         return true;
     }
@@ -291,11 +324,12 @@ fn is_idle(job: Job, work: Work) -> bool {
     if work.tables > 0 {
         return false;
     }
-    says::put_work(work, false);
+    says::put_work(rt, work, false);
     true
 }
 
 fn put(
+    rt: &(impl Files + RandomSource + Console),
     stand: Stand,
     work: Work,
     path: &[u8],
@@ -305,23 +339,24 @@ fn put(
     again: &mut [u8; SHEET],
 ) -> Placed {
     let sheet = told::front(sheet, work.length);
-    placing::put(stand, path, shown, base, sheet, again)
+    placing::put(rt, stand, path, shown, base, sheet, again)
 }
 
 // Prints the line where the new sheet stands.
-fn finish(job: Job, work: Work, shown: &[u8], is_renamed: bool) {
+fn finish(rt: &impl Console, job: Job, work: Work, shown: &[u8], is_renamed: bool) {
     if !is_renamed {
         return;
     }
     if job.task >= DROP {
-        says::put_left(shown, work);
+        says::put_left(rt, shown, work);
         return;
     }
-    says::put_work(work, true);
+    says::put_work(rt, work, true);
 }
 
 // Does the work anew on what stands in the sheet's place now.
 fn redo(
+    rt: &(impl Env + Files + Console),
     job: Job,
     stand: Stand,
     work: Work,
@@ -333,14 +368,15 @@ fn redo(
     kept: &mut [u8; KEPT],
 ) -> Work {
     lent_bytes::copy(again, 0, SHEET, base, 0);
-    if !is_fit(job, shown, told::front(again, stand.length), spare) {
+    if !is_fit(rt, job, shown, told::front(again, stand.length), spare) {
         return work::broken(work);
     }
     if job.task != ADD {
-        return visit_all(job, stand, shown, base, sheet, spare, kept);
+        return visit_all(rt, job, stand, shown, base, sheet, spare, kept);
     }
     if !work.whole {
         says::tell(
+            rt,
             shown,
             b"it changed meanwhile, and what came is too much to be added anew; it stays as it is",
         );
@@ -348,11 +384,18 @@ fn redo(
     }
     lent_bytes::copy(again, 0, SHEET, sheet, 0);
     let entries = texts::entries(told::front(again, stand.length)) as u64;
-    capture::add_again(work::anew(work, stand.length, entries), sheet, spare, kept)
+    capture::add_again(
+        rt,
+        work::anew(work, stand.length, entries),
+        sheet,
+        spare,
+        kept,
+    )
 }
 
 // Hears the words again, and does what each is for, beginning with the sheet that stands.
 fn visit_all(
+    rt: &(impl Env + Files + Console),
     job: Job,
     stand: Stand,
     shown: &[u8],
@@ -362,7 +405,7 @@ fn visit_all(
     kept: &mut [u8; KEPT],
 ) -> Work {
     lent_bytes::copy(base, 0, SHEET, sheet, 0);
-    let count = os::arg_count();
+    let count = told::argument_count(rt);
     let mut visited = Visited {
         said: words::start(&TASKS),
         stamp: 0,
@@ -372,7 +415,7 @@ fn visit_all(
     };
     let mut i = 1;
     while i < count {
-        visited = visit(visited, i, job, shown, sheet, spare, kept);
+        visited = visit(rt, visited, i, job, shown, sheet, spare, kept);
         i += 1;
     }
     visited.work
@@ -385,6 +428,7 @@ fn start(stand: Stand, base: &[u8; SHEET]) -> Work {
 
 // Hears a word again, and does what it is for, unless something failed before.
 fn visit(
+    rt: &(impl Env + Files + Console),
     visited: Visited,
     i: usize,
     job: Job,
@@ -394,7 +438,7 @@ fn visit(
     kept: &mut [u8; KEPT],
 ) -> Visited {
     let mut word = io::buffer();
-    let heard = command_line::hear(&OPTIONS, &TASKS, visited.said, i, &mut word);
+    let heard = command_line::hear(rt, &OPTIONS, &TASKS, visited.said, i, &mut word);
     let n = heard.long;
     let place = heard.place;
     let said = heard.said;
@@ -404,7 +448,7 @@ fn visit(
         b'b' => {
             let block = block_of(&word, n);
             let network = visited.network;
-            visited.work = files::drop(shown, network, visited.kind, block, work, sheet, spare);
+            visited.work = files::drop(rt, shown, network, visited.kind, block, work, sheet, spare);
             visited
         }
         b'c' => {
@@ -413,6 +457,7 @@ fn visit(
                 word: i,
             };
             visited.work = capture::open(
+                rt,
                 &mut word,
                 n,
                 source,
@@ -425,11 +470,11 @@ fn visit(
             visited
         }
         b'o' => {
-            visited.work = files::open_other(&mut word, n, work, sheet, spare);
+            visited.work = files::open_other(rt, &mut word, n, work, sheet, spare);
             visited
         }
         b'f' => {
-            visited.work = move_sheet(job.task, shown, work, sheet, spare);
+            visited.work = move_sheet(rt, job.task, shown, work, sheet, spare);
             visited
         }
         _ => visited,
@@ -438,6 +483,7 @@ fn visit(
 
 // The sheet itself is heard: it is moved, where that is the task.
 fn move_sheet(
+    rt: &impl Console,
     task: u8,
     shown: &[u8],
     work: Work,
@@ -445,10 +491,10 @@ fn move_sheet(
     spare: &mut [u8; SHEET],
 ) -> Work {
     if task == UP {
-        return moving::up(shown, work, sheet, spare);
+        return moving::up(rt, shown, work, sheet, spare);
     }
     if task == DOWN {
-        return moving::down(shown, work, sheet, spare);
+        return moving::down(rt, shown, work, sheet, spare);
     }
     work
 }
@@ -480,35 +526,35 @@ fn block_of(word: &[u8; 4096], n: usize) -> u16 {
 }
 
 // Looks at each sheet that is named, and goes on after one that is refused.
-fn check_all() {
+fn check_all(rt: &(impl Env + Files + Console)) {
     let mut word = io::buffer();
-    let count = os::arg_count();
+    let count = told::argument_count(rt);
     let mut said = words::start(&TASKS);
     let mut is_sound = true;
     let mut i = 1;
     while i < count {
-        let heard = command_line::hear(&OPTIONS, &TASKS, said, i, &mut word);
+        let heard = command_line::hear(rt, &OPTIONS, &TASKS, said, i, &mut word);
         said = heard.said;
         if is_sound {
-            is_sound = check(heard.place, heard.long, &mut word);
+            is_sound = check(rt, heard.place, heard.long, &mut word);
         }
         i += 1;
     }
 }
 
 // Answers whether standard output still takes what is written.
-fn check(place: u8, n: usize, word: &mut [u8; 4096]) -> bool {
+fn check(rt: &(impl Files + Console), place: u8, n: usize, word: &mut [u8; 4096]) -> bool {
     if place == b'f' {
-        return files::check(word, n);
+        return files::check(rt, word, n);
     }
     true
 }
 
 // Holds two sheets side by side.
-fn compare() {
+fn compare(rt: &(impl Env + Files + Console)) {
     let mut name = io::buffer();
-    let n = told::argument(word_of(b'f'), &mut name);
+    let n = told::argument(rt, word_of(rt, b'f'), &mut name);
     let mut other = io::buffer();
-    let m = told::argument(word_of(b'o'), &mut other);
-    comparing::compare(&mut name, n, &mut other, m);
+    let m = told::argument(rt, word_of(rt, b'o'), &mut other);
+    comparing::compare(rt, &mut name, n, &mut other, m);
 }

@@ -4,6 +4,7 @@ use crate::work::Work;
 use crate::{says, work};
 use answer::Answer;
 use sheet_entry::Form;
+use told::Console;
 
 // Whether a sheet has a form, and is within its limits.
 pub fn is_of(form: Form, sheet: &[u8]) -> bool {
@@ -15,24 +16,30 @@ pub fn is_of(form: Form, sheet: &[u8]) -> bool {
 }
 
 // Moves the sheet to the new form.
-pub fn up(shown: &[u8], work: Work, sheet: &mut [u8], spare: &mut [u8]) -> Work {
+pub fn up(rt: &impl Console, shown: &[u8], work: Work, sheet: &mut [u8], spare: &mut [u8]) -> Work {
     let answer = sheet_moves::up(told::front(sheet, work.length), spare);
     match answer {
         Answer::Done(n) => moved(n, work, sheet, spare),
         Answer::Refused(r) => {
-            says::refuse_up(shown, r.no, r.at, told::front(sheet, work.length));
+            says::refuse_up(rt, shown, r.no, r.at, told::front(sheet, work.length));
             work::broken(work)
         }
     }
 }
 
 // Moves the sheet to the old form.
-pub fn down(shown: &[u8], work: Work, sheet: &mut [u8], spare: &mut [u8]) -> Work {
+pub fn down(
+    rt: &impl Console,
+    shown: &[u8],
+    work: Work,
+    sheet: &mut [u8],
+    spare: &mut [u8],
+) -> Work {
     let answer = sheet_moves::down(told::front(sheet, work.length), spare);
     match answer {
         Answer::Done(n) => moved(n, work, sheet, spare),
         Answer::Refused(r) => {
-            says::refuse_down(shown, r.no, r.at, told::front(sheet, work.length));
+            says::refuse_down(rt, shown, r.no, r.at, told::front(sheet, work.length));
             work::broken(work)
         }
     }

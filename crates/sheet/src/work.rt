@@ -1,6 +1,6 @@
 // What was done so far, as its last line counts it, and what of the tables is kept.
 
-#[derive(Drop)]
+#[derive(Clone, Copy)]
 pub struct Work {
     // Whether nothing failed.
     pub sound: bool,

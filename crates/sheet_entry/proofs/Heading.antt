@@ -126,6 +126,8 @@ pub lines_read :
     {ls : List HeadLine} {fs : List (ℕ → Bool)} → Faithfuls ls fs → (vs rest : List ℕ) → Fit fs vs
     → lines_at ls (spelled_by ls vs ++ rest) ≡ record { items = vs; fine = true; long = length (spelled_by ls vs) }
 unfolding spelled_by
+lines_read no_lines (v ∷ vs) rest x5 = elim x5 [ ]
+lines_read (and-line {l = l} {ls = ls} {f = f} {fs = fs} k ks) [] rest x6 = elim x6 [ ]
 lines_read no_lines [] rest no-values = no_more rest
 lines_read (and-line {l} {ls} k ks) (v ∷ vs) rest (and-value p ps) =
     let t = l.text v in

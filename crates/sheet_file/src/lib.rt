@@ -1,7 +1,7 @@
 // The day sheet's file: what stands at its path is read, and another takes its place whole or not at all (SCOPE 20.16). `paths` finds where it is,
 // `modes` what it is, `placing` puts the new one there. What the file says is none of this room's.
 //
-// What fails is told, in the name of the program that keeps the sheet, where it fails: errno is lost behind the next call.
+// What fails is told, in the name of the program that keeps the sheet, where it fails.
 #![tactic(auto)]
 
 pub mod modes;
@@ -9,31 +9,34 @@ pub mod paths;
 pub mod placing;
 pub mod says;
 
-use captures::Got;
-use modes::NOT_PLAIN;
+use captures::{Got, Source};
+use modes::Opened;
+use std::fs::OpenFile;
+use std::io::{Error, ErrorKind, Read};
+use std::rt::Files;
+use told::{Console, failures};
 
-// What stands in the sheet's place: whether it could be read, whether there is a file, its mode, and how many bytes were read of it.
-#[derive(Drop)]
+// What stands in the sheet's place: whether it could be read, whether there is a file, its mode, how many bytes were read of it, and where there
+// is none why it can't be opened.
+#[derive(Clone, Copy)]
 pub struct Stand {
     pub sound: bool,
     pub there: bool,
     pub mode: u32,
     pub length: usize,
+    pub why: Error,
 }
 
 // Reads what stands at the sheet's path. What can't be read, or is no plain file, is told.
-pub fn read(path: &[u8], shown: &[u8], sheet: &mut [u8]) -> Stand {
-    let fd = modes::open_plain(path);
-    if fd == NOT_PLAIN {
-        says::tell(shown, b"it is no plain file, and stays as it was");
-        return unread();
+pub fn read(rt: &(impl Files + Console), path: &[u8], shown: &[u8], sheet: &mut [u8]) -> Stand {
+    match modes::open_plain(rt, path) {
+        Opened::Plain(file) => fill(rt, file, shown, sheet),
+        Opened::NotPlain => {
+            says::tell(rt, shown, b"it is no plain file, and stays as it was");
+            unread()
+        }
+        Opened::Failed(why) => missing(rt, path, shown, why),
     }
-    if fd < 0 {
-        return missing(path, shown);
-    }
-    let stand = fill(fd, shown, sheet);
-    libc::close(fd);
-    stand
 }
 
 fn unread() -> Stand {
@@ -42,32 +45,45 @@ fn unread() -> Stand {
         there: false,
         mode: 0,
         length: 0,
+        why: failures::none(),
     }
 }
 
 // What can't be opened: there is no such file, or it is told.
-fn missing(path: &[u8], shown: &[u8]) -> Stand {
+fn missing(rt: &impl Console, path: &[u8], shown: &[u8], why: Error) -> Stand {
     let mut stand = unread();
-    stand.sound = is_none(path);
+    stand.sound = is_none(path, why);
+    stand.why = why;
     if !stand.sound {
-        says::fail(shown, b"it can't be opened, and stays as it was");
+        says::fail(rt, shown, b"it can't be opened, and stays as it was", why);
     }
     stand
 }
 
 // Whether an open failed because there is no such file. An empty name is none's.
-fn is_none(path: &[u8]) -> bool {
+fn is_none(path: &[u8], why: Error) -> bool {
     if path.len() == 0 {
         return false;
     }
-    os::errno() == libc::ENOENT
+    why.kind() == ErrorKind::NotFound
 }
 
-fn fill(fd: i32, shown: &[u8], sheet: &mut [u8]) -> Stand {
-    let mode = modes::of(fd);
-    let got = captures::fill(fd, sheet);
+fn fill<F: Read + OpenFile + Drop>(
+    rt: &impl Console,
+    file: F,
+    shown: &[u8],
+    sheet: &mut [u8],
+) -> Stand {
+    let mode = modes::of(&file);
+    let mut source = Source::new(file);
+    let got = captures::fill(&mut source, sheet);
     let Got::Bytes(length) = got else {
-        says::fail(shown, b"it can't be read, and stays as it was");
+        says::fail(
+            rt,
+            shown,
+            b"it can't be read, and stays as it was",
+            source.why,
+        );
         return unread();
     };
     Stand {
@@ -75,5 +91,6 @@ fn fill(fd: i32, shown: &[u8], sheet: &mut [u8]) -> Stand {
         there: true,
         mode,
         length,
+        why: failures::none(),
     }
 }

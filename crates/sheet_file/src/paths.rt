@@ -1,8 +1,13 @@
 // Where the sheet's file is: links are followed to it, and the temporary file is made beside it (SCOPE 20.16).
 ghost use Rattle.std.specs.Prelude.{◌≤◌, length};
 
-use crate::modes;
 use crate::modes::PATH;
+use std::fs;
+use std::fs::{OpenFile, OpenOptions};
+use std::io::{Error, ErrorKind, Result};
+use std::random::RandomSource;
+use std::rt::Files;
+use told::failures;
 
 // So many links are followed.
 const LINKS: usize = 40;
@@ -16,51 +21,80 @@ const NAME: usize = 255;
 // How often a temporary file's name is tried that is taken.
 const TRIES: usize = 100;
 
-// Where a name leads to: how long the path is, whether it leads through a link, and whether it leads to an end.
-#[derive(Drop)]
+// Where a name leads to: how long the path is, whether it leads through a link, whether it leads to an end, and why a link on it can't be followed.
+#[derive(Clone, Copy)]
 pub struct Way {
     pub length: usize,
     pub linked: bool,
     pub ends: bool,
+    pub lost: Option<Error>,
+}
+
+// What a path is: no link, a link that leads on so far, or one that can't be followed: no memory is left, or what it says isn't UTF-8, and
+// std takes no such path.
+#[derive(Drop)]
+enum Link {
+    None,
+    To(usize),
+    Lost(Error),
 }
 
 // Puts the path that the first n bytes lead to in their place. Each link counts from its own folder.
-pub fn follow(path: &mut [u8], n: usize) -> Way {
-    let mut target = io::buffer();
+pub fn follow(rt: &(impl Files + Alloc), path: &mut [u8], n: usize) -> Way {
     let mut way = Way {
         length: n,
         linked: false,
         ends: false,
+        lost: None,
     };
     let mut left = LINKS + 1;
     while left > 0 {
         left -= 1;
-        let long = read_link(path, way.length, &mut target);
-        if long == 0 {
-            way.ends = true;
-            return way;
+        match go(rt, path, way.length) {
+            Link::None => {
+                way.ends = true;
+                return way;
+            }
+            Link::To(length) => {
+                way.length = length;
+                way.linked = true;
+            }
+            Link::Lost(why) => {
+                way.lost = Some(why);
+                return way;
+            }
         }
-        way.length = go(path, way.length, &target, long);
-        way.linked = true;
     }
     way
 }
 
-// Reads what a link says, and answers how long that is: 0 where it is no link.
-fn read_link(path: &[u8], n: usize, target: &mut [u8]) -> usize {
+// Puts what a link says in the place of its own name.
+fn go(rt: &(impl Files + Alloc), path: &mut [u8], n: usize) -> Link {
     if PATH <= n {
-        return 0;
+        return Link::None;
     }
-    let path = modes::ended(told::front(path, n));
-    let got = libc::readlink(&path, target);
-    io::count(got, target)
+    let Ok(name) = told::path(told::front(path, n)) else {
+        return Link::None;
+    };
+    match fs::read_link(rt, name) {
+        Ok(target) => go_on(path, n, target.as_str().as_bytes()),
+        Err(e) => {
+            // what is no link, or can't be asked
+            if e.raw_os_error().is_some() {
+                return Link::None;
+            }
+            Link::Lost(e)
+        }
+    }
 }
 
-// Puts what a link says in the place of its own name, and answers how long the path is then.
-fn go(path: &mut [u8], n: usize, target: &[u8], long: usize) -> usize {
-    let at = begins_at(told::front(path, n), told::front(target, long));
-    lent_bytes::copy(target, 0, long, path, at);
-    plus(at, long)
+fn go_on(path: &mut [u8], n: usize, target: &[u8]) -> Link {
+    if target.len() == 0 {
+        return Link::None;
+    }
+    let at = begins_at(told::front(path, n), target);
+    lent_bytes::copy(target, 0, target.len(), path, at);
+    Link::To(plus(at, target.len()))
 }
 
 // Where the words of a link begin: behind the folder of the link, or at the root.
@@ -89,12 +123,12 @@ fn name_at(path: &[u8]) -> usize
 }
 
 // Opens the folder of a path for reading.
-fn open_folder(path: &[u8]) -> i32 {
+fn open_folder<R: Files>(rt: &R, path: &[u8]) -> Result<R::File> {
     let at = name_at(path);
     if at == 0 {
-        return os::open_read(b".");
+        return told::open(rt, b".");
     }
-    os::open_read(&path[0..at])
+    told::open(rt, &path[0..at])
 }
 
 // Whether a temporary file's name beside the path is short enough.
@@ -105,28 +139,33 @@ pub fn has_room(path: &[u8]) -> bool {
     temp_length(path.len() - name_at(path)) <= NAME
 }
 
-// Makes a new file beside the path that stands in the first n bytes, under a name of our own, and answers a descriptor, or -1. Behind the
-// path stands what its name has more.
-pub(crate) fn create_beside(temp: &mut [u8], n: usize) -> i32 {
+// Makes a new file beside the path that stands in the first n bytes, under a name of our own, open for writing. Behind the path stands what
+// its name has more.
+pub(crate) fn create_beside<R: Files + RandomSource>(
+    rt: &R,
+    temp: &mut [u8],
+    n: usize,
+) -> Result<R::File> {
+    let mut why = failures::none();
     let mut left = TRIES;
     while left > 0 {
         left -= 1;
-        let fd = create(temp, n);
-        if fd >= 0 {
-            return fd;
-        }
-        if os::errno() != libc::EEXIST {
-            return -1;
+        match create(rt, temp, n) {
+            Ok(file) => return Ok(file),
+            Err(e) => {
+                why = e;
+                if e.kind() != ErrorKind::AlreadyExists {
+                    return Err(e);
+                }
+            }
         }
     }
-    -1
+    Err(why)
 }
 
-fn create(temp: &mut [u8], n: usize) -> i32 {
+fn create<R: Files + RandomSource>(rt: &R, temp: &mut [u8], n: usize) -> Result<R::File> {
     let mut more = [0u8; 6];
-    if libc::getentropy(&mut more) < 0 {
-        return -1;
-    }
+    rt.fill_bytes(&mut more)?;
     let name = [
         b'.',
         letter(more[0]),
@@ -137,7 +176,11 @@ fn create(temp: &mut [u8], n: usize) -> i32 {
         letter(more[5]),
     ];
     lent_bytes::copy(&name, 0, MORE, temp, n);
-    os::create(told::front(temp, temp_length(n)))
+    let path = told::path(told::front(temp, temp_length(n)))?;
+    OpenOptions::new()
+        .write(true)
+        .create_new(true)
+        .open(rt, path)
 }
 
 // How long a temporary file's path is.
@@ -157,13 +200,8 @@ fn letter(b: u8) -> u8 {
     b'a' + b % 26
 }
 
-// Syncs the folder of a path, and answers whether that was done. A new name stands after a power cut only then.
-pub(crate) fn is_folder_synced(path: &[u8]) -> bool {
-    let fd = open_folder(path);
-    if fd < 0 {
-        return false;
-    }
-    let done = libc::fsync(fd) == 0;
-    libc::close(fd);
-    done
+// Syncs the folder of a path. A new name stands after a power cut only then.
+pub(crate) fn sync_folder(rt: &impl Files, path: &[u8]) -> Result<()> {
+    let folder = open_folder(rt, path)?;
+    folder.sync_all()
 }

@@ -1,6 +1,13 @@
 // The new sheet takes the place of the old one, whole or not at all: it goes to a temporary file beside it, which is written, synced and closed;
 // then the old one is read once more; then the new one is renamed over it, and the folder is synced (SCOPE 20.16). The line is the caller's to print.
 use crate::{Stand, modes, paths, says};
+use std::fs;
+use std::fs::{OpenFile, Permissions};
+use std::io::{Result, Write};
+use std::os::unix::fs::PermissionsExt;
+use std::random::RandomSource;
+use std::rt::Files;
+use told::Console;
 
 // How it went: whether it is over, done or failed and told; whether the temporary file has taken the sheet's place; and what stood there
 // when the sheet was read once more. It isn't over where that is another than it was.
@@ -13,6 +20,7 @@ pub struct Placed {
 
 // Puts the new sheet in the place of what was read at its path, which was the first bytes of `base`. What stands there now is left in `again`.
 pub fn put(
+    rt: &(impl Files + RandomSource + Console),
     stand: Stand,
     path: &[u8],
     shown: &[u8],
@@ -22,23 +30,47 @@ pub fn put(
 ) -> Placed {
     let mut temp = io::buffer();
     lent_bytes::copy(path, 0, path.len(), &mut temp, 0);
-    let fd = paths::create_beside(&mut temp, path.len());
-    if fd < 0 {
-        says::fail(
-            shown,
-            b"no file can be made beside it, and it stays as it was",
-        );
-        return failed(stand);
+    match paths::create_beside(rt, &mut temp, path.len()) {
+        Ok(file) => {
+            let temp = told::front(&temp, paths::temp_length(path.len()));
+            put_by(rt, file, stand, path, shown, temp, base, sheet, again)
+        }
+        Err(e) => {
+            says::fail(
+                rt,
+                shown,
+                b"no file can be made beside it, and it stays as it was",
+                e,
+            );
+            failed(stand)
+        }
     }
-    let temp = told::front(&temp, paths::temp_length(path.len()));
-    let placed = put_in(fd, stand, path, shown, temp, base, sheet, again);
+}
+
+// The temporary file is made. Where it doesn't take the sheet's place it goes.
+fn put_by<R: Files + Console>(
+    rt: &R,
+    file: R::File,
+    stand: Stand,
+    path: &[u8],
+    shown: &[u8],
+    temp: &[u8],
+    base: &[u8],
+    sheet: &[u8],
+    again: &mut [u8],
+) -> Placed {
+    let placed = put_in(rt, file, stand, path, shown, temp, base, sheet, again);
     if placed.renamed {
         return placed;
     }
-    if os::unlink(temp) < 0 {
-        says::fail(shown, b"a temporary file is left beside it");
+    if let Err(e) = remove(rt, temp) {
+        says::fail(rt, shown, b"a temporary file is left beside it", e);
     }
     placed
+}
+
+fn remove(rt: &impl Files, path: &[u8]) -> Result<()> {
+    fs::remove_file(rt, told::path(path)?)
 }
 
 fn failed(stand: Stand) -> Placed {
@@ -49,8 +81,9 @@ fn failed(stand: Stand) -> Placed {
     }
 }
 
-fn put_in(
-    fd: i32,
+fn put_in<R: Files + Console>(
+    rt: &R,
+    file: R::File,
     stand: Stand,
     path: &[u8],
     shown: &[u8],
@@ -59,31 +92,43 @@ fn put_in(
     sheet: &[u8],
     again: &mut [u8],
 ) -> Placed {
-    if !is_written(fd, stand, shown, sheet) {
+    if let Err(e) = write(file, stand, sheet) {
+        says::fail(
+            rt,
+            shown,
+            b"the new sheet can't be written, and it stays as it was",
+            e,
+        );
         return failed(stand);
     }
-    let now = crate::read(path, shown, again);
+    let now = crate::read(rt, path, shown, again);
     if !now.sound {
         return failed(stand);
     }
     if !is_as_it_was(stand, now, base, again) {
-        return changed(now, stand.there, shown);
+        return changed(rt, now, stand.there, shown);
     }
-    if os::rename(temp, path) < 0 {
+    if let Err(e) = rename(rt, temp, path) {
         says::fail(
+            rt,
             shown,
             b"the new sheet can't take its place, and it stays as it was",
+            e,
         );
         return failed(stand);
     }
-    if !paths::is_folder_synced(path) {
-        says::note_unsynced(shown);
+    if let Err(e) = paths::sync_folder(rt, path) {
+        says::note_unsynced(rt, shown, e);
     }
     Placed {
         over: true,
         renamed: true,
         stand,
     }
+}
+
+fn rename(rt: &impl Files, from: &[u8], to: &[u8]) -> Result<()> {
+    fs::rename(rt, told::path(from)?, told::path(to)?)
 }
 
 // Whether what stands there now is what was read before.
@@ -105,10 +150,10 @@ fn is_as_it_was(stand: Stand, now: Stand, base: &[u8], again: &[u8]) -> bool {
 }
 
 // Another sheet stands there now. One that went away is a failure.
-fn changed(now: Stand, was_there: bool, shown: &[u8]) -> Placed {
+fn changed(rt: &impl Console, now: Stand, was_there: bool, shown: &[u8]) -> Placed {
     let is_gone = was_there && !now.there;
     if is_gone {
-        says::tell(shown, b"it went away meanwhile, and none is made");
+        says::tell(rt, shown, b"it went away meanwhile, and none is made");
     }
     Placed {
         over: is_gone,
@@ -117,34 +162,12 @@ fn changed(now: Stand, was_there: bool, shown: &[u8]) -> Placed {
     }
 }
 
-fn is_written(fd: i32, stand: Stand, shown: &[u8], sheet: &[u8]) -> bool {
-    if !is_synced(fd, stand, sheet) {
-        says::fail(
-            shown,
-            b"the new sheet can't be written, and it stays as it was",
-        );
-        libc::close(fd);
-        return false;
-    }
-    if libc::close(fd) < 0 {
-        says::fail(
-            shown,
-            b"the new sheet can't be written, and it stays as it was",
-        );
-        return false;
-    }
-    true
-}
-
-// A sheet that stands keeps its mode, which is set before a byte of it is written.
-fn is_synced(fd: i32, stand: Stand, sheet: &[u8]) -> bool {
+// Writes the new sheet, syncs it and closes it. A sheet that stands keeps its mode, which is set before a byte of it is written.
+fn write<F: Write + OpenFile + Drop>(file: F, stand: Stand, sheet: &[u8]) -> Result<()> {
+    let mut file = file;
     if stand.there {
-        if libc::fchmod(fd, modes::rights(stand.mode)) < 0 {
-            return false;
-        }
+        file.set_permissions(Permissions::from_mode(modes::rights(stand.mode)))?;
     }
-    if !io::write_all(fd, sheet) {
-        return false;
-    }
-    libc::fsync(fd) == 0
+    file.write_all(sheet)?;
+    file.sync_all()
 }

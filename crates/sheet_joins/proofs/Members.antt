@@ -16,6 +16,7 @@ use Rattle.sheet_joins.specs.Work.{In, here, there, Same}
 -- ---- members
 
 pub each_in : {B : Type 0} {P : B → Type 0} {x : B} {xs : List B} → Each P xs → In x xs → P x
+each_in {B = B} {P = P} nil x4 = elim x4 [ ]
 each_in (and p e) here = p
 each_in (and p e) (there i) = each_in e i
 
@@ -24,6 +25,7 @@ in_map f here = here
 in_map f (there i) = there (in_map f i)
 
 pub in_one_lem : {B : Type 0} {x y : B} → In x (y ∷ []) → x ≡ y
+in_one_lem {B = B} {y = y} (there x4) = elim x4 [ ]
 in_one_lem here = refl
 
 pub same_map : {B C : Type 0} (f : B → C) {xs ys : List B} → Same xs ys → Same (map f xs) (map f ys)
@@ -42,6 +44,7 @@ module _ {B : Type 0} where
   all_in (x ∷ xs) = and here (more-in (all_in xs))
 
   in_order : {x : B} {xs ys : List B} → Reordered xs ys → In x xs → In x ys
+  in_order none i = elim i [ ]
   in_order (keep r) here = here
   in_order (keep r) (there i) = there (in_order r i)
   in_order swap here = there here
@@ -79,6 +82,7 @@ module _ {A : Type 0} (key : A → ℕ) (Fit : A → Type 0) (leq : A → A → 
   -- one that is among them adds nothing
   one-adds : {xs : List A} {xss : List (List A)} → Each Sound xss → In xs xss → join xs (all xss) ≡ all xss
   unfolding merge_all
+  one-adds {xs = xs} nil x3 = elim x3 [ ]
   one-adds (and {a = xs} {l = xss} g e) here =
       either-grouping key Fit leq d g g (good-all key Fit leq d e)
       ∙ ap (λ (l : List A). join l (all xss)) (join-itself key Fit leq d 0 xs g.rises)
@@ -91,7 +95,7 @@ module _ {A : Type 0} (key : A → ℕ) (Fit : A → Type 0) (leq : A → A → 
       ∙ ap (join ys) (one-adds e i)
 
   -- and so do any that are
-  some-add : {xss yss : List (List A)} → Each Sound yss → Each (λ (xs : List A). In xs yss) xss → join (all xss) (all yss) ≡ all yss
+  some-add : {yss xss : List (List A)} → Each Sound yss → Each (λ (xs : List A). In xs yss) xss → join (all xss) (all yss) ≡ all yss
   unfolding merge_all merge
   some-add f nil = refl
   some-add f (and {a = xs} {l = xss} i e) =

@@ -22,7 +22,7 @@ use Rattle.sheet_joins.specs.Joining.{at_most, joined}
 use Rattle.day_sheet.specs.Calls.{entries_of}
 use Rattle.day_sheet.specs.Reading.{InForm}
 use Rattle.sheet_joins.specs.AnyOrder.{Joins, size_of, sheet_of_one}
-use Rattle.sheet_joins.specs.Work.{Work, sheets_of, Wrote, stood, joined as work_joined, added, Ready, in_form_lem, each, takes, In, here, there, bytes_of, AllTogether}
+use Rattle.sheet_joins.specs.Work.{Work, sheets_of, Wrote, stood, joined as work_joined, added, Ready, in_form, each, takes, In, here, there, bytes_of, AllTogether}
 use Rattle.day_sheet.proofs.Exact.{read-written}
 use Rattle.day_sheet.proofs.Fronts.{Fit}
 use Rattle.sheet_joins.proofs.AnyOrder.{decides, sheet-of, sheet-joined, text-length, joins}
@@ -55,7 +55,7 @@ module _ {A : Type 0} (key : A → ℕ) where
   abbrev Among : List ℕ → List A → Type 0
   Among ks xs = Each (λ (x : A). In (key x) ks) xs
 
-  above_in : (l : ℕ) {k : ℕ} {ks : List ℕ} {xs : List A} → rising_from key l xs ≡ true → Among ks xs → (i : In k ks) → k < l → Among (but i) xs
+  above_in : {ks : List ℕ} (l : ℕ) {k : ℕ} {xs : List A} → rising_from key l xs ≡ true → Among ks xs → (i : In k ks) → k < l → Among (but i) xs
   above_in l r nil i h = nil
   above_in l r (and {a = x} {l = xs} j e) i h =
       let f = rising-first key l x xs r in
@@ -147,7 +147,7 @@ module _ (form : Form) where
         {w : Work} → Ready form w → Each (λ (sheet : List ℕ). Keyed (entries_of form sheet)) (sheets_of form w) → bytes_of (sheets_of form w) ≤ byte_limit form
         → (es : List Entry) × Wrote form w (sheet_text form es) × Small (sheets_of form w) es
     unfolding sheets_of
-    accept (in_form_lem {sheet} f) k h =
+    accept (in_form {sheet} f) k h =
         (entries_of form sheet, rw (sym (read-written form sheet 0 f).0) (stood sheet), small_one sheet f (each_first k))
     accept (each {v} {w} r q) k h =
         let b = bytes_append (sheets_of form v) (sheets_of form w) in

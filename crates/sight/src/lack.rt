@@ -6,6 +6,7 @@ use crate::Sight;
 use packet::PACKET;
 use packet::two::Streams;
 use survey::seen::NO_PAGE;
+use told::Console;
 
 // Whether bytes came and no packet 0 of our page.
 pub fn is_lacking(sight: Sight) -> bool
@@ -18,45 +19,51 @@ pub fn is_lacking(sight: Sight) -> bool
 }
 
 // Goes on behind a name in a line on standard error: what didn't come, and what the bytes may be.
-pub fn say(setting: Streams, sight: Sight, pages: &[u16], is_short: bool) {
-    told::say_count(b": no packet 0 of magazine ", setting.magazine as u64);
-    told::say(b", page ");
-    told::say_hex(setting.page as u64, 2);
-    told::say_count(b", stream ", setting.first as u64);
+pub fn say(rt: &impl Console, setting: Streams, sight: Sight, pages: &[u16], is_short: bool) {
+    told::say_count(rt, b": no packet 0 of magazine ", setting.magazine as u64);
+    told::say(rt, b", page ");
+    told::say_hex(rt, setting.page as u64, 2);
+    told::say_count(rt, b", stream ", setting.first as u64);
     if setting.first != setting.second {
-        told::say_count(b" or ", setting.second as u64);
+        told::say_count(rt, b" or ", setting.second as u64);
     }
-    told::say(b" came");
-    guess(sight, pages, is_short);
+    told::say(rt, b" came");
+    guess(rt, sight, pages, is_short);
 }
 
 // What the bytes may be: the surest first.
-fn guess(sight: Sight, pages: &[u16], is_short: bool) {
+fn guess(rt: &impl Console, sight: Sight, pages: &[u16], is_short: bool) {
     if sight.pes {
-        told::say(b"; it begins with 00 00 01 BD and may be a PES file: unpes reads those");
+        told::say(
+            rt,
+            b"; it begins with 00 00 01 BD and may be a PES file: unpes reads those",
+        );
         return;
     }
     if sight.plain < PACKET {
-        told::say(b"; its packets may be out of step: they fit");
-        say_place(sight.plain);
+        told::say(rt, b"; its packets may be out of step: they fit");
+        say_place(rt, sight.plain);
         return;
     }
     if sight.turned < PACKET {
-        told::say(b"; its bits may be turned about: turned bytes fit");
-        say_place(sight.turned);
+        told::say(rt, b"; its bits may be turned about: turned bytes fit");
+        say_place(rt, sight.turned);
         return;
     }
-    guess_pages(pages);
+    guess_pages(rt, pages);
     if is_short {
-        told::say(b"; its packets may be out of step: its length isn't a multiple of 42");
+        told::say(
+            rt,
+            b"; its packets may be out of step: its length isn't a multiple of 42",
+        );
     }
 }
 
 // From which byte on packets fit, unless it is the first.
-fn say_place(place: usize) {
+fn say_place(rt: &impl Console, place: usize) {
     if place > 0 {
-        told::say_count(b" from byte ", place as u64);
-        told::say(b" on");
+        told::say_count(rt, b" from byte ", place as u64);
+        told::say(rt, b" on");
     }
 }
 
@@ -64,16 +71,16 @@ fn say_place(place: usize) {
 const OTHERS: usize = 2;
 
 // The pages that came, behind our own.
-fn guess_pages(pages: &[u16]) {
+fn guess_pages(rt: &impl Console, pages: &[u16]) {
     if is_none(pages) {
-        told::say(b"; nor did one of another page");
+        told::say(rt, b"; nor did one of another page");
         return;
     }
-    told::say(b"; it may be another magazine, page or stream: seen");
+    told::say(rt, b"; it may be another magazine, page or stream: seen");
     let mut i = OTHERS;
     while i < pages.len() {
         if pages[i] != NO_PAGE {
-            say_page(pages[i]);
+            say_page(rt, pages[i]);
         }
         i += 1;
     }
@@ -87,10 +94,10 @@ fn is_none(pages: &[u16]) -> bool {
 }
 
 // A page that came, as survey::note has it: magazine, page and stream, as in 1df/2.
-fn say_page(code: u16) {
-    told::say_count(b" ", magazine(code / 4096) as u64);
-    told::say_hex((code / 16 % 256) as u64, 2);
-    told::say_count(b"/", (code % 16) as u64);
+fn say_page(rt: &impl Console, code: u16) {
+    told::say_count(rt, b" ", magazine(code / 4096) as u64);
+    told::say_hex(rt, (code / 16 % 256) as u64, 2);
+    told::say_count(rt, b"/", (code % 16) as u64);
 }
 
 // Magazine 8 is sent as 0.

@@ -2,14 +2,20 @@
 // name. Every write to standard output is looked at: the first that doesn't take all is told, and the caller stops.
 #![tactic(auto)]
 
+mod console;
+pub mod failures;
 pub mod names;
+mod opening;
 
 ghost use Rattle.std.specs.Prelude.{◌≡◌};
 ghost use Rattle.io.specs.Counts.{IsPrefixLen};
 ghost use Rattle.told.specs.Fronts.{front_of};
 
-use libc::{STDERR_FILENO, STDOUT_FILENO};
+pub use console::Console;
 pub use names::plain;
+pub use opening::{open, path};
+use std::env::{Env, FillError};
+use std::io::{Error, Print, Result};
 
 // The version of every program.
 pub const VERSION: [u8; 5] = *b"0.9.0";
@@ -26,97 +32,146 @@ pub fn front(s: &[u8], n: usize) -> &[u8]
 
 // Puts an argument of the command line at the start of a buffer, and answers how long it is. One that is too long for the buffer is its
 // first bytes, which no option is and no file's name.
-pub fn argument(i: usize, word: &mut [u8]) -> usize
+pub fn argument(rt: &impl Env, i: usize, word: &mut [u8]) -> usize
     ensures { IsPrefixLen result word.new }
 {
-    let n = os::arg(i, word);
-    if os::errno() == libc::ENAMETOOLONG {
-        return word.len();
+    match rt.arg(i, word) {
+        Ok(n) => n,
+        Err(FillError::TooLong) => word.len(),
+        Err(FillError::NotPresent) => 0,
     }
-    n
 }
 
-// Tells of a call that failed on what is named: a line on standard error with the program's name in front and errno's text behind.
-pub fn tell(program: &[u8], name: &[u8]) {
-    begin(program);
-    os::fail(name);
+// How many arguments the program was started with, its own name among them.
+pub fn argument_count(rt: &impl Env) -> usize {
+    let mut i = 0;
+    while i < usize::MAX {
+        if let Err(FillError::NotPresent) = rt.arg(i, &mut []) {
+            return i;
+        }
+        i += 1;
+    }
+    i
+}
+
+// Tells of a call that failed on what is named: a line on standard error with the program's name in front and the error's text behind.
+pub fn tell(rt: &impl Console, program: &[u8], name: &[u8], error: Error) {
+    begin(rt, program);
+    fail(rt, name, error);
+}
+
+// Says the rest of a line that tells of a call that failed: what failed, a colon and the error's text.
+pub fn fail(rt: &impl Console, what: &[u8], error: Error) {
+    let mut text = [0u8; failures::LONGEST];
+    let n = failures::put(error, &mut text);
+    say(rt, what);
+    say(rt, b": ");
+    say(rt, &text[..n]);
+    say(rt, b"\n");
 }
 
 // Tells that the reader took nothing of a capture, which never comes (captures::Came).
-pub fn tell_stuck(program: &[u8], name: &[u8]) {
-    begin(program);
-    say(name);
-    say(b": the reader took nothing; nothing more is read\n");
+pub fn tell_stuck(rt: &impl Console, program: &[u8], name: &[u8]) {
+    begin(rt, program);
+    say(rt, name);
+    say(rt, b": the reader took nothing; nothing more is read\n");
 }
 
 // Begins a line on standard error that tells of a failure.
-pub fn begin(program: &[u8]) {
-    say(program);
-    say(b": ");
+pub fn begin(rt: &impl Console, program: &[u8]) {
+    say(rt, program);
+    say(rt, b": ");
 }
 
 // Says a part of a line on standard error, and answers whether it was taken. Where it wasn't, there is nobody to tell.
-pub fn say(text: &[u8]) -> bool {
-    io::write_all(STDERR_FILENO, text)
+pub fn say(rt: &impl Console, text: &[u8]) -> bool {
+    let mut done = 0;
+    while done < text.len() {
+        match rt.tell_some(&text[done..]) {
+            Ok(0) => return false,
+            Ok(n) => done += n,
+            Err(_) => return false,
+        }
+    }
+    true
 }
 
-pub fn say_number(number: u64) -> bool {
-    io::print_decimal(STDERR_FILENO, number)
+pub fn say_number(rt: &impl Console, number: u64) -> bool {
+    let mut text = [0u8; 20];
+    let n = io::decimal(number, &mut text);
+    say(rt, &text[..n])
 }
 
 // Says so many hex digits, or more where the number has more.
-pub fn say_hex(number: u64, digits: usize) -> bool {
-    io::print_hex(STDERR_FILENO, number, digits)
+pub fn say_hex(rt: &impl Console, number: u64, digits: usize) -> bool {
+    let mut text = [0u8; 16];
+    let n = io::hex(number, digits, &mut text);
+    say(rt, &text[..n])
 }
 
 // Says a number after its name. A part that isn't taken ends it.
-pub fn say_count(name: &[u8], count: u64) -> bool {
-    if !say(name) {
+pub fn say_count(rt: &impl Console, name: &[u8], count: u64) -> bool {
+    if !say(rt, name) {
         return false;
     }
-    say_number(count)
+    say_number(rt, count)
+}
+
+// Writes all to standard output, or stops at the first write that takes nothing or fails.
+pub fn write(rt: &impl Print, bytes: &[u8]) -> Result<()> {
+    let mut done = 0;
+    while done < bytes.len() {
+        match rt.write_some(&bytes[done..]) {
+            Ok(0) => return Err(failures::none()),
+            Ok(n) => done += n,
+            Err(e) => return Err(e),
+        }
+    }
+    Ok(())
 }
 
 // Writes to standard output, and answers whether it took all. A failure is told.
-pub fn put(program: &[u8], bytes: &[u8]) -> bool {
-    if io::write_all(STDOUT_FILENO, bytes) {
-        return true;
+pub fn put(rt: &impl Console, program: &[u8], bytes: &[u8]) -> bool {
+    match write(rt, bytes) {
+        Ok(()) => true,
+        Err(e) => {
+            tell(rt, program, b"standard output", e);
+            false
+        }
     }
-    tell(program, b"standard output");
-    false
 }
 
 // Writes a number after its name. A part that isn't taken ends it.
-pub fn put_count(program: &[u8], name: &[u8], count: u64) -> bool {
-    if !put(program, name) {
+pub fn put_count(rt: &impl Console, program: &[u8], name: &[u8], count: u64) -> bool {
+    if !put(rt, program, name) {
         return false;
     }
     let mut text = [0u8; 20];
     let n = io::decimal(count, &mut text);
-    put(program, &text[..n])
+    put(rt, program, &text[..n])
 }
 
 // The line above what is written of a file.
-pub fn put_title(program: &[u8], name: &[u8]) -> bool {
-    if !put(program, b"file=") {
+pub fn put_title(rt: &impl Console, program: &[u8], name: &[u8]) -> bool {
+    if !put(rt, program, b"file=") {
         return false;
     }
-    if !put(program, name) {
+    if !put(rt, program, name) {
         return false;
     }
-    put(program, b"\n")
+    put(rt, program, b"\n")
 }
 
 // The line that `--version` asks for.
-pub fn put_version(program: &[u8]) -> bool {
-    if !put(program, program) {
+pub fn put_version(rt: &impl Console, program: &[u8]) -> bool {
+    if !put(rt, program, program) {
         return false;
     }
-    if !put(program, b" ") {
+    if !put(rt, program, b" ") {
         return false;
     }
-    if !put(program, &VERSION) {
+    if !put(rt, program, &VERSION) {
         return false;
     }
-    put(program, b"\n")
+    put(rt, program, b"\n")
 }

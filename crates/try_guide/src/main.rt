@@ -8,6 +8,7 @@ use packet::Setting;
 use packet::two::Streams;
 use reader::two::Readers;
 use reader::{Heard, Reader};
+use std::io::Print;
 use vectors::{Case, Line, MOST, NextCase, SPACE};
 
 // What op 20 leaves for the ops 21 that follow, and op 24 for the ops 25.
@@ -19,7 +20,7 @@ struct Kept {
     readers: Readers,
 }
 
-fn main() {
+fn main(rt: HostRuntime) {
     let mut space = [0u8; SPACE];
     let mut out = [0u8; MOST];
     let mut text = [0u8; SPACE];
@@ -28,10 +29,10 @@ fn main() {
     let mut turns = u64::MAX;
     while turns > 0 {
         turns -= 1;
-        let found = vectors::turn(input, &mut space, &mut text);
+        let found = vectors::turn(&rt, input, &mut space, &mut text);
         match found {
             NextCase::Whole(case) => {
-                kept = run(case, kept, &space, &mut out, &mut text);
+                kept = run(&rt, case, kept, &space, &mut out, &mut text);
                 input = case.rest;
             }
             NextCase::Ended(_) => {
@@ -64,6 +65,7 @@ fn none() -> Kept {
 
 // A case: the call is lent as much output as it has room.
 fn run(
+    rt: &impl Print,
     case: Case,
     kept: Kept,
     space: &[u8; SPACE],
@@ -75,28 +77,28 @@ fn run(
     let n = vectors::lend(out, case.room);
     let lent = &mut out[..n];
     match op {
-        20 => begin(op, payload, kept, lent, text),
-        21 => feed(op, payload, kept, lent, text),
+        20 => begin(rt, op, payload, kept, lent, text),
+        21 => feed(rt, op, payload, kept, lent, text),
         22 => {
             let line = cut(op, payload, lent);
-            vectors::tell(line, lent, text);
+            vectors::tell(rt, line, lent, text);
             kept
         }
         23 => {
-            choose(op, payload, text);
+            choose(rt, op, payload, text);
             kept
         }
-        24 => begin_two(op, payload, kept, lent, text),
-        25 => feed_two(op, payload, kept, lent, text),
+        24 => begin_two(rt, op, payload, kept, lent, text),
+        25 => feed_two(rt, op, payload, kept, lent, text),
         _ => {
-            vectors::tell(Line::Unknown(op), lent, text);
+            vectors::tell(rt, Line::Unknown(op), lent, text);
             kept
         }
     }
 }
 
 // Op 23: two packets, the first half of the payload and the rest. No output is lent; an empty part is number 16.
-fn choose(op: u8, payload: &[u8], text: &mut [u8]) {
+fn choose(rt: &impl Print, op: u8, payload: &[u8], text: &mut [u8]) {
     let half = payload.len() / 2;
     let part = aerials::better(&payload[0..half], &payload[half..]);
     let n = part.len();
@@ -109,20 +111,20 @@ fn choose(op: u8, payload: &[u8], text: &mut [u8]) {
         op: op,
         answer: answer,
     };
-    vectors::tell(line, part, text);
+    vectors::tell(rt, line, part, text);
 }
 
 // Op 20: magazine, page, stream, application.
-fn begin(op: u8, payload: &[u8], kept: Kept, out: &[u8], text: &mut [u8]) -> Kept {
+fn begin(rt: &impl Print, op: u8, payload: &[u8], kept: Kept, out: &[u8], text: &mut [u8]) -> Kept {
     if payload.len() < 4 {
-        vectors::tell(Line::Unknown(op), out, text);
+        vectors::tell(rt, Line::Unknown(op), out, text);
         return kept;
     }
     let line = Line::Answered {
         op: op,
         answer: Answer::Done(0),
     };
-    vectors::tell(line, out, text);
+    vectors::tell(rt, line, out, text);
     let setting = Setting {
         magazine: payload[0],
         page: payload[1],
@@ -137,10 +139,17 @@ fn begin(op: u8, payload: &[u8], kept: Kept, out: &[u8], text: &mut [u8]) -> Kep
 }
 
 // Op 21: the bytes of one packet.
-fn feed(op: u8, payload: &[u8], kept: Kept, out: &mut [u8], text: &mut [u8]) -> Kept {
+fn feed(
+    rt: &impl Print,
+    op: u8,
+    payload: &[u8],
+    kept: Kept,
+    out: &mut [u8],
+    text: &mut [u8],
+) -> Kept {
     let fed = reader::feed(kept.setting, kept.reader, payload, out);
     let heard = fed.heard;
-    vectors::tell(told(op, heard), out, text);
+    vectors::tell(rt, told(op, heard), out, text);
     let reader = fed.reader;
     let mut kept = kept;
     kept.reader = reader;
@@ -148,16 +157,23 @@ fn feed(op: u8, payload: &[u8], kept: Kept, out: &mut [u8], text: &mut [u8]) -> 
 }
 
 // Op 24: magazine, page, the two streams, application.
-fn begin_two(op: u8, payload: &[u8], kept: Kept, out: &[u8], text: &mut [u8]) -> Kept {
+fn begin_two(
+    rt: &impl Print,
+    op: u8,
+    payload: &[u8],
+    kept: Kept,
+    out: &[u8],
+    text: &mut [u8],
+) -> Kept {
     if payload.len() < 5 {
-        vectors::tell(Line::Unknown(op), out, text);
+        vectors::tell(rt, Line::Unknown(op), out, text);
         return kept;
     }
     let line = Line::Answered {
         op: op,
         answer: Answer::Done(0),
     };
-    vectors::tell(line, out, text);
+    vectors::tell(rt, line, out, text);
     let streams = Streams {
         magazine: payload[0],
         page: payload[1],
@@ -173,10 +189,17 @@ fn begin_two(op: u8, payload: &[u8], kept: Kept, out: &[u8], text: &mut [u8]) ->
 }
 
 // Op 25: the bytes of one packet.
-fn feed_two(op: u8, payload: &[u8], kept: Kept, out: &mut [u8], text: &mut [u8]) -> Kept {
+fn feed_two(
+    rt: &impl Print,
+    op: u8,
+    payload: &[u8],
+    kept: Kept,
+    out: &mut [u8],
+    text: &mut [u8],
+) -> Kept {
     let fed = reader::two::feed(kept.streams, kept.readers, payload, out);
     let heard = fed.heard;
-    vectors::tell(told(op, heard), out, text);
+    vectors::tell(rt, told(op, heard), out, text);
     let readers = fed.readers;
     let mut kept = kept;
     kept.readers = readers;

@@ -3,9 +3,10 @@
 
 use answer::Answer;
 use blocks::Read;
+use std::io::Print;
 use vectors::{Case, Line, MOST, NextCase, SPACE};
 
-fn main() {
+fn main(rt: HostRuntime) {
     let mut space = [0u8; SPACE];
     let mut out = [0u8; MOST];
     let mut text = [0u8; SPACE];
@@ -13,10 +14,10 @@ fn main() {
     let mut turns = u64::MAX;
     while turns > 0 {
         turns -= 1;
-        let found = vectors::turn(input, &mut space, &mut text);
+        let found = vectors::turn(&rt, input, &mut space, &mut text);
         match found {
             NextCase::Whole(case) => {
-                run(case, &space, &mut out, &mut text);
+                run(&rt, case, &space, &mut out, &mut text);
                 input = case.rest;
             }
             NextCase::Ended(_) => {
@@ -27,11 +28,11 @@ fn main() {
 }
 
 // A case: the call is lent as much output as it has room.
-fn run(case: Case, space: &[u8; SPACE], out: &mut [u8], text: &mut [u8; SPACE]) {
+fn run(rt: &impl Print, case: Case, space: &[u8; SPACE], out: &mut [u8], text: &mut [u8; SPACE]) {
     let n = vectors::lend(out, case.room);
     let lent = &mut out[..n];
     let line = call(case.op, vectors::payload(case, space), lent);
-    vectors::tell(line, lent, text);
+    vectors::tell(rt, line, lent, text);
 }
 
 // The call that op names, and what is told of it.

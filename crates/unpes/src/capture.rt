@@ -6,7 +6,9 @@ ghost use Rattle.std.specs.Prelude.{◌≡◌, ◌≤◌, ◌<◌};
 use crate::help::PROGRAM;
 use packet::PACKET;
 use pes::{HEAD, Start};
+use std::io::{Error, Read};
 use stripped::Stripped;
+use told::Console;
 
 // More than the longest PES packet, and than the packets that it carries.
 const LONGEST: usize = 65536;
@@ -47,7 +49,7 @@ struct Turn {
 #[derive(Clone, Copy)]
 enum Got {
     Upto(usize),
-    Failed(usize),
+    Failed(usize, Error),
 }
 
 pub fn none() -> Tally {
@@ -60,11 +62,17 @@ pub fn none() -> Tally {
     }
 }
 
-// What the PES packets from a descriptor carry goes out. A read that fails is told with the name, and ends the capture.
-pub fn unpack(fd: i32, name: &[u8], tally: Tally, seen: &mut [u8; 17]) -> Tally {
+// What the PES packets from a reader carry goes out. A read that fails is told with the name, and ends the capture.
+pub fn unpack<F: Read>(
+    rt: &impl Console,
+    from: &mut F,
+    name: &[u8],
+    tally: Tally,
+    seen: &mut [u8; 17],
+) -> Tally {
     let mut space = [0u8; SPACE];
     let mut packets = [0u8; LONGEST];
-    let mut tally = begin(tally, &mut packets);
+    let mut tally = begin(rt, tally, &mut packets);
     if !tally.sound {
         return tally;
     }
@@ -77,8 +85,8 @@ pub fn unpack(fd: i32, name: &[u8], tally: Tally, seen: &mut [u8; 17]) -> Tally 
     let mut turns = u64::MAX;
     while turns > 0 {
         turns -= 1;
-        held = refill(fd, name, held, &mut space);
-        let turn = step(held, tally, &space, &mut packets, seen);
+        held = refill(rt, from, name, held, &mut space);
+        let turn = step(rt, held, tally, &space, &mut packets, seen);
         held = turn.held;
         tally = turn.tally;
         if !turn.on {
@@ -89,9 +97,9 @@ pub fn unpack(fd: i32, name: &[u8], tally: Tally, seen: &mut [u8; 17]) -> Tally 
 }
 
 // Between two captures goes a packet that can't be decoded: a block of the first may not go on in the second.
-fn begin(tally: Tally, packets: &mut [u8; LONGEST]) -> Tally {
+fn begin(rt: &impl Console, tally: Tally, packets: &mut [u8; LONGEST]) -> Tally {
     if tally.begun {
-        return lose(tally, packets);
+        return lose(rt, tally, packets);
     }
     Tally {
         read: tally.read,
@@ -104,7 +112,13 @@ fn begin(tally: Tally, packets: &mut [u8; LONGEST]) -> Tally {
 
 // Where fewer bytes are held than a packet may have and more may come, those that are held go to the front of the
 // space, and it is filled up.
-fn refill(fd: i32, name: &[u8], held: Held, space: &mut [u8; SPACE]) -> Held {
+fn refill<F: Read>(
+    rt: &impl Console,
+    from: &mut F,
+    name: &[u8],
+    held: Held,
+    space: &mut [u8; SPACE],
+) -> Held {
     if !held.more {
         return held;
     }
@@ -112,7 +126,7 @@ fn refill(fd: i32, name: &[u8], held: Held, space: &mut [u8; SPACE]) -> Held {
         return held;
     }
     let kept = shift(space, held.at, held.end);
-    let got = fill(fd, space, kept);
+    let got = fill(from, space, kept);
     match got {
         Got::Upto(end) => Held {
             at: 0,
@@ -120,8 +134,8 @@ fn refill(fd: i32, name: &[u8], held: Held, space: &mut [u8; SPACE]) -> Held {
             more: end == SPACE,
             passing: held.passing,
         },
-        Got::Failed(end) => {
-            told::tell(&PROGRAM, name);
+        Got::Failed(end, why) => {
+            told::tell(rt, &PROGRAM, name, why);
             Held {
                 at: 0,
                 end,
@@ -158,24 +172,21 @@ fn shift(space: &mut [u8], at: usize, end: usize) -> usize {
 }
 
 // Reads into the slice from a place on, until it is full, the input ends or a read fails.
-fn fill(fd: i32, slice: &mut [u8], from: usize) -> Got {
-    let mut n = from;
+fn fill<F: Read>(from: &mut F, slice: &mut [u8], at: usize) -> Got {
+    let mut n = at;
     while n < slice.len() {
-        let got = libc::read(fd, &mut slice[n..]);
-        if got < 0 {
-            return Got::Failed(n);
+        match from.read(&mut slice[n..]) {
+            Ok(0) => return Got::Upto(n),
+            Ok(more) => n += more,
+            Err(e) => return Got::Failed(n, e),
         }
-        let more = io::count(got, &slice[n..]);
-        if more == 0 {
-            return Got::Upto(n);
-        }
-        n += more;
     }
     Got::Upto(n)
 }
 
 // One turn: the PES packet that begins at the front of what is held, or the bytes up to where one begins.
 fn step(
+    rt: &impl Console,
     held: Held,
     tally: Tally,
     space: &[u8; SPACE],
@@ -187,11 +198,11 @@ fn step(
     match found {
         Start::At(place) => {
             if place == 0 {
-                return packet(held, tally, bytes, packets, seen);
+                return packet(rt, held, tally, bytes, packets, seen);
             }
-            pass(held, tally, place, packets)
+            pass(rt, held, tally, place, packets)
         }
-        Start::Nowhere => nowhere(held, tally, bytes.len(), packets),
+        Start::Nowhere => nowhere(rt, held, tally, bytes.len(), packets),
     }
 }
 
@@ -208,6 +219,7 @@ fn part(s: &[u8], at: usize, end: usize) -> &[u8] {
 
 // A PES packet begins here. One that the end of the input cuts short is a loss, and ends the capture.
 fn packet(
+    rt: &impl Console,
     held: Held,
     tally: Tally,
     bytes: &[u8],
@@ -216,10 +228,10 @@ fn packet(
 ) -> Turn {
     let size = size_of(bytes);
     if bytes.len() < size {
-        let tally = lose(tally, packets);
+        let tally = lose(rt, tally, packets);
         return end(held, left(tally, bytes.len()));
     }
-    let tally = strip_on(tally, told::front(bytes, size), packets, seen);
+    let tally = strip_on(rt, tally, told::front(bytes, size), packets, seen);
     Turn {
         held: onward(held, size, false),
         on: tally.sound,
@@ -242,7 +254,13 @@ fn wide(b: u8) -> usize
 }
 
 // What a PES packet carries goes out, or the packet that stands for it.
-fn strip_on(tally: Tally, pes: &[u8], packets: &mut [u8; LONGEST], seen: &mut [u8; 17]) -> Tally {
+fn strip_on(
+    rt: &impl Console,
+    tally: Tally,
+    pes: &[u8],
+    packets: &mut [u8; LONGEST],
+    seen: &mut [u8; 17],
+) -> Tally {
     let carried = stripped::strip(pes, packets);
     match carried {
         Stripped::Packets(n) => Tally {
@@ -250,17 +268,23 @@ fn strip_on(tally: Tally, pes: &[u8], packets: &mut [u8; LONGEST], seen: &mut [u
             refused: tally.refused,
             left: tally.left,
             begun: true,
-            sound: send(tally.sound, told::front(packets, n)),
+            sound: send(rt, tally.sound, told::front(packets, n)),
         },
-        Stripped::Lost(r) => refuse(tally, r.no, packets, seen),
-        Stripped::Refused(r) => refuse(tally, r.no, packets, seen),
+        Stripped::Lost(r) => refuse(rt, tally, r.no, packets, seen),
+        Stripped::Refused(r) => refuse(rt, tally, r.no, packets, seen),
     }
 }
 
 // Counts a refused PES packet by its number, and the packet that stands for it goes out.
-fn refuse(tally: Tally, no: u8, packets: &mut [u8; LONGEST], seen: &mut [u8; 17]) -> Tally {
+fn refuse(
+    rt: &impl Console,
+    tally: Tally,
+    no: u8,
+    packets: &mut [u8; LONGEST],
+    seen: &mut [u8; 17],
+) -> Tally {
     mark(no, seen);
-    let tally = lose(tally, packets);
+    let tally = lose(rt, tally, packets);
     Tally {
         read: tally.read,
         refused: plus(tally.refused, 1),
@@ -278,8 +302,14 @@ fn mark(no: u8, seen: &mut [u8]) {
 }
 
 // No PES packet begins before a place: those bytes are passed over.
-fn pass(held: Held, tally: Tally, place: usize, packets: &mut [u8; LONGEST]) -> Turn {
-    let tally = note(held, tally, packets);
+fn pass(
+    rt: &impl Console,
+    held: Held,
+    tally: Tally,
+    place: usize,
+    packets: &mut [u8; LONGEST],
+) -> Turn {
+    let tally = note(rt, held, tally, packets);
     Turn {
         held: onward(held, place, true),
         on: tally.sound,
@@ -288,25 +318,31 @@ fn pass(held: Held, tally: Tally, place: usize, packets: &mut [u8; LONGEST]) -> 
 }
 
 // No PES packet begins in n bytes. Their last ones are kept while more may come, since one may begin there.
-fn nowhere(held: Held, tally: Tally, n: usize, packets: &mut [u8; LONGEST]) -> Turn {
+fn nowhere(
+    rt: &impl Console,
+    held: Held,
+    tally: Tally,
+    n: usize,
+    packets: &mut [u8; LONGEST],
+) -> Turn {
     if n == 0 {
         return end(held, tally);
     }
     if held.more {
         if HEAD <= n {
-            return pass(held, tally, n - (HEAD - 1), packets);
+            return pass(rt, held, tally, n - (HEAD - 1), packets);
         }
     }
-    let tally = note(held, tally, packets);
+    let tally = note(rt, held, tally, packets);
     end(held, left(tally, n))
 }
 
 // For bytes that are passed over goes one packet that can't be decoded, however many they are.
-fn note(held: Held, tally: Tally, packets: &mut [u8; LONGEST]) -> Tally {
+fn note(rt: &impl Console, held: Held, tally: Tally, packets: &mut [u8; LONGEST]) -> Tally {
     if held.passing {
         return tally;
     }
-    lose(tally, packets)
+    lose(rt, tally, packets)
 }
 
 fn end(held: Held, tally: Tally) -> Turn {
@@ -339,14 +375,14 @@ fn further(at: usize, n: usize, end: usize) -> usize {
 }
 
 // One packet that can't be decoded goes out.
-fn lose(tally: Tally, packets: &mut [u8; LONGEST]) -> Tally {
+fn lose(rt: &impl Console, tally: Tally, packets: &mut [u8; LONGEST]) -> Tally {
     stripped::blank(packets);
     Tally {
         read: tally.read,
         refused: tally.refused,
         left: tally.left,
         begun: true,
-        sound: send(tally.sound, told::front(packets, PACKET)),
+        sound: send(rt, tally.sound, told::front(packets, PACKET)),
     }
 }
 
@@ -370,40 +406,40 @@ fn plus(a: u64, b: u64) -> u64 {
 
 // Writes to standard output where it took all so far, and answers whether it still did. A failure is told, and nothing
 // goes out after it, though a later write might succeed: what is missing between the two is what nobody could see.
-fn send(is_sound: bool, bytes: &[u8]) -> bool {
+fn send(rt: &impl Console, is_sound: bool, bytes: &[u8]) -> bool {
     if !is_sound {
         return false;
     }
-    told::put(&PROGRAM, bytes)
+    told::put(rt, &PROGRAM, bytes)
 }
 
 // Says the last line. A part that isn't taken ends it.
-pub fn sum_up(tally: Tally, seen: &[u8; 17]) -> bool {
-    if !told::say_count(b"read=", tally.read) {
+pub fn sum_up(rt: &impl Console, tally: Tally, seen: &[u8; 17]) -> bool {
+    if !told::say_count(rt, b"read=", tally.read) {
         return false;
     }
-    if !told::say_count(b" refused=", tally.refused) {
+    if !told::say_count(rt, b" refused=", tally.refused) {
         return false;
     }
-    if !told::say(b" numbers=") {
+    if !told::say(rt, b" numbers=") {
         return false;
     }
-    if !say_numbers(seen) {
+    if !say_numbers(rt, seen) {
         return false;
     }
-    if !told::say_count(b" left=", tally.left) {
+    if !told::say_count(rt, b" left=", tally.left) {
         return false;
     }
-    told::say(b"\n")
+    told::say(rt, b"\n")
 }
 
 // The numbers that are marked, with commas between.
-fn say_numbers(seen: &[u8]) -> bool {
+fn say_numbers(rt: &impl Console, seen: &[u8]) -> bool {
     let mut i = 0;
     let mut is_first = true;
     while i < seen.len() {
         if seen[i] != 0 {
-            if !say_number(i as u64, is_first) {
+            if !say_number(rt, i as u64, is_first) {
                 return false;
             }
             is_first = false;
@@ -413,9 +449,9 @@ fn say_numbers(seen: &[u8]) -> bool {
     true
 }
 
-fn say_number(number: u64, is_first: bool) -> bool {
+fn say_number(rt: &impl Console, number: u64, is_first: bool) -> bool {
     if is_first {
-        return told::say_number(number);
+        return told::say_number(rt, number);
     }
-    told::say_count(b",", number)
+    told::say_count(rt, b",", number)
 }

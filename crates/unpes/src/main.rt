@@ -14,7 +14,9 @@ mod capture;
 mod help;
 
 use capture::Tally;
-use libc::STDIN_FILENO;
+use std::env::Env;
+use std::rt::Files;
+use told::Console;
 use words::Said;
 
 // What the program can be told: no options, and any number of files.
@@ -30,30 +32,30 @@ struct Unpacked {
     tally: Tally,
 }
 
-fn main() {
-    if command_line::is_first(b"--help") {
-        help::put();
+fn main(rt: HostRuntime) {
+    if command_line::is_first(&rt, b"--help") {
+        help::put(&rt);
         return;
     }
-    if command_line::is_first(b"--version") {
-        told::put_version(&help::PROGRAM);
+    if command_line::is_first(&rt, b"--version") {
+        told::put_version(&rt, &help::PROGRAM);
         return;
     }
-    if !words::is_good(&ROWS, command_line::hear_all(&OPTIONS, &ROWS)) {
-        told::begin(&help::PROGRAM);
-        told::say(&help::USAGE);
+    if !words::is_good(&ROWS, command_line::hear_all(&rt, &OPTIONS, &ROWS)) {
+        told::begin(&rt, &help::PROGRAM);
+        told::say(&rt, &help::USAGE);
         return;
     }
     let mut seen = [0u8; 17];
-    let tally = unpack_all(&mut seen);
+    let tally = unpack_all(&rt, &mut seen);
     if tally.sound {
-        capture::sum_up(tally, &seen);
+        capture::sum_up(&rt, tally, &seen);
     }
 }
 
 // Goes through each file that is named, or standard input where none is.
-fn unpack_all(seen: &mut [u8; 17]) -> Tally {
-    let count = os::arg_count();
+fn unpack_all(rt: &(impl Env + Files + Input + Console), seen: &mut [u8; 17]) -> Tally {
+    let count = told::argument_count(rt);
     let mut unpacked = Unpacked {
         said: words::start(&ROWS),
         named: false,
@@ -61,21 +63,26 @@ fn unpack_all(seen: &mut [u8; 17]) -> Tally {
     };
     let mut i = 1;
     while i < count {
-        unpacked = visit(unpacked, i, seen);
+        unpacked = visit(rt, unpacked, i, seen);
         i += 1;
     }
     let tally = unpacked.tally;
     if unpacked.named {
         return tally;
     }
-    capture::unpack(STDIN_FILENO, b"standard input", tally, seen)
+    capture::unpack(rt, &mut rt.reader(), b"standard input", tally, seen)
 }
 
 // Hears a word again, and goes through the file where it is a name.
-fn visit(unpacked: Unpacked, i: usize, seen: &mut [u8; 17]) -> Unpacked {
+fn visit(
+    rt: &(impl Env + Files + Console),
+    unpacked: Unpacked,
+    i: usize,
+    seen: &mut [u8; 17],
+) -> Unpacked {
     let mut word = io::buffer();
     let tally = unpacked.tally;
-    let heard = command_line::hear(&OPTIONS, &ROWS, unpacked.said, i, &mut word);
+    let heard = command_line::hear(rt, &OPTIONS, &ROWS, unpacked.said, i, &mut word);
     let said = heard.said;
     if heard.place == 0 {
         return Unpacked {
@@ -84,7 +91,7 @@ fn visit(unpacked: Unpacked, i: usize, seen: &mut [u8; 17]) -> Unpacked {
             tally,
         };
     }
-    let tally = unpack_file(&mut word, heard.long, tally, seen);
+    let tally = unpack_file(rt, &mut word, heard.long, tally, seen);
     Unpacked {
         said,
         named: true,
@@ -93,17 +100,26 @@ fn visit(unpacked: Unpacked, i: usize, seen: &mut [u8; 17]) -> Unpacked {
 }
 
 // Goes through the file of a name, unless standard output failed before.
-fn unpack_file(word: &mut [u8; 4096], n: usize, tally: Tally, seen: &mut [u8; 17]) -> Tally {
+fn unpack_file(
+    rt: &(impl Files + Console),
+    word: &mut [u8; 4096],
+    n: usize,
+    tally: Tally,
+    seen: &mut [u8; 17],
+) -> Tally {
     if !tally.sound {
         return tally;
     }
-    let fd = os::open_read(told::front(word, n));
+    let opened = told::open(rt, told::front(word, n));
     told::plain(word);
-    if fd < 0 {
-        told::tell(&help::PROGRAM, told::front(word, n));
-        return tally;
+    match opened {
+        Ok(file) => {
+            let mut file = file;
+            capture::unpack(rt, &mut file, told::front(word, n), tally, seen)
+        }
+        Err(e) => {
+            told::tell(rt, &help::PROGRAM, told::front(word, n), e);
+            tally
+        }
     }
-    let tally = capture::unpack(fd, told::front(word, n), tally, seen);
-    libc::close(fd);
-    tally
 }

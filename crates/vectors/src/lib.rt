@@ -12,13 +12,14 @@ pub mod lines;
 mod words;
 
 ghost use Rattle.std.specs.Prelude.{false, ◌≡◌, ◌+◌, ◌≤◌, length};
+ghost use Rattle.io.specs.Counts.{IsPrefixLen};
 ghost use Rattle.vectors.specs.Cases.{Within, Turned};
 
 use cases::HEAD;
 pub use cases::{Case, Input, MOST, NextCase, payload};
 pub use lent::lend;
-use libc::STDIN_FILENO;
 pub use lines::{Line, tell};
+use std::io::{Print, Read};
 
 // The bytes that a program lends for the input, and for a line.
 pub const SPACE: usize = 131200;
@@ -35,22 +36,27 @@ pub fn start() -> Input
 }
 
 // One turn: the next case, read where it isn't there yet; or its end, and what is left over is told.
-pub fn turn(input: Input, space: &mut [u8; SPACE], text: &mut [u8; SPACE]) -> NextCase
+pub fn turn<R: std::io::Input + Print>(
+    rt: &R,
+    input: Input,
+    space: &mut [u8; SPACE],
+    text: &mut [u8; SPACE],
+) -> NextCase
     ensures { Turned space.new result }
 {
-    let read = fill(input, space);
+    let read = fill(rt, input, space);
     let found = cases::next(read, space);
-    tell_left(found, text);
+    tell_left(rt, found, text);
     found
 }
 
 // Tells of bytes that are left over where there is no case.
-fn tell_left(found: NextCase, text: &mut [u8]) {
+fn tell_left(rt: &impl Print, found: NextCase, text: &mut [u8]) {
     match found {
         NextCase::Whole(_) => {}
         NextCase::Ended(left) => {
             if left > 0 {
-                lines::tell(Line::Short(left), &[], text);
+                lines::tell(rt, Line::Short(left), &[], text);
             }
         }
     }
@@ -58,7 +64,7 @@ fn tell_left(found: NextCase, text: &mut [u8]) {
 
 // Reads on where a case might not stand whole in the space: the unread bytes go to its front, and
 // standard input fills it up. What is unread then lies within the space.
-fn fill(input: Input, space: &mut [u8]) -> Input
+fn fill<R: std::io::Input>(rt: &R, input: Input, space: &mut [u8]) -> Input
     ensures { Within result space.new }
 {
     let from = input.from;
@@ -77,12 +83,27 @@ fn fill(input: Input, space: &mut [u8]) -> Input
         return input;
     }
     move_down(space, from, held);
-    let got = io::read_full(STDIN_FILENO, &mut space[held..]);
+    let got = read_full(&mut rt.reader(), &mut space[held..]);
     Input {
         from: 0,
         to: held + got,
         ended: held + got < space.len(),
     }
+}
+
+// Reads until the buffer is full, the input ends or a read fails, and answers how many bytes were put at its front.
+fn read_full(from: &mut impl Read, buf: &mut [u8]) -> usize
+    ensures { IsPrefixLen result buf.new }
+{
+    let mut done = 0;
+    while done < buf.len() {
+        match from.read(&mut buf[done..]) {
+            Ok(0) => return done,
+            Ok(n) => done += n,
+            Err(_) => return done,
+        }
+    }
+    done
 }
 
 // Moves n bytes from `from` on to the front.

@@ -9,7 +9,7 @@ ghost use Rattle.io.specs.Counts.{IsPrefixLen};
 ghost use Rattle.vectors.specs.Ending.{EndsLine};
 
 use answer::Answer;
-use libc::STDOUT_FILENO;
+use std::io::Print;
 
 // What a line tells.
 #[derive(Drop)]
@@ -47,13 +47,13 @@ pub enum Line {
 
 // Writes a line. A call's has its number and offset, the bytes that it reports as written at the front of
 // the lent output, and whether the rest is as before. Answers how long the line is.
-pub fn tell(line: Line, out: &[u8], text: &mut [u8]) -> usize
+pub fn tell(rt: &impl Print, line: Line, out: &[u8], text: &mut [u8]) -> usize
     ensures prefix_len { IsPrefixLen result text.new }
     ensures ends_line { EndsLine result text.new }
 {
     let n = put_line(line, out, text);
     let n = end(text, n);
-    io::write_all(STDOUT_FILENO, &text[..n]);
+    let _ = rt.write_all(&text[..n]);
     n
 }
 

@@ -1,4 +1,5 @@
 -- `broadcast::lawful` meets its contract: its rules, the walk, the verdict. Assumes nothing.
+use borrow.Author.Tests.{not-true, not-false}
 use mathlib.Core.List.{List}
 use mathlib.Core.Path.{◌∙◌, refl, sym, ap, ap₂}
 use Prim.Native.Nat.{ℕ}
@@ -21,7 +22,7 @@ returns-then-application-ge32 c =
 pub returns-then-not-walked : goal.returns-then-not-walked
 returns-then-not-walked c =
     let s = c.args in
-    let broken = sym c.walk-walked.ensures.answer.0 ∙ c.if-not-walked.true in
+    let broken = sym c.walk-walked.ensures.answer.0 ∙ not-true _ c.if-not-walked.true in
     let p = lawful-13 s.application s.records.now s.out.now c.if-application-ge32.false broken in
     record {
       answer = c.refuse-then-not-walked.ensures ∙ p.0;
@@ -32,7 +33,7 @@ pub returns-then-is_none : goal.returns-then-is_none
 returns-then-is_none c =
     let s = c.args in
     let l : List ℕ = s.records.now in
-    let whole = sym c.walk-walked.ensures.answer.0 ∙ c.if-not-walked.false in
+    let whole = sym c.walk-walked.ensures.answer.0 ∙ not-false _ c.if-not-walked.false in
     let none = sym (ap (λ (t : List ℕ). eqb (get_or t 1 0) 0) c.walk-walked.ensures.output) ∙ sym c.is_none.ensures ∙ c.if-is_none.true in
     let p = lawful-24 s.application l s.out.now c.if-application-ge32.false whole _ refl none in
     record {
@@ -44,7 +45,7 @@ pub returns : goal.returns
 returns c =
     let s = c.args in
     let l : List ℕ = s.records.now in
-    let whole = sym c.walk-walked.ensures.answer.0 ∙ c.if-not-walked.false in
+    let whole = sym c.walk-walked.ensures.answer.0 ∙ not-false _ c.if-not-walked.false in
     let some = sym (ap (λ (t : List ℕ). eqb (get_or t 1 0) 0) c.walk-walked.ensures.output) ∙ sym c.is_none.ensures ∙ c.if-is_none.false in
     let name = c.judge.ensures ∙ ap₂ (λ (t : List ℕ) (channel : ℕ). verdict (counts_by t channel) minimum) c.walk-walked.ensures.output c.walk-walked.ensures.answer.1 in
     let p = lawful-said s.application l s.out.now c.if-application-ge32.false whole (replicate places 0) refl (name_by c.judge.result) name some in

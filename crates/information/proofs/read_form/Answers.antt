@@ -40,6 +40,12 @@ returns-in-Done c =
       output = p.ensures.output ∙ sum-leaves a.application a.rec.now j d a.out.now;
     }
 
+pub slice_bounds-read_parts-start-in-Done : goal.slice_bounds-read_parts-start-in-Done
+slice_bounds-read_parts-start-in-Done c =
+    let inside-c : (4 + c.in-Done.length ≤ length c.args.rec.now) = (let a = c.args in
+    within a.application a.rec.now c.judge.ensures c.in-Done.is) in
+    omega (arith, inside-c)
+
 pub slice_bounds-read_parts-end : goal.slice_bounds-read_parts-end
 slice_bounds-read_parts-end c =
     let inside-c : (4 + c.in-Done.length ≤ length c.args.rec.now) = (let a = c.args in

@@ -1,4 +1,5 @@
 -- `information_writer::judge` meets its contract: its tests in the order of the rules. Assumes nothing.
+use borrow.Author.Tests.{not-true, not-false}
 use borrow.Author.Rules.{rules}
 use mathlib.Core.Path.{◌∙◌, sym, ap}
 use mathlib.Core.List.{List}
@@ -44,7 +45,7 @@ returns-then-not-whole c =
     let kind = sym c.byte_at.ensures.0 ∙ c.if-byte_at-ne-AI.false in
     let long = c.if-form-networks.false ∙ form-counted f a.whole w n.result n.ensures.0 n.ensures.1 in
     c.refuse-then-not-whole.ensures
-    ∙ sym (by_values a.application f _ (search rules) (search rules) kind long (over-values f a.whole w n.result n.ensures.0 n.ensures.1 c.if-not-whole.true))
+    ∙ sym (by_values a.application f _ (search rules) (search rules) kind long (over-values f a.whole w n.result n.ensures.0 n.ensures.1 (not-true _ c.if-not-whole.true)))
 
 pub returns-then-size-ge-LIMIT : goal.returns-then-size-ge-LIMIT
 returns-then-size-ge-LIMIT c =
@@ -68,4 +69,4 @@ returns c =
     let size = ap (λ (x : ℕ). 4 + x) (size-counted f a.whole w n.result n.ensures.0 n.ensures.1) ∙ sym (record_long a.application (information_in f)) in
     ap Done size
     ∙ sym (by-none a.application f (Done (length (record_of a.application (information_in f)))) (search rules) (search rules) kind long
-    (fits-counted f a.whole w n.result n.ensures.0 n.ensures.1 c.if-not-whole.false c.if-size-ge-LIMIT.false))
+    (fits-counted f a.whole w n.result n.ensures.0 n.ensures.1 (not-false _ c.if-not-whole.false) c.if-size-ge-LIMIT.false))

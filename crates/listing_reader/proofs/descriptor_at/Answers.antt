@@ -1,7 +1,6 @@
 -- `listing_reader::descriptor_at` meets its contract: a law for each way. Assumes nothing.
 use mathlib.Core.Path.{◌∙◌}
 use native.Mathlib.Omega.{arith}
-use borrow.Author.Tests.{not-true}
 use lib.ListN.{length-drop}
 use Rattle.listing_reader.proofs.Walks.{within_on, number-room, row_room, descriptor-stop, descriptor-broken, descriptor-read}
 use Rattle.listing_reader.proofs.descriptor_at.Goals as goal
@@ -38,7 +37,7 @@ returns-then-not-fine c =
     let row_at_lem = c.row_at-row in
     let if2 = c.if-not-fine in
     let e = c.ended-then-not-fine.ensures in
-    (e ∙ descriptor-broken c.args.sheet.now c.args.at c.args.kind _ number_at.ensures if1.false _ row_at_lem.ensures.0 (not-true _ if2.true), rw e (omega arith))
+    (e ∙ descriptor-broken c.args.sheet.now c.args.at c.args.kind _ number_at.ensures if1.false _ row_at_lem.ensures.0 if2.true, rw e (omega arith))
 
 pub overflow_add-result : goal.overflow_add-result
 overflow_add-result c =

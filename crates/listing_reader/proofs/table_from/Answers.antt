@@ -2,7 +2,6 @@
 use mathlib.Core.Path.{◌∙◌, refl}
 use Prim.Native.Nat.{◌-◌}
 use native.Mathlib.Omega.{arith}
-use borrow.Author.Tests.{not-false}
 use lib.ListN.{drop, length-drop}
 use Rattle.listing_reader.specs.Reading.{descriptors_of}
 use Rattle.listing_reader.proofs.Walks.{table_from, table_on, table-end}
@@ -55,7 +54,7 @@ overflow_add-p c =
     let descriptor_at_lem = c.descriptor_at-part in
     let if1 = c.if-not-more in
     let over = c.is_over-over.ensures in
-    let more = not-false _ if1.false in
+    let more = if1.false in
     let e = table_on a.sheet.now a.at loop.p a.kind _ descriptor_at_lem.ensures.0 loop.invariant.0 loop.count loop.entries loop.over _ over more in
     omega (arith, loop.invariant.1, c.requires.short, simp length-drop at e.1)
 
@@ -66,7 +65,7 @@ loop-part-smaller c =
     let descriptor_at_lem = c.descriptor_at-part in
     let if1 = c.if-not-more in
     let over = c.is_over-over.ensures in
-    let more = not-false _ if1.false in
+    let more = if1.false in
     let e = table_on a.sheet.now a.at loop.p a.kind _ descriptor_at_lem.ensures.0 loop.invariant.0 loop.count loop.entries loop.over _ over more in
     omega (arith, e.0, loop.invariant.1, simp length-drop at e.1)
 
@@ -77,7 +76,7 @@ loop-part-preserved c =
     let descriptor_at_lem = c.descriptor_at-part in
     let if1 = c.if-not-more in
     let over = c.is_over-over.ensures in
-    let more = not-false _ if1.false in
+    let more = if1.false in
     let e = table_on a.sheet.now a.at loop.p a.kind _ descriptor_at_lem.ensures.0 loop.invariant.0 loop.count loop.entries loop.over _ over more in
     let l = loop in (
       omega (arith, l.invariant.0),

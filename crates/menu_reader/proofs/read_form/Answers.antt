@@ -70,6 +70,15 @@ returns-in-Done c =
           ∙ ap (λ (x : Answer). after x bytes out) on;
     }
 
+pub slice_bounds-read_parts-start-in-Done : goal.slice_bounds-read_parts-start-in-Done
+slice_bounds-read_parts-start-in-Done c =
+    let taken-c : (let r = c.args.rec.now in
+    (12 ≤ length r) × (4 + c.in-Done.length ≤ length r)) = (let a = c.args in
+    let j = c.judge.ensures in
+    let e = c.in-Done.is in
+    (long-lent (one_of NI NI) true a.application a.rec.now j e, count-in (one_of NI NI) true a.application a.rec.now j e)) in
+    omega (arith, taken-c)
+
 pub slice_bounds-read_parts-end : goal.slice_bounds-read_parts-end
 slice_bounds-read_parts-end c =
     let taken-c : (let r = c.args.rec.now in

@@ -1,7 +1,7 @@
 -- `sheet_entry::key_at` meets its contract: a law for each line that may be at fault. Assumes nothing.
 use mathlib.Core.Path.{◌∙◌}
 use native.Mathlib.Omega.{arith}
-use Rattle.listing.specs.Lines.{network_name}
+use Rattle.listing.specs.Lines.{block_name, network_name}
 use Rattle.listing_reader.proofs.Walks.{number-place, kind_place}
 use Rattle.sheet_entry.proofs.Heads.{key-unkind, key-unnetwork, key-unblock, key-all}
 use Rattle.sheet_entry.proofs.key_at.Goals as goal
@@ -36,6 +36,17 @@ returns-then-c-eq0 c =
     c.unnamed-then-c-eq0.ensures
     ∙ key-unblock c.args.sheet.now c.args.at _ c.kind_at-kind.ensures c.if-a-eq0.false _ c.number_at-network.ensures
     c.if-b-eq0.false _ c.number_at-block.ensures c.if-c-eq0.true
+
+pub overflow_add-result : goal.overflow_add-result
+overflow_add-result c =
+    let w = number-place network_name 255 (kind_place c.requires c.kind_at-kind.ensures) c.number_at-network.ensures in
+    omega (arith, w.inside, w.short)
+
+pub overflow_add-result-2 : goal.overflow_add-result-2
+overflow_add-result-2 c =
+    let w = number-place network_name 255 (kind_place c.requires c.kind_at-kind.ensures) c.number_at-network.ensures in
+    let z = number-place block_name 65535 w c.number_at-block.ensures in
+    omega (arith, z.inside, z.short)
 
 pub returns : goal.returns
 returns c =

@@ -40,15 +40,14 @@ returns-in-Refused c =
 
 pub returns-else-out-n : goal.returns-else-out-n
 returns-else-out-n c =
-    let n = c.n-1 in
     let if1 = c.if-out-n in
     let put-joined = c.put_joined in
     let f : List ℕ = c.args.first.now in
     let g : List ℕ = c.args.second.now in
     let j = c.judge_join.ensures in
-    let v = lent-value (join_rules c.args.form f g) (sheet_text c.args.form (join_result c.args.form f g)) c.args.out.now _ j n.given.1 in
+    let v = lent-value (join_rules c.args.form f g) (sheet_text c.args.form (join_result c.args.form f g)) c.args.out.now _ j c.in-Done.is in
     let p =
-    lent-done (join_rules c.args.form f g) (sheet_text c.args.form (join_result c.args.form f g)) c.args.out.now _ j n.given.1 (omega (arith, v, if1.false)) in
+    lent-done (join_rules c.args.form f g) (sheet_text c.args.form (join_result c.args.form f g)) c.args.out.now _ j c.in-Done.is (omega (arith, v, if1.false)) in
     record {
       answer = ap Done v ∙ p.0;
       output = put-joined.ensures.0 ∙ p.1;

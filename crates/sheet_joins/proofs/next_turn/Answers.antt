@@ -1,6 +1,7 @@
 -- `sheet_joins::next_turn` meets its contract: a law for each way. Assumes nothing.
 use mathlib.Core.Path.{◌∙◌, ap}
 use native.Mathlib.Omega.{arith}
+use borrow.Author.Tests.{not-true, not-false}
 use lib.ListN.{drop}
 use Rattle.sheet_entry.specs.declared.Found.{Found}
 use Rattle.sheet_joins.specs.Turns.{turn}
@@ -13,7 +14,7 @@ returns-then-not-a c =
     let y = drop c.args.j c.args.second.now in
     let f = c.entry_at-a in
     let g = c.entry_at-b in
-    by-second f.result g.result c.if-not-a.true ∙ turn-found c.args.form x y f.ensures g.ensures
+    by-second f.result g.result (not-true _ c.if-not-a.true) ∙ turn-found c.args.form x y f.ensures g.ensures
 
 pub returns-then-not-b : goal.returns-then-not-b
 returns-then-not-b c =
@@ -21,7 +22,7 @@ returns-then-not-b c =
     let y = drop c.args.j c.args.second.now in
     let f = c.entry_at-a in
     let g = c.entry_at-b in
-    by_first f.result g.result c.if-not-a.false c.if-not-b.true ∙ turn-found c.args.form x y f.ensures g.ensures
+    by_first f.result g.result (not-false _ c.if-not-a.false) (not-true _ c.if-not-b.true) ∙ turn-found c.args.form x y f.ensures g.ensures
 
 pub returns-then-a-b : goal.returns-then-a-b
 returns-then-a-b c =
@@ -29,7 +30,7 @@ returns-then-a-b c =
     let y = drop c.args.j c.args.second.now in
     let f = c.entry_at-a in
     let g = c.entry_at-b in
-    ap (turn f.result) c.nothing.ensures ∙ by_less f.result g.result c.if-not-a.false c.if-not-b.false (omega (arith, c.if-a-b.true)) ∙ turn-found c.args.form x y f.ensures g.ensures
+    ap (turn f.result) c.nothing.ensures ∙ by_less f.result g.result (not-false _ c.if-not-a.false) (not-false _ c.if-not-b.false) (omega (arith, c.if-a-b.true)) ∙ turn-found c.args.form x y f.ensures g.ensures
 
 pub returns-then-b-a : goal.returns-then-b-a
 returns-then-b-a c =
@@ -37,7 +38,7 @@ returns-then-b-a c =
     let y = drop c.args.j c.args.second.now in
     let f = c.entry_at-a in
     let g = c.entry_at-b in
-    ap (λ (h : Found). turn h g.result) c.nothing-then-b-a.ensures ∙ by-more f.result g.result c.if-not-a.false c.if-not-b.false (omega (arith, c.if-b-a.true)) ∙ turn-found c.args.form x y f.ensures g.ensures
+    ap (λ (h : Found). turn h g.result) c.nothing-then-b-a.ensures ∙ by-more f.result g.result (not-false _ c.if-not-a.false) (not-false _ c.if-not-b.false) (omega (arith, c.if-b-a.true)) ∙ turn-found c.args.form x y f.ensures g.ensures
 
 pub returns : goal.returns
 returns c =
@@ -45,4 +46,4 @@ returns c =
     let y = drop c.args.j c.args.second.now in
     let f = c.entry_at-a in
     let g = c.entry_at-b in
-    by-same f.result g.result c.if-not-a.false c.if-not-b.false (omega (arith, c.if-a-b.false, c.if-b-a.false)) ∙ turn-found c.args.form x y f.ensures g.ensures
+    by-same f.result g.result (not-false _ c.if-not-a.false) (not-false _ c.if-not-b.false) (omega (arith, c.if-a-b.false, c.if-b-a.false)) ∙ turn-found c.args.form x y f.ensures g.ensures

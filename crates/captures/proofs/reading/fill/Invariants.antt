@@ -5,7 +5,7 @@ use lib.ListN.{length}
 use Rattle.captures.proofs.reading.fill.Given as goal
 
 abbrev pub invariant-loop-n : goal.invariant-loop-n
-invariant-loop-n l = (l.n ≤ length l.initial.slice) × (length l.slice ≡ length l.initial.slice)
+invariant-loop-n g l = (l.n ≤ length l.initial.slice) × (length l.slice ≡ length l.initial.slice)
 
 abbrev pub decreases-loop-n : goal.decreases-loop-n
-decreases-loop-n l = length l.initial.slice - l.n
+decreases-loop-n g l = length l.initial.slice - l.n

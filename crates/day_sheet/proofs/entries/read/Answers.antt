@@ -2,7 +2,6 @@
 use mathlib.Core.Path.{◌∙◌}
 use Prim.Native.Nat.{◌-◌}
 use native.Mathlib.Omega.{arith}
-use borrow.Author.Tests.{not-false}
 use lib.ListN.{length-drop}
 use Rattle.day_sheet.specs.Reading.{sheet_of}
 use Rattle.day_sheet.proofs.Walking.{sheet-start, sheet-on, sheet-end}
@@ -37,7 +36,7 @@ overflow_add-least c =
     let loop = c.loop-form in
     let entry_at = c.entry_at-e in
     let if1 = c.if-not-more in
-    let e = sheet-on c.args.form c.args.sheet.now loop.at loop.least _ entry_at.ensures loop.count (not-false _ if1.false) in
+    let e = sheet-on c.args.form c.args.sheet.now loop.at loop.least _ entry_at.ensures loop.count if1.false in
     omega (arith, e.2)
 
 pub overflow_add-count : goal.overflow_add-count
@@ -48,7 +47,7 @@ loop-form-smaller c =
     let loop = c.loop-form in
     let entry_at = c.entry_at-e in
     let if1 = c.if-not-more in
-    let e = sheet-on c.args.form c.args.sheet.now loop.at loop.least _ entry_at.ensures loop.count (not-false _ if1.false) in
+    let e = sheet-on c.args.form c.args.sheet.now loop.at loop.least _ entry_at.ensures loop.count if1.false in
     omega (arith, e.0, loop.invariant.0, simp length-drop at e.1)
 
 pub loop-form-preserved : goal.loop-form-preserved
@@ -56,6 +55,6 @@ loop-form-preserved c =
     let loop = c.loop-form in
     let entry_at = c.entry_at-e in
     let if1 = c.if-not-more in
-    let e = sheet-on c.args.form c.args.sheet.now loop.at loop.least _ entry_at.ensures loop.count (not-false _ if1.false) in
+    let e = sheet-on c.args.form c.args.sheet.now loop.at loop.least _ entry_at.ensures loop.count if1.false in
     let l = c.loop-form in
     (omega (arith, l.invariant.0, simp length-drop at e.1), omega (arith, e.0, l.invariant.1), e.3 ∙ l.invariant.2)

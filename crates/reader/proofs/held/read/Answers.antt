@@ -23,7 +23,7 @@ returns-then-before-gt39 c =
 pub continue_to-carried-requires : goal.continue_to-carried-requires
 continue_to-carried-requires c =
     let r = c.requires.packet_room in
-    (holds_kept _ c.take_in-taken.ensures.holds, record { long = omega (arith, r.long); few = r.few })
+    record { kept = holds_kept _ c.take_in-taken.ensures.holds; room = record { long = omega (arith, r.long); few = r.few } }
 
 pub flow-requires : goal.flow-requires
 flow-requires c =

@@ -30,9 +30,9 @@ body_in-requires c =
 
 pub body_in-requires-in-Body : goal.body_in-requires-in-Body
 body_in-requires-in-Body c = record {
-      kept = kept-body c.requires c.in-Body.is;
-      from_in_bounds = omega arith;
-    }
+  kept = kept-body c.requires c.in-Body.is;
+  from_in_bounds = omega arith;
+}
 
 pub returns-in-Idle : goal.returns-in-Idle
 returns-in-Idle c =

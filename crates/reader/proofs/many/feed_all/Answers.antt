@@ -32,8 +32,11 @@ take_all-t-requires c =
     let long-c : (length c.args.reader.store ≡ store_length) = (search rules) in
     let r = c.is_ready.ensures in
     let n = c.if-not-is_ready.false in
-    let it = rw c.start-from.ensures (ready-kept c.args.setting c.args.reader r.value n (r.sixteen n) long-c, (omega arith, (refl, refl, refl))) in
-    record { kept = it.0; packet_length_len = it.1.0; blocks_value = it.1.1 }
+    record {
+      kept = rw c.start-from.ensures (ready-kept c.args.setting c.args.reader r.value n (r.sixteen n) long-c);
+      packet_length_len = omega arith;
+      blocks_value = rw c.start-from.ensures (refl, refl, refl);
+    }
 
 pub returns : goal.returns
 returns c =

@@ -34,8 +34,14 @@ take_all-t-requires c =
     let r = c.is_ready.ensures in
     let n = c.if-not-is_ready.false in
     let k = both-kept c.args.setting c.args.readers r.value n (r.sixteen n) long1-c long2-c in
-    let it = rw c.start-from.ensures (both-fits c.args.setting c.args.readers r.value n, (k.0, (k.1, (omega (arith, c.if-packets-ne0.false), (length-replicate {A = ℕ} 4224 0, (refl, refl, refl)))))) in
-    record { setting_value = it.0; kept = it.1.0; kept_2 = it.1.1.0; packet_length_len = it.1.1.1.0; hold_len = it.1.1.1.1.0; none_yet = it.1.1.1.1.1 }
+    record {
+      setting_value = both-fits c.args.setting c.args.readers r.value n;
+      kept = rw c.start-from.ensures k.0;
+      kept_2 = rw c.start-from.ensures k.1;
+      packet_length_len = omega (arith, c.if-packets-ne0.false);
+      hold_len = length-replicate {A = ℕ} 4224 0;
+      none_yet = rw c.start-from.ensures (refl, refl, refl);
+    }
 
 pub returns : goal.returns
 returns c =

@@ -1,4 +1,5 @@
 -- The answers that `reader::two::take_all` wants beside its invariants. Assumes nothing.
+use borrow.Author.Tests.{not-true, not-false}
 use mathlib.Core.Path.{◌≡◌, ◌∙◌, refl, sym}
 use Prim.Native.Nat.{◌+◌, ◌-◌, ◌≤◌}
 use native.Mathlib.Omega.{arith}
@@ -62,24 +63,18 @@ pub go_on-t-requires : goal.go_on-t-requires
 go_on-t-requires c =
     let l = c.loop-at in
     let m = c.limit_for-limit.ensures in
-    let q = l.invariant.6 in (
-      c.requires.setting_value,
-      (
-        holds_kept _ q.1.first.holds,
-        (
-          holds_kept _ q.1.second.holds,
-          (
-            (l.invariant.0, l.invariant.1),
-            record {
-              one = m.0;
-              held = omega (arith, m.1, l.invariant.2);
-              few = l.invariant.5;
-              long = omega (arith, m.0, m.2, l.invariant.3, l.invariant.4, c.if-out-q-lt-ROOM_OF_TWO.false);
-            },
-          ),
-        ),
-      ),
-    )
+    let q = l.invariant.6 in record {
+      setting_value = c.requires.setting_value;
+      kept = holds_kept _ q.1.first.holds;
+      kept_2 = holds_kept _ q.1.second.holds;
+      at_in_bounds = (l.invariant.0, l.invariant.1);
+      ample = record {
+        one = m.0;
+        held = omega (arith, m.1, l.invariant.2);
+        few = l.invariant.5;
+        long = omega (arith, m.0, m.2, l.invariant.3, l.invariant.4, c.if-out-q-lt-ROOM_OF_TWO.false);
+      };
+    }
 
 pub overflow_add-next : goal.overflow_add-next
 overflow_add-next c =
@@ -94,7 +89,7 @@ turn-a-requires c =
     let x = k.ensures in
     let long = length a.out.now in
     let q = went_reached a.setting a.packets.now long l.invariant.3 x l.invariant.6 in
-    let f = c.if-not-t.true in
+    let f = not-true _ c.if-not-t.true in
     let t = c.if-at-packets.true in
     let at = k.result.at in
     let h : at + 42 ≤ length a.packets.now = omega (arith, x.even, t) in
@@ -114,7 +109,7 @@ loop-at-preserved-then-at-packets c =
     let x = k.ensures in
     let long = length a.out.now in
     let q = went_reached a.setting a.packets.now long l.invariant.3 x l.invariant.6 in
-    let f = c.if-not-t.true in
+    let f = not-true _ c.if-not-t.true in
     let t = c.if-at-packets.true in
     let at = k.result.at in
     let h : at + 42 ≤ length a.packets.now = omega (arith, x.even, t) in
@@ -150,7 +145,7 @@ loop-at-preserved-else-at-packets c =
 
 pub loop-at-smaller : goal.loop-at-smaller
 loop-at-smaller c =
-    omega (arith, c.go_on-t.ensures.some c.if-not-t.false, c.go_on-t.ensures.within)
+    omega (arith, c.go_on-t.ensures.some (not-false _ c.if-not-t.false), c.go_on-t.ensures.within)
 
 pub loop-at-preserved : goal.loop-at-preserved
 loop-at-preserved c =

@@ -4,8 +4,7 @@ use Rattle.reader.proofs.two.turn_for.Goals as goal
 
 pub turn-a-requires : goal.turn-a-requires
 turn-a-requires c =
-    let it = rw c.start-from.ensures (c.requires.kept, c.requires.reads_value) in
-    record { kept = it.0; reads_value = it.1 }
+    record { kept = rw c.start-from.ensures c.requires.kept; reads_value = c.requires.reads_value }
 
 pub returns : goal.returns
 returns c =

@@ -44,14 +44,13 @@ returns-in-Done c =
     let old : List ℕ = c.args.out.now in
     let h : c.args.stamp ≤ stamp_most = search rules in
     let w = c.write_entry in
-    let n = c.n-1 in
-    let k = all_held c.args.form c.args.mended c.args.table.now (entry_text c.args.form (stamped c.args.stamp c.args.mended c.args.table.now)) (replicate entry_room 0) w.ensures.answer n.given.1 w.ensures.output in
+    let k = all_held c.args.form c.args.mended c.args.table.now (entry_text c.args.form (stamped c.args.stamp c.args.mended c.args.table.now)) (replicate entry_room 0) w.ensures.answer c.in-Done.is w.ensures.output in
     let l = length-replicate {A = ℕ} entry_room 0 in
     let room : entry_most c.args.form ≤ length {A = ℕ} (replicate entry_room 0) = omega (arith, entry-held c.args.form) in
     let long : length (entry_text c.args.form (stamped c.args.stamp c.args.mended f)) ≤ byte_limit c.args.form =
     omega (arith, entry_most_lem c.args.form c.args.stamp c.args.mended f h k.0.1 k.0.0, entry-within c.args.form) in
     let p =
-    add-goes-on c.args.form c.args.stamp c.args.mended sheet f old _ (w.ensures.answer ∙ entry_answers c.args.form c.args.stamp c.args.mended f (replicate entry_room 0) h room) n.given.1 in
+    add-goes-on c.args.form c.args.stamp c.args.mended sheet f old _ (w.ensures.answer ∙ entry_answers c.args.form c.args.stamp c.args.mended f (replicate entry_room 0) h room) c.in-Done.is in
     let e = c.join.ensures in record {
       answer = e.answer
           ∙ ap (λ (x : List ℕ). answered (join_rules c.args.form sheet x) (sheet_text c.args.form (join_result c.args.form sheet x)) old) k.1

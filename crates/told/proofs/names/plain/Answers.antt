@@ -1,6 +1,5 @@
 -- The answers that `told::names::plain` wants beside its invariants. Assumes nothing.
 use mathlib.Core.Path.{◌∙◌, refl, sym}
-use Prim.Native.Nat.{◌-◌}
 use native.Mathlib.Omega.{arith}
 use lib.ListN.{length-set}
 use Rattle.laws.proofs.Maps.{map-store, map-stored}

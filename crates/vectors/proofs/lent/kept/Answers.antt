@@ -1,6 +1,5 @@
 -- The answers that `vectors::lent::kept` wants beside its invariants. Assumes nothing.
 use mathlib.Core.Path.{◌∙◌}
-use Prim.Native.Nat.{◌-◌}
 use borrow.Author.Rules.{rules}
 use borrow.Author.Tests.{lt-leb, le-leb}
 use Rattle.vectors.proofs.Filled.{untouched-on, untouched_not, untouched-end}

@@ -1,5 +1,4 @@
 -- The answers that `vectors::words::put_hex` wants beside its invariants. Assumes nothing.
-use Prim.Native.Nat.{◌-◌}
 use lib.ListN.{length-set}
 use Rattle.io.proofs.Counting.{prefix_len_of_le}
 use borrow.Author.Rules.{rules}

@@ -1,0 +1,88 @@
+// Why a call failed, as the C library's text of its error.
+ghost use Rattle.std.specs.Prelude.{◌≤◌, length};
+ghost use Rattle.io.specs.Counts.{IsPrefixLen};
+
+use std::fmt;
+use std::fmt::Formatter;
+use std::io::Error;
+
+// More than the longest text of an error, with the number that std puts behind it.
+pub(crate) const LONGEST: usize = 256;
+
+// Where std puts the text of an error. What doesn't fit is left out.
+#[derive(Drop)]
+struct Text {
+    bytes: [u8; LONGEST],
+    length: usize,
+}
+
+impl fmt::Write for Text {
+    fn write_str(&mut self, s: &str) -> fmt::Result {
+        for b in s.as_bytes() {
+            self.put(*b);
+        }
+        Ok(())
+    }
+}
+
+impl Text {
+    fn put(&mut self, b: u8) {
+        let at = self.length;
+        if at < LONGEST {
+            self.bytes[at] = b;
+            self.length = at + 1;
+        }
+    }
+}
+
+// What an error is where no call of the system failed, as a write that took nothing.
+pub fn none() -> Error {
+    Error::from_raw_os_error(0)
+}
+
+// What an error is where a name is no text: std opens no such file.
+pub fn not_text() -> Error {
+    Error::from_raw_os_error(EILSEQ)
+}
+
+// What an error is where a name is longer than any path.
+pub fn too_long() -> Error {
+    Error::from_raw_os_error(ENAMETOOLONG)
+}
+
+const ENAMETOOLONG: i32 = 36;
+
+const EILSEQ: i32 = 84;
+
+// Puts the text of an error at the start of the bytes, and answers how long it is.
+pub(crate) fn put(error: Error, text: &mut [u8; LONGEST]) -> usize
+    ensures { IsPrefixLen result text.new }
+{
+    let bytes = [0; LONGEST];
+    let mut f = Formatter::new(Text { bytes, length: 0 });
+    let _ = f.write(error);
+    let written = f.into_inner();
+    let bytes = written.bytes;
+    *text = bytes;
+    words(text, written.length, error.raw_os_error().is_some())
+}
+
+// How long the words of an error are among so many bytes: std puts ` (os error N)` behind those of the system.
+fn words(text: &[u8], n: usize, is_of_system: bool) -> usize
+    ensures { IsPrefixLen result text.now }
+{
+    if text.len() < n {
+        return 0;
+    }
+    if !is_of_system {
+        return n;
+    }
+    let mut i = n;
+    while i > 1 {
+        i -= 1;
+        if text[i] == b'(' {
+            return i - 1;
+        }
+    }
+    n
+}
