@@ -1,13 +1,13 @@
 -- The walk along a list of records: what is seen of its blocks goes on with the next. Assumes nothing.
-use mathlib.Core.Path.{◌≡◌, ◌∙◌, refl, sym, ap, ap₂}
+use mathlib.Core.Path.{◌≡◌, ◌∙◌, sym, ap, ap₂}
 use mathlib.Core.Bool.{true, false}
 use mathlib.Core.List.{List, [], ◌∷◌}
 use Prim.Native.Nat.{ℕ, suc, ◌+◌, ◌-◌, ◌*◌, ◌/◌, ◌%◌, ◌≤◌, ◌<◌}
 use native.Mathlib.Omega.{arith}
-use lib.ListN.{length, get_or, take, drop, length-drop, drop_of_length-le}
+use lib.ListN.{length, take, drop, length-drop, drop_of_length-le}
 use Rattle.laws.specs.Bytes.{Bytes}
 use Rattle.laws.proofs.Byted.{bytes_drop}
-use Rattle.blocks.specs.Block.{head_length, size_of, record_of, record_length, begins, block_of, whole, blocks, whole_within, blocks_within}
+use Rattle.blocks.specs.Block.{size_of, record_of, record_length, begins, block_of, whole, blocks, whole_within, blocks_within}
 use Rattle.blocks.proofs.Walking.{Standing, begins-head, blocks_at, blocks_not, whole_not}
 use Rattle.broadcast.specs.declared.seeing.Seen.{Seen}
 use Rattle.broadcast.specs.Counting.{seen, all_seen}

@@ -5,7 +5,7 @@ use Rattle.answer.specs.Rules.{Rule, judged}
 use Rattle.octet.specs.Decoding.{nib}
 use Rattle.fields.specs.Fields.{field}
 use Rattle.fields.specs.Compound.{compound}
-use Rattle.forms.specs.Kinds.{TI, LI, known}
+use Rattle.forms.specs.Kinds.{known}
 use Rattle.blocks.specs.Block.{Block, head_length, head_of, application_of, size_of, record_length, record_of}
 use Rattle.blocks.specs.Sums.{sound}
 use Rattle.menu_forms.specs.Menus.{NI}

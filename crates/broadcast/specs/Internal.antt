@@ -1,6 +1,6 @@
 -- What only private calls cite; nothing here needs to be believed. Blocks tallied by kind, and behind that by kind and network; and what reading
 -- says where it is lent no room.
-use Rattle.std.specs.Prelude.{Bool, true, false, List, [], ◌∷◌, ◌++◌, ℕ, suc, ◌+◌, ◌*◌, eqb, ltb, get_or, set}
+use Rattle.std.specs.Prelude.{Bool, true, List, [], ◌∷◌, ◌++◌, ℕ, ◌+◌, ◌*◌, eqb, ltb, get_or, set}
 use Rattle.laws.specs.Pick.{pick}
 use Rattle.text_lines.specs.Codes.{codes}
 use Rattle.fields.specs.Fields.{field}

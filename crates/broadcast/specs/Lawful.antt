@@ -1,5 +1,5 @@
 -- What annex D asks of a broadcast, and the verdict (SCOPE 31).
-use Rattle.std.specs.Prelude.{Bool, true, false, List, [], ◌∷◌, ◌++◌, ℕ, ◌+◌, eqb, ltb, leb}
+use Rattle.std.specs.Prelude.{Bool, true, List, [], ◌∷◌, ◌++◌, ℕ, ◌+◌, eqb, ltb, leb}
 use Rattle.laws.specs.Pick.{pick, both}
 use Rattle.laws.specs.Range.{all}
 use Rattle.answer.specs.Rules.{Rule, rule}

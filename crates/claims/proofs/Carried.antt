@@ -443,7 +443,7 @@ module _ (R : ℕ → ℕ → Type 0) (L : Type 0) (hears : Hears R L) (s : Sett
         packet-then m index last w ss bs within celled g
         (λ st qs i a.
         packets-carried w (suc last) index p (moved m (told ss here)) (drop per_packet ss) mine g.rest st qs on
-        (after_celled 1 celled) (first_le m.first m.page (told_paged m.page ss (drop 3 q)) early) g.sends next i
+        (after_celled 1 celled) (first_le m.page m.first (told_paged m.page ss (drop 3 q)) early) g.sends next i
         (subst
         (λ (l : List Symbol).
         Mingled R K k w false (data_packets s w (suc (suc last)) (drop per_packet ss) ++ pages s k p ((index + 1) % 16) l) mine qs)

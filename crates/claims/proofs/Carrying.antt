@@ -143,7 +143,7 @@ module _ (R : ℕ → ℕ → Type 0) (L : Type 0) (hears : Hears R L) (pointed 
   continues-from a [] t z nil r = rw append-nil r
   continues-from {m} a (x ∷ zs) t z (and h n) r =
       rw (← append_assoc a (emitted m (stood x)) (sent_gives (step m (stood x)) zs))
-      (continues-from (a ++ emitted m (stood x)) zs t.1 (no_start-after (symbol_of x) (map symbol_of zs) z) n
+      (continues-from {m = step m (stood x)} (a ++ emitted m (stood x)) zs t.1 (no_start-after (symbol_of x) (map symbol_of zs) z) n
       (carry-follows x t.0 (no_start (symbol_of x) (map symbol_of zs) z) h r))
 
   pub continues-follows :

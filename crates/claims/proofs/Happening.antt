@@ -7,7 +7,8 @@ use Prim.Native.Nat.{ℕ, ◌+◌, ◌≤◌, ◌<◌}
 use native.Mathlib.Nat.{le_refl}
 use native.Mathlib.Omega.{arith}
 use lib.ListN.{length, replicate, length-replicate}
-use denote.Ref.{Bor}
+use denote.Bor.{Bor}
+use denote.MutBor.{MutBor}
 use Rattle.laws.specs.Each.{Each, nil, and}
 use Rattle.laws.proofs.Eaches.{each_all}
 use Rattle.answer.specs.declared.Answer.{Answer}
@@ -55,23 +56,27 @@ use Rattle.claims.proofs.Calls.{its_bytes, tables-written, all_whole, cut_holds}
 abbrev pub lend : List ℕ → Bor (List ℕ)
 lend l = record { ref_ptr = (0, 0); now = l }
 
+-- one that a call may write to
+abbrev pub lend_out : List ℕ → MutBor (List ℕ)
+lend_out l = record { ref_ptr = (0, 0); ghost_name = 0; now = l }
+
 module _ (application : ℕ) (l old : List ℕ) where
   can_write :
       Writes application l old (answered (write_rules application l) (record_of application (table_in l)) old)
       (left (write_rules application l) (record_of application (table_in l)) old)
-  can_write = write-block ([], ([], tt)) (application, (lend l, (lend old, tt))) _ (application, (lend l, (lend _, tt))) (refl, refl)
+  can_write = write-block ([], ([], tt)) (application, (lend l, (lend_out old, tt))) _ (application, (lend l, (lend_out _, tt))) (refl, refl)
 
   can-read :
       Reads application l old (counted (mended_in l) (answered (read_rules application l) (form (table_read l)) old))
       (left (read_rules application l) (form (table_read l)) old)
-  can-read = read-block ([], ([], tt)) (application, (lend l, (lend old, tt))) _ (application, (lend l, (lend _, tt))) (refl, refl)
+  can-read = read-block ([], ([], tt)) (application, (lend l, (lend_out old, tt))) _ (application, (lend l, (lend_out _, tt))) (refl, refl)
 
 can_cut :
     (s : Setting) (index k : ℕ) (records old : List ℕ)
     → Cuts s index k records old (answered (cut_rules s index k records) (cut_bytes s index k records) old)
     (left (cut_rules s index k records) (cut_bytes s index k records) old)
 can_cut s index k records old =
-    cut-pages ([], ([], tt)) (s, (index, (k, (lend records, (lend old, tt))))) _ (s, (index, (k, (lend records, (lend _, tt))))) (refl, refl)
+    cut-pages ([], ([], tt)) (s, (index, (k, (lend records, (lend_out old, tt))))) _ (s, (index, (k, (lend records, (lend_out _, tt))))) (refl, refl)
 
 can_start : Starts (reader_of fresh_state)
 can_start = fresh tt tt (reader_of fresh_state) tt refl
@@ -79,9 +84,9 @@ can_start = fresh tt tt (reader_of fresh_state) tt refl
 can_feed :
     (s : Setting) (r : Reader) (p old : List ℕ) → Feeds s r p old (feed_heard s r p old) (feed_reader s r p old) (feed_out s r p old)
 can_feed s r p old =
-    feed ([], ([], tt)) (s, (r, (lend p, (lend old, tt))))
+    feed ([], ([], tt)) (s, (r, (lend p, (lend_out old, tt))))
     (record { heard = feed_heard s r p old; reader = feed_reader s r p old })
-    (s, (r, (lend p, (lend (feed_out s r p old), tt))))
+    (s, (r, (lend p, (lend_out (feed_out s r p old), tt))))
     (refl, (refl, refl))
 
 -- the same of two streams
@@ -92,9 +97,9 @@ can_feed_two :
     (s : Streams) (r : Readers) (p old : List ℕ)
     → FeedsTwo s r p old (feed_heard_of_two s r p old) (feed_readers_of_two s r p old) (feed_out_of_two s r p old)
 can_feed_two s r p old =
-    Two.feed ([], ([], tt)) (s, (r, (lend p, (lend old, tt))))
+    Two.feed ([], ([], tt)) (s, (r, (lend p, (lend_out old, tt))))
     (record { heard = feed_heard_of_two s r p old; readers = feed_readers_of_two s r p old })
-    (s, (r, (lend p, (lend (feed_out_of_two s r p old), tt))))
+    (s, (r, (lend p, (lend_out (feed_out_of_two s r p old), tt))))
     (refl, (refl, refl))
 
 -- ---- calls in a row

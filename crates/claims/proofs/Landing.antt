@@ -53,6 +53,7 @@ page :
     → Paired (Near R) (data_packets s w y ss ++ ps) ours → Page R k x w ss ps ours
 unfolding data_packets carried_in grab
 page R s k x zero y ss ps ours r = record { bytes = []; later = ours; here = refl; near = none; others = r }
+page R s k x (suc w) y ss ps [] r = elim r [ ]
 page R s k x (suc w) y ss ps (q ∷ ours) (Lists.with n r) =
     let t = page R s k x w (suc y) (drop per_packet ss) ps ours r in
     let e : suc w * per_packet ≡ per_packet + w * per_packet = omega arith in
@@ -72,6 +73,8 @@ pages-near :
     → Near R (map byte_of (grab (p * (k * per_packet)) ss)) (map byte_in (carried_in k x 0 ours))
 unfolding pages carried_in grab
 pages-near R s k x zero index ss [] r = rw (zero-mul (k * per_packet)) none
+pages-near R s k x zero index ss (q ∷ ours) r = elim r [ ]
+pages-near R s k x (suc p) index ss [] r = elim r [ ]
 pages-near R s k x (suc p) index ss (q ∷ ours) (Lists.with n r) =
     let t = page R s k (suc x) k 1 ss _ ours r in
     let e : suc p * (k * per_packet) ≡ k * per_packet + p * (k * per_packet) = suc-mul p (k * per_packet) ∙ add_comm _ _ in

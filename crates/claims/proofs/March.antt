@@ -73,7 +73,7 @@ meets_hands one x = refl
 same_blocks : (s : Setting) {st st' : State} (qs : List (List ℕ)) → Meets st st' → heard_blocks s st qs ≡ heard_blocks s st' qs
 unfolding heard_blocks
 same_blocks s [] m = refl
-same_blocks s (q ∷ qs) m = ap₂ (λ (a b : List Block). a ++ b) (meets_hands m (see s q)) (same_blocks s qs (meets-after m (see s q)))
+same_blocks s {st = st} {st' = st'} (q ∷ qs) m = ap₂ (λ (a b : List Block). a ++ b) (meets_hands m (see s q)) (same_blocks s {st = act st (see s q)} {st' = act st' (see s q)} qs (meets-after m (see s q)))
 
 after_junk : (st : State) (x : Seen) → x ≡ junk → act st x ≡ idle_at st.index
 unfolding act

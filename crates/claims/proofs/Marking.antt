@@ -65,10 +65,10 @@ turned_le p x (heard fill c) e h = h
 turned_le p x (heard (bits n) c) e h = h
 turned_le p x (heard (raw b) c) e h = h
 
-pub first_le : (p x : ℕ) {zs : List Told} → Each (InPage x) zs → p ≤ x → sent_first p zs ≤ x
+pub first_le : (x p : ℕ) {zs : List Told} → Each (InPage x) zs → p ≤ x → sent_first p zs ≤ x
 unfolding sent_first
-first_le p x nil h = h
-first_le p x (and {a = z} e r) h = first_le (turned p z) x r (turned_le p x z e h)
+first_le x p nil h = h
+first_le x p (and {a = z} e r) h = first_le x (turned p z) r (turned_le p x z e h)
 
 module _ (x : ℕ) where
   -- with no start among them
@@ -92,9 +92,9 @@ module _ (x : ℕ) where
   unfolding before_start sent_out sent_first gives
   before-out m p nil h = record { out = refl; first = refl }
   before-out m p (and {a = heard start c} e r) h = absurd (omega arith)
-  before-out m p (and {a = heard fill c} {l = zs} e r) h = before_more m p (heard fill c) zs e refl (before-out _ p r (omega arith))
-  before-out m p (and {a = heard (bits n) c} {l = zs} e r) h = before_more m p (heard (bits n) c) zs e refl (before-out _ p r (omega arith))
-  before-out m p (and {a = heard (raw b) c} {l = zs} e r) h = before_more m p (heard (raw b) c) zs e refl (before-out _ p r (omega arith))
+  before-out m p (and {a = heard fill c} {l = zs} e r) h = before_more m p (heard fill c) zs e refl (before-out (step m (stood (heard fill c))) p r (omega arith))
+  before-out m p (and {a = heard (bits n) c} {l = zs} e r) h = before_more m p (heard (bits n) c) zs e refl (before-out (step m (stood (heard (bits n) c))) p r (omega arith))
+  before-out m p (and {a = heard (raw b) c} {l = zs} e r) h = before_more m p (heard (raw b) c) zs e refl (before-out (step m (stood (heard (raw b) c))) p r (omega arith))
 
 -- a block that ends in the page in which it began has second byte 0
 one-page : (m : Mode) (b : ℕ) → map (spanning false) (emitted m b) ≡ emitted m b

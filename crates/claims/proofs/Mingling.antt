@@ -1,7 +1,7 @@
 -- What arrives with others between: `Aired` is the case with packets of other magazines alone, and ours are one to one with those that were
 -- sent, each of 42 bytes. Assumes nothing.
 use mathlib.Core.Path.{◌≡◌, ◌∙◌, sym}
-use mathlib.Core.Bool.{Bool}
+use mathlib.Core.Bool.{Bool, false}
 use mathlib.Core.List.{List}
 use Prim.Native.Nat.{ℕ}
 use native.Mathlib.Omega.{arith}
@@ -10,7 +10,7 @@ use Rattle.packet.specs.declared.Setting.{Setting}
 use Rattle.packet.specs.Packet.{packet_length}
 use Rattle.writer.specs.Cutting.{FortyTwo, more}
 use Rattle.claims.specs.Noise.{Near, Elsewhere, Aired, ended as aired_ended, sent as aired_sent, between as aired_between}
-use Rattle.claims.specs.Mingled.{Kind, elsewhere, header, row, Mingled, ended, sent, between, begins, goes, Rightly, Shared}
+use Rattle.claims.specs.Mingled.{Kind, following, elsewhere, header, row, Mingled, ended, sent, between, begins, goes, Rightly, Shared}
 use Rattle.claims.specs.Lists.{Paired, both_end, with}
 use Rattle.claims.proofs.Losing.{near-length}
 
@@ -19,8 +19,8 @@ module _ {R : ℕ → ℕ → Type 0} {s : Setting} {K : Kind → List ℕ → T
       ((q : List ℕ) → Elsewhere R s q → K elsewhere q) → {w : ℕ} {t : Bool} {ps ours qs : List (List ℕ)} → Aired R s ps ours qs
       → Mingled R K k w t ps ours qs
   aired-mingled f aired_ended = ended
-  aired-mingled f (aired_sent n a) = sent n (aired-mingled f a)
-  aired-mingled f (aired_between {q = q} e a) = between (f q e) (aired-mingled f a)
+  aired-mingled f {w = w} {t = t} (aired_sent n a) = sent n (aired-mingled f {w = following k w} {t = false} a)
+  aired-mingled f {w = w} {t = t} (aired_between {q = q} e a) = between (f q e) (aired-mingled f {w = w} {t = t} a)
 
   -- with no packet of our magazine between it has been aired
   pub mingled-aired :

@@ -29,7 +29,7 @@ use Rattle.claims.specs.Sheets.{JoinsSheets, Accepted, behind_stamp}
 use Rattle.claims.specs.Moves.{MovesUp, move_up, MovesDown, move_down}
 use Rattle.claims.proofs.Sheets.{joins_sheets}
 use Rattle.claims.proofs.OtherForm.{read-fault}
-use Rattle.claims.proofs.Happening.{lend}
+use Rattle.claims.proofs.Happening.{lend, lend_out}
 
 -- ---- what each call says
 
@@ -157,7 +157,7 @@ down-other sheet e es f has call = (
 
 -- there are such calls, of whatever sheet and output
 pub can_move_up : (old lent : List ℕ) → MovesUp old lent (answered (up_rules old) (up_text old) lent) (left (up_rules old) (up_text old) lent)
-can_move_up old lent = move_up ([], ([], tt)) (lend old, (lend lent, tt)) _ (lend old, (lend _, tt)) (refl, refl)
+can_move_up old lent = move_up ([], ([], tt)) (lend old, (lend_out lent, tt)) _ (lend old, (lend_out _, tt)) (refl, refl)
 
 pub can_move_down : (new lent : List ℕ) → MovesDown new lent (answered (down_rules new) (down_text new) lent) (left (down_rules new) (down_text new) lent)
-can_move_down new lent = move_down ([], ([], tt)) (lend new, (lend lent, tt)) _ (lend new, (lend _, tt)) (refl, refl)
+can_move_down new lent = move_down ([], ([], tt)) (lend new, (lend_out lent, tt)) _ (lend new, (lend_out _, tt)) (refl, refl)

@@ -73,9 +73,9 @@ at-start m (heard start c ∷ zs) t h = opened t.0
   where
     opened : {m : Mode} → Fit m start → m ≡ scan
     opened opens = refl
-at-start m (heard fill c ∷ zs) t h = at-start _ zs t.1 (omega arith)
-at-start m (heard (bits n) c ∷ zs) t h = at-start _ zs t.1 (omega arith)
-at-start m (heard (raw b) c ∷ zs) t h = at-start _ zs t.1 (omega arith)
+at-start m (heard fill c ∷ zs) t h = at-start (step m (stood (heard fill c))) zs t.1 (omega arith)
+at-start m (heard (bits n) c ∷ zs) t h = at-start (step m (stood (heard (bits n) c))) zs t.1 (omega arith)
+at-start m (heard (raw b) c ∷ zs) t h = at-start (step m (stood (heard (raw b) c))) zs t.1 (omega arith)
 
 -- what the flow leaves at the packet's end goes on running
 sim_between : {L : Type 0} {m k : Mode} → Sim L m k → Between L m (unfinished k)

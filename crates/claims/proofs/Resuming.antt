@@ -1,6 +1,6 @@
 -- Up to the next packet 0 of ours nothing comes out, and a block that lives through that has a second byte 1. So of packets that begin there a
 -- reader hands out at most one block with a second byte 1, and then what the same reader with nothing running would. Assumes nothing.
-use mathlib.Core.Path.{◌≡◌, refl}
+use mathlib.Core.Path.{◌≡◌, refl, subst}
 use mathlib.Core.Bool.{Bool, true, false}
 use mathlib.Core.Logic.{◌⊎◌, inl, inr}
 use mathlib.Core.List.{List, [], ◌∷◌}
@@ -18,7 +18,7 @@ use Rattle.pages.specs.Judging.{incomplete}
 use Rattle.walk.specs.Mode.{Mode, off}
 use Rattle.walk.specs.Reading.{drop_if}
 use Rattle.state.specs.Acting.{State, act, handed}
-use Rattle.claims.specs.Noise.{Hears}
+use Rattle.claims.specs.Noise.{Hears, Near}
 use Rattle.claims.specs.Mingled.{Kind, elsewhere, header, row, Mingled, sent, between, begins, goes}
 use Rattle.claims.specs.Carrying.{heard_blocks}
 use Rattle.claims.specs.CutLine.{Becomes, Behind, alone, after}
@@ -95,22 +95,22 @@ module _ (s : Setting) (K : Kind → List ℕ → Type 0) (seen : (kind : Kind) 
 
   module _ (R : ℕ → ℕ → Type 0) (hears : Hears R ⊥) (page : s.page < 256) (stream : s.stream < 16) (k : ℕ) (most : k ≤ 25) where
     at_zero :
-        (index : ℕ) → index < 16 → {begun : Bool} {ps mine qs : List (List ℕ)} (st : State) → Closed begun st
-        → Mingled R K k 0 begun (packet_zero s index k ∷ ps) mine qs → Aside st qs
-    at_zero index low st c (sent {q = q} {qs = qs} n a) = go (zero-heard s page stream index k low most R ⊥ hears n)
+        (index : ℕ) → index < 16 → {begun : Bool} {p : List ℕ} {ps mine qs : List (List ℕ)} (st : State) → Closed begun st
+        → Mingled R K k 0 begun (p ∷ ps) mine qs → p ≡ packet_zero s index k → Aside st qs
+    at_zero index low st c (sent {q = q} {qs = qs} n a) z = go (zero-heard s page stream index k low most R ⊥ hears (subst (λ p. Near R p q) z n))
       where
         go : (see s q ≡ ours index k) ⊎ ((see s q ≡ junk) × ⊥) → Aside st (q ∷ qs)
         go (inl e) = zero_apart s st q qs index k most e
         go (inr w) = absurd w.1
-    at_zero index low {begun} st c (between {q = q} {qs = qs} e a) =
+    at_zero index low {begun} st c (between {q = q} {qs = qs} e a) z =
         let t = between-passes begun st (seen elsewhere q e) c in
-        pass st q qs t.0 (at_zero index low (act st (see s q)) t.1 a)
-    at_zero index low st c (begins {q = q} {qs = qs} e a) =
+        pass st q qs t.0 (at_zero index low (act st (see s q)) t.1 a z)
+    at_zero index low st c (begins {q = q} {qs = qs} e a) z =
         let t = header-passes st (seen header q e) in
-        pass st q qs t.0 (at_zero index low (act st (see s q)) t.1 a)
-    at_zero index low st c (goes {q = q} {qs = qs} e a) =
+        pass st q qs t.0 (at_zero index low (act st (see s q)) t.1 a z)
+    at_zero index low st c (goes {q = q} {qs = qs} e a) z =
         let t = row-passes st (seen row q e) c in
-        pass st q qs t.0 (at_zero index low (act st (see s q)) t.1 a)
+        pass st q qs t.0 (at_zero index low (act st (see s q)) t.1 a z)
 
     -- where none of ours is to come nothing comes out
     at_none : {mine qs : List (List ℕ)} (st : State) → Mingled R K k 0 false [] mine qs → heard_blocks s st qs ≡ []
@@ -121,4 +121,4 @@ module _ (s : Setting) (K : Kind → List ℕ → Type 0) (seen : (kind : Kind) 
         → Behind st.mode (heard_blocks s (stilled st) qs) (heard_blocks s st qs)
     unfolding pages
     resumes zero index low ss mine qs st a = rw (at_none st a, at_none (stilled st) a) alone
-    resumes (suc p) index low ss mine qs st a = at_zero index low st tt a
+    resumes (suc p) index low ss mine qs st a = at_zero index low st tt a refl

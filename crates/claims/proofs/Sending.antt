@@ -240,7 +240,7 @@ stream-sends p (and {a = b} {l = bs} f r) cs h =
     rw e
     (sends-append scan p (told ss (take ls cs)) _ (symbols-send p b (take ls cs) f first)
     (sends-append scan _ (told behind (take lf (drop ls cs))) _ (fills _ (ls * 2 % cell) (take lf (drop ls cs)))
-    (stream-sends _ r (drop (length (ss ++ behind)) cs) (omega arith))))
+    (stream-sends (sent_first (sent_first p (told ss (take ls cs))) (told behind (take lf (drop ls cs)))) r (drop (length (ss ++ behind)) cs) (omega arith))))
 
 -- ---- a walk goes on behind its first stretch
 

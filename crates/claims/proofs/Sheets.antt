@@ -36,7 +36,7 @@ use Rattle.sheet_joins.proofs.Mixed.{same-sheet}
 use Rattle.sheet_joins.proofs.Premise.{late-files}
 use Rattle.claims.specs.Calls.{reported}
 use Rattle.claims.specs.Sheets.{Rewrites, rewrite-sheet, JoinsSheets, join-sheets, AddsTable, add-table, DropsEntry, drop-entry, Counts, count_entries, Accepted, Called, none, joins, adds}
-use Rattle.claims.proofs.Happening.{lend}
+use Rattle.claims.proofs.Happening.{lend, lend_out}
 use Rattle.sheet_entry.specs.declared.Form.{Form}
 
 -- ---- what each call says
@@ -210,14 +210,14 @@ module _ (form : Form) where
 
   can-join : (first second old : List ℕ) → JoinsSheets form first second old (join_answer form first second old) (join_left form first second old)
   can-join first second old =
-      join-sheets ([], ([], ([], tt))) (form, (lend first, (lend second, (lend old, tt)))) _ (form, (lend first, (lend second, (lend _, tt)))) (refl, refl)
+      join-sheets ([], ([], ([], tt))) (form, (lend first, (lend second, (lend_out old, tt)))) _ (form, (lend first, (lend second, (lend_out _, tt)))) (refl, refl)
 
   can-add :
       (stamp mended : ℕ) (sheet table old : List ℕ)
       → AddsTable form stamp mended sheet table old (answered (add_rules form stamp mended sheet table) (sheet_text form (add_result form stamp mended sheet table)) old)
       (left (add_rules form stamp mended sheet table) (sheet_text form (add_result form stamp mended sheet table)) old)
   can-add stamp mended sheet table old =
-      add-table ([], ([], ([], tt))) (form, (stamp, (mended, (lend sheet, (lend table, (lend old, tt)))))) _ (form, (stamp, (mended, (lend sheet, (lend table, (lend _, tt))))))
+      add-table ([], ([], ([], tt))) (form, (stamp, (mended, (lend sheet, (lend table, (lend_out old, tt)))))) _ (form, (stamp, (mended, (lend sheet, (lend table, (lend_out _, tt))))))
       (refl, refl)
 
   as_long : (least : ℕ) → least ≤ length (replicate {A = ℕ} least 0)

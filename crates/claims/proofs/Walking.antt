@@ -174,7 +174,7 @@ module _ (R : ℕ → ℕ → Type 0) (L : Type 0) (hears : Hears R L) where
       → Follows L (sent_ends m zs) (sent_gives m zs) (ends k (map came_of zs)) (gives k (map came_of zs))
   unfolding ends gives
   flow-follows [] t nil r = record { mode = r; blocks = over }
-  flow-follows (z ∷ zs) t (and h n) r =
+  flow-follows {m = m} {k = k} (z ∷ zs) t (and h n) r =
       let one = step_follows z t.0 h r in
-      let rest = flow-follows zs t.1 n one.mode in
+      let rest = flow-follows {m = step m (stood z)} zs t.1 n one.mode in
       record { mode = rest.mode; blocks = came-append one.blocks rest.blocks }

@@ -1,11 +1,10 @@
 -- Application Information is read exactly: what is accepted is what a record says, what is written reads back, what is accepted can be
 -- written. From what holds of any kind. Assumes nothing.
-use mathlib.Core.Path.{◌≡◌, ◌∙◌, sym, ap, ap₂, subst}
+use mathlib.Core.Path.{◌≡◌, ◌∙◌, ap, subst}
 use mathlib.Core.Logic.{◌↔◌}
 use mathlib.Core.Bool.{true}
 use mathlib.Core.List.{List, ◌++◌}
 use Prim.Native.Nat.{ℕ, ◌≤◌, ◌<◌}
-use native.Mathlib.Omega.{arith}
 use borrow.Author.Tests.{ltb-true, lt-ltb, eqb-true}
 use lib.ListN.{length, get_or, drop}
 use lib.Pow.{pow_pos}

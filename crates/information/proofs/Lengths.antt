@@ -1,7 +1,7 @@
 -- What control bytes and string bytes carry, how long it is by its number of networks and its codes, and the last rule of reading. Assumes
 -- nothing.
-use mathlib.Core.Path.{◌≡◌, ◌∙◌, refl, sym, ap, ap₂, subst}
-use mathlib.Core.List.{List, [], map}
+use mathlib.Core.Path.{◌≡◌, ◌∙◌, refl, sym, ap, subst}
+use mathlib.Core.List.{List, map}
 use Prim.Native.Nat.{ℕ, ◌+◌, ◌*◌, ◌/◌, ◌%◌, ◌^◌}
 use native.Mathlib.Omega.{arith}
 use borrow.Author.Tests.{eq-eqb, ne_eqb}
@@ -10,14 +10,14 @@ use Rattle.answer.specs.Rules.{judged}
 use Rattle.answer.specs.Values.{refused}
 use Rattle.answer.specs.declared.Answer.{Answer}
 use Rattle.octet.specs.Decoding.{nib}
-use Rattle.fields.specs.Fields.{width, field, whole}
+use Rattle.fields.specs.Fields.{width, field}
 use Rattle.fields.specs.Compound.{compound}
 use Rattle.codecs.proofs.Lawful.{row-length}
 use Rattle.kinds.specs.Front.{Front}
 use Rattle.kinds.specs.Kind.{Content, Sent, content_of, control, size}
 use Rattle.kinds.specs.Reading.{front_in, sent_in, carried_by, length_rules}
 use Rattle.kinds.proofs.Fronts.{front_at}
-use Rattle.information_forms.specs.Information.{Network, Information, Behind, network_count, network_format, behind, among, names}
+use Rattle.information_forms.specs.Information.{Information, Behind, network_count, network_format, behind, among, names}
 use Rattle.information_forms.specs.Form.{form}
 use Rattle.information_forms.specs.Kind.{information, value}
 use Rattle.information_forms.proofs.Sizes.{control-of, size_of, form-long}

@@ -1,7 +1,7 @@
 -- Networks as the walk finds them: where a value stands, what one puts, and what is left behind it. Assumes nothing.
 use mathlib.Core.Path.{◌≡◌, ◌∙◌, refl, sym, ap, ap₂}
-use mathlib.Core.List.{List, [], ◌∷◌, ◌++◌, append-nil}
-use Prim.Native.Nat.{ℕ, suc, ◌+◌, ◌-◌, ◌*◌, ◌/◌, ◌%◌, ◌^◌, ◌≤◌, ◌<◌}
+use mathlib.Core.List.{List, [], ◌∷◌, ◌++◌}
+use Prim.Native.Nat.{ℕ, suc, ◌+◌, ◌-◌, ◌*◌, ◌/◌, ◌^◌, ◌≤◌, ◌<◌}
 use native.Mathlib.Nat.{add_assoc}
 use native.Mathlib.Omega.{arith}
 use lib.ListN.{length, drop, length-append}
@@ -15,8 +15,8 @@ use Rattle.fields.proofs.Laid.{field_past}
 use Rattle.codecs.specs.Codec.{row_read}
 use Rattle.codecs.specs.Rows.{each, codes_in, rowed, values_in}
 use Rattle.codecs.proofs.Codes.{codes-count}
-use Rattle.codecs.proofs.Lawful.{value_at_lem, values-width}
-use Rattle.information_forms.specs.Rows.{cut, row_bytes, row_form}
+use Rattle.codecs.proofs.Lawful.{value_at_lem}
+use Rattle.information_forms.specs.Rows.{cut, row_bytes}
 use Rattle.information_forms.specs.Information.{Network, network_widths, network_name, network_format}
 use Rattle.information_forms.specs.Form.{network_form}
 use Rattle.information_forms.proofs.Rowed.{row-long}

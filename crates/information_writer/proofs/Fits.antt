@@ -1,14 +1,13 @@
 -- A form that is measured: how long it, its block and its record are, whether it can be sent, and the rules of writing in order. Assumes
 -- nothing.
-use mathlib.Core.Path.{◌≡◌, ◌∙◌, refl, sym, ap, ap₂, subst}
+use mathlib.Core.Path.{◌≡◌, ◌∙◌, refl, sym, ap}
 use mathlib.Core.Bool.{Bool, true, false, true≢false}
 use mathlib.Core.List.{List, [], ◌∷◌, ◌++◌, map, append-nil}
-use Prim.Native.Nat.{ℕ, zero, suc, ◌+◌, ◌-◌, ◌*◌, ◌%◌, ◌≤◌, ◌<◌}
+use Prim.Native.Nat.{ℕ, zero, suc, ◌+◌, ◌*◌, ◌%◌, ◌≤◌, ◌<◌}
 use native.Mathlib.Omega.{arith}
 use borrow.Author.Tests.{ltb-true, lt-ltb, le-ltb, le-leb, lt-leb, eq-eqb, ne_eqb}
 use lib.Dec.{ltb, eqb}
 use lib.ListN.{length, get_or, drop, length-append, length-map}
-use Rattle.laws.specs.Pick.{both}
 use Rattle.laws.proofs.Tests.{both_true, both-holds}
 use Rattle.answer.specs.Rules.{judged}
 use Rattle.answer.specs.Values.{refused}
@@ -19,15 +18,15 @@ use Rattle.octet.specs.Image.{image}
 use Rattle.parity.specs.Parity.{letter}
 use Rattle.fields.specs.Fields.{Field, fitting}
 use Rattle.fields.proofs.Laid.{fitting-append}
-use Rattle.codecs.specs.Rows.{each, codes_in, in_row, rowed}
+use Rattle.codecs.specs.Rows.{each, in_row, rowed}
 use Rattle.codecs.specs.Codec.{row_whole}
 use Rattle.codecs.proofs.Codes.{codes-count}
 use Rattle.codecs.proofs.Found.{found-count}
-use Rattle.kinds.specs.Kind.{sevens, control, strings, size}
+use Rattle.kinds.specs.Kind.{sevens, strings, size}
 use Rattle.kinds.specs.Block.{nibbles, checksum_of, block_with}
 use Rattle.kinds.proofs.Laying.{nibbles-long}
 use Rattle.information_forms.specs.Rows.{row_bytes, row_in}
-use Rattle.information_forms.specs.Information.{Network, Information, opening_widths, network_widths, network_count, name_length, network_name, network_format, names}
+use Rattle.information_forms.specs.Information.{Network, Information, opening_widths, network_widths, network_count, name_length, network_name, network_format}
 use Rattle.information_forms.specs.Form.{network_form, form, network_in, form_opening, information_in}
 use Rattle.information_forms.specs.Kind.{information, content, fits, record_of}
 use Rattle.information_forms.specs.Writing.{form_rules, write_rules}

@@ -1,9 +1,8 @@
 -- The networks of a form, one behind the other, and what stands before them. Assumes nothing.
-use mathlib.Core.Path.{◌≡◌, ◌∙◌, refl, sym, ap, ap₂}
+use mathlib.Core.Path.{◌≡◌, ◌∙◌, sym, ap, ap₂}
 use mathlib.Core.Bool.{Bool, true, false}
-use mathlib.Core.List.{List, [], ◌∷◌, ◌++◌}
-use Prim.Native.Nat.{ℕ, suc, ◌+◌, ◌-◌, ◌*◌, ◌≤◌, ◌<◌}
-use native.Mathlib.Nat.{add_assoc}
+use mathlib.Core.List.{List, [], ◌∷◌}
+use Prim.Native.Nat.{ℕ, ◌+◌, ◌-◌, ◌≤◌, ◌<◌}
 use native.Mathlib.Omega.{arith}
 use borrow.Author.Tests.{le-ltb}
 use lib.Dec.{ltb}
@@ -13,11 +12,11 @@ use Rattle.laws.specs.Pick.{both}
 use Rattle.laws.proofs.Countdown.{at_none, at_more}
 use Rattle.laws.proofs.Tests.{both_assoc, both_right, both_false}
 use Rattle.fields.specs.Fields.{fitting, whole}
-use Rattle.codecs.specs.Rows.{each, codes_in, in_row, rowed}
+use Rattle.codecs.specs.Rows.{each, codes_in, in_row}
 use Rattle.codecs.proofs.Codes.{codes-count}
 use Rattle.kinds.specs.Kind.{sevens}
 use Rattle.information_forms.specs.Rows.{cut, row_bytes, row_in}
-use Rattle.information_forms.specs.Information.{Network, Information, opening_widths, network_widths, network_count, name_length, network_name, names}
+use Rattle.information_forms.specs.Information.{Network, opening_widths, network_widths, network_count, name_length, network_name}
 use Rattle.information_forms.specs.Form.{network_form, network_in, information_in}
 use Rattle.information_forms.proofs.Rowed.{row_at_lem}
 use Rattle.information_forms.proofs.Sizes.{network-long}

@@ -1,23 +1,21 @@
 -- What the pen lays, and the letters that are put: part by part, and what is left of them. Assumes nothing.
-use mathlib.Core.Path.{◌≡◌, ◌∙◌, refl, sym, ap, ap₂, subst}
-use mathlib.Core.Bool.{Bool, true, false}
+use mathlib.Core.Path.{◌≡◌, ◌∙◌, sym, ap, ap₂}
 use mathlib.Core.List.{List, [], ◌∷◌, ◌++◌, map, map-append, append-nil}
-use Prim.Native.Nat.{ℕ, suc, ◌+◌, ◌-◌, ◌*◌, ◌%◌, ◌≤◌, ◌<◌}
+use Prim.Native.Nat.{ℕ, ◌+◌, ◌-◌, ◌%◌, ◌≤◌, ◌<◌}
 use native.Mathlib.Numerals.{add-one}
 use native.Mathlib.Omega.{arith}
 use borrow.Author.Tests.{eq-eqb, ne_eqb}
-use lib.Dec.{eqb}
-use lib.ListN.{length, get_or, drop, set, length-append, length-map}
+use lib.ListN.{length, get_or, drop, set, length-map}
 use lib.Seq.{sets, drop-drop}
 use Rattle.laws.proofs.Countdown.{at_none, at_more}
 use Rattle.laws.proofs.Lists.{sets-append}
 use Rattle.parity.specs.Parity.{letter}
 use Rattle.fields.specs.Fields.{Field}
-use Rattle.codecs.specs.Rows.{each, codes_in, rowed}
+use Rattle.codecs.specs.Rows.{each, codes_in}
 use Rattle.information_forms.specs.Rows.{cut}
 use Rattle.information_forms.specs.Information.{Network, network_widths, network_format, fill_up}
 use Rattle.information_forms.specs.Form.{network_in}
-use Rattle.information_writer.specs.Internal.{placed, network_at, networks_from, row_at, laid_from, spoken_from}
+use Rattle.information_writer.specs.Internal.{placed, network_at, row_at, laid_from, spoken_from}
 use Rattle.information_writer.proofs.Along.{byte_here}
 use Rattle.information_writer.proofs.Listed.{networks-split, networks_none}
 

@@ -19,17 +19,17 @@ use Rattle.blocks.specs.Sums.{checksum}
 use Rattle.blocks.specs.Sealing.{head_bytes, sealed}
 use Rattle.blocks.proofs.Sealing.{head_of, record-sealed}
 use Rattle.kinds.specs.Kind.{Kind, Content, sent, fields, control, strings, size}
-use Rattle.kinds.specs.Block.{nibbles, head_bits, checksum_of, block_with}
+use Rattle.kinds.specs.Block.{nibbles, checksum_of, block_with}
 use Rattle.kinds.proofs.Fronts.{bits-any, four}
 use Rattle.kinds.proofs.Laying.{nibbles-long, nibbles-again, behind_sum}
 use Rattle.information_forms.specs.Rows.{cut, row_in}
-use Rattle.information_forms.specs.Information.{Network, Information, opening_widths, network_count, network_format, fill_up, Behind, names}
+use Rattle.information_forms.specs.Information.{Network, Information, opening_widths, network_format, fill_up, Behind, names}
 use Rattle.information_forms.specs.Form.{information_in}
 use Rattle.information_forms.specs.Kind.{information, content, record_of}
-use Rattle.information_forms.proofs.Sizes.{bits-whole, control-of, strings-of, size_of}
+use Rattle.information_forms.proofs.Sizes.{bits-whole, control-of, strings-of}
 use Rattle.information_writer.specs.Internal.{networks_from, row_at, laid_from, spoken_from, front_bytes, front_widths, control_fields}
 use Rattle.information_writer.proofs.Listed.{service-name, networks-found, count-said}
-use Rattle.information_writer.proofs.Fits.{counts, record_long}
+use Rattle.information_writer.proofs.Fits.{counts}
 
 -- ---- control data
 

@@ -3,11 +3,11 @@
 use Rattle.std.specs.Prelude.{◌≡◌, Bool, true, List, [], ◌∷◌, ◌++◌, ℕ, ◌+◌, ◌*◌, ◌/◌, ◌%◌, ltb, length, get_or, drop}
 use Rattle.laws.specs.Pick.{both}
 use Rattle.fields.specs.Fields.{Field, fitting}
-use Rattle.codecs.specs.Rows.{each, codes_in, in_row, rowed}
+use Rattle.codecs.specs.Rows.{each, in_row, rowed}
 use Rattle.kinds.specs.Kind.{sevens}
 use Rattle.information_forms.specs.Rows.{cut, row_in}
 use Rattle.information_forms.specs.Information.{Network, Information, opening_widths, network_widths, network_format, fill_up, names}
-use Rattle.information_forms.specs.Form.{network_form, network_in, information_in}
+use Rattle.information_forms.specs.Form.{network_form, network_in}
 use Rattle.information_writer.specs.declared.Measured.{Measured}
 
 -- the place of the network behind j others, whose names with the service's have so many codes

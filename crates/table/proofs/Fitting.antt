@@ -1,12 +1,12 @@
 -- How the rules of number and lengths decide, a lemma for each way that the code goes. Assumes nothing.
 use mathlib.Core.Path.{◌≡◌, ◌∙◌, sym, ap, ap₂}
 use mathlib.Core.Bool.{Bool, true, false}
-use mathlib.Core.List.{List, [], ◌∷◌}
+use mathlib.Core.List.{[], ◌∷◌}
 use Prim.Native.Nat.{ℕ}
 use lib.Dec.{eqb}
 use borrow.Author.Tests.{eq-eqb, ne_eqb}
 use Rattle.laws.specs.Pick.{both}
-use Rattle.answer.specs.Rules.{Rule, rule, judged}
+use Rattle.answer.specs.Rules.{rule, judged}
 use Rattle.answer.specs.declared.Answer.{Answer}
 use Rattle.answer.specs.Values.{refused}
 use Rattle.fields.specs.declared.Opening.{Opening}

@@ -1,7 +1,6 @@
 -- The answers that `broadcast::are_alike` wants beside its invariants. Assumes nothing.
 use borrow.Author.Rules.{rules}
 use mathlib.Core.Path.{◌∙◌, refl, sym}
-use Prim.Native.Nat.{◌-◌}
 use native.Mathlib.Omega.{arith}
 use Rattle.broadcast.proofs.Alike.{alikes-step, alikes-stop, alikes-end}
 use Rattle.broadcast.proofs.are_alike.Goals as goal

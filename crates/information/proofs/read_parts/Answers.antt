@@ -1,6 +1,5 @@
 -- `information::read_parts` meets its contract: `judge_lengths` says which rule refuses or how many bytes are needed, then the room decides.
 -- Assumes nothing.
-use borrow.Author.Rules.{rules}
 use mathlib.Core.Path.{◌∙◌, ap}
 use Prim.Native.Nat.{◌+◌}
 use native.Mathlib.Omega.{arith}

@@ -1,6 +1,5 @@
 -- `menu_reader::read_parts` meets its contract: `judge_lengths` says which rule refuses or how many bytes are needed, then the room decides.
 -- Assumes nothing.
-use borrow.Author.Rules.{rules}
 use mathlib.Core.Path.{◌∙◌, ap}
 use native.Mathlib.Omega.{arith}
 use Rattle.answer.specs.declared.Answer.TheVariants.{Done}

@@ -7,7 +7,6 @@ use native.Mathlib.Omega.{arith}
 use lib.ListN.{length-map}
 use Rattle.octet.specs.Decoding.{nib}
 use Rattle.fields.specs.declared.Opening.{Opening}
-use Rattle.blocks.specs.Sums.{sound}
 use Rattle.table.proofs.Judging.{whole-10, whole-11, whole-done}
 use Rattle.blocks.proofs.Summing.{sound_le}
 use Rattle.table.proofs.judge_whole.Goals as goal

@@ -1,6 +1,5 @@
 -- `table::read_form` meets its contract: the frame is judged first, and where it is taken the block behind the head is there.
 -- Assumes nothing.
-use borrow.Author.Rules.{rules}
 use mathlib.Core.Path.{◌≡◌, ◌∙◌, ap, ap₂}
 use mathlib.Core.List.{List, map}
 use Prim.Native.Nat.{ℕ, ◌+◌, ◌/◌, ◌≤◌}

@@ -1,7 +1,7 @@
 -- The answers that `broadcast::tallies::is_met` wants beside its invariants. Assumes nothing.
 use borrow.Author.Rules.{rules}
 use mathlib.Core.Path.{◌∙◌, refl, ap}
-use Prim.Native.Nat.{ℕ, ◌-◌}
+use Prim.Native.Nat.{ℕ}
 use lib.ListN.{get_or}
 use Rattle.broadcast.specs.Lawful.{each_within}
 use Rattle.broadcast.specs.Internal.{counts_by}

@@ -1,7 +1,7 @@
 -- The answers that `information::spelling::put_row` wants beside its invariants. Assumes nothing.
 use borrow.Author.Rules.{rules}
 use mathlib.Core.Path.{◌≡◌, ◌∙◌, refl, ap}
-use Prim.Native.Nat.{ℕ, ◌-◌, ◌/◌, ◌^◌, min}
+use Prim.Native.Nat.{ℕ, ◌/◌, ◌^◌, min}
 use native.Mathlib.Omega.{arith}
 use lib.Seq.{sets}
 use Rattle.fields.specs.Fields.{field, parts}

@@ -1,7 +1,6 @@
 -- The answers that `information_writer::laying::put_letters` wants beside its invariants. Assumes nothing.
 use borrow.Author.Rules.{rules}
 use mathlib.Core.Path.{◌∙◌, refl}
-use Rattle.parity.specs.Parity.{letter}
 use Rattle.information_writer.proofs.Penned.{letters-on, letters-end}
 use Rattle.information_writer.proofs.laying.put_letters.Goals as goal
 

@@ -1,7 +1,7 @@
 -- The answers that `information_writer::measuring::row_fine` wants beside its invariants. Assumes nothing.
 use borrow.Author.Rules.{rules}
 use mathlib.Core.Path.{◌∙◌, refl, sym, ap, subst}
-use Prim.Native.Nat.{ℕ, ◌-◌, ◌^◌, ◌≤◌, ◌<◌}
+use Prim.Native.Nat.{ℕ, ◌^◌, ◌≤◌, ◌<◌}
 use native.Mathlib.Omega.{arith}
 use Rattle.fields.specs.Fields.{fitting}
 use Rattle.information_writer.proofs.Along.{power, row-bad, row-good, row-end}

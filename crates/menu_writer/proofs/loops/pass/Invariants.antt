@@ -1,7 +1,7 @@
 -- `menu_writer::loops::pass` meets its contract: what is left from here makes what was to be passed. The measure is the entries left.
 -- Assumes nothing.
 use mathlib.Core.Path.{◌≡◌}
-use Prim.Native.Nat.{◌+◌, ◌*◌, ◌-◌, ◌≤◌}
+use Prim.Native.Nat.{◌+◌, ◌*◌, ◌≤◌}
 use lib.ListN.{drop}
 use Rattle.laws.specs.Pick.{both}
 use Rattle.menu_writer.specs.Internal.{loop_length, loop_fine}
