@@ -5,7 +5,7 @@ use lib.ListN.{length}
 use Rattle.desk.proofs.capture.list_records.Given as goal
 
 abbrev pub invariant-loop-at : goal.invariant-loop-at
-invariant-loop-at l = (l.at ≤ length l.records) × (length l.text ≡ length l.initial.text) × (length l.form ≡ length l.initial.form)
+invariant-loop-at g l = (l.at ≤ length l.records) × (length l.text ≡ length l.initial.text) × (length l.form ≡ length l.initial.form)
 
 abbrev pub decreases-loop-at : goal.decreases-loop-at
-decreases-loop-at l = length l.records - l.at
+decreases-loop-at g l = length l.records - l.at

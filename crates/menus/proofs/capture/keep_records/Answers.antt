@@ -1,7 +1,6 @@
 -- The answers that `menus::capture::keep_records` wants beside its invariants. Assumes nothing.
 use borrow.Author.Rules.{rules}
 use mathlib.Core.Path.{sym, subst}
-use Prim.Native.Nat.{◌-◌}
 use native.Mathlib.Omega.{arith}
 use Rattle.captures.proofs.Spanning.{Further, span_within}
 use Rattle.menus.proofs.capture.keep_records.Goals as goal

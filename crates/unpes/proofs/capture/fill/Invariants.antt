@@ -5,7 +5,7 @@ use lib.ListN.{length}
 use Rattle.unpes.proofs.capture.fill.Given as goal
 
 abbrev pub invariant-loop-n : goal.invariant-loop-n
-invariant-loop-n l = length l.slice ≡ length l.initial.slice
+invariant-loop-n g l = length l.slice ≡ length l.initial.slice
 
 abbrev pub decreases-loop-n : goal.decreases-loop-n
-decreases-loop-n l = length l.slice - l.n
+decreases-loop-n g l = length l.slice - l.n

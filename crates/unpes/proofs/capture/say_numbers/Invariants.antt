@@ -4,7 +4,7 @@ use lib.ListN.{length}
 use Rattle.unpes.proofs.capture.say_numbers.Given as goal
 
 abbrev pub invariant-loop-i : goal.invariant-loop-i
-invariant-loop-i l = l.i ≤ length l.seen
+invariant-loop-i g l = l.i ≤ length l.seen
 
 abbrev pub decreases-loop-i : goal.decreases-loop-i
-decreases-loop-i l = length l.seen - l.i
+decreases-loop-i g l = length l.seen - l.i
