@@ -1,5 +1,6 @@
 // One piece of an input.
-ghost use Rattle.std.specs.Prelude.{true, ◌≡◌, length};
+ghost use Rattle.std.specs.Prelude.{true, pos, ◌≡◌, length};
+ghost use Rattle.std.specs.IoError.{raw_os_error};
 ghost use Rattle.captures.specs.Reading.{fits_in};
 
 use std::io::{Error, Read};
@@ -20,7 +21,10 @@ pub struct Source<R> {
 
 impl<R: Read> Source<R> {
     // One of which nothing is read yet.
-    pub fn new(from: R) -> Source<R> {
+    pub fn new(from: R) -> Source<R>
+        ensures from_value { result.from ≡ from }
+        ensures why_value { raw_os_error result.why ≡ Some (pos 0) }
+    {
         Source {
             from,
             why: told::failures::none(),

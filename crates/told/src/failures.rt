@@ -1,5 +1,6 @@
 // Why a call failed, as the C library's text of its error.
-ghost use Rattle.std.specs.Prelude.{◌≤◌, length};
+ghost use Rattle.std.specs.Prelude.{pos, ◌≡◌, ◌≤◌, length};
+ghost use Rattle.std.specs.IoError.{raw_os_error};
 ghost use Rattle.io.specs.Counts.{IsPrefixLen};
 
 use std::fmt;
@@ -36,17 +37,23 @@ impl Text {
 }
 
 // What an error is where no call of the system failed, as a write that took nothing.
-pub fn none() -> Error {
+pub fn none() -> Error
+    ensures { raw_os_error result ≡ Some (pos 0) }
+{
     Error::from_raw_os_error(0)
 }
 
 // What an error is where a name is no text: std opens no such file.
-pub fn not_text() -> Error {
+pub fn not_text() -> Error
+    ensures { raw_os_error result ≡ Some (pos 84) }
+{
     Error::from_raw_os_error(EILSEQ)
 }
 
 // What an error is where a name is longer than any path.
-pub fn too_long() -> Error {
+pub fn too_long() -> Error
+    ensures { raw_os_error result ≡ Some (pos 36) }
+{
     Error::from_raw_os_error(ENAMETOOLONG)
 }
 
