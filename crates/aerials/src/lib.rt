@@ -39,10 +39,8 @@ fn broken(packet: &[u8]) -> usize
     ensures { result ≡ broken_in judged_bytes packet.now }
 {
     let mut n = 0;
-    let mut i = 0;
-    while i < JUDGED {
+    for i in 0..JUDGED {
         n += lost(packet[i]);
-        i += 1;
     }
     n
 }

@@ -9,9 +9,9 @@ use native.Mathlib.Omega.{arith}
 use lib.Dec.{leb}
 use lib.ListN.{length, drop}
 use borrow.Author.Tests.{leb-true}
+use Rattle.std.specs.declared.result.Result.TheVariants.{Ok}
 use Rattle.laws.proofs.Tests.{both_first, both-second, both_true, both-holds}
-use Rattle.answer.specs.declared.Answer.{Answer}
-use Rattle.answer.specs.declared.Answer.TheVariants.{Done}
+use Rattle.answer.specs.Answer.{Answer}
 use Rattle.answer.specs.Values.{number_of, offset_of, written_of, refused}
 use Rattle.answer.specs.Writing.{room, all_rules, answered, after, left}
 use Rattle.answer.specs.Rules.{Rule, judged, last_number, refusing, all_refusing, Every, none, more, First, here, later}
@@ -80,13 +80,13 @@ module _ (rules : List Rule) (bytes old : List ℕ) where
       to e = go (decided (all_rules rules bytes old))
         where
           go : Every (all_rules rules bytes old) ⊎ ((q : Rule) × First q (all_rules rules bytes old)) → Every (all_rules rules bytes old) × (length bytes ≡ n)
-          go (inl d) = let f = ap written_of (passes refused (Done (length bytes)) d) in (d, cc)
+          go (inl d) = let f = ap written_of (passes refused (Ok (length bytes)) d) in (d, cc)
           go (inr f) =
-              let g = ap number_of (refuses refused (Done (length bytes)) f.1) in
+              let g = ap number_of (refuses refused (Ok (length bytes)) f.1) in
               absurd (omega (arith, first-number (all-refuse k) f.1))
 
       from : Every (all_rules rules bytes old) × (length bytes ≡ n) → (number_of (answered rules bytes old) ≡ 0) × (written_of (answered rules bytes old) ≡ n)
-      from d = let f = passes refused (Done (length bytes)) d.0 in (ap number_of f, ap written_of f ∙ d.1)
+      from d = let f = passes refused (Ok (length bytes)) d.0 in (ap number_of f, ap written_of f ∙ d.1)
 
   -- a refusal's number and offset are those of the first rule that doesn't hold
   pub refused_exactly :
@@ -99,22 +99,22 @@ module _ (rules : List Rule) (bytes old : List ℕ) where
       to e = go (decided (all_rules rules bytes old))
         where
           go : Every (all_rules rules bytes old) ⊎ ((q : Rule) × First q (all_rules rules bytes old)) → (q : Rule) × First q (all_rules rules bytes old) × (q.number ≡ number) × (q.offset ≡ offset)
-          go (inl d) = let f = ap number_of (passes refused (Done (length bytes)) d) in absurd (omega arith)
-          go (inr f) = let g = refuses refused (Done (length bytes)) f.1 in (f.0, f.1, sym (ap number_of g) ∙ e.0, sym (ap offset_of g) ∙ e.1)
+          go (inl d) = let f = ap number_of (passes refused (Ok (length bytes)) d) in absurd (omega arith)
+          go (inr f) = let g = refuses refused (Ok (length bytes)) f.1 in (f.0, f.1, sym (ap number_of g) ∙ e.0, sym (ap offset_of g) ∙ e.1)
 
       from : (q : Rule) × First q (all_rules rules bytes old) × (q.number ≡ number) × (q.offset ≡ offset) → (number_of (answered rules bytes old) ≡ number) × (offset_of (answered rules bytes old) ≡ offset)
-      from f = let g = refuses refused (Done (length bytes)) f.1 in (ap number_of g ∙ f.2, ap offset_of g ∙ f.3)
+      from f = let g = refuses refused (Ok (length bytes)) f.1 in (ap number_of g ∙ f.2, ap offset_of g ∙ f.3)
 
   -- a refusal leaves every lent byte
   pub refusal-leaves : 0 < number_of (answered rules bytes old) → left rules bytes old ≡ old
   refusal-leaves p = go (decided (all_rules rules bytes old))
     where
       go : Every (all_rules rules bytes old) ⊎ ((q : Rule) × First q (all_rules rules bytes old)) → left rules bytes old ≡ old
-      go (inl d) = let f = ap number_of (passes refused (Done (length bytes)) d) in absurd (omega arith)
-      go (inr f) = ap (λ (a : Answer). after a bytes old) (refuses refused (Done (length bytes)) f.1)
+      go (inl d) = let f = ap number_of (passes refused (Ok (length bytes)) d) in absurd (omega arith)
+      go (inr f) = ap (λ (a : Answer). after a bytes old) (refuses refused (Ok (length bytes)) f.1)
 
   -- an accepted call writes its bytes to the front and leaves the rest
   pub accepted-writes : all_refusing rules ≡ true → number_of (answered rules bytes old) ≡ 0 → left rules bytes old ≡ bytes ++ drop (length bytes) old
   accepted-writes k e =
       let d = ((accepted-exactly k (written_of (answered rules bytes old))).0 (e, refl)).0 in
-      ap (λ (a : Answer). after a bytes old) (passes refused (Done (length bytes)) d)
+      ap (λ (a : Answer). after a bytes old) (passes refused (Ok (length bytes)) d)

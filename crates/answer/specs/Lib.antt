@@ -1,3 +1,5 @@
+pub mod Answer
+pub mod Reasons
 pub mod Rules
 pub mod Values
 pub mod Writing

@@ -1,7 +1,7 @@
 -- A call that writes bytes to the front of a lent output: its answer, and the output afterwards, from its rules and its bytes.
+use Rattle.std.specs.declared.result.Result.TheVariants.{Ok, Err}
 use Rattle.std.specs.Prelude.{List, [], ◌∷◌, ◌++◌, ℕ, leb, length, drop}
-use Rattle.answer.specs.declared.Answer.{Answer}
-use Rattle.answer.specs.declared.Answer.TheVariants.{Done, Refused}
+use Rattle.answer.specs.Answer.{Answer}
 use Rattle.answer.specs.Rules.{Rule, rule, judged}
 use Rattle.answer.specs.Values.{refused}
 
@@ -15,12 +15,12 @@ all_rules rules bytes old = rules ++ room bytes old ∷ []
 
 -- the call's answer
 abbrev pub answered : List Rule → List ℕ → List ℕ → Answer
-answered rules bytes old = judged refused (all_rules rules bytes old) (Done (length bytes))
+answered rules bytes old = judged refused (all_rules rules bytes old) (Ok (length bytes))
 
 -- the output after an answer: only the bytes that are reported as written change (SCOPE 3.3), and at a refusal none (SCOPE 3.2)
 abbrev pub after : Answer → List ℕ → List ℕ → List ℕ
-after (Done n) bytes old = bytes ++ drop (length bytes) old
-after (Refused r) bytes old = old
+after (Ok n) bytes old = bytes ++ drop (length bytes) old
+after (Err r) bytes old = old
 
 -- the output that the call leaves
 abbrev pub left : List Rule → List ℕ → List ℕ → List ℕ

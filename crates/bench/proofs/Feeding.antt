@@ -8,8 +8,7 @@ use lib.ListN.{take, drop}
 use lib.Seq.{drop-drop}
 use Rattle.laws.proofs.Lists.{part_of}
 use Rattle.state.specs.declared.Reader.{Reader}
-use Rattle.reader.specs.declared.Heard.{Heard}
-use Rattle.reader.specs.declared.many.HeardAll.{HeardAll}
+use Rattle.reader.specs.Taking.{Heard, HeardAll}
 use Rattle.reader.specs.Feeding.{feed_heard, feed_reader, feed_out}
 use Rattle.bench.specs.Feeding.{desk, added, each_count, each_out, blocks_of}
 

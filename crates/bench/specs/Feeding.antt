@@ -5,10 +5,8 @@ use Rattle.packet.specs.declared.Setting.{Setting}
 use Rattle.packet.specs.declared.two.Streams.{Streams}
 use Rattle.state.specs.declared.Reader.{Reader}
 use Rattle.state.specs.declared.two.Readers.{Readers}
-use Rattle.reader.specs.declared.Heard.{Heard}
-use Rattle.reader.specs.declared.Heard.TheVariants.{Took, Refused}
-use Rattle.reader.specs.declared.many.HeardAll.{HeardAll}
-use Rattle.reader.specs.declared.many.HeardAll.TheVariants.{TookAll, RefusedAll}
+use Rattle.reader.specs.Taking.{Heard, HeardAll, took, took_all}
+use Rattle.std.specs.declared.result.Result.TheVariants.{Ok, Err}
 use Rattle.state.specs.State.{reader_of, fresh_state}
 use Rattle.state.specs.Two.{readers_of, fresh_of_two}
 use Rattle.reader.specs.Feeding.{feed_heard, feed_reader, feed_out}
@@ -32,8 +30,8 @@ abbrev pub wrap : ℕ
 wrap = 4294967296
 
 abbrev pub added : ℕ → Heard → ℕ
-added count (Took blocks written dropped) = (count + blocks % 65536) % wrap
-added count (Refused r) = count
+added count (Ok t) = (count + t.blocks % 65536) % wrap
+added count (Err r) = count
 
 -- the blocks of the n packets from the front of l, into this output, and of those counted before
 unfoldable pub each_count : ℕ → Reader → List ℕ → List ℕ → ℕ → ℕ
@@ -49,5 +47,5 @@ each_out (suc n) r l out = each_out n (feed_reader desk r (take packet_length l)
 
 -- how many blocks a list of packets gave
 abbrev pub blocks_of : HeardAll → ℕ
-blocks_of (TookAll packets blocks written dropped) = blocks
-blocks_of (RefusedAll r) = 0
+blocks_of (Ok t) = t.blocks
+blocks_of (Err r) = 0

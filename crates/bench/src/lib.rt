@@ -19,10 +19,10 @@ ghost use Rattle.reader.specs.Many.{feed_all_heard, feed_all_out};
 ghost use Rattle.reader.specs.Two.{feed_all_heard_of_two, feed_all_out_of_two};
 
 use answer::Answer;
-use blocks::Read;
+use blocks::Taken;
 use packet::two::Streams;
 use packet::{PACKET, Setting};
-use reader::{Heard, HeardAll};
+use reader::{Fed, Heard, HeardAll};
 
 // Decodes each byte. What it gives hangs on every one, so that none can be left out.
 #[unsafe(no_mangle)]
@@ -30,10 +30,8 @@ pub extern "C" fn bench_decode(s: &[u8]) -> u8
     ensures { result ≡ mixed nib s.now 0 }
 {
     let mut mix = 0u8;
-    let mut i = 0;
-    while i < s.len() {
-        mix = mix ^ octet::quick::decode(s[i]);
-        i += 1;
+    for b in s {
+        mix ^= octet::quick::decode(*b);
     }
     mix
 }
@@ -44,10 +42,8 @@ pub extern "C" fn bench_turn(s: &[u8]) -> u8
     ensures { result ≡ mixed turned s.now 0 }
 {
     let mut mix = 0u8;
-    let mut i = 0;
-    while i < s.len() {
-        mix = mix ^ octet::turn(s[i]);
-        i += 1;
+    for b in s {
+        mix ^= octet::turn(*b);
     }
     mix
 }
@@ -59,8 +55,8 @@ pub extern "C" fn bench_pes(packet: &[u8], out: &mut [u8]) -> usize
     ensures bytes { out.new ≡ left (read_rules packet.now) (records_of packet.now) out.old }
 {
     match pes::read(packet, out) {
-        Answer::Done(n) => n,
-        Answer::Refused(r) => 0,
+        Ok(n) => n,
+        Err(_) => 0,
     }
 }
 
@@ -74,8 +70,8 @@ pub extern "C" fn bench_read(rec: &[u8], out: &mut [u8]) -> usize
     ensures bytes { out.new ≡ left (table_read_rules 1 rec.now) (form (table_read rec.now)) out.old }
 {
     match table::read_block(1, rec, out) {
-        Read::Taken { written, mended } => written,
-        Read::Refused(r) => 0,
+        Ok(Taken { written, .. }) => written,
+        Err(_) => 0,
     }
 }
 
@@ -92,18 +88,13 @@ pub extern "C" fn bench_feed(packets: &[u8], out: &mut [u8]) -> usize
         stream: 1,
         application: 1,
     };
-    let mut left = packets.len() / PACKET;
-    let mut at = 0;
     let mut count = 0;
     let mut state = reader::fresh();
-    while left > 0 {
-        let end = at + PACKET;
-        let fed = reader::feed(setting, state, &packets[at..end], out);
-        let heard = fed.heard;
-        count = counted(count, heard);
+    for i in 0..packets.len() / PACKET {
+        let at = PACKET * i;
+        let fed = reader::feed(setting, state, &packets[at..at + PACKET], out);
+        count = counted(count, fed.heard);
         state = fed.reader;
-        at = end;
-        left -= 1;
     }
     count
 }
@@ -121,8 +112,7 @@ pub extern "C" fn bench_feed_all(packets: &[u8], out: &mut [u8]) -> usize
         application: 1,
     };
     let state = reader::fresh();
-    let fed = reader::feed_all(setting, state, packets, out);
-    let heard = fed.heard;
+    let Fed { heard, .. } = reader::feed_all(setting, state, packets, out);
     handed_out(heard)
 }
 
@@ -140,8 +130,7 @@ pub extern "C" fn bench_feed_both(packets: &[u8], out: &mut [u8]) -> usize
         application: 1,
     };
     let state = reader::two::fresh();
-    let fed = reader::two::feed_all(setting, state, packets, out);
-    let heard = fed.heard;
+    let Fed { heard, .. } = reader::two::feed_all(setting, state, packets, out);
     handed_out(heard)
 }
 
@@ -150,13 +139,8 @@ fn handed_out(heard: HeardAll) -> usize
     ensures { result ≡ blocks_of heard }
 {
     match heard {
-        HeardAll::TookAll {
-            packets,
-            blocks,
-            written,
-            dropped,
-        } => blocks,
-        HeardAll::RefusedAll(r) => 0,
+        Ok(t) => t.blocks,
+        Err(_) => 0,
     }
 }
 
@@ -167,11 +151,7 @@ fn counted(count: usize, heard: Heard) -> usize
     ensures upper_bound { result < wrap }
 {
     match heard {
-        Heard::Took {
-            blocks,
-            written,
-            dropped,
-        } => (count + blocks % 65536) % 4294967296,
-        Heard::Refused(r) => count,
+        Ok(t) => (count + t.blocks % 65536) % 4294967296,
+        Err(_) => count,
     }
 }

@@ -4,19 +4,17 @@ use mathlib.Core.List.{List, [], ◌∷◌, ◌++◌, append_assoc}
 use Prim.Native.Nat.{ℕ, ◌+◌, ◌/◌, ◌%◌, ◌≤◌, ◌<◌}
 use borrow.Author.Tests.{lt-ltb, le-ltb, le-leb, lt-leb, eq-eqb, ne_eqb}
 use lib.ListN.{length}
-use Rattle.laws.proofs.Picks.{agree}
+use Rattle.std.specs.declared.result.Result.TheVariants.{Ok, Err}
 use Rattle.answer.specs.Rules.{Rule, judged, Every}
 use Rattle.answer.specs.declared.Refusal.{Refusal}
-use Rattle.answer.specs.declared.Answer.{Answer}
-use Rattle.answer.specs.declared.Answer.TheVariants.{Done, Refused}
+use Rattle.answer.specs.Answer.{Answer}
 use Rattle.answer.specs.Values.{refused}
 use Rattle.answer.specs.Writing.{room, answered, left}
 use Rattle.answer.proofs.Lent.{lent-refused}
 use Rattle.answer.proofs.Steps.{ends, goes_on, done-value, done_every}
-use Rattle.blocks.specs.declared.Frame.{Frame}
-use Rattle.blocks.specs.declared.Frame.TheVariants.{Head, Refused as Frame-as-Refused}
-use Rattle.blocks.specs.Framing.{frame_rules}
-use Rattle.blocks.specs.Values.{refused_frame}
+use Rattle.blocks.specs.Block.{head_of}
+use Rattle.blocks.specs.Framing.{frame_rules, framing}
+use Rattle.blocks.proofs.Framed.{framed}
 
 -- ---- the frame
 
@@ -79,31 +77,26 @@ module _ {A : Type 0} (f : ℕ → ℕ → A) (application len head part second 
 
 -- ---- the frame, then what follows it
 
--- the frame's answer as one that would write nothing yet
-abbrev pub as_answer : Frame → Answer
-as_answer (Head head) = Done head
-as_answer (Frame-as-Refused w) = Refused w
+module _ (rs : List Rule) (n : ℕ) {first : Answer} (judges : first ≡ judged refused rs (Ok n)) where
+  pub head-every : {m : ℕ} → first ≡ Ok m → Every rs
+  head-every {m} e = done_every rs n m (sym judges ∙ e)
 
-as_judged : (rs : List Rule) (n : ℕ) → as_answer (judged refused_frame rs (Head n)) ≡ judged refused rs (Done n)
-as_judged [] n = refl
-as_judged (r ∷ rs) n = agree as_answer (λ a. a) r.holds (as_judged rs n) refl
-
-module _ (rs : List Rule) (n : ℕ) {first : Frame} (judges : first ≡ judged refused_frame rs (Head n)) where
-  pub frame_same : as_answer first ≡ judged refused rs (Done n)
-  frame_same = ap as_answer judges ∙ as_judged rs n
-
-  pub head-every : {m : ℕ} → first ≡ Head m → Every rs
-  head-every {m} e = done_every rs n m (sym frame_same ∙ ap as_answer e)
-
-  pub head-value : {m : ℕ} → first ≡ Head m → m ≡ n
-  head-value {m} e = done-value rs n m (sym frame_same ∙ ap as_answer e)
+  pub head-value : {m : ℕ} → first ≡ Ok m → m ≡ n
+  head-value {m} e = done-value rs n m (sym judges ∙ e)
 
   module _ (qs : List Rule) (bytes old : List ℕ) where
     pub frame_refused :
-        {w : Refusal} → first ≡ Frame-as-Refused w → (Refused w ≡ answered (rs ++ qs) bytes old) × (old ≡ left (rs ++ qs) bytes old)
-    frame_refused e = lent-refused (rs ++ qs) bytes old n (ends rs qs n frame_same (Done n) (ap as_answer e)) refl
+        {w : Refusal} → first ≡ Err w → (Err w ≡ answered (rs ++ qs) bytes old) × (old ≡ left (rs ++ qs) bytes old)
+    frame_refused e = lent-refused (rs ++ qs) bytes old n (ends rs qs n judges (Ok n) e) refl
 
-    pub frame-taken : {m : ℕ} → first ≡ Head m → answered qs bytes old ≡ answered (rs ++ qs) bytes old
+    pub frame-taken : {m : ℕ} → first ≡ Ok m → answered qs bytes old ≡ answered (rs ++ qs) bytes old
     frame-taken e =
-        goes_on rs (qs ++ room bytes old ∷ []) n frame_same (Done (length bytes)) (ap as_answer e)
-        ∙ ap (λ (l : List Rule). judged refused l (Done (length bytes))) (sym (append_assoc rs qs (room bytes old ∷ [])))
+        goes_on rs (qs ++ room bytes old ∷ []) n judges (Ok (length bytes)) e
+        ∙ ap (λ (l : List Rule). judged refused l (Ok (length bytes))) (sym (append_assoc rs qs (room bytes old ∷ [])))
+
+-- a record that the frame takes is so long
+pub frame-sizes :
+    (application : ℕ) (r : List ℕ) (n : ℕ) {m : ℕ} {first : Answer}
+    → first ≡ judged refused (framing application r) (Ok n) → first ≡ Ok m
+    → (length r ≡ 4 + head_of r / 32) × (8 ≤ head_of r / 32)
+frame-sizes application r n judges e = let k = framed application r (head-every (framing application r) n judges e) in (k.long, k.eight)

@@ -1,17 +1,17 @@
 -- How a pass along a record counts the bytes that were mended, run by run and byte by byte, and how a pass finds that there are none.
 -- Assumes nothing.
-use mathlib.Core.Path.{◌≡◌, ◌∙◌, sym, ap}
+use mathlib.Core.Path.{◌≡◌, ◌∙◌, refl, sym, ap}
 use mathlib.Core.Bool.{Bool, true, false}
-use mathlib.Core.List.{List}
-use Prim.Native.Nat.{ℕ, suc, ◌+◌, ◌-◌, ◌≤◌, ◌<◌}
+use mathlib.Core.List.{List, [], ◌∷◌, ◌++◌}
+use Prim.Native.Nat.{ℕ, suc, ◌+◌, ◌≤◌, ◌<◌}
 use native.Mathlib.Nat.{zero-add}
 use native.Mathlib.Numerals.{add-one}
 use native.Mathlib.Omega.{arith}
 use borrow.Author.Tests.{ne_eqb}
 use lib.Bits.{bit_or}
 use lib.Dec.{eqb}
-use lib.ListN.{length, get_or, take, drop, drop_of_length-le, take-append-drop}
-use lib.Seq.{drop-cons, drop-drop}
+use lib.ListN.{length, get_or, drop, drop_of_length-le}
+use lib.Seq.{drop-cons}
 use Rattle.laws.specs.Pick.{pick, both}
 use Rattle.laws.proofs.Tests.{both_right, mixed_zero}
 use Rattle.octet.specs.Hearing.{harm, harms}
@@ -20,14 +20,13 @@ use Rattle.octet.proofs.Hearing.{harms-append}
 -- ---- the count
 
 -- the harms of what is left are those of a run and of what is left after it
-pub harms-run :
-    (s : List ℕ) (i end : ℕ) → i ≤ end → harms (take (end - i) (drop i s)) + harms (drop end s) ≡ harms (drop i s)
-harms-run s i end h =
-    let e : i + (end - i) ≡ end = omega arith in
-    let d : drop (end - i) (drop i s) ≡ drop end s = drop-drop (end - i) i s ∙ ap (λ (n : ℕ). drop n s) e in
-    ap (λ (l : List ℕ). harms (take (end - i) (drop i s)) + harms l) (sym d)
-    ∙ sym (harms-append (take (end - i) (drop i s)) (drop (end - i) (drop i s)))
-    ∙ ap harms (take-append-drop (end - i) (drop i s))
+pub harms-run : {s : List ℕ} (run rest : List ℕ) → s ≡ run ++ rest → harms run + harms rest ≡ harms s
+harms-run run rest e = sym (ap harms e ∙ harms-append run rest)
+
+pub harms_none : (s : List ℕ) → length s ≡ 0 → harms s ≡ 0
+unfolding harms
+harms_none [] e = refl
+harms_none (x ∷ s) e = absurd (omega arith)
 
 -- a byte and those after it
 pub harms-on : (s : List ℕ) (i : ℕ) → i < length s → harm (get_or s i 0) + harms (drop (i + 1) s) ≡ harms (drop i s)

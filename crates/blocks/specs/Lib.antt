@@ -8,4 +8,5 @@ pub mod Sums
 pub mod Sealing
 pub mod Framing
 pub mod Outcome
+pub mod Taking
 pub mod Values

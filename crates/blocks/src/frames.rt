@@ -3,43 +3,36 @@ ghost use Rattle.std.specs.Prelude.{◌≡◌, ◌<◌};
 ghost use Rattle.answer.specs.Rules.{judged};
 ghost use Rattle.blocks.specs.Block.{head_of};
 ghost use Rattle.blocks.specs.Framing.{framing};
-ghost use Rattle.blocks.specs.Values.{refused_frame};
-ghost use Rattle.blocks.specs.declared.Frame.TheVariants.{Head};
+ghost use Rattle.answer.specs.Values.{refused};
+ghost use Rattle.std.specs.declared.result.Result.TheVariants.{Ok};
 
-use crate::{Frame, HEAD};
-use answer::Refusal;
+use crate::HEAD;
+use answer::{Answer, Reason};
 
-// 16, 13, 16, 12, 13: the record as it is lent.
-pub fn judge(application: u8, rec: &[u8]) -> Frame
-    ensures { result ≡ judged refused_frame (framing application rec.now) (Head (head_of rec.now)) }
+// 16, 13, 16, 12, 13: the record as it is lent, and its head's 16 bits where it is taken.
+pub fn judge(application: u8, rec: &[u8]) -> Answer
+    ensures { result ≡ judged refused (framing application rec.now) (Ok (head_of rec.now)) }
 {
     if 32 <= application {
-        return refuse(16);
+        return Reason::Range.refuse(0);
     }
     let head = head_of(rec);
     if rec.len() != HEAD + head / 32 {
-        return refuse(13);
+        return Reason::Length.refuse(0);
     }
     if 5 < rec[2] {
-        return refuse(16);
+        return Reason::Range.refuse(0);
     }
     if 1 < rec[3] {
-        return refuse(16);
+        return Reason::Range.refuse(0);
     }
     if head % 32 != application as usize {
-        return refuse(12);
+        return Reason::OtherBlock.refuse(0);
     }
     if head / 32 < 8 {
-        return refuse(13);
+        return Reason::Length.refuse(0);
     }
-    Frame::Head(head)
-}
-
-// The frame is refused by this number; the list gives no offset with it.
-fn refuse(no: u8) -> Frame
-    ensures { result ≡ refused_frame no 0 }
-{
-    Frame::Refused(Refusal { no, at: 0 })
+    Ok(head)
 }
 
 // The 16 bits of a record's head.

@@ -28,22 +28,16 @@ pub enum Found {
     Broken,
 }
 
-// What reading a block answers.
+// A block that was read: so many bytes, the form of what the block holds, stand at the front of the output, and the rest of it
+// is as before; and so many of the block's bytes were mended.
 #[derive(Drop)]
-pub enum Read {
-    // Accepted: so many bytes, the form of what the block holds, stand at the front of the output, and the rest of it is as
-    // before; and so many of the block's bytes were mended.
-    Taken { written: usize, mended: u16 },
-    Refused(Refusal),
+pub struct Taken {
+    pub written: usize,
+    pub mended: u16,
 }
 
-// What is said of the frame of a record.
-#[derive(Drop)]
-pub enum Frame {
-    // The record is taken as it is lent: its head's 16 bits.
-    Head(usize),
-    Refused(Refusal),
-}
+// What reading a block answers.
+pub type Read = Result<Taken, Refusal>;
 
 // What stands at a place of a list of records. To walk a list, start at 0 and go on at each next.
 pub fn record_at(records: &[u8], place: usize) -> Found
@@ -78,10 +72,7 @@ pub fn record_at(records: &[u8], place: usize) -> Found
 pub fn second_of(rec: &[u8]) -> u8
     ensures { result ≡ second_of rec.now }
 {
-    if rec.len() < HEAD {
-        return 0;
-    }
-    rec[3]
+    if rec.len() < HEAD { 0 } else { rec[3] }
 }
 
 // The place after the record that stands at a place, or the end of the list where none does. To walk a list of anything,
@@ -90,13 +81,8 @@ pub fn after(records: &[u8], place: usize) -> usize
     ensures { result ≡ after_at records.now place }
 {
     match record_at(records, place) {
-        Found::Record {
-            head: _,
-            raw: _,
-            next,
-        } => next,
-        Found::End => records.len(),
-        Found::Broken => records.len(),
+        Found::Record { next, .. } => next,
+        Found::End | Found::Broken => records.len(),
     }
 }
 
@@ -130,9 +116,5 @@ fn control_end(control: usize, long: usize) -> usize
     requires { 4 ≤ long }
     ensures { result ≡ 4 + min control (long - 4) }
 {
-    let room = long - HEAD;
-    if room < control {
-        return long;
-    }
-    HEAD + control
+    HEAD + control.min(long - HEAD)
 }

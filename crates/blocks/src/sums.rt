@@ -1,27 +1,32 @@
 // A block's protected bytes: which of them can be decoded, how many were mended, and the checksum over them.
-ghost use Rattle.std.specs.Prelude.{◌≡◌, map, ◌+◌, ◌<◌, ◌≤◌, eqb, length, drop};
+ghost use Rattle.std.specs.Prelude.{◌≡◌, map, ◌+◌, ◌<◌, ◌≤◌, eqb, length};
 ghost use Rattle.laws.specs.Pick.{pick};
 ghost use Rattle.octet.specs.Decoding.{nib};
 ghost use Rattle.octet.specs.Hearing.{harm, harms};
 ghost use Rattle.fields.specs.Fields.{parts};
-ghost use Rattle.blocks.specs.Sums.{total, checksum as checksum_of, sound as soundOf};
+ghost use Rattle.blocks.specs.Sums.{total, checksum as checksum_of, sound as sound_of};
 ghost use Rattle.blocks.specs.Parts.{mended_in};
 
 use crate::HEAD;
 
+// How many bytes' harms are counted at once: a byte holds their number.
+const RUN: usize = 240;
+
 // What a block's first two bytes should hold, or 256 where a byte of it can't be decoded. Of a clear night nearly every block has
 // images alone, and then nothing is looked up.
+// Kept: 256 is the number of the contract's clauses, which `kinds` and `table` cite, and no sum of a block.
 pub fn sum_of(head: usize, body: &[u8]) -> usize
-    ensures broken { 255 < result → soundOf (map nib body.now) < length body.now }
+    ensures broken { 255 < result → sound_of (map nib body.now) < length body.now }
     ensures whole { result ≤ 255
-        → (soundOf (map nib body.now) ≡ length body.now)
+        → (sound_of (map nib body.now) ≡ length body.now)
         × (result ≡ checksum_of head (map nib body.now)) }
     ensures most { result ≤ 256 }
 {
-    if is_clean(body, 0) {
-        return clean_sum(head, body);
+    if is_clean(body) {
+        clean_sum(head, body)
+    } else {
+        mended_sum(head, body)
     }
-    mended_sum(head, body)
 }
 
 // The checksum of a block whose bytes are all images: no byte ends the loop.
@@ -30,10 +35,8 @@ fn clean_sum(head: usize, body: &[u8]) -> usize
     ensures { result ≡ checksum_of head (map nib body.now) }
 {
     let mut sum = head_total(head) as u8;
-    let mut i = 2;
-    while i < body.len() {
-        sum = ((sum as u16 + image_nibble(body[i]) as u16) % 256) as u8;
-        i += 1;
+    for i in 2..body.len() {
+        sum = sum.wrapping_add(image_nibble(body[i]));
     }
     (256 - sum as usize) % 256
 }
@@ -48,9 +51,9 @@ fn image_nibble(b: u8) -> u8
 
 // The sum of any block: `sound` and `checksum` in one pass.
 fn mended_sum(head: usize, body: &[u8]) -> usize
-    ensures broken { 255 < result → soundOf (map nib body.now) < length body.now }
+    ensures broken { 255 < result → sound_of (map nib body.now) < length body.now }
     ensures whole { result ≤ 255
-        → (soundOf (map nib body.now) ≡ length body.now)
+        → (sound_of (map nib body.now) ≡ length body.now)
         × (result ≡ checksum_of head (map nib body.now)) }
     ensures most { result ≤ 256 }
 {
@@ -68,14 +71,12 @@ fn mended_sum(head: usize, body: &[u8]) -> usize
     }
     let table = octet::decodings();
     let mut sum = head_total(head);
-    let mut i = 2;
-    while i < body.len() {
+    for i in 2..body.len() {
         let n = table[body[i] as usize];
         if 15 < n {
             return 256;
         }
         sum = (sum + n as usize) % 256;
-        i += 1;
     }
     (256 - sum) % 256
 }
@@ -86,27 +87,23 @@ pub fn checksum(head: usize, body: &[u8]) -> usize
 {
     let table = octet::decodings();
     let mut total = head_total(head);
-    let mut i = 2;
-    while i < body.len() {
+    for i in 2..body.len() {
         total = (total + table[body[i] as usize] as usize) % 256;
-        i += 1;
     }
     (256 - total) % 256
 }
 
 // How many bytes come before the first that can't be decoded.
 pub fn sound(s: &[u8]) -> usize
-    ensures { result ≡ soundOf (map nib s.now) }
+    ensures { result ≡ sound_of (map nib s.now) }
 {
     let table = octet::decodings();
-    let mut i = 0;
-    while i < s.len() {
-        if 15 < table[s[i] as usize] {
+    for (i, b) in s.iter().enumerate() {
+        if 15 < table[*b as usize] {
             return i;
         }
-        i += 1;
     }
-    i
+    s.len()
 }
 
 // How many bytes of a record's block were mended: its part, and its raw bytes that aren't images.
@@ -114,24 +111,11 @@ pub fn mended_in(rec: &[u8]) -> usize
     ensures { result ≡ mended_in rec.now }
 {
     let mut count = lent_bytes::byte_at(rec, 2);
-    let mut i = HEAD;
-    while i < rec.len() {
-        let end = run_end(i, rec.len());
-        count += harms_in(&rec[i..end]) as usize;
-        i = end;
+    let raw = &rec[HEAD.min(rec.len())..];
+    for run in raw.chunks(RUN) {
+        count += harms_in(run) as usize;
     }
     count
-}
-
-// Where a run of bytes ends whose harms a byte can count.
-fn run_end(i: usize, end: usize) -> usize
-    requires { i < end }
-    ensures { (i < result) × (result ≤ end) × (result ≤ i + 240) }
-{
-    if end - i < 240 {
-        return end;
-    }
-    i + 240
 }
 
 // How many of a few bytes aren't images: no byte ends the loop, and all go by bytes.
@@ -140,10 +124,8 @@ fn harms_in(s: &[u8]) -> u8
     ensures { result ≡ harms s.now }
 {
     let mut count: u8 = 0;
-    let mut i = 0;
-    while i < s.len() {
-        count += harm_of(s[i]);
-        i += 1;
+    for b in s {
+        count += harm_of(*b);
     }
     count
 }
@@ -155,15 +137,13 @@ fn harm_of(b: u8) -> u8
     if checks(b) == 0 { 0 } else { 1 }
 }
 
-// Whether every byte from `from` on is an image: the checks of all of them are or-ed, so that no byte ends the loop.
-fn is_clean(s: &[u8], from: usize) -> bool
-    ensures { result ≡ eqb (harms (drop from s.now)) 0 }
+// Whether every byte is an image: the checks of all of them are or-ed, so that no byte ends the loop.
+fn is_clean(s: &[u8]) -> bool
+    ensures { result ≡ eqb (harms s.now) 0 }
 {
     let mut mix: u8 = 0;
-    let mut i = from;
-    while i < s.len() {
-        mix = mix | checks(s[i]);
-        i += 1;
+    for b in s {
+        mix |= checks(*b);
     }
     mix == 0
 }

@@ -6,13 +6,13 @@ use mathlib.Core.List.{List, [], ◌∷◌}
 use Prim.Native.Nat.{ℕ}
 use lib.Dec.{eqb, leb}
 use lib.ListN.{length}
+use Rattle.std.specs.declared.result.Result.TheVariants.{Ok}
 use Rattle.laws.specs.Pick.{pick, both}
 use Rattle.laws.proofs.Tests.{both_first, both-second}
 use Rattle.answer.specs.Rules.{Rule, judged, Every, First, here, later}
 use Rattle.answer.specs.Values.{refused}
 use Rattle.answer.specs.Writing.{room, answered}
-use Rattle.answer.specs.declared.Answer.{Answer}
-use Rattle.answer.specs.declared.Answer.TheVariants.{Done}
+use Rattle.answer.specs.Answer.{Answer}
 use Rattle.answer.proofs.Judging.{passes, refuses, decided, first-append}
 use Rattle.answer.proofs.Steps.{judged-append}
 use Rattle.blocks.specs.Framing.{frame_rules}
@@ -53,7 +53,7 @@ first-other {q} o f = go (eqb q.number 1) (first-numbered not_one o f)
 
 module _ (rules : List Rule) (bytes : List ℕ) (mended : ℕ) where
   -- by the room alone
-  by-room : (t : Bool) → is_accepted (counted mended (pick t (Done (length bytes)) (refused 1 0))) ≡ true
+  by-room : (t : Bool) → is_accepted (counted mended (pick t (Ok (length bytes)) (refused 1 0))) ≡ true
   by-room true = refl
   by-room false = refl
 
@@ -62,12 +62,12 @@ module _ (rules : List Rule) (bytes : List ℕ) (mended : ℕ) where
     where
       go : Every rules ⊎ ((q : Rule) × First q rules) → is_accepted (counted mended (answered rules bytes [])) ≡ holding rules
       go (inl e) =
-          let last = judged refused (room bytes [] ∷ []) (Done (length bytes)) in
-          ap (λ (a : Answer). is_accepted (counted mended a)) (judged-append refused rules (room bytes [] ∷ []) (Done (length bytes)) ∙ passes refused last e)
+          let last = judged refused (room bytes [] ∷ []) (Ok (length bytes)) in
+          ap (λ (a : Answer). is_accepted (counted mended a)) (judged-append refused rules (room bytes [] ∷ []) (Ok (length bytes)) ∙ passes refused last e)
           ∙ by-room (leb (length bytes) 0)
           ∙ sym (passes {A = Bool} (λ number offset. false) true e)
       go (inr f) =
-          ap (λ (a : Answer). is_accepted (counted mended a)) (refuses refused (Done (length bytes)) (first-append (room bytes [] ∷ []) f.1))
+          ap (λ (a : Answer). is_accepted (counted mended a)) (refuses refused (Ok (length bytes)) (first-append (room bytes [] ∷ []) f.1))
           ∙ first-other o f.1
           ∙ sym (refuses {A = Bool} (λ number offset. false) true f.1)
 

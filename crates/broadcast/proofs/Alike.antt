@@ -6,7 +6,7 @@ use mathlib.Core.List.{List}
 use Prim.Native.Nat.{ℕ, ◌+◌, ◌≤◌, ◌<◌}
 use native.Mathlib.Numerals.{add-one}
 use native.Mathlib.Omega.{arith}
-use borrow.Author.Tests.{eqb-true, ltb-true, lt-ltb, le-ltb, eq-eqb, ne_eqb}
+use borrow.Author.Tests.{eqb-true, ltb-true, lt-ltb, eq-eqb}
 use lib.Dec.{T, eqb, ltb, eqb→eq}
 use lib.ListN.{length, get_or, drop, drop_of_length-le}
 use lib.Seq.{drop-cons}
@@ -18,24 +18,13 @@ use Rattle.octet.specs.Bits.{differing, number}
 use Rattle.octet.specs.Decoding.{nib, nibble_from}
 use Rattle.octet.specs.Image.{image, with_parity}
 use Rattle.parity.specs.Parity.{ones, is_odd}
-use Rattle.blocks.specs.Block.{head_length, head_of}
-use Rattle.broadcast.specs.Same.{alike, alikes, same_block}
+use Rattle.broadcast.specs.Same.{alike, alikes}
 
 -- ---- one byte
 
-module _ (a b : ℕ) where
-  pub alike-equal : a ≡ b → true ≡ alike a b
-  unfolding alike
-  alike-equal e = rw (eq-eqb a b e)
-
-  module _ (d : a ≡ b → ⊥) {n : ℕ} (e : n ≡ nib a) where
-    pub alike-undecodable : 15 < n → false ≡ alike a b
-    unfolding alike
-    alike-undecodable h = rw (ne_eqb a b d, ← e, le-ltb n 16 h)
-
-    pub alike-decoded : n ≤ 15 → {m : ℕ} → m ≡ nib b → eqb n m ≡ alike a b
-    unfolding alike
-    alike-decoded h f = let h' : n < 16 = omega arith in rw (ne_eqb a b d, ← e, lt-ltb n 16 h', ← f)
+alike-equal : (a b : ℕ) → a ≡ b → true ≡ alike a b
+unfolding alike
+alike-equal a b e = rw (eq-eqb a b e)
 
 -- a byte of right parity that decodes is the image of its nibble
 image_test : ℕ → Bool
@@ -84,19 +73,3 @@ module _ (r q : List ℕ) (i : ℕ) where
   pub alikes-end : length r ≤ i → length r ≡ length q → true ≡ alikes (drop i r) (drop i q)
   unfolding alikes
   alikes-end h e = let h' : length q ≤ i = omega arith in rw (drop_of_length-le r h, drop_of_length-le q h')
-
--- ---- two records
-
-module _ (r q : List ℕ) where
-  pub apart-length : (length r ≡ length q → ⊥) → false ≡ same_block r q
-  unfolding same_block
-  apart-length n = rw (ne_eqb (length r) (length q) n)
-
-  module _ (l : length r ≡ length q) {head head' : ℕ} (e : head ≡ head_of r) (e' : head' ≡ head_of q) where
-    pub apart-head : (head ≡ head' → ⊥) → false ≡ same_block r q
-    unfolding same_block
-    apart-head n = rw (eq-eqb (length r) (length q) l, ← e, ← e', ne_eqb head head' n)
-
-    pub same-raw : head ≡ head' → alikes (drop head_length r) (drop head_length q) ≡ same_block r q
-    unfolding same_block
-    same-raw h = rw (eq-eqb (length r) (length q) l, ← e, ← e', eq-eqb head head' h)

@@ -1,16 +1,14 @@
 -- A record has a kind by the tests in their order, and counts as that kind where reading accepts it. Assumes nothing.
 use mathlib.Core.Path.{◌≡◌}
 use mathlib.Core.Bool.{true, false}
-use mathlib.Core.List.{List, map}
-use Prim.Native.Nat.{ℕ, ◌+◌, ◌/◌, ◌%◌, ◌≤◌, ◌<◌}
+use mathlib.Core.List.{List}
+use Prim.Native.Nat.{ℕ, ◌+◌, ◌≤◌}
 use native.Mathlib.Omega.{arith}
-use borrow.Author.Tests.{lt-ltb, le-ltb, le-leb, lt-leb, eq-eqb, ne_eqb, leb-true, eqb-true}
+use borrow.Author.Tests.{eq-eqb, ne_eqb, leb-true, eqb-true}
 use lib.Dec.{eqb, ltb}
-use lib.ListN.{length, take, drop}
+use lib.ListN.{length, drop}
 use Rattle.laws.proofs.Tests.{both_first, both-second}
-use Rattle.octet.specs.Decoding.{nib}
 use Rattle.blocks.specs.Block.{head_length, head_of, application_of, size_of, record_length}
-use Rattle.blocks.specs.Sums.{sound}
 use Rattle.forms.specs.Kinds.{known}
 use Rattle.menu_forms.specs.Menus.{NI}
 use Rattle.table.specs.Reading.{read_rules as table_rules}
@@ -21,31 +19,6 @@ use Rattle.broadcast.specs.Internal.{network_in}
 use Rattle.broadcast.proofs.Networks.{network-read}
 
 module _ (application : ℕ) (r : List ℕ) where
-  pub kindless-high : 32 ≤ application → false ≡ has_kind application r
-  unfolding has_kind
-  kindless-high h = rw (le-ltb application 32 h)
-
-  module _ (h : application < 32) {head : ℕ} (e : head ≡ head_of r) where
-    pub kindless-cut : (length r ≡ head_length + head / 32 → ⊥) → false ≡ has_kind application r
-    unfolding has_kind
-    kindless-cut n = rw (lt-ltb application 32 h, ← e, ne_eqb (length r) (head_length + head / 32) n)
-
-    module _ (l : length r ≡ head_length + head / 32) where
-      pub kindless-other : (head % 32 ≡ application → ⊥) → false ≡ has_kind application r
-      unfolding has_kind
-      kindless-other n = rw (lt-ltb application 32 h, ← e, eq-eqb (length r) (head_length + head / 32) l, ne_eqb (head % 32) application n)
-
-      module _ (a : head % 32 ≡ application) where
-        pub kindless-short : head / 32 < 8 → false ≡ has_kind application r
-        unfolding has_kind
-        kindless-short n =
-            rw (lt-ltb application 32 h, ← e, eq-eqb (length r) (head_length + head / 32) l, eq-eqb (head % 32) application a, lt-leb 8 (head / 32) n)
-
-        pub kind_sound : 8 ≤ head / 32 → eqb (sound (map nib (take 8 (drop head_length r)))) 8 ≡ has_kind application r
-        unfolding has_kind
-        kind_sound n =
-            rw (lt-ltb application 32 h, ← e, eq-eqb (length r) (head_length + head / 32) l, eq-eqb (head % 32) application a, le-leb 8 (head / 32) n)
-
   -- a record with a kind has its head, and eight bytes behind it
   pub kind-long : has_kind application r ≡ true → head_length + 8 ≤ length r
   unfolding has_kind

@@ -1,11 +1,12 @@
 -- The rules judged by a tally, network by network and row by row. Assumes nothing.
-use mathlib.Core.Path.{◌≡◌, ◌∙◌, sym, ap}
+use mathlib.Core.Path.{◌≡◌, ◌∙◌, refl, sym, ap}
 use mathlib.Core.Bool.{Bool, true, false}
 use mathlib.Core.List.{List, [], ◌∷◌, ◌++◌, append-nil}
 use Prim.Native.Nat.{ℕ, suc, ◌+◌, ◌-◌, ◌≤◌, ◌<◌}
 use native.Mathlib.Numerals.{add-one}
 use native.Mathlib.Omega.{arith}
 use borrow.Author.Tests.{lt-ltb, le-ltb, le-leb, lt-leb, eq-eqb, ne_eqb, eqb-true, eqb-false}
+use Rattle.std.specs.Prelude.{Option, None, Some}
 use lib.Dec.{leb, ltb, eqb}
 use lib.ListN.{get_or, replicate}
 use Rattle.laws.specs.Pick.{pick}
@@ -51,44 +52,52 @@ module _ (f : ℕ → Bool) (n : ℕ) where
 -- ---- the rows that can fail, in their order
 
 module _ (c : Counts) where
-  pub judged-ai : (c.number AI ≡ 1 → ⊥) → name_by 65 ≡ verdict c minimum
+  pub judged-ai : (c.number AI ≡ 1 → ⊥) → name_by (Some 65) ≡ verdict c minimum
   unfolding verdict
   judged-ai n = rw (ne_eqb (c.number AI) 1 n)
 
   module _ (a : c.number AI ≡ 1) where
-    pub judged-mi : 255 < c.number MI → name_by 77 ≡ verdict c minimum
+    pub judged-mi : 255 < c.number MI → name_by (Some 77) ≡ verdict c minimum
     unfolding verdict
     judged-mi n = rw (eq-eqb (c.number AI) 1 a, lt-leb (c.number MI) 255 n)
 
     module _ (m : c.number MI ≤ 255) where
-      pub judged-ui : 1 < c.number UI → name_by 85 ≡ verdict c minimum
+      pub judged-ui : 1 < c.number UI → name_by (Some 85) ≡ verdict c minimum
       unfolding verdict
       judged-ui n = rw (eq-eqb (c.number AI) 1 a, le-leb (c.number MI) 255 m, lt-leb (c.number UI) 1 n)
 
       module _ (u : c.number UI ≤ 1) where
-        pub judged-li : each_within c LI 1 2 ≡ false → name_by 76 ≡ verdict c minimum
+        pub judged-li : each_within c LI 1 2 ≡ false → name_by (Some 76) ≡ verdict c minimum
         unfolding verdict
         judged-li n = rw (eq-eqb (c.number AI) 1 a, le-leb (c.number MI) 255 m, le-leb (c.number UI) 1 u, n)
 
         module _ (l : each_within c LI 1 2 ≡ true) where
-          pub judged-ti : each_within c TI 1 2 ≡ false → name_by 84 ≡ verdict c minimum
+          pub judged-ti : each_within c TI 1 2 ≡ false → name_by (Some 84) ≡ verdict c minimum
           unfolding verdict
           judged-ti n = rw (eq-eqb (c.number AI) 1 a, le-leb (c.number MI) 255 m, le-leb (c.number UI) 1 u, l, n)
 
-          pub judged-lawful : each_within c TI 1 2 ≡ true → name_by 0 ≡ verdict c minimum
+          pub judged-lawful : each_within c TI 1 2 ≡ true → name_by None ≡ verdict c minimum
           unfolding verdict
           judged-lawful t = rw (eq-eqb (c.number AI) 1 a, le-leb (c.number MI) 255 m, le-leb (c.number UI) 1 u, l, t)
 
+-- ---- what a walk along the records answers
+
+pub walked-none : (w : Bool) (x : ℕ) {r : Option ℕ} → r ≡ pick w (Some x) None → ((y : ℕ) → r ≡ Some y → ⊥) → w ≡ false
+walked-none true x e never = absurd (never x e)
+walked-none false x e never = refl
+
+pub walked-some : (w : Bool) (x : ℕ) {y : ℕ} {r : Option ℕ} → r ≡ pick w (Some x) None → r ≡ Some y → (w ≡ true) × (y ≡ x)
+walked-some true x {y} e h = let k : Some y ≡ Some x = sym h ∙ e in (refl, cc)
+walked-some false x e h = let z : ◌≡◌ {A = ℕ} 0 1 = cc in absurd (omega arith)
+
 -- ---- what is said
 
-pub said_yes : (letter : ℕ) → letter ≡ 0 → said [] ≡ said (name_by letter)
-said_yes letter e = rw (eq-eqb letter 0 e)
-
 pub said_no :
-    (letter : ℕ) → (letter ≡ 0 → ⊥)
-    → line (codes "guide=") (codes "EPG") ++ (line (codes "lawful=") (codes "no") ++ line (codes "rule=") (letter ∷ codes "I")) ≡ said (name_by letter)
+    (letter : ℕ)
+    → line (codes "guide=") (codes "EPG") ++ (line (codes "lawful=") (codes "no") ++ line (codes "rule=") (letter ∷ codes "I"))
+    ≡ said (name_by (Some letter))
 unfolding said
-said_no letter n = rw (ne_eqb letter 0 n)
+said_no letter = refl
 
 -- ---- the call's rules, with the tally of its records
 

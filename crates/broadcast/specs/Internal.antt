@@ -1,13 +1,13 @@
 -- What only private calls cite; nothing here needs to be believed. Blocks tallied by kind, and behind that by kind and network; and what reading
 -- says where it is lent no room.
-use Rattle.std.specs.Prelude.{Bool, true, List, [], ◌∷◌, ◌++◌, ℕ, ◌+◌, ◌*◌, eqb, ltb, get_or, set}
+use Rattle.std.specs.declared.result.Result.TheVariants.{Ok, Err}
+use Rattle.std.specs.Prelude.{Option, None, Some, Bool, true, List, [], ◌∷◌, ◌++◌, ℕ, ◌+◌, ◌*◌, eqb, ltb, get_or, set}
 use Rattle.laws.specs.Pick.{pick}
 use Rattle.text_lines.specs.Codes.{codes}
 use Rattle.fields.specs.Fields.{field}
 use Rattle.fields.specs.Compound.{compound}
 use Rattle.forms.specs.Kinds.{known}
-use Rattle.blocks.specs.declared.Read.{Read}
-use Rattle.blocks.specs.declared.Read.TheVariants.{Taken, Refused}
+use Rattle.blocks.specs.Taking.{Read}
 use Rattle.broadcast.specs.declared.seeing.Seen.{Seen}
 use Rattle.broadcast.specs.Counting.{AI}
 use Rattle.broadcast.specs.Lawful.{Counts, line, verdict_lines}
@@ -49,12 +49,13 @@ counts_by t channel =
 
 -- every rule but the room holds, where no other rule has number 1
 abbrev pub is_accepted : Read → Bool
-is_accepted (Taken written mended) = true
-is_accepted (Refused why) = eqb why.no 1
+is_accepted (Ok t) = true
+is_accepted (Err why) = eqb why.no 1
 
--- the name of a rule by its first letter, 0 for none: all names end in I
-abbrev pub name_by : ℕ → List ℕ
-name_by letter = pick (eqb letter 0) [] (letter ∷ codes "I")
+-- the name of the rule that isn't met by its first letter: all names end in I
+abbrev pub name_by : Option ℕ → List ℕ
+name_by None = []
+name_by (Some letter) = letter ∷ codes "I"
 
 -- the lines of the one kind of guide, by the name of the rule that isn't met
 unfoldable pub said : List ℕ → List ℕ

@@ -4,7 +4,7 @@ ghost use Rattle.blocks.specs.Block.{head_of};
 ghost use Rattle.broadcast.specs.Counting.{has_kind, is_read, seen as counting_seen, unseen as counting_unseen, counts_as};
 ghost use Rattle.broadcast.specs.Internal.{network_in, is_accepted};
 
-use answer::Refusal;
+use answer::{Reason, Refusal};
 use blocks::{HEAD, Read};
 use information_forms::AI;
 use menu_forms::NI;
@@ -23,6 +23,7 @@ const THIS_NETWORK: usize = 144;
 const NETWORK: usize = 44;
 
 // What a record counts as: its datatype, or 64; and the network that it speaks of, which is 0 but in an AI, an LI and a TI.
+// Kept: 64 and no Option: `counts_as` says 64, and the tally has a place for it.
 #[derive(Clone, Copy)]
 pub(crate) struct Seen {
     pub kind: u8,
@@ -62,23 +63,16 @@ fn unseen() -> Seen
 }
 
 // Whether a record is a whole block of ours with a kind.
+#[tactic(auto, unfolding(crate::specs::Counting::has_kind))]
 fn has_kind(application: u8, rec: &[u8]) -> bool
     ensures { result ≡ has_kind application rec.now }
 {
-    if 32 <= application {
-        return false;
-    }
     let head = head_of(rec);
-    if rec.len() != HEAD + head / 32 {
-        return false;
-    }
-    if head % 32 != application as usize {
-        return false;
-    }
-    if head / 32 < 8 {
-        return false;
-    }
-    blocks::sums::sound(&rec[HEAD..12]) == 8
+    application < 32
+        && rec.len() == HEAD + head / 32
+        && head % 32 == application as usize
+        && 8 <= head / 32
+        && blocks::sums::sound(&rec[HEAD..12]) == 8
 }
 
 // The 16 bits of a record's head.
@@ -93,12 +87,12 @@ fn network_in(kind: u8, raw: &[u8]) -> u8
     ensures { result ≡ network_in kind raw.now }
 {
     if kind as usize == AI {
-        return fields::field_of(raw, THIS_NETWORK, 8) as u8;
+        fields::field_of(raw, THIS_NETWORK, 8) as u8
+    } else if forms::known(kind as usize) {
+        fields::field_of(raw, NETWORK, 8) as u8
+    } else {
+        0
     }
-    if forms::known(kind as usize) {
-        return fields::field_of(raw, NETWORK, 8) as u8;
-    }
-    0
 }
 
 // Whether reading accepts it, of the kinds that are read. No room is lent, so that all other rules are judged and nothing is written.
@@ -106,16 +100,14 @@ fn is_read(application: u8, kind: u8, rec: &[u8]) -> bool
     ensures { result ≡ is_read application kind rec.now }
 {
     let mut none = [0u8; 0];
-    if kind as usize == AI {
-        return is_accepted(information::read_information(application, rec, &mut none));
+    match kind as usize {
+        AI => is_accepted(information::read_information(application, rec, &mut none)),
+        NI => is_accepted(menu_reader::read_menu(application, rec, &mut none)),
+        other if forms::known(other) => {
+            is_accepted(table::read_block(application, rec, &mut none))
+        }
+        _ => true,
     }
-    if kind as usize == NI {
-        return is_accepted(menu_reader::read_menu(application, rec, &mut none));
-    }
-    if forms::known(kind as usize) {
-        return is_accepted(table::read_block(application, rec, &mut none));
-    }
-    true
 }
 
 // Whether every rule but the room holds.
@@ -123,16 +115,13 @@ fn is_accepted(read: Read) -> bool
     ensures { result ≡ is_accepted read }
 {
     match read {
-        Read::Taken {
-            written: _,
-            mended: _,
-        } => true,
-        Read::Refused(why) => is_room(why),
+        Ok(_) => true,
+        Err(why) => is_room(why),
     }
 }
 
 fn is_room(why: Refusal) -> bool
     ensures { result ≡ eqb why.no 1 }
 {
-    why.no == 1
+    why.no == u8::from(Reason::NoRoom)
 }

@@ -42,12 +42,9 @@ pub(crate) fn count(tally: &mut [u16], seen: Seen)
 fn note(tally: &mut [u16], place: usize)
     ensures { tally.new ≡ noted tally.old place }
 {
-    if tally.len() <= place {
-        return;
-    }
-    let n = tally[place];
-    if n < MOST {
-        tally[place] = n + 1;
+    // Kept: by index: a proof knows no element after a slice's `get_mut`.
+    if place < tally.len() && tally[place] < MOST {
+        tally[place] += 1;
     }
 }
 
@@ -62,10 +59,7 @@ fn network_at(kind: u8, network: u8) -> usize
 fn tallied_at(tally: &[u16], place: usize) -> u16
     ensures { result ≡ get_or tally.now place 0 }
 {
-    if tally.len() <= place {
-        return 0;
-    }
-    tally[place]
+    tally.get(place).copied().unwrap_or(0)
 }
 
 // Whether no AI counts.
@@ -75,39 +69,37 @@ pub(crate) fn is_none(tally: &[u16]) -> bool
     tallied_at(tally, AI) == 0
 }
 
-// The first letter of the first rule that isn't met, in the order of table D.1; 0 where each is. The kinds of which there may be any number
-// can't fail.
-pub(crate) fn judge(tally: &[u16], channel: u8) -> u8
+// The first letter of the first rule that isn't met, in the order of table D.1. The kinds of which there may be any number can't fail.
+pub(crate) fn judge(tally: &[u16], channel: u8) -> Option<u8>
     ensures { name_by result ≡ verdict (counts_by tally.now channel) minimum }
 {
     if tallied_at(tally, AI) != 1 {
-        return b'A';
+        return Some(b'A');
     }
     if 255 < tallied_at(tally, MI as usize) {
-        return b'M';
+        return Some(b'M');
     }
     if 1 < tallied_at(tally, UI as usize) {
-        return b'U';
+        return Some(b'U');
     }
     if !is_met(tally, LI, channel) {
-        return b'L';
+        return Some(b'L');
     }
     if !is_met(tally, TI, channel) {
-        return b'T';
+        return Some(b'T');
     }
-    0
+    None
 }
 
 // Whether there is at most one block of a kind for each network, and two for this channel.
 fn is_met(tally: &[u16], kind: u8, channel: u8) -> bool
     ensures { result ≡ each_within (counts_by tally.now channel) kind 1 2 }
 {
-    let mut network: u16 = 0;
-    while network < 256 {
-        if limit(network as u8, channel) < tallied_at(tally, network_at(kind, network as u8)) {
+    for network in 0..NETWORKS {
+        let network = network as u8;
+        if limit(network, channel) < tallied_at(tally, network_at(kind, network)) {
             return false;
         }
-        network += 1;
     }
     true
 }
@@ -116,8 +108,5 @@ fn is_met(tally: &[u16], kind: u8, channel: u8) -> bool
 fn limit(network: u8, channel: u8) -> u16
     ensures { result ≡ lawful_limit 1 2 channel network }
 {
-    if network == channel {
-        return HERE;
-    }
-    EACH
+    if network == channel { HERE } else { EACH }
 }

@@ -11,7 +11,7 @@ use Rattle.packet.specs.declared.two.Streams.{Streams}
 use Rattle.packet.specs.Two.{first_of}
 use Rattle.state.specs.declared.Reader.{Reader}
 use Rattle.state.specs.declared.two.Readers.{Readers}
-use Rattle.reader.specs.declared.many.HeardAll.{HeardAll}
+use Rattle.reader.specs.Taking.{HeardAll}
 use Rattle.reader.specs.Many.{feed_all_heard, feed_all_reader, feed_all_out}
 use Rattle.reader.specs.Two.{feed_all_heard_of_two, feed_all_readers_of_two, feed_all_out_of_two}
 use Rattle.captures.specs.declared.Capture.{Capture}

@@ -28,8 +28,8 @@ use Rattle.state.specs.Two.{TwoState, readers_of, fresh_of_two, SoundOfTwo}
 use Rattle.state.proofs.Bounding.{packet-room}
 use Rattle.state.proofs.Ranging.{sound-fresh, sound-after, state_held, reader_in_range_lem}
 use Rattle.state.proofs.BothRanging.{both-sound-fresh, both-sound-after, both-held, both-in_range}
-use Rattle.reader.specs.declared.many.HeardAll.{HeardAll}
-use Rattle.reader.specs.declared.many.HeardAll.TheVariants.{TookAll}
+use Rattle.reader.specs.Taking.{HeardAll, took_all}
+use Rattle.std.specs.declared.result.Result.TheVariants.{Ok, Err}
 use Rattle.reader.specs.Calls.{Does, Tuned, Ran, begun, ran_on, run, feed_all_heard, feed_all_reader}
 use Rattle.reader.specs.Feeding.{tuned_to}
 use Rattle.reader.specs.Two.{room_of_two, marked_all, tuned_to_two}
@@ -133,7 +133,7 @@ pub record Takes (heard : HeardAll) (Ready : Type 0) (bytes long : ℕ) : Type 0
   pub blocks : ℕ
   pub written : ℕ
   pub drops : Bool
-  pub told : heard ≡ TookAll packets blocks written drops
+  pub told : heard ≡ Ok (took_all packets blocks written drops)
   pub ready : Ready
   pub some : 1 ≤ packets
   pub few : packets ≤ bytes / packet_length
@@ -252,7 +252,7 @@ pub record Moves (c : Capture) (piece old : List ℕ) : Type 0 where
 
 heeds_some :
     (g : Course) (packets blocks written bytes space : ℕ) (drops : Bool) → 1 ≤ packets → packets ≤ bytes / packet_length
-    → written ≤ space → heeded g (TookAll packets blocks written drops) bytes space ≡ moved_on g (packet_length * packets) written drops
+    → written ≤ space → heeded g (Ok (took_all packets blocks written drops)) bytes space ≡ moved_on g (packet_length * packets) written drops
 heeds_some g packets blocks written bytes space drops a b c = rw (le-leb _ _ a, le-leb _ _ b, le-leb _ _ c)
 
 -- what the reader takes of the packets that it was given moves the capture on

@@ -7,8 +7,8 @@ use Rattle.packet.specs.Packet.{packet_length}
 use Rattle.survey.specs.Counting.{more_if}
 use Rattle.state.specs.declared.Reader.{Reader}
 use Rattle.state.specs.declared.two.Readers.{Readers}
-use Rattle.reader.specs.declared.many.HeardAll.{HeardAll}
-use Rattle.reader.specs.declared.many.HeardAll.TheVariants.{TookAll, RefusedAll}
+use Rattle.reader.specs.Taking.{HeardAll, took_all}
+use Rattle.std.specs.declared.result.Result.TheVariants.{Ok, Err}
 use Rattle.reader.specs.Many.{feed_all_heard, feed_all_reader, feed_all_out}
 use Rattle.reader.specs.Two.{feed_all_heard_of_two, feed_all_readers_of_two, feed_all_out_of_two}
 use Rattle.captures.specs.declared.Stage.TheVariants.{Broken}
@@ -76,10 +76,10 @@ moved_on c taken written drops = record { course = placed c (c.at + taken) (more
 
 -- the reader has to take at least one packet, and no more than it was given; the records have to stand in the space
 abbrev pub heeded : Course → HeardAll → ℕ → ℕ → Step
-heeded c (RefusedAll r) bytes space = stuck c
-heeded c (TookAll packets blocks written drops) bytes space =
-    pick (both (leb 1 packets) (both (leb packets (bytes / packet_length)) (leb written space)))
-    (moved_on c (packet_length * packets) written drops)
+heeded c (Err r) bytes space = stuck c
+heeded c (Ok t) bytes space =
+    pick (both (leb 1 t.packets) (both (leb t.packets (bytes / packet_length)) (leb t.written space)))
+    (moved_on c (packet_length * t.packets) t.written t.dropped)
     (stuck c)
 
 abbrev pub turn_of : Reader → Readers → Step → Turn

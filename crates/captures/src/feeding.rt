@@ -8,7 +8,7 @@ use crate::{Came, Capture, Course, PIECE, Stage, Turn};
 use packet::PACKET;
 use packet::two::Streams;
 use reader::two::Readers;
-use reader::{HeardAll, Reader};
+use reader::{Fed, HeardAll, Reader};
 
 // The reader's answer, and its state then: one stream's or two's has gone on.
 #[derive(Drop)]
@@ -35,26 +35,22 @@ pub(crate) fn feed(capture: Capture, piece: &[u8], records: &mut [u8]) -> Turn
     let course = capture.course;
     let at = course.at;
     let end = up_to(course.verbose, at, course.held);
-    if end <= at {
-        return broken(capture);
-    }
-    if piece.len() < end {
+    if end <= at || piece.len() < end {
         return broken(capture);
     }
     let space = records.len();
-    let fed = call(
+    let Answered {
+        heard,
+        reader,
+        readers,
+    } = call(
         course.setting,
         capture.reader,
         capture.readers,
         &piece[at..end],
         records,
     );
-    let reader = fed.reader;
-    let readers = fed.readers;
-    let heard = fed.heard;
-    let step = heed(course, heard, end - at, space);
-    let course = step.course;
-    let came = step.came;
+    let Step { course, came } = heed(course, heard, end - at, space);
     Turn {
         capture: Capture {
             reader,
@@ -78,57 +74,46 @@ fn call(
 {
     if crate::is_one(setting) {
         let one = packet::two::first(setting);
-        let fed = reader::feed_all(one, reader, packets, out);
-        let heard = fed.heard;
-        let after = fed.reader;
+        let Fed { heard, reader } = reader::feed_all(one, reader, packets, out);
         return Answered {
             heard,
-            reader: after,
+            reader,
             readers,
         };
     }
-    let fed = reader::two::feed_all(setting, readers, packets, out);
-    let heard = fed.heard;
-    let after = fed.readers;
+    let Fed {
+        heard,
+        reader: readers,
+    } = reader::two::feed_all(setting, readers, packets, out);
     Answered {
         heard,
         reader,
-        readers: after,
+        readers,
     }
 }
 
 fn broken(capture: Capture) -> Turn
     ensures { result ≡ turn_of capture.reader capture.readers (feeding_stuck capture.course) }
 {
-    let reader = capture.reader;
-    let readers = capture.readers;
-    let course = capture.course;
-    let step = stuck(course);
-    let course = step.course;
-    let came = step.came;
+    let Step { course, came } = stuck(capture.course);
     Turn {
-        capture: Capture {
-            reader,
-            readers,
-            course,
-        },
+        capture: Capture { course, ..capture },
         came,
     }
 }
 
 // Where the packets of one call end, from a place on in a piece of so many bytes.
+#[tactic(auto, unfolding(crate::specs::Feeding::up_to))]
 fn up_to(verbose: bool, at: usize, held: usize) -> usize
     ensures { result ≡ up_to verbose at held }
 {
     let end = whole_end(held);
     let step = step_of(verbose);
-    if end <= at {
-        return end;
+    if end.saturating_sub(at) <= step {
+        end
+    } else {
+        at + step
     }
-    if end - at <= step {
-        return end;
-    }
-    at + step
 }
 
 // Where the whole packets among so many bytes end.
@@ -142,10 +127,7 @@ pub(crate) fn whole_end(held: usize) -> usize
 fn step_of(verbose: bool) -> usize
     ensures { result ≡ step_of verbose }
 {
-    if verbose {
-        return PACKET;
-    }
-    PIECE
+    if verbose { PACKET } else { PIECE }
 }
 
 // The reader's answer, where it was given so many bytes of packets and so much space.
@@ -154,24 +136,10 @@ fn heed(course: Course, heard: HeardAll, given: usize, space: usize) -> Step
     ensures { result ≡ feeding_heeded course heard given space }
 {
     match heard {
-        HeardAll::RefusedAll(_) => stuck(course),
-        HeardAll::TookAll {
-            packets,
-            blocks: _,
-            written,
-            dropped,
-        } => {
-            if packets < 1 {
-                return stuck(course);
-            }
-            if given / PACKET < packets {
-                return stuck(course);
-            }
-            if space < written {
-                return stuck(course);
-            }
-            moved_on(course, PACKET * packets, written, dropped)
+        Ok(t) if t.packets >= 1 && t.packets <= given / PACKET && t.written <= space => {
+            moved_on(course, PACKET * t.packets, t.written, t.dropped)
         }
+        _ => stuck(course),
     }
 }
 
@@ -180,7 +148,7 @@ fn moved_on(course: Course, taken: usize, written: usize, dropped: bool) -> Step
     ensures { result ≡ moved_on course taken written dropped }
 {
     let mut course = course;
-    course.at = course.at + taken;
+    course.at += taken;
     course.dropped = more_if(dropped, course.dropped);
     Step {
         course,
@@ -203,10 +171,8 @@ fn more_if(holds: bool, count: u64) -> u64
     ensures { result ≡ more_if holds count }
 {
     if holds {
-        if count < u64::MAX {
-            return count + 1;
-        }
-        return count;
+        count.saturating_add(1)
+    } else {
+        count
     }
-    count
 }

@@ -136,18 +136,11 @@ fn pull<R: Read>(
             capture,
             came: Came::Ended(course.held % PACKET),
         },
-        Stage::Last => {
-            if course.at < feeding::whole_end(course.held) {
-                return feeding::feed(capture, piece, records);
-            }
-            end(look(capture, piece, pages))
+        Stage::Last | Stage::More if course.at < feeding::whole_end(course.held) => {
+            feeding::feed(capture, piece, records)
         }
-        Stage::More => {
-            if course.at < feeding::whole_end(course.held) {
-                return feeding::feed(capture, piece, records);
-            }
-            read_on(source, look(capture, piece, pages), piece)
-        }
+        Stage::Last => end(look(capture, piece, pages)),
+        Stage::More => read_on(source, look(capture, piece, pages), piece),
     }
 }
 
@@ -157,39 +150,25 @@ fn look(capture: Capture, piece: &mut [u8], pages: &mut [u16]) -> Capture
     ensures piece_after { piece.new ≡ looked_piece capture.course piece.old }
     ensures pages_after { pages.new ≡ looked_pages capture.course piece.old pages.old }
 {
-    let reader = capture.reader;
-    let readers = capture.readers;
     let mut course = capture.course;
-    let sight = course.sight;
-    let sight = sight::look(
+    course.sight = sight::look(
         course.setting,
         course.verbose,
-        sight,
+        course.sight,
         piece,
         course.held,
         pages,
     );
-    course.sight = sight;
-    Capture {
-        reader,
-        readers,
-        course,
-    }
+    Capture { course, ..capture }
 }
 
 // All was handed out.
 fn end(capture: Capture) -> Turn
     ensures { result ≡ ended_turn capture }
 {
-    let reader = capture.reader;
-    let readers = capture.readers;
     let course = staged(capture.course, Stage::Over);
     Turn {
-        capture: Capture {
-            reader,
-            readers,
-            course,
-        },
+        capture: Capture { course, ..capture },
         came: Came::Ended(course.held % PACKET),
     }
 }
@@ -198,17 +177,7 @@ fn end(capture: Capture) -> Turn
 pub(crate) fn staged(course: Course, stage: Stage) -> Course
     ensures { result ≡ courses_staged course stage }
 {
-    let setting = course.setting;
-    let sight = course.sight;
-    Course {
-        setting,
-        verbose: course.verbose,
-        stage,
-        at: course.at,
-        held: course.held,
-        dropped: course.dropped,
-        sight,
-    }
+    Course { stage, ..course }
 }
 
 // Another piece is read. One that isn't full is the last.
@@ -223,27 +192,23 @@ fn read_on<R: Read>(source: &mut Source<R>, capture: Capture, piece: &mut [u8]) 
 fn heed(capture: Capture, got: Got, full: usize) -> Turn
     ensures { result ≡ read_turn capture got full }
 {
-    let reader = capture.reader;
-    let readers = capture.readers;
-    let mut course = capture.course;
     match got {
         Got::Failed => Turn {
             capture: Capture {
-                reader,
-                readers,
-                course: staged(course, Stage::Broken),
+                course: staged(capture.course, Stage::Broken),
+                ..capture
             },
             came: Came::Unread,
         },
         Got::Bytes(n) => {
-            course.at = 0;
-            course.held = n;
+            let course = Course {
+                at: 0,
+                held: n,
+                stage: after(n, full),
+                ..capture.course
+            };
             Turn {
-                capture: Capture {
-                    reader,
-                    readers,
-                    course: staged(course, after(n, full)),
-                },
+                capture: Capture { course, ..capture },
                 came: Came::Records(0),
             }
         }
@@ -254,8 +219,5 @@ fn heed(capture: Capture, got: Got, full: usize) -> Turn
 fn after(n: usize, full: usize) -> Stage
     ensures { result ≡ stage_after n full }
 {
-    if n < full {
-        return Stage::Last;
-    }
-    Stage::More
+    if n < full { Stage::Last } else { Stage::More }
 }

@@ -37,6 +37,7 @@ pub fn fill<R: Read>(source: &mut Source<R>, slice: &mut [u8]) -> Got
     ensures { fits_in result (length slice.old) ≡ true }
 {
     let mut n = 0;
+    // Kept: a step is no count: it goes on by as many bytes as were read.
     while n < slice.len() {
         match source.from.read(&mut slice[n..]) {
             Ok(0) => return Got::Bytes(n),

@@ -4,15 +4,13 @@ use mathlib.Core.Bool.{true}
 use mathlib.Core.List.{List, [], ◌∷◌, ◌++◌, map, append-nil}
 use Prim.Native.Nat.{ℕ, ◌<◌}
 use native.Mathlib.Omega.{arith}
-use lib.Dec.{eqb}
 use lib.ListN.{length}
 use borrow.Author.Tests.{eq-eqb}
 use Rattle.texts.specs.Texts.{begins_with, same_text}
-use Rattle.forms.specs.Tables.{Table}
 use Rattle.listing_reader.proofs.Spells.{begins-append}
 use Rattle.sheet_entry.specs.Entries.{Entry, key_of, table_lines}
-use Rattle.sheet_joins.specs.Along.{Stands, in_first, in_second, in_both, along}
-use Rattle.sheet_joins.proofs.Meeting.{along-less, along-more, along-same, along-first, along-second, along-none}
+use Rattle.sheet_joins.specs.Along.{in_first, in_second, in_both}
+use Rattle.sheet_joins.proofs.Meeting.{along-less, along-more, along-same, along-second, along-none}
 use Rattle.changes.specs.Lines.{change_lines, changes_of, printed}
 use Rattle.changes.specs.Calls.{table_of}
 use Rattle.changes.proofs.Applied.{going, printed-on}

@@ -20,11 +20,10 @@ use Rattle.texts.specs.Texts.{begins_with, same_text}
 use Rattle.forms.specs.Tables.{Descriptor, Table}
 use Rattle.text_lines.specs.Lines.{number_line}
 use Rattle.listing.specs.Lines.{descriptor_lines_of}
-use Rattle.listing_reader.specs.declared.lines.Line.{Line}
 use Rattle.listing_reader.specs.Lines.{number_at}
 use Rattle.listing_reader.specs.Many.{Many}
 use Rattle.listing_reader.specs.Reading.{descriptors_of}
-use Rattle.listing_reader.proofs.Spells.{begins-append, begins_with_lem}
+use Rattle.listing_reader.proofs.Spells.{begins-append}
 use Rattle.listing_reader.proofs.Rowed.{Closed}
 use Rattle.sheet_entry.specs.Entries.{Entry, key_of, table_lines}
 use Rattle.sheet_joins.specs.Along.{Stands, in_first, in_second, in_both, along}
@@ -34,7 +33,7 @@ use Rattle.sheet_joins.proofs.Meeting.{Sheet, sheet-rest, along-less, along-more
 use Rattle.changes.specs.Lines.{gone_name, new_name, changed_name, key_name, key_line, change_lines, changes_of, printed}
 use Rattle.changes.specs.Calls.{table_of}
 use Rattle.changes.specs.Applying.{key_of_table, new_line, new_table, new_long, comes_before, is_new, changed_from, changed_to, with_descriptors, next_table, applied_in, applied}
-use Rattle.changes.proofs.Keys.{Keyed, keyed, new_back, keys_apart}
+use Rattle.changes.proofs.Keys.{Keyed, keyed, keys_apart}
 use Rattle.changes.proofs.Reading.{some_line, changes_closed, table_is, no-copyright, lines_read, same-table, brought}
 use Rattle.sheet_entry.specs.declared.Form.{Form}
 

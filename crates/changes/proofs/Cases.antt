@@ -5,7 +5,7 @@ use mathlib.Core.List.{List, [], ◌∷◌, ◌++◌, map}
 use Prim.Native.Nat.{ℕ}
 use Rattle.texts.specs.Texts.{begins_with}
 use Rattle.fields.specs.Fields.{whole}
-use Rattle.forms.specs.Tables.{Descriptor, Table, TI, LI}
+use Rattle.forms.specs.Tables.{Descriptor, TI, LI}
 use Rattle.text_lines.specs.Codes.{codes}
 use Rattle.text_lines.specs.Lines.{digits_in, digit, hexed, letters, number_line, language_of, language_line, page_line, word_bytes}
 use Rattle.listing.specs.Lines.{language_lines, subtitle_lines, entry_lines, descriptor_line, descriptor_lines, descriptor_lines_of}

@@ -2,14 +2,13 @@
 use mathlib.Core.Path.{◌≡◌, ◌∙◌, refl, sym, ap}
 use mathlib.Core.Bool.{Bool, true, false}
 use mathlib.Core.List.{List, [], ◌∷◌, ◌++◌, append_assoc}
-use Prim.Native.Nat.{ℕ, ◌+◌, ◌*◌, ◌/◌, ◌%◌, ◌≤◌, ◌<◌}
+use Prim.Native.Nat.{ℕ, ◌+◌, ◌*◌, ◌/◌, ◌%◌, ◌≤◌}
 use native.Mathlib.Omega.{arith}
 use lib.Dec.{eqb}
 use lib.ListN.{length, drop}
 use lib.Seq.{drop-append_seam}
 use borrow.Author.Tests.{eqb-true}
 use Rattle.laws.specs.Pick.{pick}
-use Rattle.laws.proofs.Tests.{both_true}
 use Rattle.texts.specs.Texts.{begins_with}
 use Rattle.forms.specs.Tables.{Table, TI, LI, known}
 use Rattle.text_lines.specs.Lines.{decimal, number_line}
@@ -20,7 +19,7 @@ use Rattle.day_sheet.proofs.Fronts.{Fit}
 use Rattle.day_sheet.proofs.Choosing.{written-sendable}
 use Rattle.changes.specs.Lines.{new_name, kind_word, key_name, key_line}
 use Rattle.changes.specs.Applying.{key_of_table, new_kind, new_network, new_line}
-use Rattle.changes.specs.Internal.{kind_in, front_of, key_text}
+use Rattle.changes.specs.Internal.{key_text}
 use Rattle.sheet_entry.specs.declared.Form.{Form}
 
 -- a key within its fields

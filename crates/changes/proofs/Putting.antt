@@ -3,33 +3,34 @@
 use mathlib.Core.Path.{◌≡◌, ◌∙◌, refl, sym, ap}
 use mathlib.Core.Bool.{Bool, true, false}
 use mathlib.Core.List.{List, [], ◌∷◌, ◌++◌}
-use Prim.Native.Nat.{ℕ, suc, ◌+◌, ◌-◌, ◌/◌, ◌%◌, ◌≤◌, ◌<◌}
+use Prim.Native.Nat.{ℕ, ◌+◌, ◌-◌, ◌/◌, ◌%◌, ◌≤◌, ◌<◌}
 use native.Mathlib.Omega.{arith}
 use lib.Dec.{eqb}
-use lib.ListN.{length, set, take, drop, length-append, length-drop}
+use lib.ListN.{length, take, drop, length-append, length-drop}
 use lib.Seq.{sets, set-set, drop-drop}
 use borrow.Author.Tests.{eq-eqb, ne_eqb}
 use Rattle.laws.specs.Pick.{pick}
 use Rattle.laws.proofs.Lists.{sets-append}
 use Rattle.texts.specs.Texts.{same_text}
-use Rattle.forms.specs.Tables.{TI, LI}
+use Rattle.forms.specs.Tables.{TI}
 use Rattle.text_lines.specs.Codes.{codes}
 use Rattle.text_lines.specs.Putting.{Put}
 use Rattle.text_lines.specs.Lines.{decimal, number_line}
-use Rattle.text_lines.proofs.Printed.{then, put-none, put_as, Left, left-start, left-on, left_end}
+use Rattle.text_lines.proofs.Printed.{then, put_as, Left, left-start, left-on, left_end}
 use Rattle.listing.specs.Lines.{kind_line, kind_ti, kind_li, network_name, block_name}
 use Rattle.sheet_entry.specs.declared.Found.{Found}
 use Rattle.sheet_entry.specs.Entries.{Entry, mended_head, spelled_by, stamp_name, head_lines, table_lines, entry_text}
 use Rattle.sheet_joins.specs.declared.Turn.{Turn}
+use Rattle.std.specs.declared.option.Option.TheVariants.{None, Some}
+use Rattle.day_sheet.specs.Reading.{InForm}
 use Rattle.sheet_joins.specs.Along.{Stands, in_first, in_second, in_both, along}
-use Rattle.sheet_joins.specs.Turns.{turn_of}
-use Rattle.day_sheet.specs.Calls.{entries_of}
+use Rattle.sheet_joins.specs.Turns.{turn_of, first_long, second_long}
 use Rattle.day_sheet.specs.Internal.{Halfway}
 use Rattle.sheet_joins.specs.Internal.{Lies, Met, found_lines}
 use Rattle.day_sheet.specs.Entries.{sheet_text}
 use Rattle.day_sheet.proofs.Fronts.{spans}
-use Rattle.sheet_joins.proofs.Meeting.{lines-found, Front, front-first, front-second, front-both, Turned, turned, along-out, along-less, along-more, along-same, along-first, along-second, along-none}
-use Rattle.sheet_joins.proofs.Turning.{part_length}
+use Rattle.sheet_joins.proofs.Meeting.{lines-found, Front, front-first, front-second, front-both, Turned, turned, turned-end, along-less, along-more, along-same, along-first, along-second, along-none}
+use Rattle.sheet_joins.proofs.Turning.{met_of, part_length}
 use Rattle.changes.specs.Lines.{gone_name, new_name, changed_name, kind_word, key_name, key_line, change_lines, changes_of, printed}
 use Rattle.changes.specs.Calls.{compare_text}
 use Rattle.changes.specs.Internal.{kind_in, front_of, key_text, both_text, turn_change, place_most}
@@ -101,19 +102,6 @@ module _ (a : List ℕ) (f : Found) (b : List ℕ) (g : Found) where
   both-other h = rw h
 
 -- ---- one key
-
-module _ (t : Turn) (a b : List ℕ) where
-  pub turn-gone : t.second.more ≡ false → key_text gone_name t.first.key ≡ turn_change t a b
-  unfolding turn_change
-  turn-gone h = rw h
-
-  pub turn-new : t.second.more ≡ true → t.first.more ≡ false → key_text new_name t.second.key ++ found_lines b t.second ≡ turn_change t a b
-  unfolding turn_change
-  turn-new h l = rw (h, l)
-
-  pub turn-both : t.second.more ≡ true → t.first.more ≡ true → both_text a t.first b t.second ≡ turn_change t a b
-  unfolding turn_change
-  turn-both h l = rw (h, l)
 
 module _ (form : Form) where
   -- it is the change of what stands there
@@ -200,7 +188,7 @@ module _ (form : Form) where
           omega arith
 
   -- nor than what was found
-  change-short : {a b : List ℕ} {t : Turn} {s : Stands} → Front form a b t s → length (change_lines s) ≤ t.first.long + t.second.long
+  change-short : {a b : List ℕ} {t : Turn} {s : Stands} → Front form a b t s → length (change_lines s) ≤ first_long t + second_long t
   change-short (front-first x rest v e) = let h = change-fits (in_first x) in omega arith
   change-short (front-second y more w e) = let h = change-fits (in_second y) in omega arith
   change-short (front-both x y rest more v w k e d) = change-fits (in_both x y)
@@ -251,34 +239,28 @@ module _ (form : Form) where
 
   text-on :
       {a b : List ℕ} {t : Turn} (u : Turned form a b t)
-      → compare_text form a b ≡ turn_change t a b ++ compare_text form (drop t.first.long a) (drop t.second.long b)
+      → compare_text form a b ≡ turn_change t a b ++ compare_text form (drop (first_long t) a) (drop (second_long t) b)
   unfolding compare_text printed changes_of
   text-on u = rw (u.on, turn-changes u.front)
 
-  text_out : (a b : List ℕ) → length a + length b ≤ 0 → compare_text form a b ≡ []
+  text_out : (a b : List ℕ) → InForm form a → InForm form b → None ≡ turn_of form a b → compare_text form a b ≡ []
   unfolding compare_text printed changes_of
-  text_out a b h = rw (along-out form a b h)
+  text_out a b f g e = rw (turned-end form a b f g e)
 
-  module _ (first second out₀ out : List ℕ) (i j q : ℕ) (v : Walk first second out₀ out i j q) where
-    pub walk_turn :
-        i + j < length first + length second → {t : Turn} → t ≡ turn_of form (drop i first) (drop j second)
-        → Turned form (drop i first) (drop j second) t
-    walk_turn h e =
-        let f = v.in_first.within.inside in
-        let g = v.in_second.within.inside in
-        let k = length-drop i first in
-        let l = length-drop j second in
-        rw e (turned form (drop i first) (drop j second) v.in_first.fine v.in_second.fine (omega arith))
+  module _ {first second out₀ out : List ℕ} {i j q : ℕ} (v : Walk first second out₀ out i j q) where
+    walk_turn : {t : Turn} → Some t ≡ turn_of form (drop i first) (drop j second) → Turned form (drop i first) (drop j second) t
+    walk_turn e = turned form (drop i first) (drop j second) v.in_first.fine v.in_second.fine e
 
     pub walk-on :
-        {t : Turn} {out' : List ℕ} {q' : ℕ} → Turned form (drop i first) (drop j second) t
+        {t : Turn} {out' : List ℕ} {q' : ℕ} → Some t ≡ turn_of form (drop i first) (drop j second)
         → Put out q (turn_change t (drop i first) (drop j second)) out' q'
-        → Walk first second out₀ out' (i + t.first.long) (j + t.second.long) q'
-    walk-on {t} {out'} {q'} u p =
+        → Walk first second out₀ out' (i + first_long t) (j + second_long t) q'
+    walk-on {t} {out'} {q'} e p =
+        let u = walk_turn e in
         let a = drop i first in
         let b = drop j second in
-        let f = drop-drop t.first.long i first in
-        let g = drop-drop t.second.long j second in
+        let f = drop-drop (first_long t) i first in
+        let g = drop-drop (second_long t) j second in
         let x = u.first_in in
         let y = u.second_in in
         let l = length-drop i first in
@@ -292,25 +274,22 @@ module _ (form : Form) where
           small = let h = v.small in omega (arith, p.moved);
         }
 
-    pub walk_end : length first + length second ≤ i + j → Put out₀ 0 (compare_text form first second) out q
-    walk_end h =
-        let k = length-drop i first in
-        let l = length-drop j second in
-        let f = v.in_first.within.inside in
-        let g = v.in_second.within.inside in
-        left_end (text_out (drop i first) (drop j second) (omega arith)) v.to_put
+    pub walk_end : None ≡ turn_of form (drop i first) (drop j second) → Put out₀ 0 (compare_text form first second) out q
+    walk_end e = left_end (text_out (drop i first) (drop j second) v.in_first.fine v.in_second.fine e) v.to_put
 
-    -- no place is far on, and what was met lies within the sheets
-    pub walk-fits : {t : Turn} → Turned form (drop i first) (drop j second) t → Met first i t.first × Met second j t.second × (q ≤ place_most)
-    walk-fits {t} u =
+    -- a turn goes on within the sheets, no place is far on, and what was met lies within them
+    pub walk-fits :
+        {t : Turn} → Some t ≡ turn_of form (drop i first) (drop j second)
+        → Met first i second j t × (q ≤ place_most) × (i + first_long t ≤ length first) × (j + second_long t ≤ length second) × (0 < first_long t + second_long t)
+    walk-fits {t} e =
+        let u = walk_turn e in
         let x = u.first_in in
         let y = u.second_in in
         let l = length-drop i first in
         let m = length-drop j second in
         let f = v.in_first.within in
         let g = v.in_second.within in
-        let s = v.small in (
-          record { span = u.first_span; inside = omega arith; small = f.short },
-          record { span = u.second_span; inside = omega arith; small = g.short },
-          omega arith,
-        )
+        let s = v.small in
+        let a : i + first_long t ≤ length first = omega arith in
+        let b : j + second_long t ≤ length second = omega arith in
+        (met_of first i second j t u.span a b f.short g.short, omega arith, a, b, u.goes_on)

@@ -1,25 +1,21 @@
 -- The call of `compare` and what it prints: applied to the first sheet's tables it gives the second's; nothing is printed exactly when the
 -- tables are equal; and for one first sheet two seconds print alike exactly when their tables are. Assumes nothing.
-use mathlib.Core.Path.{◌≡◌, ◌∙◌, refl, sym, ap}
+use mathlib.Core.Path.{◌≡◌, ◌∙◌, sym, ap}
 use mathlib.Core.Logic.{◌↔◌}
 use mathlib.Core.List.{List, [], ◌++◌}
 use Prim.Native.Nat.{ℕ, ◌+◌, ◌≤◌}
 use native.Mathlib.Omega.{arith}
 use lib.ListN.{length, take, drop}
 use lib.Seq.{take-append_seam}
-use Rattle.answer.specs.declared.Answer.TheVariants.{Done}
 use Rattle.answer.specs.Rules.{Every}
 use Rattle.answer.proofs.Judging.{every_append}
 use Rattle.answer.proofs.Lent.{front-holds, back-holds, lent-accepted, lent-all}
 use Rattle.answer.proofs.Steps.{first_holds, others_hold}
-use Rattle.forms.specs.Tables.{Table}
-use Rattle.sheet_entry.specs.Entries.{Entry}
 use Rattle.day_sheet.specs.Calls.{entries_of, rewrite_rules}
 use Rattle.day_sheet.specs.Reading.{InForm}
 use Rattle.sheet_joins.proofs.AnyOrder.{sheet-of}
 use Rattle.day_sheet.proofs.Exact.{read-written}
-use Rattle.changes.specs.Lines.{printed}
-use Rattle.changes.specs.Calls.{compare_rules, compare_text, compare_answer, compare_left, tables_of}
+use Rattle.changes.specs.Calls.{compare_rules, compare_text, tables_of}
 use Rattle.changes.specs.Applying.{applied}
 use Rattle.changes.specs.Saying.{Prints}
 use Rattle.changes.proofs.Applied.{print-applied, nothing-applied}

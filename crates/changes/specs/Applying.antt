@@ -1,7 +1,7 @@
 -- What is printed, applied to the tables of the first sheet (SCOPE 28.5): over the text and those tables, and nothing else. Of a text that
 -- isn't a print for these tables it may give anything.
 use Rattle.std.specs.Prelude.{Bool, true, false, List, [], ◌∷◌, ◌++◌, ℕ, zero, suc, ◌+◌, eqb, ltb, length, drop}
-use Rattle.laws.specs.Pick.{pick, both}
+use Rattle.laws.specs.Pick.{pick}
 use Rattle.texts.specs.Texts.{begins_with}
 use Rattle.forms.specs.Tables.{Descriptor, Table, TI, LI}
 use Rattle.listing.specs.Lines.{descriptor_lines_of}

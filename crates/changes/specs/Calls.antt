@@ -1,6 +1,6 @@
 -- What the call judges, in its order, what it writes, and which sheet is at fault (SCOPE 28.3, 28.4).
 use Rattle.std.specs.Prelude.{List, map, ◌++◌, ℕ}
-use Rattle.answer.specs.declared.Answer.{Answer}
+use Rattle.answer.specs.Answer.{Answer}
 use Rattle.answer.specs.Rules.{Rule, judged}
 use Rattle.answer.specs.Writing.{answered, left}
 use Rattle.forms.specs.Tables.{Table}

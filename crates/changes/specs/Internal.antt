@@ -1,12 +1,12 @@
 -- What only private calls cite; nothing here needs to be believed.
-use Rattle.std.specs.Prelude.{Bool, List, [], ◌++◌, ℕ, ◌+◌, ◌/◌, ◌%◌, ◌≤◌, eqb, length}
+use Rattle.std.specs.Prelude.{List, [], ◌++◌, ℕ, ◌/◌, ◌%◌, eqb}
 use Rattle.laws.specs.Pick.{pick}
-use Rattle.answer.specs.Rules.{Every}
 use Rattle.texts.specs.Texts.{same_text}
 use Rattle.forms.specs.Tables.{TI, LI}
 use Rattle.text_lines.specs.Lines.{number_line}
 use Rattle.sheet_entry.specs.declared.Found.{Found}
 use Rattle.sheet_joins.specs.declared.Turn.{Turn}
+use Rattle.sheet_joins.specs.declared.Turn.TheVariants.{First, Second, Both}
 use Rattle.sheet_joins.specs.Internal.{found_lines}
 use Rattle.changes.specs.Lines.{gone_name, new_name, changed_name, key_name}
 
@@ -27,10 +27,9 @@ both_text a f b g =
     pick (same_text (found_lines a f) (found_lines b g)) [] (key_text changed_name g.key ++ (found_lines a f ++ found_lines b g))
 
 unfoldable pub turn_change : Turn → List ℕ → List ℕ → List ℕ
-turn_change t a b =
-    pick t.second.more
-    (pick t.first.more (both_text a t.first b t.second) (key_text new_name t.second.key ++ found_lines b t.second))
-    (key_text gone_name t.first.key)
+turn_change (First f) a b = key_text gone_name f.key
+turn_change (Second g) a b = key_text new_name g.key ++ found_lines b g
+turn_change (Both f g) a b = both_text a f b g
 
 -- no place that a print takes is further on
 abbrev pub place_most : ℕ

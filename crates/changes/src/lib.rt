@@ -11,11 +11,12 @@ ghost use Rattle.sheet_joins.specs.Internal.{Met};
 ghost use Rattle.changes.specs.Calls.{compare_answer, compare_left, compare_text, fault_in};
 ghost use Rattle.changes.specs.Internal.{turn_change, place_most};
 
-use answer::Answer;
+use answer::{Answer, Reason};
 use sheet_entry::Form;
 use sheet_joins::Turn;
 
 // The call's answer, and the number of the sheet at fault; 0 where neither is.
+// Kept: the number doesn't say whether the call refuses, as the answer does: where the output has no room neither sheet is at fault.
 #[derive(Drop)]
 pub struct Compared {
     pub answer: Answer,
@@ -29,16 +30,16 @@ pub fn compare(form: Form, first: &[u8], second: &[u8], out: &mut [u8]) -> Compa
     ensures output { out.new ≡ compare_left form first.now second.now out.old }
 {
     match day_sheet::judge(form, first) {
-        Answer::Refused(why) => Compared {
-            answer: Answer::Refused(why),
+        Err(why) => Compared {
+            answer: Err(why),
             sheet: 1,
         },
-        Answer::Done(_) => match day_sheet::judge(form, second) {
-            Answer::Refused(why) => Compared {
-                answer: Answer::Refused(why),
+        Ok(_) => match day_sheet::judge(form, second) {
+            Err(why) => Compared {
+                answer: Err(why),
                 sheet: 2,
             },
-            Answer::Done(_) => {
+            Ok(_) => {
                 let answer = write(form, first, second, out);
                 Compared { answer, sheet: 0 }
             }
@@ -54,10 +55,10 @@ fn write(form: Form, first: &[u8], second: &[u8], out: &mut [u8]) -> Answer
 {
     let n = measure(form, first, second);
     if out.len() < n {
-        return answer::refuse(1, 0);
+        return Reason::NoRoom.refuse(0);
     }
     put_changes(form, first, second, out);
-    Answer::Done(n)
+    Ok(n)
 }
 
 // How long the print is: the walk that puts it, with next to no room.
@@ -74,15 +75,15 @@ fn put_changes(form: Form, first: &[u8], second: &[u8], out: &mut [u8]) -> usize
     requires { Halfway form first.now 0 × Halfway form second.now 0 }
     ensures { Put out.old 0 (compare_text form first.now second.now) out.new result }
 {
-    let whole = first.len() + second.len();
     let mut i = 0;
     let mut j = 0;
     let mut q = 0;
-    while i + j < whole {
-        let t = sheet_joins::next_turn(form, first, i, second, j);
+    // Kept: no count of places: each step is as long as the entries that stand there; `sheet_joins::put_joined` says why the two loops stay two.
+    while let Some(t) = sheet_joins::turn_at(form, first, i, second, j) {
         q = put_change(first, i, second, j, t, out, q);
-        i += t.first.long;
-        j += t.second.long;
+        let (a, b) = t.passed();
+        i += a;
+        j += b;
     }
     q
 }
@@ -97,17 +98,15 @@ fn put_change(
     out: &mut [u8],
     q: usize,
 ) -> usize
-    requires { Met first.now i t.first × Met second.now j t.second × (q ≤ place_most) }
+    requires { Met first.now i second.now j t × (q ≤ place_most) }
     ensures { Put out.old q (turn_change t (drop i first.now) (drop j second.now)) out.new result }
 {
-    let a = t.first;
-    let b = t.second;
-    if !b.more {
-        return lines::put_key(b"gone=", a.key, out, q);
+    match t {
+        Turn::First(a) => lines::put_key(b"gone=", a.key, out, q),
+        Turn::Second(b) => {
+            let at = lines::put_key(b"new=", b.key, out, q);
+            lines::put_lines(second, j, b, out, at)
+        }
+        Turn::Both(a, b) => lines::put_both(first, i, a, second, j, b, out, q),
     }
-    if !a.more {
-        let at = lines::put_key(b"new=", b.key, out, q);
-        return lines::put_lines(second, j, b, out, at);
-    }
-    lines::put_both(first, i, a, second, j, b, out, q)
 }

@@ -82,7 +82,8 @@ fn put_word(key: usize, line: &mut [u8], q: usize) -> usize
     ensures { Put line.old q (kind_word (kind_in key)) line.new result × (result ≤ q + 3) }
 {
     if key / 65536 % 2 == 1 {
-        return text_lines::put(b"TI,", line, q);
+        text_lines::put(b"TI,", line, q)
+    } else {
+        text_lines::put(b"LI,", line, q)
     }
-    text_lines::put(b"LI,", line, q)
 }

@@ -7,8 +7,8 @@ use native.Mathlib.Omega.{arith}
 use lib.ListN.{length, take, drop}
 use lib.Pow.{pow_pos}
 use lib.Seq.{take-append_seam}
-use Rattle.answer.specs.declared.Answer.{Answer}
-use Rattle.answer.specs.declared.Answer.TheVariants.{Done}
+use Rattle.std.specs.declared.result.Result.TheVariants.{Ok}
+use Rattle.answer.specs.Answer.{Answer}
 use Rattle.answer.specs.Rules.{Rule, Every}
 use Rattle.answer.specs.Writing.{answered, left}
 use Rattle.answer.proofs.Lent.{lent-accepted, lent-all}
@@ -19,8 +19,8 @@ use Rattle.forms.specs.Writing.{write_rules}
 use Rattle.laws.specs.Bytes.{Bytes}
 use Rattle.blocks.specs.Parts.{mended_in}
 use Rattle.forms.specs.Block.{record_of, Says}
-use Rattle.blocks.specs.declared.Read.{Read}
-use Rattle.blocks.specs.declared.Read.TheVariants.{Taken}
+use Rattle.blocks.specs.Taking.{Read}
+use Rattle.blocks.specs.Taking.{taken}
 use Rattle.blocks.specs.Values.{counted}
 use Rattle.blocks.proofs.Counting.{counted-takes}
 use Rattle.blocks.proofs.Framed.{accepts}
@@ -44,7 +44,7 @@ use Rattle.claims.proofs.Calls.{writes, reads, its_bytes, writable}
 
 -- a call that answers so many bytes wrote all of its own
 written :
-    (rules : List Rule) (bytes old : List ℕ) {n : ℕ} {out : List ℕ} → Done n ≡ answered rules bytes old → out ≡ left rules bytes old
+    (rules : List Rule) (bytes old : List ℕ) {n : ℕ} {out : List ℕ} → Ok n ≡ answered rules bytes old → out ≡ left rules bytes old
     → Every rules × (take n out ≡ bytes)
 written rules bytes old {n} e f =
     let a = lent-all rules bytes old n (sym e) in
@@ -56,7 +56,7 @@ module _ {T : Type 0} (form : T → List ℕ) (within : List ℕ → T) (record_
       (t : T) (old lent : List ℕ) {n : ℕ} {out after : List ℕ} {x : Answer} → n ≡ length (form t) → out ≡ form t ++ drop (length (form t)) old
       → Every (rules (form t)) × (within (form t) ≡ t) → x ≡ answered (rules (take n out)) (record_for (within (take n out))) lent
       → after ≡ left (rules (take n out)) (record_for (within (take n out))) lent → length (record_for t) ≤ length lent
-      → (x ≡ Done (length (record_for t))) × (reported x after ≡ record_for t)
+      → (x ≡ Ok (length (record_for t))) × (reported x after ≡ record_for t)
   again t old lent {n} {out} long stands can e f enough =
       let same : take n out ≡ form t = ap₂ take long stands ∙ take-append_seam (form t) (drop (length (form t)) old) in
       its_bytes (rules (form t)) (record_for t) lent (rw (same, can.1) at e) (rw (same, can.1) at f) can.0 enough
@@ -65,9 +65,9 @@ module _ {T : Type 0} (form : T → List ℕ) (within : List ℕ → T) (record_
 
 -- what `write_block` wrote, `read_block` reads with room: the form that was handed in, with nothing mended
 pub table-back :
-    {application n : ℕ} {f old out lent after : List ℕ} {y : Read} → Bytes f → Writes application f old (Done n) out
+    {application n : ℕ} {f old out lent after : List ℕ} {y : Read} → Bytes f → Writes application f old (Ok n) out
     → Reads application (take n out) lent y after → length f ≤ length lent
-    → (y ≡ Taken (length f) 0) × (after ≡ f ++ drop (length f) lent)
+    → (y ≡ Ok (taken (length f) 0)) × (after ≡ f ++ drop (length f) lent)
 table-back {application} {n} {f} {old} {out} {lent} {after} {y} b w call enough =
     let t = table_in f in
     let r = record_of application t in
@@ -76,16 +76,16 @@ table-back {application} {n} {f} {old} {out} {lent} {after} {y} b w call enough 
     let a = accepts (read_rules application r) (table_read r) t (mended_in r) 0 (sym (read_as_lem application r) ∙ back.0) in
     let said = reads (subst (λ (l : List ℕ). Reads application l lent y after) p.1 call) in
     let q = counted-takes form (read_rules application r) (table_read r) (mended_in r) lent t a.0 a.1 (rw back.1 enough) in (
-      said.0 ∙ q.0 ∙ ap₂ (λ (l : List ℕ) (c : ℕ). Taken (length l) c) back.1 a.2,
+      said.0 ∙ q.0 ∙ ap₂ (λ (l : List ℕ) (c : ℕ). Ok (taken (length l) c)) back.1 a.2,
       said.1 ∙ q.1 ∙ ap (λ (l : List ℕ). l ++ drop (length l) lent) back.1,
     )
 
 -- what `read_block` accepted and left, `write_block` takes with room: its record says the table that the record which was read says
 pub table_again :
-    {application n c : ℕ} {r old out lent after : List ℕ} {x : Answer} → Reads application r old (Taken n c) out
+    {application n c : ℕ} {r old out lent after : List ℕ} {x : Answer} → Reads application r old (Ok (taken n c)) out
     → Writes application (take n out) lent x after → length (record_of application (table_read r)) ≤ length lent
     → Says application r (table_read r)
-    × (x ≡ Done (length (record_of application (table_read r))))
+    × (x ≡ Ok (length (record_of application (table_read r))))
     × Says application (reported x after) (table_read r)
 table_again {application} {n} {c} {r} {old} {out} {lent} call w enough =
     let t = table_read r in
@@ -114,9 +114,9 @@ module _
 
     spoken-back :
         (application : ℕ) (f old lent : List ℕ) {n : ℕ} {out after : List ℕ} {y : Read}
-        → (Every (writing application f) → AsRead application (record_for application (within f)) lent (Taken (length f) 0) (f ++ drop (length f) lent))
-        → AsWritten application f old (Done n) out → AsRead application (take n out) lent y after
-        → (y ≡ Taken (length f) 0) × (after ≡ f ++ drop (length f) lent)
+        → (Every (writing application f) → AsRead application (record_for application (within f)) lent (Ok (taken (length f) 0)) (f ++ drop (length f) lent))
+        → AsWritten application f old (Ok n) out → AsRead application (take n out) lent y after
+        → (y ≡ Ok (taken (length f) 0)) × (after ≡ f ++ drop (length f) lent)
     spoken-back application f old lent {n} {out} {after} {y} back w call =
         let p = written (writing application f) (record_for application (within f)) old w.0 w.1 in
         let said = subst (λ (r : List ℕ). AsRead application r lent y after) p.1 call in
@@ -131,7 +131,7 @@ module _
           → (Every (writing application (form (found r))) → Said application (record_for application (within (form (found r)))) (within (form (found r))))
           → AsWritten application (take n out) lent x after
           → length (record_for application (found r)) ≤ length lent
-          → Said application r (found r) × (x ≡ Done (length (record_for application (found r)))) × Said application (reported x after) (found r)
+          → Said application r (found r) × (x ≡ Ok (length (record_for application (found r)))) × Said application (reported x after) (found r)
       spoken-again application r old lent said long stands can says w enough =
           let p = again form within (record_for application) (writing application) (found r) old lent long stands can w.0 w.1 enough in
           let own = subst (λ (t : T). Said application (record_for application t) t) can.1 (says can.0) in
@@ -153,19 +153,19 @@ reads-menu (read-menu κs a x t post) = post
 
 -- what `write_menu` wrote, `read_menu` reads with room: the form that was handed in, with nothing mended
 pub menu-back :
-    {application n : ℕ} {f old out lent after : List ℕ} {y : Read} → Bytes f → WritesMenu application f old (Done n) out
+    {application n : ℕ} {f old out lent after : List ℕ} {y : Read} → Bytes f → WritesMenu application f old (Ok n) out
     → ReadsMenu application (take n out) lent y after → length f ≤ length lent
-    → (y ≡ Taken (length f) 0) × (after ≡ f ++ drop (length f) lent)
+    → (y ≡ Ok (taken (length f) 0)) × (after ≡ f ++ drop (length f) lent)
 menu-back {application} {n} {f} {old} {out} {lent} b w call enough =
     spoken-back menu_form menu_in (λ r. menu_read (drop head_length r)) menu_record_of menu_write_rules menu_read_rules mended_control application f old lent
     (λ e. let q = call_back application f lent b e enough in (sym q.0, sym q.1)) (writes-menu w) (reads-menu call)
 
 -- what `read_menu` accepted and left, `write_menu` takes with room: its record says the menu that the record which was read says
 pub menu_again :
-    {application n c : ℕ} {r old out lent after : List ℕ} {x : Answer} → Bytes r → ReadsMenu application r old (Taken n c) out
+    {application n c : ℕ} {r old out lent after : List ℕ} {x : Answer} → Bytes r → ReadsMenu application r old (Ok (taken n c)) out
     → WritesMenu application (take n out) lent x after → length (menu_record_of application (menu_read (drop head_length r))) ≤ length lent
     → Menu-as-Says application r (menu_read (drop head_length r))
-    × (x ≡ Done (length (menu_record_of application (menu_read (drop head_length r)))))
+    × (x ≡ Ok (length (menu_record_of application (menu_read (drop head_length r)))))
     × Menu-as-Says application (reported x after) (menu_read (drop head_length r))
 menu_again {application} {n} {c} {r} {old} {out} {lent} b call w enough =
     let said = menu_call_says application r old n c b (sym (reads-menu call).0) in
@@ -189,9 +189,9 @@ reads-information (read-information κs a x t post) = post
 
 -- what `write_information` wrote, `read_information` reads with room: the form that was handed in, with nothing mended
 pub information-back :
-    {application n : ℕ} {f old out lent after : List ℕ} {y : Read} → Bytes f → WritesInformation application f old (Done n) out
+    {application n : ℕ} {f old out lent after : List ℕ} {y : Read} → Bytes f → WritesInformation application f old (Ok n) out
     → ReadsInformation application (take n out) lent y after → length f ≤ length lent
-    → (y ≡ Taken (length f) 0) × (after ≡ f ++ drop (length f) lent)
+    → (y ≡ Ok (taken (length f) 0)) × (after ≡ f ++ drop (length f) lent)
 information-back {application} {n} {f} {old} {out} {lent} b w call enough =
     spoken-back information_form information_in (λ r. information_read (drop head_length r)) information_record_of information_write_rules information_read_rules information_mended application
     f old lent
@@ -199,10 +199,10 @@ information-back {application} {n} {f} {old} {out} {lent} b w call enough =
 
 -- what `read_information` accepted and left, `write_information` takes with room: its record says what the record which was read says
 pub information_again :
-    {application n c : ℕ} {r old out lent after : List ℕ} {x : Answer} → Bytes r → ReadsInformation application r old (Taken n c) out
+    {application n c : ℕ} {r old out lent after : List ℕ} {x : Answer} → Bytes r → ReadsInformation application r old (Ok (taken n c)) out
     → WritesInformation application (take n out) lent x after → length (information_record_of application (information_read (drop head_length r))) ≤ length lent
     → Information-as-Says application r (information_read (drop head_length r))
-    × (x ≡ Done (length (information_record_of application (information_read (drop head_length r)))))
+    × (x ≡ Ok (length (information_record_of application (information_read (drop head_length r)))))
     × Information-as-Says application (reported x after) (information_read (drop head_length r))
 information_again {application} {n} {c} {r} {old} {out} {lent} b call w enough =
     let said = information_call_says application r old n c b (sym (reads-information call).0) in

@@ -13,11 +13,11 @@ use lib.Dec.{leb}
 use lib.ListN.{length, drop, length-map}
 use lib.Seq.{take-append_seam}
 use borrow.Author.Tests.{le-leb}
+use Rattle.std.specs.declared.result.Result.TheVariants.{Ok}
 use Rattle.laws.specs.Each.{Each, nil, and}
 use Rattle.laws.proofs.Eaches.{each_first, each_left, each_right, each_all}
 use Rattle.laws.specs.Pick.{both}
-use Rattle.answer.specs.declared.Answer.{Answer}
-use Rattle.answer.specs.declared.Answer.TheVariants.{Done}
+use Rattle.answer.specs.Answer.{Answer}
 use Rattle.answer.specs.Rules.{Rule, Every, none as rules_none, more as rules_more, First}
 use Rattle.answer.specs.Values.{refused}
 use Rattle.answer.specs.Writing.{answered, left}
@@ -38,7 +38,7 @@ use Rattle.forms.specs.Writing.{write_rules}
 use Rattle.blocks.specs.Parts.{mended_in}
 use Rattle.forms.specs.Block.{record_of}
 use Rattle.table.specs.Reading.{Outcome, accepted as reading_accepted, refused as reading_refused, read_rules, table_read, read_block}
-use Rattle.blocks.specs.declared.Read.{Read}
+use Rattle.blocks.specs.Taking.{Read}
 use Rattle.blocks.specs.Values.{counted}
 use Rattle.table.proofs.Exact.{read_as_lem}
 use Rattle.table.proofs.Back.{writes-back, accepted-writable}
@@ -85,7 +85,7 @@ formed c = record { what = form c.what; mended = c.mended }
 -- of a call that is accepted, what it reports as written is its bytes
 pub its_bytes :
     (rules : List Rule) (bytes old : List ℕ) {x : Answer} {out : List ℕ} → x ≡ answered rules bytes old → out ≡ left rules bytes old
-    → Every rules → length bytes ≤ length old → (x ≡ Done (length bytes)) × (reported x out ≡ bytes)
+    → Every rules → length bytes ≤ length old → (x ≡ Ok (length bytes)) × (reported x out ≡ bytes)
 its_bytes rules bytes old {x} {out} e f every enough =
     let p = lent-accepted rules bytes old every enough in
     let a = e ∙ p.0 in
@@ -101,7 +101,7 @@ writable application t a f = accepted-writable application (record_of applicatio
 pub tables-written :
     (application : ℕ) → application < 32 → {ts : List Table} {xs : List Answer} {records : List ℕ} → Written application ts xs records
     → Each (λ t. fits t ≡ true) ts
-    → (xs ≡ map (λ t. Done (length (record_of application t))) ts) × (records ≡ records_of application ts)
+    → (xs ≡ map (λ t. Ok (length (record_of application t))) ts) × (records ≡ records_of application ts)
 unfolding records_of
 tables-written application a no_table nil = (refl, refl)
 tables-written application a (table {t = t} {old = old} enough call rest) (and f r) =
@@ -154,7 +154,7 @@ module _ (application : ℕ) where
       go (inr (q, first)) =
           ap (λ (y : Read). accepted y out)
           ((reads call).0
-          ∙ ap (counted (mended_in r)) (refuses refused (Done (length (form (table_read r)))) (first-append _ first)))
+          ∙ ap (counted (mended_in r)) (refuses refused (Ok (length (form (table_read r)))) (first-append _ first)))
           ∙ sym (ap (λ (o : Outcome Table). map formed (taken o)) (read-fails r first))
 
   all_read :
@@ -200,7 +200,7 @@ module _ (s : Setting) (within : in_range s ≡ true) (index k : ℕ) (low : ind
       let done = its_bytes (cut_rules s index k records) (cut_bytes s index k records) m.lent said.0 said.1 holds m.enough in
       record {
         written = (tables-written app (range s within).application m.written fit).0;
-        cut = done.0 ∙ ap (λ (l : List ℕ). Done (length l)) (sym (m.whole ∙ done.1));
+        cut = done.0 ∙ ap (λ (l : List ℕ). Ok (length l)) (sym (m.whole ∙ done.1));
         packets = joined_same m.long (packets_forty s index k records) (m.whole ∙ done.1) ∙ ap (packets s index k) made-records;
       }
 

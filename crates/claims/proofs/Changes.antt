@@ -7,7 +7,7 @@ use mathlib.Core.List.{List, []}
 use Prim.Native.Nat.{ℕ, ◌+◌, ◌≤◌}
 use lib.ListN.{length, drop}
 use lib.Seq.{take-append_seam}
-use Rattle.answer.specs.declared.Answer.TheVariants.{Done}
+use Rattle.std.specs.declared.result.Result.TheVariants.{Ok}
 use Rattle.answer.proofs.Lent.{lent-accepted, lent-all}
 use Rattle.changes.specs.declared.Compared.{Compared}
 use Rattle.changes.specs.Calls.{compare_rules, compare_text, compare_answer, compare_left, fault_in, tables_of}
@@ -33,7 +33,7 @@ module _ (form : Form) where
       let w = lent-all rules text old n (sym c.0 ∙ d) in
       let a = lent-accepted rules text old w.0 w.1 in
       let e : reported x.answer out ≡ text =
-      ap₂ reported (d ∙ ap Done w.2) (c.2 ∙ a.1) ∙ take-append_seam text (drop (length text) old) in
+      ap₂ reported (d ∙ ap Ok w.2) (c.2 ∙ a.1) ∙ take-append_seam text (drop (length text) old) in
       rw e (record { out = old; answers = a.0; writes = a.1 })
 
   -- applied to the first sheet's tables, it gives the second's

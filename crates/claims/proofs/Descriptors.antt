@@ -6,8 +6,8 @@ use mathlib.Core.Logic.{◌↔◌}
 use mathlib.Core.List.{List}
 use Prim.Native.Nat.{ℕ, ◌+◌, ◌*◌, ◌≤◌}
 use lib.ListN.{length}
-use Rattle.answer.specs.declared.Answer.{Answer}
-use Rattle.answer.specs.declared.Answer.TheVariants.{Done}
+use Rattle.std.specs.declared.result.Result.TheVariants.{Ok}
+use Rattle.answer.specs.Answer.{Answer}
 use Rattle.answer.specs.Rules.{Rule}
 use Rattle.answer.specs.Writing.{answered, left}
 use Rattle.answer.proofs.Lent.{lent-accepted, lent-all}

@@ -18,9 +18,8 @@ use Rattle.state.specs.declared.two.Readers.{Readers}
 use Rattle.state.specs.Acting.{State}
 use Rattle.state.specs.State.{reader_of, Sound}
 use Rattle.state.specs.Two.{TwoState, Handed, fresh_of_two, readers_of, SoundOfTwo}
-use Rattle.reader.specs.declared.Heard.{Heard}
+use Rattle.reader.specs.Taking.{Heard, HeardAll}
 use Rattle.reader.specs.Feeding.{feed_heard, feed_reader, feed_out}
-use Rattle.reader.specs.declared.many.HeardAll.{HeardAll}
 use Rattle.reader.specs.Many.{feed_all_heard, feed_all_reader, feed_all_out}
 use Rattle.reader.specs.Two.{room_of_two, feed_heard_of_two, feed_readers_of_two, feed_out_of_two, feed_all_heard_of_two, feed_all_readers_of_two, feed_all_out_of_two}
 use Rattle.claims.specs.Carrying.{heard_blocks}

@@ -11,7 +11,7 @@ use denote.Bor.{Bor}
 use denote.MutBor.{MutBor}
 use Rattle.laws.specs.Each.{Each, nil, and}
 use Rattle.laws.proofs.Eaches.{each_all}
-use Rattle.answer.specs.declared.Answer.{Answer}
+use Rattle.answer.specs.Answer.{Answer}
 use Rattle.answer.specs.Writing.{answered, left}
 use Rattle.blocks.specs.Block.{Block, whole, record_of as block_record_of}
 use Rattle.packet.specs.declared.Setting.{Setting}
@@ -98,7 +98,7 @@ can_feed_two :
     → FeedsTwo s r p old (feed_heard_of_two s r p old) (feed_readers_of_two s r p old) (feed_out_of_two s r p old)
 can_feed_two s r p old =
     Two.feed ([], ([], tt)) (s, (r, (lend p, (lend_out old, tt))))
-    (record { heard = feed_heard_of_two s r p old; readers = feed_readers_of_two s r p old })
+    (record { heard = feed_heard_of_two s r p old; reader = feed_readers_of_two s r p old })
     (s, (r, (lend p, (lend_out (feed_out_of_two s r p old), tt))))
     (refl, (refl, refl))
 

@@ -11,8 +11,7 @@ use Rattle.laws.specs.Pick.{pick}
 use Rattle.answer.specs.Rules.{Rule, judged, Every, First}
 use Rattle.answer.proofs.Judging.{decided, passes, refuses}
 use Rattle.packet.specs.Packet.{packet_length}
-use Rattle.reader.specs.declared.Heard.{Heard}
-use Rattle.reader.specs.declared.many.HeardAll.{HeardAll}
+use Rattle.reader.specs.Taking.{Heard, HeardAll}
 use Rattle.reader.specs.Calls.{Tuned, Ran, begun, ran_on, run, ran_all, feed_rules, feed_reader, feed_all_rules, feed_all_reader}
 use Rattle.claims.specs.CutLine.{HeldBy, LeavesBy, none, one, many}
 

@@ -1,6 +1,6 @@
 -- The marked cases A to K of SCOPE 14.1, from the definitions, as one list under one claim. Assumes nothing.
 use mathlib.Core.Path.{◌≡◌, refl, subst, sym}
-use Rattle.answer.specs.declared.Answer.TheVariants.{Done}
+use Rattle.std.specs.declared.result.Result.TheVariants.{Ok}
 use Rattle.answer.specs.Rules.{judged}
 use Rattle.answer.specs.Values.{refused}
 use Rattle.octet.specs.Bits.{number}
@@ -37,8 +37,8 @@ pub record Marked : Type 0 where
   pub i :
       (bits (I 11) ≡ 8088)
       × (size (I 11) ≡ 2022)
-      × (judged refused (write_rules 1 (form (I 11))) (Done 0) ≡ Done 0)
-      × (judged refused (write_rules 1 (form (I 12))) (Done 0) ≡ refused 15 0)
+      × (judged refused (write_rules 1 (form (I 11))) (Ok 0) ≡ Ok 0)
+      × (judged refused (write_rules 1 (form (I 12))) (Ok 0) ≡ refused 15 0)
   -- J: the smallest PES packet
   pub j : CaseJ
   -- K: line offsets at either end of those taken

@@ -8,8 +8,8 @@ use native.Mathlib.Omega.{arith}
 use lib.ListN.{length, take, drop}
 use lib.Seq.{take-append_seam}
 use borrow.Author.Tests.{le-leb, lt-leb}
-use Rattle.answer.specs.declared.Answer.{Answer}
-use Rattle.answer.specs.declared.Answer.TheVariants.{Done}
+use Rattle.std.specs.declared.result.Result.TheVariants.{Ok}
+use Rattle.answer.specs.Answer.{Answer}
 use Rattle.answer.specs.Rules.{Rule, Every}
 use Rattle.answer.specs.Values.{refused}
 use Rattle.answer.specs.Writing.{answered, left}
@@ -42,7 +42,7 @@ downs (move_down κs a x t post) = post
 
 -- of any call that writes by rules: where they hold and there is room, it reports its bytes
 module _ (rules : List Rule) (bytes lent : List ℕ) {out : List ℕ} {x : Answer} (a : x ≡ answered rules bytes lent) (b : out ≡ left rules bytes lent) where
-  done : Every rules → length bytes ≤ length lent → (x ≡ Done (length bytes)) × (reported x out ≡ bytes)
+  done : Every rules → length bytes ≤ length lent → (x ≡ Ok (length bytes)) × (reported x out ≡ bytes)
   done every big =
       let d = lent-accepted rules bytes lent every big in
       let e = a ∙ d.0 in
@@ -61,7 +61,7 @@ back :
     (rules rules' : List ℕ → List Rule) (text text' : List ℕ → List ℕ) (s lent lent' : List ℕ) {out out' : List ℕ} {x y : Answer}
     → x ≡ answered (rules s) (text s) lent → out ≡ left (rules s) (text s) lent → Accepted x
     → y ≡ answered (rules' (reported x out)) (text' (reported x out)) lent' → out' ≡ left (rules' (reported x out)) (text' (reported x out)) lent'
-    → (Every (rules s) → Every (rules' (text s)) × (text' (text s) ≡ s)) → length s ≤ length lent' → (y ≡ Done (length s)) × (reported y out' ≡ s)
+    → (Every (rules s) → Every (rules' (text s)) × (text' (text s) ≡ s)) → length s ≤ length lent' → (y ≡ Ok (length s)) × (reported y out' ≡ s)
 back rules rules' text text' s lent lent' {out} {out'} {x} {y} a b d a' b' law big =
     let h = holds (rules s) (text s) lent a b d in
     let m = law h.0 in
@@ -69,12 +69,12 @@ back rules rules' text text' s lent lent' {out} {out'} {x} {y} a b d a' b' law b
     let f : out' ≡ left (rules' (text s)) (text' (text s)) lent' = rw h.1 at b' in
     let l = ap length m.1 in
     let r = done (rules' (text s)) (text' (text s)) lent' e f m.0 (omega arith) in
-    (r.0 ∙ ap (λ (t : List ℕ). Done (length t)) m.1, r.1 ∙ m.1)
+    (r.0 ∙ ap (λ (t : List ℕ). Ok (length t)) m.1, r.1 ∙ m.1)
 
 -- what `up` writes, `down` takes, and gives the old bytes
 pub up-then-down :
     {old lent out lent' out' : List ℕ} {x y : Answer} → MovesUp old lent x out → Accepted x → MovesDown (reported x out) lent' y out'
-    → length old ≤ length lent' → (y ≡ Done (length old)) × (reported y out' ≡ old)
+    → length old ≤ length lent' → (y ≡ Ok (length old)) × (reported y out' ≡ old)
 up-then-down {old} {lent} {lent' = lent'} call d call' =
     let c = ups call in
     let e = downs call' in
@@ -83,7 +83,7 @@ up-then-down {old} {lent} {lent' = lent'} call d call' =
 -- where `down` is accepted, `up` gives the new bytes
 pub down-then-up :
     {new lent out lent' out' : List ℕ} {x y : Answer} → MovesDown new lent x out → Accepted x → MovesUp (reported x out) lent' y out'
-    → length new ≤ length lent' → (y ≡ Done (length new)) × (reported y out' ≡ new)
+    → length new ≤ length lent' → (y ≡ Ok (length new)) × (reported y out' ≡ new)
 down-then-up {new} {lent} {lent' = lent'} call d call' =
     let c = downs call in
     let e = ups call' in

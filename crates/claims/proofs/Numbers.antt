@@ -4,6 +4,7 @@ use mathlib.Core.Path.{◌≡◌, ◌∙◌, refl, sym, ap, subst}
 use mathlib.Core.Bool.{Bool, true, false}
 use mathlib.Core.List.{List, [], ◌∷◌, flat_map}
 use Prim.Native.Nat.{ℕ}
+use Rattle.std.specs.declared.result.Result.TheVariants.{Ok}
 use Rattle.laws.specs.Pick.{pick}
 use Rattle.answer.specs.Rules.{Rule, judged, all_refusing, Every}
 use Rattle.answer.proofs.Judging.{passes, refuses, refusing-append}
@@ -17,14 +18,13 @@ use Rattle.writer.specs.Cutting.{cut_rules}
 use Rattle.forms.specs.Writing.{form_rules, write_rules as form_write_rules}
 use Rattle.dvb_descriptor.specs.Calls.{write_rules as descriptor_write_rules, read_rules as descriptor_read_rules}
 use Rattle.state.specs.declared.Reader.{Reader}
-use Rattle.reader.specs.declared.Heard.{Heard}
-use Rattle.reader.specs.declared.many.HeardAll.{HeardAll}
+use Rattle.reader.specs.Taking.{Heard, HeardAll}
 use Rattle.reader.specs.Values.{number_of, offset_of, number_of_all, offset_of_all}
 use Rattle.reader.specs.Feeding.{feed_rules, refused_heard}
 use Rattle.reader.specs.Many.{feed_all_rules, refused_all}
-use Rattle.blocks.specs.declared.Frame.TheVariants.{Head}
 use Rattle.blocks.specs.Framing.{frame_rules, framing}
-use Rattle.blocks.specs.Values.{number_of_frame, offset_of_frame, head_of_frame, refused_frame}
+use Rattle.answer.specs.Values.{number_of as answered_number, offset_of as answered_offset, refused as answer_refused}
+use Rattle.blocks.specs.Values.{head_of_frame}
 use Rattle.blocks.proofs.frames.judge.Reads as blocks-frames_judge
 use Rattle.table.specs.Reading.{read_rules as table_read_rules}
 use Rattle.menu_forms.specs.Writing.{form_rules as menu_form_rules, write_rules as menu_write_rules}
@@ -154,7 +154,7 @@ pub puts_menu : (form : List ℕ) (used : ℕ) (heads shelf : List ℕ) → all_
 unfolding all_refusing put_rules
 puts_menu form used heads shelf = refl
 
--- ---- answers that are other enums
+-- ---- answers that report something else than written bytes
 
 module _ {A : Type 0} (number offset : A → ℕ) (refused : ℕ → ℕ → A) (taken : A) where
   judges :
@@ -187,10 +187,10 @@ feed_all_judges (feed-all κs a x t post) = judges number_of_all offset_of_all r
 -- the frame of a record; where it is taken, the 16 bits of its head
 pub frame_judges :
     (κs : _) (a : _) (x : _) (t : _) → blocks-frames_judge.Post κs a x t
-    → Judges (framing a.0 a.1.0.now) (number_of_frame x) (offset_of_frame x)
+    → Judges (framing a.0 a.1.0.now) (answered_number x) (answered_offset x)
     × (Every (framing a.0 a.1.0.now) → head_of_frame x ≡ head_of a.1.0.now)
 unfolding all_refusing frame_rules
 frame_judges κs a x t post = (
-  judges number_of_frame offset_of_frame refused_frame _ (λ n o. (refl, refl)) refl _ refl post,
-  λ every. ap head_of_frame (post ∙ passes refused_frame (Head (head_of a.1.0.now)) every),
+  judges answered_number answered_offset answer_refused _ (λ n o. (refl, refl)) refl _ refl post,
+  λ every. ap head_of_frame (post ∙ passes answer_refused (Ok (head_of a.1.0.now)) every),
 )

@@ -9,10 +9,10 @@ use borrow.Author.Tests.{le-leb, lt-leb, leb-true, le-ltb}
 use lib.Dec.{eqb}
 use lib.ListN.{length, length-append}
 use lib.Seq.{drop-append_seam}
+use Rattle.std.specs.declared.result.Result.TheVariants.{Ok}
 use Rattle.laws.specs.Pick.{pick}
 use Rattle.laws.proofs.Tests.{both_true, both_false}
-use Rattle.answer.specs.declared.Answer.{Answer}
-use Rattle.answer.specs.declared.Answer.TheVariants.{Done}
+use Rattle.answer.specs.Answer.{Answer}
 use Rattle.answer.specs.Rules.{Every}
 use Rattle.answer.proofs.Judging.{passes}
 use Rattle.answer.proofs.Steps.{first_holds, others_hold}
@@ -173,7 +173,7 @@ module _ (form : Form) (sheet : List ℕ) (e : Entry) (es : List Entry) (f : InF
       {stamp mended : ℕ} {table old out : List ℕ} {x : Answer} → AddsTable form stamp mended sheet table old x out → Every (entry_rules form mended table)
       → (byte_limit form < length sheet → x ≡ refused 21 0) × (length sheet ≤ byte_limit form → x ≡ refused 20 (behind_stamp e))
   add-other {stamp} {mended} {table} {old} call every =
-      let p = sym (passes refused (Done 0) every) in
+      let p = sym (passes refused (Ok 0) every) in
       let a = (adds-table call).0 ∙ sym (add-goes-on form stamp mended sheet table old 0 p refl).0 in (
         λ h. a ∙ rw (lt-leb (length sheet) (byte_limit form) h),
         λ h. a ∙ rw (le-leb (length sheet) (byte_limit form) h, read-fault),

@@ -19,10 +19,8 @@ use Rattle.laws.proofs.Tests.{either_false, either_assoc}
 use Rattle.packet.specs.Packet.{packet_length}
 use Rattle.writer.specs.Cutting.{joined, FortyTwo, none, more}
 use Rattle.writer.proofs.Numbering.{forty_front, forty_take, forty_drop}
-use Rattle.reader.specs.declared.Heard.{Heard}
-use Rattle.reader.specs.declared.Heard.TheVariants.{Took}
-use Rattle.reader.specs.declared.many.HeardAll.{HeardAll}
-use Rattle.reader.specs.declared.many.HeardAll.TheVariants.{TookAll}
+use Rattle.reader.specs.Taking.{Heard, HeardAll, took, took_all}
+use Rattle.std.specs.declared.result.Result.TheVariants.{Ok}
 use Rattle.reader.specs.Values.{number_of, count_of, written_of, dropped_of, number_of_all, packets_of_all, count_of_all, written_of_all, dropped_of_all}
 use Rattle.reader.specs.Calls.{Does, Ran, begun, ran_on, run, handed_bytes, feed_heard, feed_reader, feed_out, feed_all_heard, feed_all_reader, feed_all_out}
 use Rattle.claims.specs.Rows.{Feeder, Call, packets_of, heard, comes_out, leaves, drops, in_one, AsCalls, Fed, end, one, many, TellsAll}
@@ -105,7 +103,7 @@ module _ {R S B : Type 0} (f : Feeder R S B) {Sound : S → Type 0} {Whole : B �
     -- it is taken
     call-took :
         feed_heard f.tuned (f.tuned.held st) c.packet c.lent
-        ≡ Took (length (f.tuned.does.handed st c.packet)) (length (handed_bytes f.tuned.does st c.packet)) (f.tuned.does.dropped st c.packet)
+        ≡ Ok (took (length (f.tuned.does.handed st c.packet)) (length (handed_bytes f.tuned.does st c.packet)) (f.tuned.does.dropped st c.packet))
     call-took = rw (w.fits, w.in_range st r, eq-eqb _ _ l, le-leb _ _ c.enough, w.held st r)
 
     call-out :
@@ -238,7 +236,7 @@ module _ {R S B : Type 0} (f : Feeder R S B) {Sound : S → Type 0} {Whole : B �
       {a : Ran S B} (e : run f.tuned.does (length old) (length l / packet_length) (begun st) l ≡ a) where
     all-heard :
         feed_all_heard f.tuned (f.tuned.held st) l old
-        ≡ TookAll a.packets (length a.blocks) (length (f.tuned.does.bytes a.blocks)) a.dropped
+        ≡ Ok (took_all a.packets (length a.blocks) (length (f.tuned.does.bytes a.blocks)) a.dropped)
     all-heard = rw (w.fits, w.in_range st r, eq-eqb _ _ z, le-leb _ _ enough, w.held st r, e)
 
     all-reader : feed_all_reader f.tuned (f.tuned.held st) l old ≡ f.tuned.held a.state

@@ -7,6 +7,8 @@ use Prim.Native.Nat.{ℕ, ◌-◌, ◌≤◌, min}
 use native.Mathlib.Omega.{arith}
 use lib.ListN.{length, drop, length-drop}
 use Rattle.answer.proofs.refuse.Reads as answer-refuse
+use Rattle.answer.proofs.Reason.refuse.Reads as answer-reason-refuse
+use Rattle.sheet_joins.proofs.Turn.passed.Reads as sheet_joins-turn-passed
 use Rattle.octet.proofs.image.Reads as octet-image
 use Rattle.aerials.proofs.better.Reads as aerials-better
 use Rattle.octet.proofs.decode.Reads as octet-decode
@@ -151,6 +153,7 @@ use Rattle.day_sheet.proofs.judge.Reads as day_sheet-judge
 use Rattle.day_sheet.proofs.count.Reads as day_sheet-count
 use Rattle.day_sheet.proofs.limit.Reads as day_sheet-limit
 use Rattle.sheet_joins.proofs.next_turn.Reads as sheet_joins-next_turn
+use Rattle.sheet_joins.proofs.turn_at.Reads as sheet_joins-turn_at
 use Rattle.changes.specs.declared.Compared.{Compared}
 use Rattle.changes.proofs.compare.Reads as changes-compare
 use Rattle.listing.proofs.list_table.Reads as listing-list_table
@@ -171,6 +174,14 @@ same p q = p ∙ sym q
 
 pub answer-refuse_settled : (κs : _) (a : _) (x y : _) (s t : _) → answer-refuse.Post κs a x s → answer-refuse.Post κs a y t → x ≡ y
 answer-refuse_settled κs a x y s t p q = same p q
+
+pub answer-Reason_refuse_settled :
+    (g : _) (w : _) (κs : _) (a : _) (x y : _) (s t : _) → answer-reason-refuse.Post g w κs a x s → answer-reason-refuse.Post g w κs a y t → x ≡ y
+answer-Reason_refuse_settled g w κs a x y s t p q = same p q
+
+pub sheet_joins-Turn_passed_settled :
+    (κs : _) (a : _) (x y : _) (s t : _) → sheet_joins-turn-passed.Post κs a x s → sheet_joins-turn-passed.Post κs a y t → (x.0 ≡ y.0) × (x.1 ≡ y.1)
+sheet_joins-Turn_passed_settled κs a x y s t p q = (same p.0 q.0, same p.1 q.1)
 
 pub octet-image_settled : (κs : _) (a : _) (x y : _) (s t : _) → octet-image.Post κs a x s → octet-image.Post κs a y t → x ≡ y
 octet-image_settled κs a x y s t p q = same p q
@@ -386,12 +397,12 @@ reader-feed_all_settled κs a x y s t p q = (same p.0 q.0, same p.1.0 q.1.0, sam
 
 pub reader-two_feed_settled :
     (κs : _) (a : _) (x y : _) (s t : _) → reader-two_feed.Post κs a x s → reader-two_feed.Post κs a y t
-    → (x.heard ≡ y.heard) × (x.readers ≡ y.readers) × (s.1.1.1.0.now ≡ t.1.1.1.0.now)
+    → (x.heard ≡ y.heard) × (x.reader ≡ y.reader) × (s.1.1.1.0.now ≡ t.1.1.1.0.now)
 reader-two_feed_settled κs a x y s t p q = (same p.0 q.0, same p.1.0 q.1.0, same p.1.1 q.1.1)
 
 pub reader-two_feed_all_settled :
     (κs : _) (a : _) (x y : _) (s t : _) → reader-two_feed_all.Post κs a x s → reader-two_feed_all.Post κs a y t
-    → (x.heard ≡ y.heard) × (x.readers ≡ y.readers) × (s.1.1.1.0.now ≡ t.1.1.1.0.now)
+    → (x.heard ≡ y.heard) × (x.reader ≡ y.reader) × (s.1.1.1.0.now ≡ t.1.1.1.0.now)
 reader-two_feed_all_settled κs a x y s t p q = (same p.0 q.0, same p.1.0 q.1.0, same p.1.1 q.1.1)
 
 pub fields-pen_lay_settled :
@@ -665,6 +676,10 @@ day_sheet-limit_settled κs a x y s t p q = same p.0 q.0
 pub sheet_joins-next_turn_settled :
     (κs : _) (a : _) (x y : _) (s t : _) → sheet_joins-next_turn.Post κs a x s → sheet_joins-next_turn.Post κs a y t → x ≡ y
 sheet_joins-next_turn_settled κs a x y s t p q = same p q
+
+pub sheet_joins-turn_at_settled :
+    (κs : _) (a : _) (x y : _) (s t : _) → sheet_joins-turn_at.Post κs a x s → sheet_joins-turn_at.Post κs a y t → x ≡ y
+sheet_joins-turn_at_settled κs a x y s t p q = same p q
 
 pub changes-compare_settled :
     (κs : _) (a : _) (x y : Compared) (s t : _) → changes-compare.Post κs a x s → changes-compare.Post κs a y t

@@ -8,11 +8,11 @@ use Prim.Native.Nat.{ℕ, ◌≤◌}
 use native.Mathlib.Omega.{arith}
 use lib.ListN.{length, drop, replicate, length-replicate}
 use lib.Seq.{take-append_seam}
+use Rattle.std.specs.declared.result.Result.TheVariants.{Ok}
 use Rattle.laws.specs.Each.{Each, nil, and}
 use Rattle.laws.specs.Together.{Reordered}
 use Rattle.laws.proofs.Eaches.{each_first, each_left, each_right, each_append}
-use Rattle.answer.specs.declared.Answer.{Answer}
-use Rattle.answer.specs.declared.Answer.TheVariants.{Done}
+use Rattle.answer.specs.Answer.{Answer}
 use Rattle.answer.specs.Values.{refused}
 use Rattle.answer.specs.Writing.{answered, left}
 use Rattle.texts.specs.Texts.{empty_lines}
@@ -66,7 +66,7 @@ module _ (form : Form) where
   counts (count_entries κs a x t post) = post
 
   -- what an answer reports, of an output with these bytes at its front
-  reports : {x : Answer} {out : List ℕ} (bytes old : List ℕ) → x ≡ Done (length bytes) → out ≡ bytes ++ drop (length bytes) old → reported x out ≡ bytes
+  reports : {x : Answer} {out : List ℕ} (bytes old : List ℕ) → x ≡ Ok (length bytes) → out ≡ bytes ++ drop (length bytes) old → reported x out ≡ bytes
   reports bytes old e f = ap₂ reported e f ∙ take-append_seam bytes (drop (length bytes) old)
 
   -- ---- rewrite
@@ -74,7 +74,7 @@ module _ (form : Form) where
   -- bytes that say entries within the limits, with room: accepted, and the same bytes
   pub rewrite-takes :
       (sheet : List ℕ) (es : List Entry) {old out : List ℕ} {x : Answer} → Rewrites form sheet old x out → Says form sheet es → length sheet ≤ length old
-      → (x ≡ Done (length sheet)) × (reported x out ≡ sheet)
+      → (x ≡ Ok (length sheet)) × (reported x out ≡ sheet)
   rewrite-takes sheet es {old} call s h =
       let c = rewrites call in
       let t = call-takes form sheet old es s h in
@@ -88,7 +88,7 @@ module _ (form : Form) where
   rewrite-says sheet {old} call (n, d) =
       let c = rewrites call in
       let s = call_says form sheet old n (sym c.0 ∙ d) in
-      (s.0, reports sheet old (d ∙ ap Done s.1) (c.1 ∙ s.2))
+      (s.0, reports sheet old (d ∙ ap Ok s.1) (c.1 ∙ s.2))
 
   -- ---- the line at fault
 
@@ -123,7 +123,7 @@ module _ (form : Form) where
   -- what `join` is said to write into every output as long as the limit, a call of it writes
   pub joins-done :
       {first second sheet old out : List ℕ} {x : Answer} → Joins form first second sheet → JoinsSheets form first second old x out
-      → byte_limit form ≤ length old → (x ≡ Done (length sheet)) × (reported x out ≡ sheet)
+      → byte_limit form ≤ length old → (x ≡ Ok (length sheet)) × (reported x out ≡ sheet)
   joins-done {sheet = sheet} {old = old} j call big =
       let c = joins_sheets call in
       let e = c.0 ∙ j.answers old big in
@@ -140,7 +140,7 @@ module _ (form : Form) where
   -- the same of `add`
   pub adds-done :
       {sheet result old out : List ℕ} {x : Answer} (c : Captured) → Adds form sheet c result → AddsTable form c.stamp c.mended sheet c.table old x out
-      → byte_limit form ≤ length old → (x ≡ Done (length result)) × (reported x out ≡ result)
+      → byte_limit form ≤ length old → (x ≡ Ok (length result)) × (reported x out ≡ result)
   adds-done {result = result} {old = old} c a call big =
       let s = adds-table call in
       let e = s.0 ∙ a.answers old big in

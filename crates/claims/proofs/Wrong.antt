@@ -36,7 +36,7 @@ use Rattle.state.specs.declared.Reader.{Reader}
 use Rattle.state.specs.Acting.{State, act, handed, dropped}
 use Rattle.state.specs.State.{reader_of, fresh_state, Sound}
 use Rattle.state.proofs.Ranging.{sound-fresh, sound-after}
-use Rattle.reader.specs.declared.Heard.{Heard}
+use Rattle.reader.specs.Taking.{Heard}
 use Rattle.packet.specs.declared.two.Streams.{Streams}
 use Rattle.packet.specs.Two.{first_of}
 use Rattle.pages.specs.declared.two.Whose.TheVariants.{First, Second}

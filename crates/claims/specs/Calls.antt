@@ -1,17 +1,16 @@
 -- The loader's calls one after the other, from tables to packets and back to tables. Each stands here as its contract has it: called with
 -- these arguments, it may answer, hand back and leave this. `Post` is a contract as the checker reads it, of the arguments (a), the result
 -- (x) and the parameters at exit (t); `now` is what a lent slice holds.
+use Rattle.std.specs.declared.result.Result.TheVariants.{Ok, Err}
 use Rattle.std.specs.Prelude.{◌≡◌, List, [], ◌∷◌, ◌++◌, map, ℕ, ◌≤◌, length, take}
 use Rattle.laws.specs.Each.{Each}
-use Rattle.answer.specs.declared.Answer.{Answer}
-use Rattle.answer.specs.declared.Answer.TheVariants.{Done, Refused}
+use Rattle.answer.specs.Answer.{Answer}
 use Rattle.blocks.specs.Block.{Block, blocks as block_blocks, record_of as block_record_of}
 use Rattle.packet.specs.declared.Setting.{Setting}
 use Rattle.writer.specs.Cutting.{joined, cut_bytes, usual_page, FortyTwo}
 use Rattle.walk.specs.Reading.{room}
 use Rattle.state.specs.declared.Reader.{Reader}
-use Rattle.reader.specs.declared.Heard.{Heard}
-use Rattle.reader.specs.declared.many.HeardAll.{HeardAll}
+use Rattle.reader.specs.Taking.{Heard, HeardAll}
 use Rattle.forms.specs.Tables.{Table}
 use Rattle.forms.specs.Form.{form}
 use Rattle.forms.specs.Block.{record_of}
@@ -21,8 +20,8 @@ use Rattle.writer.proofs.cut_pages.Reads as writer-cut_pages
 use Rattle.state.proofs.fresh.Reads as reader-fresh
 use Rattle.reader.proofs.feed.Reads as reader-feed
 use Rattle.reader.proofs.many.feed_all.Reads as reader-feed_all
-use Rattle.blocks.specs.declared.Read.{Read}
-use Rattle.blocks.specs.declared.Read.TheVariants.{Taken, Refused as Read-as-Refused}
+use Rattle.blocks.specs.Taking.{Read}
+use Rattle.blocks.specs.Taking.{taken}
 use Rattle.table.proofs.read_block.Reads as table-read_block
 use Rattle.menu_reader.proofs.read_menu.Reads as menu_reader-read_menu
 use Rattle.menu_writer.proofs.write_menu.Reads as menu_writer-write_menu
@@ -98,13 +97,13 @@ pub data ReadsInformation : ℕ → List ℕ → List ℕ → Read → List ℕ 
 
 -- the bytes that an answer reports as written, of the output afterwards
 abbrev pub reported : Answer → List ℕ → List ℕ
-reported (Done n) out = take n out
-reported (Refused r) out = []
+reported (Ok n) out = take n out
+reported (Err r) out = []
 
 -- the same of block reading, with its count: nothing is reported by a refusal
 abbrev pub accepted : Read → List ℕ → List (Counted (List ℕ))
-accepted (Taken n mended) out = record { what = take n out; mended = mended } ∷ []
-accepted (Read-as-Refused r) out = []
+accepted (Ok t) out = record { what = take t.written out; mended = t.mended } ∷ []
+accepted (Err r) out = []
 
 -- ---- calls in a row
 
@@ -151,9 +150,9 @@ pub record Made (s : Setting) (index k : ℕ) (ts : List Table) : Type 0 where
 -- what is owed of that
 pub record MadeWhole {s : Setting} {index k : ℕ} {ts : List Table} (m : Made s index k ts) : Type 0 where
   -- every table is accepted, as its record
-  pub written : m.answers ≡ map (λ t. Done (length (record_of s.application t))) ts
+  pub written : m.answers ≡ map (λ t. Ok (length (record_of s.application t))) ts
   -- the records are accepted, and their packets are written, all of them and nothing else
-  pub cut : m.answer ≡ Done (length (joined m.sent))
+  pub cut : m.answer ≡ Ok (length (joined m.sent))
   pub packets : m.sent ≡ tables_sent s index k ts
 
 -- each record that comes out is read, with room for the longest of the tables' forms, and these forms come of it with their counts

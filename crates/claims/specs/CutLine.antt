@@ -15,8 +15,7 @@ use Rattle.walk.specs.Reading.{spanning}
 use Rattle.state.specs.declared.Reader.{Reader}
 use Rattle.state.specs.Acting.{State}
 use Rattle.state.specs.State.{reader_of, Sound}
-use Rattle.reader.specs.declared.Heard.{Heard}
-use Rattle.reader.specs.declared.many.HeardAll.{HeardAll}
+use Rattle.reader.specs.Taking.{Heard, HeardAll}
 use Rattle.claims.specs.Damage.{stream_in, Sending, sendings, unharmed}
 use Rattle.claims.specs.Mingled.{Kind, elsewhere, header, row, Mingled}
 use Rattle.claims.specs.Calls.{Feeds, FeedsAll}

@@ -1,6 +1,6 @@
 -- The calls of `dvb_descriptor` as their contracts have them (claims/specs/Calls says how).
 use Rattle.std.specs.Prelude.{List, ℕ}
-use Rattle.answer.specs.declared.Answer.{Answer}
+use Rattle.answer.specs.Answer.{Answer}
 use Rattle.dvb_descriptor.proofs.write_descriptor.Reads as dvb_descriptor-write_descriptor
 use Rattle.dvb_descriptor.proofs.read_descriptor.Reads as dvb_descriptor-read_descriptor
 

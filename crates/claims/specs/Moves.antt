@@ -1,6 +1,6 @@
 -- The moves of a day sheet between its forms as their contracts have them (claims/specs/Calls says how).
 use Rattle.std.specs.Prelude.{List, ℕ}
-use Rattle.answer.specs.declared.Answer.{Answer}
+use Rattle.answer.specs.Answer.{Answer}
 use Rattle.sheet_moves.proofs.up.Reads as sheet_moves-up
 use Rattle.sheet_moves.proofs.down.Reads as sheet_moves-down
 

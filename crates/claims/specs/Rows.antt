@@ -4,9 +4,8 @@ use Rattle.std.specs.Prelude.{◌≡◌, Bool, true, false, ◌⊎◌, List, [],
 use Rattle.laws.specs.Pick.{either}
 use Rattle.packet.specs.Packet.{packet_length}
 use Rattle.writer.specs.Cutting.{joined, FortyTwo}
-use Rattle.reader.specs.declared.Heard.{Heard}
-use Rattle.reader.specs.declared.many.HeardAll.{HeardAll}
-use Rattle.reader.specs.declared.many.HeardAll.TheVariants.{TookAll}
+use Rattle.reader.specs.Taking.{Heard, HeardAll, took_all}
+use Rattle.std.specs.declared.result.Result.TheVariants.{Ok}
 use Rattle.reader.specs.Values.{number_of, count_of, written_of, dropped_of, number_of_all, packets_of_all, count_of_all, written_of_all, dropped_of_all}
 use Rattle.reader.specs.Calls.{Does, Tuned, feed_heard, feed_reader, feed_out, feed_all_heard, feed_all_reader, feed_all_out}
 
@@ -63,7 +62,7 @@ in_one (c ∷ cs) = c.packet ++ in_one cs
 pub record AsCalls {R S B : Type 0} (f : Feeder R S B) (r : R) (old : List ℕ) (front back : List (Call f.tuned.does.room)) : Type 0 where
   pub heard :
       feed_all_heard f.tuned r (in_one (front ++ back)) old
-      ≡ TookAll (length front) (length (comes_out f r front)) (length (f.tuned.does.bytes (comes_out f r front))) (drops f r front)
+      ≡ Ok (took_all (length front) (length (comes_out f r front)) (length (f.tuned.does.bytes (comes_out f r front))) (drops f r front))
   pub reader : feed_all_reader f.tuned r (in_one (front ++ back)) old ≡ leaves f r front
   pub out :
       feed_all_out f.tuned r (in_one (front ++ back)) old

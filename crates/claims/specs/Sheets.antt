@@ -1,7 +1,7 @@
 -- The day sheet's calls as their contracts have them (claims/specs/Calls says how), and sheets joined and tables added by such calls.
+use Rattle.std.specs.declared.result.Result.TheVariants.{Ok}
 use Rattle.std.specs.Prelude.{◌≡◌, List, [], ◌∷◌, ◌++◌, ℕ, ◌≤◌, length}
-use Rattle.answer.specs.declared.Answer.{Answer}
-use Rattle.answer.specs.declared.Answer.TheVariants.{Done}
+use Rattle.answer.specs.Answer.{Answer}
 use Rattle.sheet_entry.specs.declared.Form.{Form}
 use Rattle.sheet_entry.specs.declared.Form.TheVariants.{Old, New}
 use Rattle.text_lines.specs.Lines.{number_line}
@@ -55,7 +55,7 @@ pub data Counts : List ℕ → ℕ → Type 0 where
 
 -- the call was accepted
 abbrev pub Accepted : Answer → Type 0
-Accepted x = (n : ℕ) × (x ≡ Done n)
+Accepted x = (n : ℕ) × (x ≡ Ok n)
 
 -- ---- the other form
 

@@ -8,8 +8,7 @@ use Rattle.walk.specs.Mode.{running}
 use Rattle.state.specs.declared.Reader.{Reader}
 use Rattle.walk.specs.Reading.{room}
 use Rattle.state.specs.State.{reader_of, Sound}
-use Rattle.reader.specs.declared.Heard.{Heard}
-use Rattle.reader.specs.declared.many.HeardAll.{HeardAll}
+use Rattle.reader.specs.Taking.{Heard, HeardAll}
 use Rattle.claims.specs.Rows.{Tells as Rows-as-Tells, TellsAll as Rows-as-TellsAll}
 use Rattle.claims.specs.Feeding.{feeder_for}
 use Rattle.claims.specs.March.{Unreadable}

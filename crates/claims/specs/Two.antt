@@ -9,8 +9,7 @@ use Rattle.walk.specs.Mode.{running}
 use Rattle.state.specs.declared.two.Readers.{Readers}
 use Rattle.state.specs.Two.{TwoState, Handed, handed_from, readers_of, SoundOfTwo}
 use Rattle.state.proofs.two.fresh.Reads as reader-fresh_two
-use Rattle.reader.specs.declared.Heard.{Heard}
-use Rattle.reader.specs.declared.many.HeardAll.{HeardAll}
+use Rattle.reader.specs.Taking.{Heard, HeardAll}
 use Rattle.reader.specs.Two.{room_of_two, does_for_two, tuned_to_two}
 use Rattle.reader.proofs.two.feed.Reads as reader-feed_two
 use Rattle.reader.proofs.two.feed_all.Reads as reader-feed_all_two
@@ -45,13 +44,13 @@ pub data StartsTwo : Readers → Type 0 where
 pub data FeedsTwo : Streams → Readers → List ℕ → List ℕ → Heard → Readers → List ℕ → Type 0 where
   feed :
       (κs : _) (a : _) (x : _) (t : _) → reader-feed_two.Post κs a x t
-      → FeedsTwo a.0 a.1.0 a.1.1.0.now a.1.1.1.0.now x.heard x.readers t.1.1.1.0.now
+      → FeedsTwo a.0 a.1.0 a.1.1.0.now a.1.1.1.0.now x.heard x.reader t.1.1.1.0.now
 
 -- the same for a list of packets
 pub data FeedsAllTwo : Streams → Readers → List ℕ → List ℕ → HeardAll → Readers → List ℕ → Type 0 where
   feed-all :
       (κs : _) (a : _) (x : _) (t : _) → reader-feed_all_two.Post κs a x t
-      → FeedsAllTwo a.0 a.1.0 a.1.1.0.now a.1.1.1.0.now x.heard x.readers t.1.1.1.0.now
+      → FeedsAllTwo a.0 a.1.0 a.1.1.0.now a.1.1.1.0.now x.heard x.reader t.1.1.1.0.now
 
 -- ---- calls in a row
 

@@ -11,7 +11,6 @@ use lib.Dec.{ltb, eqb}
 use lib.ListN.{length, get_or, take, drop}
 use lib.Pow.{shr-shr}
 use lib.Seq.{drop-append_seam}
-use Rattle.laws.specs.Pick.{both}
 use Rattle.laws.proofs.Tests.{both_true, both-holds}
 use Rattle.fields.specs.Fields.{Field, alike, width, laid, fitting, field, parts}
 use Rattle.fields.proofs.Laid.{field_lt, field-first, laid-first, laid_next, field_past, laid-append, laid-drop, width-append, width-row, fitting-append, fitting-parts, length-parts, parts-laid, lay, lay-parts}

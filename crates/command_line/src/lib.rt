@@ -25,19 +25,15 @@ pub struct Heard {
 pub fn is_first(rt: &impl Env, word: &[u8]) -> bool {
     let mut first = io::buffer();
     let n = told::argument(rt, 1, &mut first);
-    texts::same(told::front(&first, n), word)
+    told::front(&first, n) == word
 }
 
 // All words.
 pub fn hear_all(rt: &impl Env, options: &[u32], tasks: &[u8]) -> Said {
     let mut word = io::buffer();
-    let count = told::argument_count(rt);
     let mut said = words::start(tasks);
-    let mut i = 1;
-    while i < count {
-        let heard = hear(rt, options, tasks, said, i, &mut word);
-        said = heard.said;
-        i += 1;
+    for i in 1..told::argument_count(rt) {
+        said = hear(rt, options, tasks, said, i, &mut word).said;
     }
     said
 }
@@ -77,11 +73,10 @@ pub fn setting(options: &[u32], said: Said) -> Streams
 fn second(options: &[u32], said: Said) -> u8
     ensures { result ≡ second_by options.now said }
 {
-    let second = words::second(said, STREAM);
-    if second == NO_VALUE {
-        return byte(options, said, STREAM);
+    match words::second(said, STREAM) {
+        NO_VALUE => byte(options, said, STREAM),
+        second => (second % 256) as u8,
     }
-    (second % 256) as u8
 }
 
 // The value of option k, of which no program's is over 255 where it asks for a byte.

@@ -9,9 +9,11 @@ use lib.Dec.{eqb}
 use lib.ListN.{length, take, drop, length-append, length-drop, length-take}
 use lib.Seq.{sets, take-append-add, drop-append-add, drop-append_seam, drop-drop, length-take-le}
 use borrow.Author.Tests.{eq-eqb, ne_eqb, eqb-true, le-leb, lt-leb}
+use Rattle.std.specs.declared.result.Result.TheVariants.{Ok, Err}
+use Rattle.sheet_entry.specs.declared.NoEntry.{NoEntry}
+use Rattle.sheet_entry.proofs.Heads.{value_of, came}
 use Rattle.laws.specs.Pick.{pick}
 use Rattle.laws.proofs.Lists.{sets-append, part-rest}
-use Rattle.answer.specs.declared.Answer.TheVariants.{Done}
 use Rattle.answer.specs.Rules.{judged}
 use Rattle.answer.specs.Values.{refused}
 use Rattle.answer.specs.Writing.{answered, left}
@@ -48,29 +50,24 @@ module _ (form : Form) where
         let z : at + length (entry_text form x) + (spot_of form key xs).from ≡ at + (length (entry_text form x) + (spot_of form key xs).from) = omega arith in
         rw (ne_eqb (key_of x) key n, z)
 
-pub spot-start : (s : Spot) → record { from = 0 + s.from; long = s.long } ≡ s
-spot-start s = rw zero-add
-
 module _ (form : Form) where
-  module _ (sheet : List ℕ) (at key : ℕ) (h : Halfway form sheet at) (f : Found) (reads : f ≡ found_of form (entry_at form 0 (drop at sheet))) where
-    never : false ≡ true → ⊥
-    never p = let z : ◌≡◌ {A = ℕ} 0 1 = ap (λ (b : Bool). pick b 1 0) p in omega arith
-
-    pub spot-none : f.more ≡ false → record { from = at; long = 0 } ≡ spot_from form key at (entries_of form (drop at sheet))
-    spot-none m = go (front form (drop at sheet) h.fine)
+  module _ (sheet : List ℕ) (at key : ℕ) (h : Halfway form sheet at) where
+    pub spot-none :
+        {w : NoEntry} → Err w ≡ found_of form (entry_at form 0 (drop at sheet)) → record { from = at; long = 0 } ≡ spot_from form key at (entries_of form (drop at sheet))
+    spot-none reads = go (front form (drop at sheet) h.fine)
       where
         go : Front form (drop at sheet) → record { from = at; long = 0 } ≡ spot_from form key at (entries_of form (drop at sheet))
         go (empty e n) = sym (no_more form key (entries_of form (drop at sheet)) n at)
-        go (entry x e n r p q) = absurd (never (sym m ∙ ap (λ (y : Found). y.more) (reads ∙ e)))
+        go (entry x e n r p q) = let z = ap came (reads ∙ e) in absurd (omega arith)
 
-    module _ (m : f.more ≡ true) where
+    module _ {f : Found} (reads : Ok f ≡ found_of form (entry_at form 0 (drop at sheet))) where
       pub spot-here : f.key ≡ key → record { from = at; long = f.long } ≡ spot_from form key at (entries_of form (drop at sheet))
       spot-here k = go (front form (drop at sheet) h.fine)
         where
           go : Front form (drop at sheet) → record { from = at; long = f.long } ≡ spot_from form key at (entries_of form (drop at sheet))
-          go (empty e n) = absurd (never (sym e ∙ ap (λ (y : Found). y.more) (sym reads) ∙ m))
+          go (empty e n) = let z = ap came (reads ∙ e) in absurd (omega arith)
           go (entry x e n r p q) =
-              let i = reads ∙ e in
+              let i = ap (value_of f) (reads ∙ e) in
               rw (n, ap (λ (y : Found). y.long) i)
               (sym (is-here form key x (entries_of form (drop (length (entry_text form x)) (drop at sheet))) at (sym (ap (λ (y : Found). y.key) i) ∙ k)))
 
@@ -84,9 +81,9 @@ module _ (form : Form) where
               Front form (drop at sheet)
               → Halfway form sheet (at + f.long) × (1 ≤ f.long) × (at + f.long ≤ length sheet)
               × (spot_from form key (at + f.long) (entries_of form (drop (at + f.long) sheet)) ≡ spot_from form key at (entries_of form (drop at sheet)))
-          go (empty e n) = absurd (never (sym e ∙ ap (λ (y : Found). y.more) (sym reads) ∙ m))
+          go (empty e n) = let z = ap came (reads ∙ e) in absurd (omega arith)
           go (entry x e n r p q) =
-              let i = reads ∙ e in
+              let i = ap (value_of f) (reads ∙ e) in
               let l : f.long ≡ length (entry_text form x) = ap (λ (y : Found). y.long) i in
               let w = h.within.inside in
               let d = length-drop at sheet in
@@ -206,11 +203,11 @@ module _ (form : Form) where
 
       pub drop-many : most_with s.long < count → (refused 21 0 ≡ answered (limited form result) bytes old) × (old ≡ left (limited form result) bytes old)
       drop-many m =
-          let e : refused 21 0 ≡ judged refused (limited form result) (Done 0) = rw (lt-leb (length result) entry_limit (many m)) in
+          let e : refused 21 0 ≡ judged refused (limited form result) (Ok 0) = rw (lt-leb (length result) entry_limit (many m)) in
           lent-refused (limited form result) bytes old 0 e refl
 
       module _ (m : count ≤ most_with s.long) where
-        fit : Done 0 ≡ judged refused (limited form result) (Done 0)
+        fit : Ok 0 ≡ judged refused (limited form result) (Ok 0)
         fit =
             let z = size in
             rw (le-leb (length result) entry_limit (few m), le-leb (length bytes) (byte_limit form) (omega arith))
@@ -222,7 +219,7 @@ module _ (form : Form) where
         pub drop-done :
             {one two : List ℕ} → length sheet - s.long ≤ length old → one ≡ sets old 0 (take s.from (drop 0 sheet))
             → two ≡ sets one s.from (take (length sheet - s.long - s.from) (drop (s.from + s.long) sheet))
-            → (Done (length sheet - s.long) ≡ answered (limited form result) bytes old) × (two ≡ left (limited form result) bytes old)
+            → (Ok (length sheet - s.long) ≡ answered (limited form result) bytes old) × (two ≡ left (limited form result) bytes old)
         drop-done {one} {two} l p q =
             let z = size in
             let i = drop-inside in
@@ -235,4 +232,4 @@ module _ (form : Form) where
             let e : two ≡ sets old 0 bytes =
             q ∙ (rw (a, p)) ∙ ap (λ (n : ℕ). sets (sets old 0 (take s.from sheet)) n (drop (s.from + s.long) sheet)) (sym o)
             ∙ sym (sets-append old 0 (take s.from sheet) (drop (s.from + s.long) sheet)) ∙ ap (sets old 0) (sym cut) in
-            (ap Done (sym z) ∙ d.0, e ∙ d.1)
+            (ap Ok (sym z) ∙ d.0, e ∙ d.1)

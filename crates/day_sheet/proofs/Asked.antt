@@ -7,11 +7,11 @@ use native.Mathlib.Omega.{arith}
 use lib.Dec.{eqb}
 use lib.ListN.{length}
 use borrow.Author.Tests.{eq-eqb, ne_eqb, eqb-true, eqb-false, le-leb}
+use Rattle.std.specs.declared.result.Result.TheVariants.{Ok, Err}
 use Rattle.laws.specs.Pick.{pick, both}
 use Rattle.laws.proofs.Tests.{both_true, both_false}
 use Rattle.answer.specs.declared.Refusal.{Refusal}
-use Rattle.answer.specs.declared.Answer.{Answer}
-use Rattle.answer.specs.declared.Answer.TheVariants.{Done, Refused}
+use Rattle.answer.specs.Answer.{Answer}
 use Rattle.answer.specs.Rules.{judged}
 use Rattle.answer.specs.Values.{refused}
 use Rattle.answer.specs.Writing.{answered, after, left}
@@ -107,16 +107,16 @@ module _ (form : Form) where
     abbrev bytes : List ℕ
     bytes = sheet_text form (drop_result form network kind block sheet)
 
-    module _ {r : Answer} (counts : r ≡ judged refused (count_rules form sheet) (Done (length (entries_of form sheet)))) where
+    module _ {r : Answer} (counts : r ≡ judged refused (count_rules form sheet) (Ok (length (entries_of form sheet)))) where
       pub drop-bad :
-          {w : Refusal} → r ≡ Refused w
-          → (Refused w ≡ answered (drop_rules form network kind block sheet) bytes old) × (old ≡ left (drop_rules form network kind block sheet) bytes old)
+          {w : Refusal} → r ≡ Err w
+          → (Err w ≡ answered (drop_rules form network kind block sheet) bytes old) × (old ≡ left (drop_rules form network kind block sheet) bytes old)
       drop-bad {w} e =
-          let a : Refused w ≡ judged refused (drop_rules form network kind block sheet) (Done 0) =
-          (unfold drop_rules in counted-bad form sheet counts e (limited form (drop_result form network kind block sheet)) (Done 0)) in
+          let a : Err w ≡ judged refused (drop_rules form network kind block sheet) (Ok 0) =
+          (unfold drop_rules in counted-bad form sheet counts e (limited form (drop_result form network kind block sheet)) (Ok 0)) in
           lent-refused (drop_rules form network kind block sheet) bytes old 0 a refl
 
-      module _ {m : ℕ} (done : r ≡ Done m) where
+      module _ {m : ℕ} (done : r ≡ Ok m) where
         same-result : without_key (asked network kind block) (entries_of form sheet) ≡ drop_result form network kind block sheet
         unfolding drop_result
         same-result = sym (without-key network kind block small (entries_of form sheet) (read-written form sheet 0 (counted-fine form sheet counts done)).2)

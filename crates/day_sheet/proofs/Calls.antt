@@ -6,7 +6,7 @@ use Prim.Native.Nat.{ℕ, ◌≤◌}
 use native.Mathlib.Omega.{arith}
 use lib.ListN.{length, drop}
 use borrow.Author.Tests.{le-leb, leb-true}
-use Rattle.answer.specs.declared.Answer.TheVariants.{Done}
+use Rattle.std.specs.declared.result.Result.TheVariants.{Ok}
 use Rattle.answer.specs.Rules.{Every, none, more}
 use Rattle.answer.proofs.Lent.{lent-accepted, lent-all}
 use Rattle.answer.proofs.Steps.{first_holds, others_hold}
@@ -35,17 +35,17 @@ module _ (form : Form) where
     -- bytes that say entries, with room: the same bytes stand at the front of the output
     pub call-takes :
         (es : List Entry) → Says form sheet es → length sheet ≤ length old
-        → (rewrite_answer form sheet old ≡ Done (length sheet)) × (rewrite_left form sheet old ≡ sheet ++ drop (length sheet) old)
+        → (rewrite_answer form sheet old ≡ Ok (length sheet)) × (rewrite_left form sheet old ≡ sheet ++ drop (length sheet) old)
     call-takes es s h =
         let r = says-rules sheet es s in
         let b = sym r.1 in
         let p : length (rewritten form sheet) ≤ length old = rw r.1 h in
         let a = lent-accepted (rewrite_rules form sheet) (rewritten form sheet) old r.0 p in
-        (a.0 ∙ ap (λ (x : List ℕ). Done (length x)) r.1, a.1 ∙ ap (λ (x : List ℕ). x ++ drop (length x) old) r.1)
+        (a.0 ∙ ap (λ (x : List ℕ). Ok (length x)) r.1, a.1 ∙ ap (λ (x : List ℕ). x ++ drop (length x) old) r.1)
 
     -- bytes that the call accepts say the entries that are read from them, and it writes the same bytes
     pub call_says :
-        (n : ℕ) → rewrite_answer form sheet old ≡ Done n
+        (n : ℕ) → rewrite_answer form sheet old ≡ Ok n
         → Says form sheet (entries_of form sheet) × (n ≡ length sheet) × (rewrite_left form sheet old ≡ sheet ++ drop (length sheet) old)
     unfolding rewrite_rules
     call_says n e =

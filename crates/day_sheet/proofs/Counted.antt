@@ -4,9 +4,9 @@ use mathlib.Core.List.{List, ◌∷◌}
 use Prim.Native.Nat.{ℕ, ◌≤◌}
 use lib.ListN.{length}
 use borrow.Author.Tests.{leb-true}
+use Rattle.std.specs.declared.result.Result.TheVariants.{Ok, Err}
 use Rattle.answer.specs.declared.Refusal.{Refusal}
-use Rattle.answer.specs.declared.Answer.{Answer}
-use Rattle.answer.specs.declared.Answer.TheVariants.{Done, Refused}
+use Rattle.answer.specs.Answer.{Answer}
 use Rattle.answer.specs.Rules.{Rule, Every, judged}
 use Rattle.answer.specs.Values.{refused}
 use Rattle.answer.proofs.Steps.{ends, done_every, done-value, first_holds, others_hold}
@@ -21,13 +21,13 @@ module _
     (form : Form)
     (sheet : List ℕ)
     {r : Answer}
-    (counts : r ≡ judged refused (count_rules form sheet) (Done (length (entries_of form sheet))))
+    (counts : r ≡ judged refused (count_rules form sheet) (Ok (length (entries_of form sheet))))
   where
     -- a call that judges more behind refuses as it does
-    pub counted-bad : {w : Refusal} → r ≡ Refused w → (rest : List Rule) (a : Answer) → Refused w ≡ judged refused (short form sheet ∷ formed form sheet ∷ rest) a
+    pub counted-bad : {w : Refusal} → r ≡ Err w → (rest : List Rule) (a : Answer) → Err w ≡ judged refused (short form sheet ∷ formed form sheet ∷ rest) a
     counted-bad e rest a = ends (count_rules form sheet) rest (length (entries_of form sheet)) counts a e
 
-    module _ {m : ℕ} (done : r ≡ Done m) where
+    module _ {m : ℕ} (done : r ≡ Ok m) where
       every : Every (count_rules form sheet)
       every = done_every (count_rules form sheet) (length (entries_of form sheet)) m (sym counts ∙ done)
 

@@ -1,6 +1,6 @@
 -- What a sheet in form has at its front: the entry that is found there is its first, and what is left is a sheet in form again. Assumes nothing.
 use mathlib.Core.Path.{◌≡◌, ◌∙◌, refl, sym, ap, subst}
-use mathlib.Core.Bool.{true, false}
+use mathlib.Core.Bool.{true}
 use mathlib.Core.List.{List, [], ◌∷◌, ◌++◌}
 use Prim.Native.Nat.{ℕ, suc, ◌+◌, ◌≤◌}
 use native.Mathlib.Omega.{arith}
@@ -10,6 +10,8 @@ use Rattle.laws.specs.Keyed.{rising}
 use Rattle.laws.proofs.Tests.{both_true}
 use Rattle.laws.proofs.Merging.{rising-rest, rising-lower}
 use Rattle.sheet_entry.specs.declared.Form.{Form}
+use Rattle.std.specs.declared.result.Result.TheVariants.{Ok, Err}
+use Rattle.sheet_entry.specs.declared.NoEntry.TheVariants.{End}
 use Rattle.sheet_entry.specs.declared.Found.{Found}
 use Rattle.sheet_entry.specs.Entries.{Entry, key_of, head_lines, table_lines, empty_line, entry_text, written}
 use Rattle.sheet_entry.specs.Reading.{entry_at, found_of}
@@ -28,8 +30,6 @@ module _ (form : Form) where
   abbrev pub found : Entry → Found
   found x =
       record {
-        more = true;
-        fine = true;
         long = length (entry_text form x);
         key = key_of x;
         stamp = x.stamp;
@@ -37,7 +37,7 @@ module _ (form : Form) where
         head = length (head_lines form x);
       }
 
-  pub found-text : (x : Entry) (rest : List ℕ) → Fit x → found_of form (entry_at form 0 (entry_text form x ++ rest)) ≡ found x
+  pub found-text : (x : Entry) (rest : List ℕ) → Fit x → found_of form (entry_at form 0 (entry_text form x ++ rest)) ≡ Ok (found x)
   unfolding found_of
   found-text x rest w = ap (found_of form) (entry-back form 0 x rest (record { rises = omega arith; can = w }))
 
@@ -50,9 +50,9 @@ module _ (form : Form) where
   front_fits x rest = let e = length-append (entry_text form x) rest in omega arith
 
   pub data Front (a : List ℕ) : Type 0 where
-    empty : (found_of form (entry_at form 0 a)).more ≡ false → entries_of form a ≡ [] → Front a
+    empty : found_of form (entry_at form 0 a) ≡ Err End → entries_of form a ≡ [] → Front a
     entry :
-        (x : Entry) → found_of form (entry_at form 0 a) ≡ found x → entries_of form a ≡ x ∷ entries_of form (drop (length (entry_text form x)) a)
+        (x : Entry) → found_of form (entry_at form 0 a) ≡ Ok (found x) → entries_of form a ≡ x ∷ entries_of form (drop (length (entry_text form x)) a)
         → InForm form (drop (length (entry_text form x)) a) → 1 ≤ length (entry_text form x) → length (entry_text form x) ≤ length a
         → Front a
 

@@ -1,21 +1,22 @@
 -- A sheet judged and written again. Assumes nothing.
 use mathlib.Core.Path.{◌≡◌, ◌∙◌, sym, ap}
-use mathlib.Core.Bool.{true, false}
 use mathlib.Core.List.{List}
 use Prim.Native.Nat.{ℕ, ◌≤◌, ◌<◌}
 use native.Mathlib.Omega.{arith}
 use borrow.Author.Tests.{le-leb, lt-leb}
 use lib.ListN.{length, take, drop}
 use lib.Seq.{sets, take-length}
+use Rattle.std.specs.declared.result.Result.TheVariants.{Ok, Err}
 use Rattle.answer.specs.declared.Refusal.{Refusal}
-use Rattle.answer.specs.declared.Answer.{Answer}
-use Rattle.answer.specs.declared.Answer.TheVariants.{Done, Refused}
+use Rattle.answer.specs.Answer.{Answer}
 use Rattle.answer.specs.Rules.{judged}
 use Rattle.answer.specs.Values.{refused}
 use Rattle.answer.specs.Writing.{answered, left}
 use Rattle.answer.proofs.Steps.{done_every, first_holds, others_hold}
 use Rattle.answer.proofs.Lent.{lent-refused, lent-short, lent-done}
-use Rattle.day_sheet.specs.declared.entries.Sheet.{Sheet}
+use Rattle.listing_reader.specs.Many.{Many}
+use Rattle.sheet_entry.specs.Entries.{Entry}
+use Rattle.sheet_entry.proofs.Heads.{read_all, read_none}
 use Rattle.day_sheet.specs.Entries.{sheet_text, entry_limit, byte_limit}
 use Rattle.day_sheet.specs.Reading.{sheet_of}
 use Rattle.day_sheet.specs.Calls.{limited, entries_of, count_rules, rewrite_rules, rewritten}
@@ -31,27 +32,25 @@ module _ (form : Form) where
     pub count_long : byte_limit form < length sheet → refused 21 0 ≡ judged refused (count_rules form sheet) a
     count_long h = rw (lt-leb (length sheet) (byte_limit form) h)
 
-  module _ (sheet : List ℕ) (fits : length sheet ≤ byte_limit form) (s : Sheet) (reads : s ≡ sheet_read (sheet_of form sheet)) where
-    pub count-bad : s.fine ≡ false → (a : Answer) → refused 20 s.long ≡ judged refused (count_rules form sheet) a
-    count-bad e a =
-        let f : (sheet_of form sheet).fine ≡ false = sym (ap (λ (x : Sheet). x.fine) reads) ∙ e in
-        let l : s.long ≡ (sheet_of form sheet).long = ap (λ (x : Sheet). x.long) reads in
-        rw (le-leb (length sheet) (byte_limit form) fits, f, l)
+  module _ (sheet : List ℕ) (fits : length sheet ≤ byte_limit form) where
+    pub count-bad : {n : ℕ} → Err n ≡ sheet_read (sheet_of form sheet) → (a : Answer) → refused 20 n ≡ judged refused (count_rules form sheet) a
+    count-bad reads a =
+        let r = read_none (λ (x : Many Entry). length x.items) (sheet_of form sheet) reads in
+        rw (le-leb (length sheet) (byte_limit form) fits, r.1, r.0)
 
-    pub count-good : s.fine ≡ true → Done s.count ≡ judged refused (count_rules form sheet) (Done (length (entries_of form sheet)))
-    count-good e =
-        let f : (sheet_of form sheet).fine ≡ true = sym (ap (λ (x : Sheet). x.fine) reads) ∙ e in
-        let n : s.count ≡ length (entries_of form sheet) = ap (λ (x : Sheet). x.count) reads in
-        rw (le-leb (length sheet) (byte_limit form) fits, f, n)
+    pub count-good : {n : ℕ} → Ok n ≡ sheet_read (sheet_of form sheet) → Ok n ≡ judged refused (count_rules form sheet) (Ok (length (entries_of form sheet)))
+    count-good reads =
+        let r = read_all (λ (x : Many Entry). length x.items) (sheet_of form sheet) reads in
+        rw (le-leb (length sheet) (byte_limit form) fits, r.1, r.0)
 
   -- ---- the rules
 
-  module _ (sheet : List ℕ) (a : Answer) {r : Answer} (counts : r ≡ judged refused (count_rules form sheet) (Done (length (entries_of form sheet)))) where
-    pub judge-bad : {w : Refusal} → r ≡ Refused w → Refused w ≡ judged refused (rewrite_rules form sheet) a
+  module _ (sheet : List ℕ) (a : Answer) {r : Answer} (counts : r ≡ judged refused (count_rules form sheet) (Ok (length (entries_of form sheet)))) where
+    pub judge-bad : {w : Refusal} → r ≡ Err w → Err w ≡ judged refused (rewrite_rules form sheet) a
     unfolding rewrite_rules
     judge-bad e = counted-bad form sheet counts e (limited form (entries_of form sheet)) a
 
-    module _ {m : ℕ} (done : r ≡ Done m) where
+    module _ {m : ℕ} (done : r ≡ Ok m) where
       fits : length sheet ≤ byte_limit form
       fits = counted-short form sheet counts done
 
@@ -76,13 +75,13 @@ module _ (form : Form) where
 
   -- ---- written again
 
-  module _ (sheet old : List ℕ) {r : Answer} (judges : r ≡ judged refused (rewrite_rules form sheet) (Done (length sheet))) where
+  module _ (sheet old : List ℕ) {r : Answer} (judges : r ≡ judged refused (rewrite_rules form sheet) (Ok (length sheet))) where
     pub rewrite-refused :
-        {w : Refusal} → r ≡ Refused w
-        → (Refused w ≡ answered (rewrite_rules form sheet) (rewritten form sheet) old) × (old ≡ left (rewrite_rules form sheet) (rewritten form sheet) old)
+        {w : Refusal} → r ≡ Err w
+        → (Err w ≡ answered (rewrite_rules form sheet) (rewritten form sheet) old) × (old ≡ left (rewrite_rules form sheet) (rewritten form sheet) old)
     rewrite-refused e = lent-refused (rewrite_rules form sheet) (rewritten form sheet) old (length sheet) judges e
 
-    module _ {m : ℕ} (done : r ≡ Done m) where
+    module _ {m : ℕ} (done : r ≡ Ok m) where
       same_bytes : sheet ≡ rewritten form sheet
       unfolding rewritten rewrite_rules
       same_bytes =
@@ -97,7 +96,7 @@ module _ (form : Form) where
 
       pub rewrite-done :
           {out : List ℕ} → length sheet ≤ length old → out ≡ sets old 0 (take (length sheet) (drop 0 sheet))
-          → (Done (length sheet) ≡ answered (rewrite_rules form sheet) (rewritten form sheet) old) × (out ≡ left (rewrite_rules form sheet) (rewritten form sheet) old)
+          → (Ok (length sheet) ≡ answered (rewrite_rules form sheet) (rewritten form sheet) old) × (out ≡ left (rewrite_rules form sheet) (rewritten form sheet) old)
       rewrite-done h e =
           let d = lent-done (rewrite_rules form sheet) (rewritten form sheet) old (length sheet) judges done (omega (arith, ap length same_bytes)) in
-          (ap (λ (x : List ℕ). Done (length x)) same_bytes ∙ d.0, e ∙ ap (sets old 0) (take-length sheet ∙ same_bytes) ∙ d.1)
+          (ap (λ (x : List ℕ). Ok (length x)) same_bytes ∙ d.0, e ∙ ap (sets old 0) (take-length sheet ∙ same_bytes) ∙ d.1)

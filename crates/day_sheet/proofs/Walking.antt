@@ -7,38 +7,34 @@ use native.Mathlib.Omega.{arith}
 use lib.ListN.{length, drop}
 use lib.Seq.{drop-drop}
 use Rattle.sheet_entry.specs.declared.Found.{Found}
-use Rattle.day_sheet.specs.declared.entries.Sheet.{Sheet}
+use Rattle.std.specs.declared.result.Result.{Result}
+use Rattle.std.specs.declared.result.Result.TheVariants.{Ok, Err}
+use Rattle.sheet_entry.specs.declared.NoEntry.TheVariants.{End, Fault}
+use Rattle.laws.specs.Pick.{pick}
 use Rattle.sheet_entry.specs.Entries.{Entry, key_of}
-use Rattle.listing_reader.specs.Many.{Many, item, stop, none, behind, many}
+use Rattle.listing_reader.specs.Many.{Many, item, behind, many}
 use Rattle.sheet_entry.specs.Reading.{entry_at, above, found_of}
 use Rattle.day_sheet.specs.Reading.{sheet_from}
-use Rattle.day_sheet.specs.Internal.{sheet_read}
 use Rattle.listing_reader.proofs.Rows.{whole_item, whole-stop, seen-item}
 use Rattle.sheet_entry.proofs.Entered.{Standing, text_of, entry_seen, entry_stepping}
-use Rattle.sheet_entry.proofs.Finding.{found_item, found-stop, key_small}
+use Rattle.sheet_entry.proofs.Finding.{found_item, found-end, found-fault, key_small}
 use Rattle.sheet_entry.specs.declared.Form.{Form}
 
-abbrev pub sheet_after : ℕ → ℕ → Many Entry → Sheet
-sheet_after count passed m = record { count = count + length m.items; fine = m.fine; long = passed + m.long }
-
-pub sheet-start : (m : Many Entry) → sheet_after 0 0 m ≡ sheet_read m
-sheet-start m =
-    let y : 0 + length m.items ≡ length m.items = omega arith in
-    let z : 0 + m.long ≡ m.long = omega arith in
-    rw (y, z)
+abbrev pub sheet_after : ℕ → ℕ → Many Entry → Result ℕ ℕ
+sheet_after count passed m = pick m.fine (Ok (count + length m.items)) (Err (passed + m.long))
 
 module _ (form : Form) where
-  module _ (sheet : List ℕ) (at least : ℕ) (f : Found) (reads : f ≡ found_of form (entry_at form least (drop at sheet))) where
+  module _ (sheet : List ℕ) (at least count : ℕ) where
     pub sheet-on :
-        (count : ℕ) → f.more ≡ true
+        {f : Found} → Ok f ≡ found_of form (entry_at form least (drop at sheet))
         → (1 ≤ f.long) × (f.long ≤ length (drop at sheet)) × (f.key ≤ 33554431)
         × (sheet_after (count + 1) (at + f.long) (sheet_from form (f.key + 1) (drop (at + f.long) sheet)) ≡ sheet_after count at (sheet_from form least (drop at sheet)))
     unfolding sheet_from
-    sheet-on count m =
-        let i = found_item form (entry_at form least (drop at sheet)) (rw reads at m) in
+    sheet-on {f} reads =
+        let i = found_item form (entry_at form least (drop at sheet)) reads in
         let e = i.0 in
-        let n : entry_at form least (drop at sheet) ≡ item e f.long = i.1 ∙ ap (λ (x : Found). item e x.long) (sym reads) in
-        let k : f.key ≡ key_of e = ap (λ (x : Found). x.key) reads ∙ i.2 in
+        let n : entry_at form least (drop at sheet) ≡ item e f.long = i.1 in
+        let k : f.key ≡ key_of e = i.2 in
         let b = (entry_stepping form).moves_on least (drop at sheet) e f.long n in
         let s = seen-item above (entry_at form) (Standing form) (text_of form) (entry_seen form) least (drop at sheet) e f.long n in
         let w = whole_item above (entry_at form) (entry_stepping form) least (drop at sheet) e f.long n in
@@ -56,15 +52,20 @@ module _ (form : Form) where
         )
 
     pub sheet-end :
-        (count : ℕ) → f.more ≡ false
-        → (f.long ≤ length (drop at sheet))
-        × (record { count = count; fine = f.fine; long = at + f.long } ≡ sheet_after count at (sheet_from form least (drop at sheet)))
+        Err End ≡ found_of form (entry_at form least (drop at sheet)) → Ok count ≡ sheet_after count at (sheet_from form least (drop at sheet))
     unfolding sheet_from
-    sheet-end count m =
-        let i = found-stop form (entry_at form least (drop at sheet)) (rw reads at m) in
-        let e : entry_at form least (drop at sheet) ≡ stop f.fine f.long = i ∙ ap (λ (x : Found). stop x.fine x.long) (sym reads) in
-        let b = (entry_stepping form).stays least (drop at sheet) f.fine f.long e in
-        let w = whole-stop above (entry_at form) (entry_stepping form) least (drop at sheet) f.fine f.long e in
+    sheet-end reads =
+        let e = found-end form (entry_at form least (drop at sheet)) reads in
+        let w = whole-stop above (entry_at form) (entry_stepping form) least (drop at sheet) true e.0 e.1 in
         let c' : count ≡ count + 0 = omega arith in
-        let step : record { count = count; fine = f.fine; long = at + f.long } ≡ sheet_after count at (none f.fine f.long) = rw (← c') in
-        (b, step ∙ sym (ap (sheet_after count at) w))
+        ap Ok c' ∙ sym (ap (sheet_after count at) w)
+
+    pub sheet-fault :
+        {n : ℕ} → Err (Fault n) ≡ found_of form (entry_at form least (drop at sheet))
+        → (n ≤ length (drop at sheet)) × (Err (at + n) ≡ sheet_after count at (sheet_from form least (drop at sheet)))
+    unfolding sheet_from
+    sheet-fault {n} reads =
+        let e = found-fault form (entry_at form least (drop at sheet)) reads in
+        let b = (entry_stepping form).stays least (drop at sheet) false n e in
+        let w = whole-stop above (entry_at form) (entry_stepping form) least (drop at sheet) false n e in
+        (b, sym (ap (sheet_after count at) w))

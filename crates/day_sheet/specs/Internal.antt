@@ -5,7 +5,8 @@ use Rattle.listing_reader.specs.Many.{Many}
 use Rattle.sheet_entry.specs.declared.Form.{Form}
 use Rattle.forms.specs.Tables.{TI, LI}
 use Rattle.sheet_entry.specs.Entries.{Entry, key_in, key_of, entry_text}
-use Rattle.day_sheet.specs.declared.entries.Sheet.{Sheet}
+use Rattle.std.specs.declared.result.Result.{Result}
+use Rattle.std.specs.declared.result.Result.TheVariants.{Ok, Err}
 use Rattle.day_sheet.specs.declared.dropping.Spot.{Spot}
 use Rattle.day_sheet.specs.Entries.{entry_limit}
 use Rattle.day_sheet.specs.Reading.{sheet_of}
@@ -15,8 +16,9 @@ pub record Inside (sheet : List ℕ) (at : ℕ) : Type 0 where
   pub inside : at ≤ length sheet
   pub short : length sheet ≤ 65000
 
-abbrev pub sheet_read : Many Entry → Sheet
-sheet_read m = record { count = length m.items; fine = m.fine; long = m.long }
+-- how many entries a sheet has, or where the line at fault stands
+abbrev pub sheet_read : Many Entry → Result ℕ ℕ
+sheet_read m = pick m.fine (Ok (length m.items)) (Err m.long)
 
 -- a place in a sheet from which on it is in form
 pub record Halfway (form : Form) (sheet : List ℕ) (at : ℕ) : Type 0 where

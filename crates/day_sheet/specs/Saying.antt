@@ -1,7 +1,7 @@
 -- What bytes say as a day sheet (SCOPE 20.6), and what the call of `rewrite` answers and leaves.
 use Rattle.std.specs.Prelude.{◌≡◌, true, List, ℕ, ◌≤◌, length}
 use Rattle.laws.specs.Keyed.{rising}
-use Rattle.answer.specs.declared.Answer.{Answer}
+use Rattle.answer.specs.Answer.{Answer}
 use Rattle.answer.specs.Writing.{answered, left}
 use Rattle.sheet_entry.specs.Entries.{Entry, key_of}
 use Rattle.day_sheet.specs.Entries.{sheet_text, all_written, entry_limit, byte_limit}

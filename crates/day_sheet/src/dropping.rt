@@ -6,16 +6,18 @@ ghost use Rattle.day_sheet.specs.Calls.{limited, entries_of, drop_rules, drop_re
 ghost use Rattle.day_sheet.specs.Internal.{Halfway, asked, without_key, spot_of, most_with};
 
 use crate::ENTRIES;
-use answer::Answer;
+use answer::{Answer, Reason};
 use sheet_entry::Form;
 
 // 11.12.3: the datatype_id of a Language table.
 const LI: usize = 7;
 
 // More than any key.
+// Kept: so a kind that names no entry goes the way of a key that no entry has; an Option would need a second way that does the same.
 const NO_KEY: usize = 33554432;
 
 // Where an entry stands, and how long it is.
+// Kept: where none has the key this is the sheet's end, 0 long, so that one way copies what stands around it; an Option would need two.
 #[derive(Clone, Copy)]
 pub struct Spot {
     pub from: usize,
@@ -31,13 +33,9 @@ pub fn drop(form: Form, network: u8, kind: u8, block: u16, sheet: &[u8], out: &m
         ≡ left (drop_rules form network kind block sheet.now) (sheet_text form (drop_result form network kind block sheet.now))
         out.old }
 {
-    match crate::count(form, sheet) {
-        Answer::Refused(why) => Answer::Refused(why),
-        Answer::Done(held) => {
-            let key = key_asked(network as usize, kind as usize, block as usize);
-            drop_key(form, key, held, sheet, out)
-        }
-    }
+    let held = crate::count(form, sheet)?;
+    let key = key_asked(network as usize, kind as usize, block as usize);
+    drop_key(form, key, held, sheet, out)
 }
 
 // The number of a key.
@@ -45,13 +43,11 @@ fn key_asked(network: usize, kind: usize, block: usize) -> usize
     requires { (network ≤ 255) × (block ≤ 65535) }
     ensures { result ≡ asked network kind block }
 {
-    if kind == forms::TI {
-        return (network * 2 + 1) * 65536 + block;
+    match kind {
+        forms::TI => (network * 2 + 1) * 65536 + block,
+        LI => (network * 2) * 65536 + block,
+        _ => NO_KEY,
     }
-    if kind == LI {
-        return (network * 2) * 65536 + block;
-    }
-    NO_KEY
 }
 
 // The same, of a sheet in form with so many entries.
@@ -68,25 +64,22 @@ fn drop_key(form: Form, key: usize, count: usize, sheet: &[u8], out: &mut [u8]) 
     let from = spot.from;
     let long = spot.long;
     if most_with(long) < count {
-        return answer::refuse(21, 0);
+        return Reason::SheetSize.refuse(0);
     }
     let n = sheet.len() - long;
     if out.len() < n {
-        return answer::refuse(1, 0);
+        return Reason::NoRoom.refuse(0);
     }
     lent_bytes::copy(sheet, 0, from, out, 0);
     lent_bytes::copy(sheet, from + long, n - from, out, from);
-    Answer::Done(n)
+    Ok(n)
 }
 
 // So many entries may there be, of which one goes where it is long.
 fn most_with(long: usize) -> usize
     ensures { result ≡ most_with long }
 {
-    if long == 0 {
-        return ENTRIES;
-    }
-    ENTRIES + 1
+    if long == 0 { ENTRIES } else { ENTRIES + 1 }
 }
 
 // Where the entry of a key stands.
@@ -95,12 +88,8 @@ fn find(form: Form, sheet: &[u8], key: usize) -> Spot
     ensures { result ≡ spot_of form key (entries_of form sheet.now) }
 {
     let mut at = 0;
-    loop {
-        let e = sheet_entry::entry_at(form, sheet, at, 0);
-        let more = e.more;
-        if !more {
-            return Spot { from: at, long: 0 };
-        }
+    // Kept: no count of places: each step is as long as the entry that stands there.
+    while let Ok(e) = sheet_entry::entry_at(form, sheet, at, 0) {
         if e.key == key {
             return Spot {
                 from: at,
@@ -109,4 +98,5 @@ fn find(form: Form, sheet: &[u8], key: usize) -> Spot
         }
         at += e.long;
     }
+    Spot { from: at, long: 0 }
 }

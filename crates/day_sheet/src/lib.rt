@@ -8,11 +8,11 @@ ghost use Rattle.std.specs.Prelude.{◌≡◌, ◌≤◌, length};
 ghost use Rattle.answer.specs.Rules.{judged};
 ghost use Rattle.answer.specs.Values.{refused};
 ghost use Rattle.answer.specs.Writing.{answered, left};
-ghost use Rattle.answer.specs.declared.Answer.TheVariants.{Done};
+ghost use Rattle.std.specs.declared.result.Result.TheVariants.{Ok};
 ghost use Rattle.day_sheet.specs.Entries.{byte_limit};
 ghost use Rattle.day_sheet.specs.Calls.{entries_of, count_rules, rewrite_rules, rewritten};
 
-use answer::Answer;
+use answer::{Answer, Reason};
 pub use dropping::drop;
 use sheet_entry::Form;
 
@@ -28,47 +28,37 @@ pub fn rewrite(form: Form, sheet: &[u8], out: &mut [u8]) -> Answer
     ensures answer { result ≡ answered (rewrite_rules form sheet.now) (rewritten form sheet.now) out.old }
     ensures output { out.new ≡ left (rewrite_rules form sheet.now) (rewritten form sheet.now) out.old }
 {
-    match judge(form, sheet) {
-        Answer::Refused(why) => Answer::Refused(why),
-        Answer::Done(_) => {
-            let n = sheet.len();
-            if out.len() < n {
-                return answer::refuse(1, 0);
-            }
-            lent_bytes::copy(sheet, 0, n, out, 0);
-            Answer::Done(n)
-        }
+    judge(form, sheet)?;
+    let n = sheet.len();
+    if out.len() < n {
+        return Reason::NoRoom.refuse(0);
     }
+    lent_bytes::copy(sheet, 0, n, out, 0);
+    Ok(n)
 }
 
 // 21, 20, 21: whether a sheet can be written again; then its length.
 pub fn judge(form: Form, sheet: &[u8]) -> Answer
-    ensures { result ≡ judged refused (rewrite_rules form sheet.now) (Done (length sheet.now)) }
+    ensures { result ≡ judged refused (rewrite_rules form sheet.now) (Ok (length sheet.now)) }
 {
-    match count(form, sheet) {
-        Answer::Refused(why) => Answer::Refused(why),
-        Answer::Done(held) => {
-            if ENTRIES < held {
-                return answer::refuse(21, 0);
-            }
-            Answer::Done(sheet.len())
-        }
+    let held = count(form, sheet)?;
+    if ENTRIES < held {
+        return Reason::SheetSize.refuse(0);
     }
+    Ok(sheet.len())
 }
 
 // 21, 20: whether a sheet isn't too long and every line of it is in form and in order; then the number of its entries.
 pub fn count(form: Form, sheet: &[u8]) -> Answer
-    ensures { result ≡ judged refused (count_rules form sheet.now) (Done (length (entries_of form sheet.now))) }
+    ensures { result ≡ judged refused (count_rules form sheet.now) (Ok (length (entries_of form sheet.now))) }
 {
     if limit(form) < sheet.len() {
-        return answer::refuse(21, 0);
+        return Reason::SheetSize.refuse(0);
     }
-    let all = entries::read(form, sheet);
-    let fine = all.fine;
-    if !fine {
-        return answer::refuse(20, all.long);
+    match entries::read(form, sheet) {
+        Ok(count) => Ok(count),
+        Err(at) => Reason::SheetLine.refuse(at),
     }
-    Answer::Done(all.count)
 }
 
 // The most bytes of a sheet.

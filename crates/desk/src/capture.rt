@@ -3,8 +3,7 @@
 ghost use Rattle.std.specs.Prelude.{◌≡◌, ◌≤◌, length};
 
 use crate::says;
-use answer::Answer;
-use blocks::Read;
+use blocks::Taken;
 use captures::{Came, Course, PIECE, RECORDS, Source};
 use packet::two::Streams;
 use sight::PAGES;
@@ -47,9 +46,7 @@ pub fn list<F: std::io::Read>(
     let mut form = [0u8; FORM];
     let mut capture = captures::start(setting, is_verbose);
     let mut tally = fresh(is_titled);
-    let mut turns = u64::MAX;
-    while turns > 0 {
-        turns -= 1;
+    for _ in 0..u64::MAX {
         let turn = captures::next(source, capture, &mut piece, &mut records, &mut pages);
         capture = turn.capture;
         let came = turn.came;
@@ -85,8 +82,7 @@ fn fresh(is_titled: bool) -> Tally {
 }
 
 // Writes the title where it is due.
-fn title(rt: &impl Console, tally: Tally, name: &[u8]) -> Tally {
-    let mut tally = tally;
+fn title(rt: &impl Console, mut tally: Tally, name: &[u8]) -> Tally {
     if tally.due {
         tally.due = false;
         tally.sound = told::put_title(rt, b"desk", name);
@@ -107,30 +103,29 @@ fn list_all(
     list_records(rt, tally, setting, told::front(records, n), text, form)
 }
 
+#[tactic(auto, using(captures::proofs::Spanning::span_within))]
 fn list_records(
     rt: &impl Console,
-    tally: Tally,
+    mut tally: Tally,
     setting: Streams,
     records: &[u8],
     text: &mut [u8],
     form: &mut [u8],
 ) -> Tally {
-    let mut tally = tally;
     let mut at = 0;
+    // Kept: each turn goes to the next record, and records differ in length.
     while at < records.len() {
         let span = captures::span_at(setting, records, at);
-        let from = span.from;
-        let next = span.next;
         tally = list_record(
             rt,
             tally,
             setting,
             span.stream,
-            &records[from..next],
+            &records[span.from..span.next],
             text,
             form,
         );
-        at = next;
+        at = span.next;
     }
     tally
 }
@@ -145,16 +140,15 @@ fn list_record(
     text: &mut [u8],
     form: &mut [u8],
 ) -> Tally {
-    let answer = table::read_block(setting.application, record, form);
-    match answer {
-        Read::Taken { written, mended } => {
+    match table::read_block(setting.application, record, form) {
+        Ok(Taken { written, mended }) => {
             let second = blocks::second_of(record);
             let tally = make_room(rt, tally, text);
             let at = put_stream(setting, stream, text, tally.used);
             let form = told::front(form, written);
             list_form(tally, form, mended, second, text, at)
         }
-        Read::Refused(_) => refuse(tally),
+        Err(_) => refuse(tally),
     }
 }
 
@@ -181,8 +175,9 @@ fn put(bytes: &[u8], text: &mut [u8], at: usize) -> usize
     if text.len() - at < bytes.len() {
         return text.len();
     }
-    lent_bytes::copy(bytes, 0, bytes.len(), text, at);
-    at + bytes.len()
+    let end = at + bytes.len();
+    text[at..end].copy_from_slice(bytes);
+    end
 }
 
 // Lists a table from a place of the text on, behind what waits there.
@@ -196,54 +191,44 @@ fn list_form(
 ) -> Tally
     requires { at ≤ length text.old }
 {
-    let answer = listing::list_table(form, mended, second, &mut text[at..]);
-    match answer {
-        Answer::Done(more) => accept(tally, at, more, text.len()),
-        Answer::Refused(_) => refuse(tally),
+    match listing::list_table(form, mended, second, &mut text[at..]) {
+        Ok(more) => accept(tally, at, more, text.len()),
+        Err(_) => refuse(tally),
     }
 }
 
 // The text then waits up to so many bytes behind a place.
-fn accept(tally: Tally, at: usize, more: usize, room: usize) -> Tally
+fn accept(mut tally: Tally, at: usize, more: usize, room: usize) -> Tally
     requires { at ≤ room }
 {
     if room - at < more {
         return refuse(tally);
     }
-    let mut tally = tally;
-    tally.accepted = one_more(tally.accepted);
+    tally.accepted = tally.accepted.saturating_add(1);
     tally.used = at + more;
     tally
 }
 
-fn refuse(tally: Tally) -> Tally {
-    let mut tally = tally;
-    tally.refused = one_more(tally.refused);
+fn refuse(mut tally: Tally) -> Tally {
+    tally.refused = tally.refused.saturating_add(1);
     tally
-}
-
-fn one_more(count: u64) -> u64 {
-    if count < u64::MAX { count + 1 } else { count }
 }
 
 // Writes the text out where less room is left than one table may need.
 fn make_room(rt: &impl Console, tally: Tally, text: &[u8]) -> Tally
     ensures { result.used ≤ length text.now }
 {
-    if text.len() < tally.used {
-        return flush(rt, tally, text);
+    if text.len() < tally.used || text.len() - tally.used < LINES {
+        flush(rt, tally, text)
+    } else {
+        tally
     }
-    if text.len() - tally.used < LINES {
-        return flush(rt, tally, text);
-    }
-    tally
 }
 
 // Writes the text out, unless standard output failed before.
-fn flush(rt: &impl Console, tally: Tally, text: &[u8]) -> Tally
+fn flush(rt: &impl Console, mut tally: Tally, text: &[u8]) -> Tally
     ensures { result.used ≡ 0 }
 {
-    let mut tally = tally;
     if tally.sound {
         tally.sound = told::put(rt, b"desk", told::front(text, tally.used));
     }
@@ -284,28 +269,21 @@ fn end(
 
 // Writes what is left of a list that lacks its last line.
 fn stop(rt: &impl Console, tally: Tally, text: &[u8]) -> bool {
-    let tally = flush(rt, tally, text);
-    tally.sound
+    flush(rt, tally, text).sound
 }
 
 // Writes what is left of a list, its last line, and the line of counts where that is asked for.
 fn put_end(rt: &impl Console, tally: Tally, text: &[u8], course: Course, short: usize) -> bool {
     let tally = flush(rt, tally, text);
-    if !tally.sound {
-        return false;
-    }
-    if !says::put_last(rt, tally.accepted, tally.refused, short as u64) {
-        return false;
-    }
-    if !course.verbose {
-        return true;
-    }
     let counts = course.sight.counts;
-    says::put_counts(
-        rt,
-        counts.packets,
-        counts.ours,
-        counts.unreadable,
-        course.dropped,
-    )
+    tally.sound
+        && says::put_last(rt, tally.accepted, tally.refused, short as u64)
+        && (!course.verbose
+            || says::put_counts(
+                rt,
+                counts.packets,
+                counts.ours,
+                counts.unreadable,
+                course.dropped,
+            ))
 }

@@ -61,16 +61,13 @@ fn main(rt: HostRuntime) {
 
 // Lists each file that is named, or standard input where none is.
 fn list_all(rt: &(impl Env + Files + Input + Console), setting: Streams, is_verbose: bool) {
-    let count = told::argument_count(rt);
     let mut listed = Listed {
         said: words::start(&TASKS),
         named: false,
         sound: true,
     };
-    let mut i = 1;
-    while i < count {
+    for i in 1..told::argument_count(rt) {
         listed = visit(rt, listed, i, setting, is_verbose);
-        i += 1;
     }
     if !listed.named {
         let mut source = Source::new(rt.reader());
@@ -88,16 +85,14 @@ fn list_all(rt: &(impl Env + Files + Input + Console), setting: Streams, is_verb
 // Hears a word again, and lists the file where it is a name.
 fn visit(
     rt: &(impl Env + Files + Console),
-    listed: Listed,
+    mut listed: Listed,
     i: usize,
     setting: Streams,
     is_verbose: bool,
 ) -> Listed {
     let mut word = io::buffer();
-    let mut listed = listed;
     let heard = command_line::hear(rt, &OPTIONS, &TASKS, listed.said, i, &mut word);
-    let said = heard.said;
-    listed.said = said;
+    listed.said = heard.said;
     if heard.place == 0 {
         return listed;
     }

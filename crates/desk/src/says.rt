@@ -5,16 +5,10 @@ use told::Console;
 
 // The last line of a list (SCOPE 13.5).
 pub fn put_last(rt: &impl Console, accepted: u64, refused: u64, short: u64) -> bool {
-    if !told::put_count(rt, b"desk", b"blocks=", accepted) {
-        return false;
-    }
-    if !told::put_count(rt, b"desk", b" refused=", refused) {
-        return false;
-    }
-    if !told::put_count(rt, b"desk", b" short=", short) {
-        return false;
-    }
-    told::put(rt, b"desk", b"\n")
+    told::put_count(rt, b"desk", b"blocks=", accepted)
+        && told::put_count(rt, b"desk", b" refused=", refused)
+        && told::put_count(rt, b"desk", b" short=", short)
+        && told::put(rt, b"desk", b"\n")
 }
 
 // The line of counts (SCOPE 13.10).
@@ -25,19 +19,11 @@ pub fn put_counts(
     unreadable: u64,
     dropped: u64,
 ) -> bool {
-    if !told::put_count(rt, b"desk", b"packets=", packets) {
-        return false;
-    }
-    if !told::put_count(rt, b"desk", b" ours=", ours) {
-        return false;
-    }
-    if !told::put_count(rt, b"desk", b" unreadable=", unreadable) {
-        return false;
-    }
-    if !told::put_count(rt, b"desk", b" dropped=", dropped) {
-        return false;
-    }
-    told::put(rt, b"desk", b"\n")
+    told::put_count(rt, b"desk", b"packets=", packets)
+        && told::put_count(rt, b"desk", b" ours=", ours)
+        && told::put_count(rt, b"desk", b" unreadable=", unreadable)
+        && told::put_count(rt, b"desk", b" dropped=", dropped)
+        && told::put(rt, b"desk", b"\n")
 }
 
 // Where bytes came and no packet 0 of our page, a line says so, and what they may be. It begins `desk: `: a night that is empty by mistake

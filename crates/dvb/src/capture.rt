@@ -1,8 +1,7 @@
 // One capture: its records are pulled, and each TI table that comes goes out as its descriptor. Counts that a room hands back are held against
 // the space that they count in, so that no proof here has to know the room's definitions; a count that doesn't fit never comes.
 use crate::says;
-use answer::Answer;
-use blocks::Read;
+use blocks::Taken;
 use captures::{Came, PIECE, RECORDS, Source};
 use dvb_descriptor::LONGEST;
 use forms::TI;
@@ -38,9 +37,7 @@ pub fn list<F: std::io::Read>(
     let mut form = [0u8; FORM];
     let mut capture = captures::start(setting, false);
     let mut tally = fresh(is_titled);
-    let mut turns = u64::MAX;
-    while turns > 0 {
-        turns -= 1;
+    for _ in 0..u64::MAX {
         let turn = captures::next(source, capture, &mut piece, &mut records, &mut pages);
         capture = turn.capture;
         let came = turn.came;
@@ -66,8 +63,7 @@ fn fresh(is_titled: bool) -> Tally {
 }
 
 // Writes the title where it is due.
-fn title(rt: &impl Console, tally: Tally, name: &[u8]) -> Tally {
-    let mut tally = tally;
+fn title(rt: &impl Console, mut tally: Tally, name: &[u8]) -> Tally {
     if tally.due {
         tally.due = false;
         tally.sound = told::put_title(rt, b"dvb", name);
@@ -88,29 +84,28 @@ fn list_all(
     list_records(rt, tally, name, setting, told::front(records, n), form)
 }
 
+#[tactic(auto, using(captures::proofs::Spanning::span_within))]
 fn list_records(
     rt: &impl Console,
-    tally: Tally,
+    mut tally: Tally,
     name: &[u8],
     setting: Streams,
     records: &[u8],
     form: &mut [u8],
 ) -> Tally {
-    let mut tally = tally;
     let mut at = 0;
+    // Kept: each turn goes to the next record, and records differ in length.
     while at < records.len() {
         let span = captures::span_at(setting, records, at);
-        let from = span.from;
-        let next = span.next;
         tally = list_record(
             rt,
             tally,
             name,
             setting.application,
-            &records[from..next],
+            &records[span.from..span.next],
             form,
         );
-        at = next;
+        at = span.next;
     }
     tally
 }
@@ -127,15 +122,9 @@ fn list_record(
     if !tally.sound {
         return tally;
     }
-    let answer = table::read_block(application, record, form);
-    match answer {
-        Read::Taken { written, mended: _ } => list_form(
-            rt,
-            tally,
-            name,
-            told::front(form, written),
-        ),
-        Read::Refused(_) => tally,
+    match table::read_block(application, record, form) {
+        Ok(Taken { written, mended: _ }) => list_form(rt, tally, name, told::front(form, written)),
+        Err(_) => tally,
     }
 }
 
@@ -145,33 +134,26 @@ fn list_form(rt: &impl Console, tally: Tally, name: &[u8], form: &[u8]) -> Tally
         return tally;
     }
     let mut descriptor = [0u8; LONGEST];
-    let answer = dvb_descriptor::write_descriptor(form, &mut descriptor);
-    match answer {
-        Answer::Done(n) => put(rt, tally, form, told::front(&descriptor, n)),
-        Answer::Refused(_) => leave_out(rt, tally, name, form),
+    match dvb_descriptor::write_descriptor(form, &mut descriptor) {
+        Ok(n) => put(rt, tally, form, told::front(&descriptor, n)),
+        Err(_) => leave_out(rt, tally, name, form),
     }
 }
 
 // The line of a table goes out.
-fn put(rt: &impl Console, tally: Tally, form: &[u8], descriptor: &[u8]) -> Tally {
-    let mut tally = tally;
-    tally.tables = one_more(tally.tables);
+fn put(rt: &impl Console, mut tally: Tally, form: &[u8], descriptor: &[u8]) -> Tally {
+    tally.tables = tally.tables.saturating_add(1);
     tally.sound = says::put_table(rt, network(form), block(form), descriptor);
     tally
 }
 
 // A table has more subtitles than a descriptor can hold (26), which is told. None is refused for another cause: block reading hands out forms that
 // can be written, and there is room for the longest descriptor.
-fn leave_out(rt: &impl Console, tally: Tally, name: &[u8], form: &[u8]) -> Tally {
-    let mut tally = tally;
-    tally.tables = one_more(tally.tables);
-    tally.over = one_more(tally.over);
+fn leave_out(rt: &impl Console, mut tally: Tally, name: &[u8], form: &[u8]) -> Tally {
+    tally.tables = tally.tables.saturating_add(1);
+    tally.over = tally.over.saturating_add(1);
     says::say_over(rt, name, network(form), block(form));
     tally
-}
-
-fn one_more(count: u64) -> u64 {
-    if count < u64::MAX { count + 1 } else { count }
 }
 
 fn network(form: &[u8]) -> u64 {

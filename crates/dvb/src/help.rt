@@ -6,29 +6,21 @@ pub const USAGE: [u8; 79] =
     *b"usage: dvb [-m 1..8] [-p 00..FF] [-s 0..15[,0..15]] [-a 0..31] [--] [FILE ...]\n";
 
 pub fn put(rt: &impl Console) -> bool {
-    let sound = line(rt, true, &USAGE);
-    let sound = line(rt, sound, b"  -m 1..8    the magazine, usually 1\n");
-    let sound = line(rt, sound, b"  -p 00..FF  the page, usually DF\n");
-    let sound = line(
-        rt,
-        sound,
-        b"  -s 0..15   the stream, usually 1; -s 1,2 reads two streams at once\n",
-    );
-    let sound = line(rt, sound, b"  -a 0..31   the application, usually 1\n");
-    let sound = line(rt, sound, b"  --         only names of files follow\n");
-    let sound = line(rt, sound, b"  --help     as the first word: print this\n");
-    let sound = line(
-        rt,
-        sound,
-        b"  --version  as the first word: print the version\n",
-    );
-    line(rt, sound, b"example: dvb -m 1 -p DF night.t42\n")
+    line(rt, &USAGE)
+        && line(rt, b"  -m 1..8    the magazine, usually 1\n")
+        && line(rt, b"  -p 00..FF  the page, usually DF\n")
+        && line(
+            rt,
+            b"  -s 0..15   the stream, usually 1; -s 1,2 reads two streams at once\n",
+        )
+        && line(rt, b"  -a 0..31   the application, usually 1\n")
+        && line(rt, b"  --         only names of files follow\n")
+        && line(rt, b"  --help     as the first word: print this\n")
+        && line(rt, b"  --version  as the first word: print the version\n")
+        && line(rt, b"example: dvb -m 1 -p DF night.t42\n")
 }
 
-// Writes a line where standard output took all so far, and answers whether it still does.
-fn line(rt: &impl Console, is_sound: bool, text: &[u8]) -> bool {
-    if !is_sound {
-        return false;
-    }
+// Writes a line, and answers whether standard output took it.
+fn line(rt: &impl Console, text: &[u8]) -> bool {
     told::put(rt, b"dvb", text)
 }

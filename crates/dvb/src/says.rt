@@ -24,12 +24,9 @@ fn put_number(name: &[u8], number: u64, line: &mut [u8], at: usize) -> usize {
 }
 
 // Puts bytes at a place of the line, two hex digits each, and answers the place behind them.
-fn put_hex(bytes: &[u8], line: &mut [u8], at: usize) -> usize {
-    let mut at = at;
-    let mut i = 0;
-    while i < bytes.len() {
-        at = put_byte(bytes[i], line, at);
-        i += 1;
+fn put_hex(bytes: &[u8], line: &mut [u8], mut at: usize) -> usize {
+    for byte in bytes {
+        at = put_byte(*byte, line, at);
     }
     at
 }
@@ -42,13 +39,9 @@ fn put_byte(byte: u8, line: &mut [u8], at: usize) -> usize {
 
 // The last line: how many TI tables were accepted, and how many of them were left out.
 pub fn put_last(rt: &impl Console, tables: u64, over: u64) -> bool {
-    if !told::put_count(rt, b"dvb", b"tables=", tables) {
-        return false;
-    }
-    if !told::put_count(rt, b"dvb", b" over=", over) {
-        return false;
-    }
-    told::put(rt, b"dvb", b"\n")
+    told::put_count(rt, b"dvb", b"tables=", tables)
+        && told::put_count(rt, b"dvb", b" over=", over)
+        && told::put(rt, b"dvb", b"\n")
 }
 
 // Tells of a table that a descriptor can't hold.

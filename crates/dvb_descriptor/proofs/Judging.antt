@@ -1,23 +1,25 @@
 -- How the rules of the two calls decide, a lemma for each way that the code goes. Assumes nothing.
-use mathlib.Core.Path.{◌≡◌, refl}
+use mathlib.Core.Path.{◌≡◌, ◌∙◌, refl, sym}
 use mathlib.Core.Bool.{Bool, true, false, not}
 use mathlib.Core.List.{List, [], ◌∷◌}
 use Prim.Native.Nat.{ℕ, ◌+◌, ◌*◌, ◌%◌, ◌≤◌, ◌<◌}
+use native.Mathlib.Omega.{arith}
 use borrow.Author.Tests.{leb-true, le-leb, lt-leb, eqb-true, eq-eqb, ne_eqb, not-true, not-false}
 use lib.Dec.{eqb, leb}
 use lib.ListN.{length, get_or}
-use Rattle.laws.specs.Pick.{both}
+use Rattle.std.specs.declared.result.Result.TheVariants.{Ok}
 use Rattle.laws.proofs.Tests.{both_true}
 use Rattle.answer.specs.Rules.{Rule, rule, judged, Every}
-use Rattle.answer.specs.declared.Answer.{Answer}
+use Rattle.answer.specs.Answer.{Answer}
 use Rattle.answer.specs.Values.{refused}
-use Rattle.answer.proofs.Steps.{first_holds, others_hold}
+use Rattle.answer.proofs.Steps.{done-value, done_every, first_holds, others_hold}
 use Rattle.forms.specs.Tables.{TI, numbered, fits}
 use Rattle.forms.specs.Form.{form, table_in}
 use Rattle.forms.specs.Writing.{form_numbered, form_rules}
 use Rattle.forms.proofs.Forms.{two_bytes}
 use Rattle.forms.proofs.Judging.{form-said, form-edition}
 use Rattle.dvb_descriptor.specs.Subtitles.{subtitles_of}
+use Rattle.dvb_descriptor.specs.Entries.{count_in}
 use Rattle.dvb_descriptor.specs.Calls.{most, write_rules, read_rules}
 use Rattle.dvb_descriptor.specs.Internal.{is_other}
 
@@ -90,7 +92,24 @@ written f e =
     let e₆ = others_hold (others_hold (others_hold (others_hold e₂))) in
     (eqb-true (get_or f 0 0) TI (first_holds e₂), leb-true _ 51 (first_holds e₆))
 
+-- where `judge` accepts, with the number of subtitles that it answers
+pub accepted :
+    (f : List ℕ) {first : Answer} {n : ℕ} → first ≡ judged refused (write_rules f) (Ok (length (subtitles_of (table_in f)))) → first ≡ Ok n
+    → (n ≡ length (subtitles_of (table_in f))) × (get_or f 0 0 ≡ TI) × (n ≤ 51)
+accepted f judges e =
+    let n = done-value (write_rules f) _ _ (sym judges ∙ e) in
+    let w = written f (done_every (write_rules f) _ _ (sym judges ∙ e)) in
+    (n, w.0, omega (arith, n, w.1))
+
 -- ---- reading
+
+-- where `judge_bytes` accepts, with the number of entries that it answers
+pub passed :
+    (b : List ℕ) {first : Answer} {k : ℕ} → (first ≡ judged refused (read_rules b) (Ok (count_in b))) × (count_in b ≤ most) → first ≡ Ok k
+    → (k ≡ count_in b) × (k ≤ 51)
+passed b judges e =
+    let k = done-value (read_rules b) _ _ (sym judges.0 ∙ e) in
+    (k, omega (arith, k, judges.1))
 
 module _ (b : List ℕ) (a : Answer) where
   pub read-tag : (get_or b 0 0 ≡ 0x56 → ⊥) → judged refused (read_rules b) a ≡ refused 27 0

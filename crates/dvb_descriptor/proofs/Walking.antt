@@ -1,15 +1,14 @@
 -- The subtitles of a form and of a descriptor, one after the other. Assumes nothing.
-use mathlib.Core.Path.{◌≡◌, ◌∙◌, refl, sym, ap, ap₂}
+use mathlib.Core.Path.{◌≡◌, ◌∙◌, refl, sym, ap}
 use mathlib.Core.Bool.{Bool, true, false}
 use mathlib.Core.List.{List, [], ◌∷◌, ◌++◌}
-use Prim.Native.Nat.{ℕ, zero, suc, ◌+◌, ◌-◌, ◌*◌, ◌/◌, ◌≤◌, ◌<◌}
+use Prim.Native.Nat.{ℕ, zero, suc, ◌+◌, ◌*◌, ◌/◌, ◌≤◌}
 use native.Mathlib.Nat.{add-zero}
 use native.Mathlib.Omega.{arith}
 use borrow.Author.Tests.{eq-eqb, ne_eqb}
 use lib.Dec.{eqb}
 use lib.ListN.{length, get_or, drop, length-append}
 use lib.Seq.{drop-drop, get_or-drop}
-use Rattle.laws.proofs.Countdown.{at_more}
 use Rattle.forms.specs.Tables.{TI, per}
 use Rattle.forms.specs.Form.{form, word_at, words_in, listed, descriptors_in, table_in}
 use Rattle.forms.proofs.Forms.{in_on, listed-step}
@@ -22,11 +21,11 @@ use Rattle.dvb_descriptor.specs.Entries.{type_in, subtitle_in, kept, kept_in}
 
 -- one subtitle on
 pub pair-on :
-    (left i l p : ℕ) (f : List ℕ) → 0 < left → l ≡ word_at f i → p ≡ word_at f (i + 3)
-    → paired (words_in (2 * left) (drop i f)) ≡ subtitle_of l p ∷ paired (words_in (2 * (left - 1)) (drop (i + 6) f))
+    (left others i l p : ℕ) (f : List ℕ) → left ≡ suc others → l ≡ word_at f i → p ≡ word_at f (i + 3)
+    → paired (words_in (2 * left) (drop i f)) ≡ subtitle_of l p ∷ paired (words_in (2 * others) (drop (i + 6) f))
 unfolding paired words_in
-pair-on left i l p f h e e' =
-    let two : 2 * left ≡ suc (suc (2 * (left - 1))) = omega arith in
+pair-on left others i l p f h e e' =
+    let two : 2 * left ≡ suc (suc (2 * others)) = omega arith in
     let six : i + 3 + 3 ≡ i + 6 = omega arith in
     rw (
       two,
@@ -47,14 +46,14 @@ pair-on left i l p f h e e' =
 
 -- one descriptor on
 pub descriptor-on :
-    (left i c : ℕ) (f : List ℕ) → 0 < left → c ≡ get_or f (i + 1) 0
+    (left others i c : ℕ) (f : List ℕ) → left ≡ suc others → c ≡ get_or f (i + 1) 0
     → subtitles_in (descriptors_in 2 left (drop i f))
-    ≡ paired (words_in (2 * c) (drop (i + 2) f)) ++ subtitles_in (descriptors_in 2 (left - 1) (drop (i + (2 + 6 * c)) f))
+    ≡ paired (words_in (2 * c) (drop (i + 2) f)) ++ subtitles_in (descriptors_in 2 others (drop (i + (2 + 6 * c)) f))
 unfolding subtitles_in
-descriptor-on left i c f h e =
+descriptor-on left others i c f h e =
     let six : 3 * (2 * c) ≡ 6 * c = omega arith in
-    ap subtitles_in (in_on 2 left i (get_or f i 0) c (2 * c) f h refl e refl)
-    ∙ ap (λ (n : ℕ). paired (words_in (2 * c) (drop (i + 2) f)) ++ subtitles_in (descriptors_in 2 (left - 1) (drop (i + (2 + n)) f))) six
+    ap subtitles_in (in_on 2 left others i (get_or f i 0) c (2 * c) f h refl e refl)
+    ∙ ap (λ (n : ℕ). paired (words_in (2 * c) (drop (i + 2) f)) ++ subtitles_in (descriptors_in 2 others (drop (i + (2 + n)) f))) six
 
 -- as many subtitles as counted
 pub length-paired : (k : ℕ) (f : List ℕ) → length (paired (words_in (2 * k) f)) ≡ k
@@ -90,11 +89,11 @@ kept-first false s ss = refl
 
 -- one entry on
 pub kept_on :
-    (left i : ℕ) (b : List ℕ) → 0 < left → kept_in left (drop i b) ≡ kept_in 1 (drop i b) ++ kept_in (left - 1) (drop (i + 5) b)
+    (left others i : ℕ) (b : List ℕ) → left ≡ suc others → kept_in left (drop i b) ≡ kept_in 1 (drop i b) ++ kept_in others (drop (i + 5) b)
 unfolding kept_in
-kept_on left i b h =
-    at_more (λ (n : ℕ). kept_in n (drop i b)) left h
-    ∙ (rw (drop-drop 5 i b) (kept-first (eqb (type_in (drop i b)) 2) (subtitle_in (drop i b)) (kept_in (left - 1) (drop (i + 5) b))))
+kept_on left others i b h =
+    ap (λ (n : ℕ). kept_in n (drop i b)) h
+    ∙ (rw (drop-drop 5 i b) (kept-first (eqb (type_in (drop i b)) 2) (subtitle_in (drop i b)) (kept_in others (drop (i + 5) b))))
 
 -- an entry that is a subtitle, and one that isn't
 pub kept-one : (i n : ℕ) (b : List ℕ) → n ≡ get_or b (i + 3) 0 → n / 8 ≡ 2 → kept_in 1 (drop i b) ≡ subtitle_in (drop i b) ∷ []

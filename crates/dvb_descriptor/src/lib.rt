@@ -6,7 +6,7 @@ ghost use Rattle.std.proofs.lemmas.List.Edits.{sets};
 ghost use Rattle.answer.specs.Rules.{judged};
 ghost use Rattle.answer.specs.Values.{refused};
 ghost use Rattle.answer.specs.Writing.{answered, left};
-ghost use Rattle.answer.specs.declared.Answer.TheVariants.{Done};
+ghost use Rattle.std.specs.declared.result.Result.TheVariants.{Ok};
 ghost use Rattle.forms.specs.Form.{form, words_in, table_in};
 ghost use Rattle.forms.specs.Internal.{form_most};
 ghost use Rattle.forms.specs.Tables.{TI as Tables-as-TI};
@@ -15,7 +15,7 @@ ghost use Rattle.dvb_descriptor.specs.Entries.{subtitle_type, five, fives, subti
 ghost use Rattle.dvb_descriptor.specs.Calls.{most, write_rules, descriptor_of, read_rules, read_of};
 ghost use Rattle.dvb_descriptor.specs.Internal.{is_other};
 
-use answer::Answer;
+use answer::{Answer, Reason};
 use forms::{OPENING, TI};
 
 // The longest descriptor: its tag, its length, and 51 entries of five bytes.
@@ -43,19 +43,15 @@ pub fn write_descriptor(table: &[u8], out: &mut [u8]) -> Answer
     ensures answer { result ≡ answered (write_rules table.now) (descriptor_of (table_in table.now)) out.old }
     ensures output { out.new ≡ left (write_rules table.now) (descriptor_of (table_in table.now)) out.old }
 {
-    match judge(table) {
-        Answer::Refused(why) => Answer::Refused(why),
-        Answer::Done(n) => {
-            let need = 2 + 5 * n;
-            if out.len() < need {
-                return answer::refuse(1, 0);
-            }
-            let head = [TAG as u8, (5 * n) as u8];
-            lent_bytes::copy(&head, 0, 2, out, 0);
-            put_descriptors(table, out);
-            Answer::Done(need)
-        }
+    let n = judge(table)?;
+    let need = 2 + 5 * n;
+    if out.len() < need {
+        return Reason::NoRoom.refuse(0);
     }
+    let head = [TAG as u8, (5 * n) as u8];
+    lent_bytes::copy(&head, 0, 2, out, 0);
+    put_descriptors(table, out);
+    Ok(need)
 }
 
 // What a descriptor of these bytes says, to the front of `out`: the number of its subtitles, the number of its other entries, then
@@ -64,54 +60,42 @@ pub fn read_descriptor(bytes: &[u8], out: &mut [u8]) -> Answer
     ensures answer { result ≡ answered (read_rules bytes.now) (read_of bytes.now) out.old }
     ensures output { out.new ≡ left (read_rules bytes.now) (read_of bytes.now) out.old }
 {
-    match judge_bytes(bytes) {
-        Answer::Refused(why) => Answer::Refused(why),
-        Answer::Done(k) => {
-            let need = measure(bytes, k);
-            if out.len() < need {
-                return answer::refuse(1, 0);
-            }
-            let n = (need - 2) / 5;
-            let head = [n as u8, (k - n) as u8];
-            lent_bytes::copy(&head, 0, 2, out, 0);
-            put_subtitles(bytes, k, out);
-            Answer::Done(need)
-        }
+    let k = judge_bytes(bytes)?;
+    let need = measure(bytes, k);
+    if out.len() < need {
+        return Reason::NoRoom.refuse(0);
     }
+    let n = (need - 2) / 5;
+    let head = [n as u8, (k - n) as u8];
+    lent_bytes::copy(&head, 0, 2, out, 0);
+    put_subtitles(bytes, k, out);
+    Ok(need)
 }
 
 // ---- writing
 
 // 22, 13, 15, 26: whether a form is one whose descriptor can be written; where it is, how many subtitles it has.
 fn judge(table: &[u8]) -> Answer
-    ensures { result ≡ judged refused (write_rules table.now) (Done (length (subtitles_of (table_in table.now)))) }
+    ensures { result ≡ judged refused (write_rules table.now) (Ok (length (subtitles_of (table_in table.now)))) }
 {
     if is_other(table) {
-        return answer::refuse(15, 0);
+        return Reason::Value.refuse(0);
     }
-    match forms::judge_form(table) {
-        Answer::Refused(why) => Answer::Refused(why),
-        Answer::Done(_) => {
-            let n = count(table);
-            if MOST < n {
-                return answer::refuse(26, 0);
-            }
-            Answer::Done(n)
-        }
+    forms::judge_form(table)?;
+    let n = count(table);
+    if MOST < n {
+        return Reason::TooMany.refuse(0);
     }
+    Ok(n)
 }
 
 // Whether a form with its opening, of a block number of this edition, is of another kind than TI.
 fn is_other(table: &[u8]) -> bool
     ensures { result ≡ is_other table.now }
 {
-    if table.len() < OPENING {
-        return false;
-    }
-    if !forms::numbered(lent_bytes::byte_at(table, 2) + 256 * lent_bytes::byte_at(table, 3)) {
-        return false;
-    }
-    lent_bytes::byte_at(table, 0) != TI
+    OPENING <= table.len()
+        && forms::numbered(lent_bytes::byte_at(table, 2) + 256 * lent_bytes::byte_at(table, 3))
+        && lent_bytes::byte_at(table, 0) != TI
 }
 
 // How many subtitles a form has, by its length: two bytes of each descriptor are its own.
@@ -127,15 +111,13 @@ fn put_descriptors(table: &[u8], out: &mut [u8])
     requires { get_or table.now 0 0 ≡ Tables-as-TI }
     ensures { out.new ≡ sets out.old 2 (fives subtitle_type (subtitles_of (table_in table.now))) }
 {
-    let mut left = lent_bytes::byte_at(table, 5);
     let mut i = OPENING;
     let mut to = 2;
-    while 0 < left {
+    for _ in 0..lent_bytes::byte_at(table, 5) {
         let entries = lent_bytes::byte_at(table, i + 1);
         put_entries(table, i + 2, entries, out, to);
         i += 2 + 6 * entries;
         to += 5 * entries;
-        left -= 1;
     }
 }
 
@@ -144,15 +126,13 @@ fn put_entries(table: &[u8], from: usize, k: usize, out: &mut [u8], to: usize)
     requires { (from ≤ form_most) × (to ≤ form_most) × (k < 256) }
     ensures { out.new ≡ sets out.old to (fives subtitle_type (paired (words_in (2 * k) (drop from table.now)))) }
 {
-    let mut left = k;
     let mut i = from;
     let mut q = to;
-    while 0 < left {
+    for _ in 0..k {
         let s = subtitle_of(forms::word_at(table, i), forms::word_at(table, i + 3));
         put_five(SUBTITLE, s, out, q);
         i += 6;
         q += 5;
-        left -= 1;
     }
 }
 
@@ -177,20 +157,14 @@ fn subtitle_of(language: usize, reference: usize) -> Subtitle
 
 // 27: whether tag and length fit; where they do, the number of entries.
 fn judge_bytes(bytes: &[u8]) -> Answer
-    ensures { (result ≡ judged refused (read_rules bytes.now) (Done (count_in bytes.now)))
+    ensures { (result ≡ judged refused (read_rules bytes.now) (Ok (count_in bytes.now)))
         × (count_in bytes.now ≤ most) }
 {
     let long = lent_bytes::byte_at(bytes, 1);
-    if lent_bytes::byte_at(bytes, 0) != TAG {
-        return answer::refuse(27, 0);
+    if lent_bytes::byte_at(bytes, 0) != TAG || long % 5 != 0 || bytes.len() != 2 + long {
+        return Reason::NotADescriptor.refuse(0);
     }
-    if long % 5 != 0 {
-        return answer::refuse(27, 0);
-    }
-    if bytes.len() != 2 + long {
-        return answer::refuse(27, 0);
-    }
-    Answer::Done(long / 5)
+    Ok(long / 5)
 }
 
 // How long what is handed out is: the walk that puts it, with no room.
@@ -210,11 +184,9 @@ fn put_subtitles(bytes: &[u8], k: usize, out: &mut [u8]) -> usize
 {
     let mut i = 2;
     let mut to = 2;
-    let mut left = k;
-    while 0 < left {
+    for _ in 0..k {
         to = put_subtitle(bytes, i, out, to);
         i += 5;
-        left -= 1;
     }
     to
 }

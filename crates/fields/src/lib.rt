@@ -13,14 +13,33 @@ ghost use Rattle.fields.specs.Opening.{narrowed, opening_in};
 // The widest field, a language or a page.
 const WIDEST: usize = 24;
 
-// The last place that a number holds. No lent byte is there.
-const LAST: usize = 18446744073709551615;
-
 // The bit reader: the lent bytes with the place that is read next.
 #[derive(Clone, Copy)]
 struct BitReader<'a> {
     pub src: &'a [u8],
     pub at: usize,
+}
+
+impl<'a> BitReader<'a> {
+    // A reader of these bytes that stands at this place.
+    fn new(src: &'a [u8], at: usize) -> BitReader<'a>
+        ensures from { result.src ≡ src.entry }
+        ensures place { result.at ≡ at }
+    {
+        BitReader { src, at }
+    }
+
+    // The w bits from the reader's place on, of which at most 24 are taken; it stands behind all w then.
+    fn take(&mut self, w: usize) -> usize
+        ensures value { result ≡ field self.old.at (min w 24) (compound self.old.src.now) }
+        ensures bound { result < 2 ^ min w 24 }
+        ensures from { self.new.src ≡ self.old.src }
+        ensures place { self.new.at ≡ min (self.old.at + w) (2 ^ 64 - 1) }
+    {
+        let taken = field_at(self.src, self.at, w);
+        self.at = further(self.at, w);
+        taken
+    }
 }
 
 // The fields of tables 15 and 17 up to the loops.
@@ -59,72 +78,16 @@ const COUNT: usize = 6;
 pub fn opening_of(src: &[u8]) -> Opening
     ensures { result ≡ opening_in (compound src.now) }
 {
-    let mut r = begin(src, 0);
-    let checksum = take(r, CHECKSUM);
-    r = step(r, CHECKSUM);
-    let control = take(r, CONTROL);
-    r = step(r, CONTROL);
-    let kind = take(r, KIND);
-    r = step(r, KIND);
-    let access = take(r, ACCESS);
-    r = step(r, ACCESS);
-    let copyright = take(r, COPYRIGHT);
-    r = step(r, COPYRIGHT);
-    r = step(r, RESERVED);
-    let block = take(r, BLOCK);
-    r = step(r, BLOCK);
-    let network = take(r, NETWORK);
-    r = step(r, NETWORK);
-    let count = take(r, COUNT);
-    opened(
-        checksum, control, kind, access, copyright, block, network, count,
-    )
-}
-
-// The w bits of lent bytes from the place `at` on, by a reader that stands there.
-pub fn field_of(src: &[u8], at: usize, w: usize) -> usize
-    ensures { (result ≡ field at (min w 24) (compound src.now)) × (result < 2 ^ min w 24) }
-{
-    take(begin(src, at), w)
-}
-
-// A reader of these bytes that stands at this place.
-fn begin<'a>(src: &'a [u8], at: usize) -> BitReader<'a>
-    ensures { (result.src ≡ src.entry) × (result.at ≡ at) }
-{
-    BitReader { src, at }
-}
-
-// The w bits from a reader's place on; at most 24 are taken.
-fn take<'a>(r: BitReader<'a>, w: usize) -> usize
-    ensures { (result ≡ field r.entry.at (min w 24) (compound r.entry.src.now)) × (result < 2 ^ min w 24) }
-{
-    field_at(r.src, r.at, w)
-}
-
-// The reader w bits further on.
-fn step<'a>(r: BitReader<'a>, w: usize) -> BitReader<'a>
-    ensures { (result.src ≡ r.entry.src) × (result.at ≡ min (r.entry.at + w) (2 ^ 64 - 1)) }
-{
-    BitReader {
-        src: r.src,
-        at: further(r.at, w),
-    }
-}
-
-// The fields that were taken, each as far as its type goes.
-fn opened(
-    checksum: usize,
-    control: usize,
-    kind: usize,
-    access: usize,
-    copyright: usize,
-    block: usize,
-    network: usize,
-    count: usize,
-) -> Opening
-    ensures { result ≡ narrowed checksum control kind access copyright block network count }
-{
+    let mut r = BitReader::new(src, 0);
+    let checksum = r.take(CHECKSUM);
+    let control = r.take(CONTROL);
+    let kind = r.take(KIND);
+    let access = r.take(ACCESS);
+    let copyright = r.take(COPYRIGHT);
+    let _reserved = r.take(RESERVED);
+    let block = r.take(BLOCK);
+    let network = r.take(NETWORK);
+    let count = r.take(COUNT);
     Opening {
         checksum: (checksum % 256) as u8,
         control: (control % 65536) as u16,
@@ -137,23 +100,29 @@ fn opened(
     }
 }
 
+// The w bits of lent bytes from the place `at` on, by a reader that stands there.
+pub fn field_of(src: &[u8], at: usize, w: usize) -> usize
+    ensures { (result ≡ field at (min w 24) (compound src.now)) × (result < 2 ^ min w 24) }
+{
+    BitReader::new(src, at).take(w)
+}
+
 // The place w bits further on; the last one where there is none so far.
 pub(crate) fn further(at: usize, w: usize) -> usize
     ensures { result ≡ min (at + w) (2 ^ 64 - 1) }
 {
-    if LAST - at < w { LAST } else { at + w }
+    at.saturating_add(w)
 }
 
 // The w bits from the place `at` on; at most 24 are taken. A word is taken at once where its nibbles are there.
 fn field_at(s: &[u8], at: usize, w: usize) -> usize
     ensures { (result ≡ field at (min w 24) (compound s.now)) × (result < 2 ^ min w 24) }
 {
-    if w == WIDEST {
-        if at / 4 + 7 <= s.len() {
-            return word_at(s, at);
-        }
+    if w == WIDEST && at / 4 + 7 <= s.len() {
+        word_at(s, at)
+    } else {
+        some_at(s, at, w)
     }
-    some_at(s, at, w)
 }
 
 // The 24 bits from the place `at` on: seven nibbles hold them wherever in the first they begin, so that the compiler knows how many.
@@ -163,10 +132,8 @@ fn word_at(s: &[u8], at: usize) -> usize
 {
     let first = at / 4;
     let end = first + 7;
-    let mut i = end;
     let mut n: usize = 0;
-    while first < i {
-        i -= 1;
+    for i in (first..end).rev() {
         n = n * 16 + nibble_in(s, i);
     }
     (n >> (at % 4)) % (1 << WIDEST)
@@ -176,33 +143,21 @@ fn word_at(s: &[u8], at: usize) -> usize
 fn some_at(s: &[u8], at: usize, w: usize) -> usize
     ensures { (result ≡ field at (min w 24) (compound s.now)) × (result < 2 ^ min w 24) }
 {
-    let wide = taken(w);
+    let wide = w.min(WIDEST);
     let first = at / 4;
     let end = first + (at % 4 + wide + 3) / 4;
-    let mut i = end;
     let mut n: usize = 0;
-    while first < i {
-        i -= 1;
+    for i in (first..end).rev() {
         n = n * 16 + nibble_at(s, i);
     }
     (n >> (at % 4)) % (1 << wide)
-}
-
-// The bits that are taken where w are asked.
-fn taken(w: usize) -> usize
-    ensures { result ≡ min w 24 }
-{
-    if WIDEST < w { WIDEST } else { w }
 }
 
 // The nibble i of the control data; 0 past its end.
 fn nibble_at(s: &[u8], i: usize) -> usize
     ensures { result ≡ get_or (map nib s.now) i 0 % 16 }
 {
-    if i < s.len() {
-        return nibble_in(s, i);
-    }
-    0
+    if i < s.len() { nibble_in(s, i) } else { 0 }
 }
 
 // The nibble i, which is there.

@@ -20,10 +20,11 @@ pub fn lay(pen: Pen, w: usize, v: usize, out: &mut [u8]) -> Pen
     ensures { (result ≡ moved pen ((min w 32, v) ∷ [])) × (out.new ≡ inked pen ((min w 32, v) ∷ []) out.old) }
 {
     let first = pen.held % 4;
-    let wide = most(w);
+    let wide = w.min(WIDEST);
     let mut at = pen.at;
     let mut held = first + wide;
     let mut bits = pen.bits % (1 << first) + ((v % (1 << wide)) << first);
+    // Kept: a nibble goes as long as four bits are held; the pen's place and bits go on with it, and a count of nibbles is no plainer.
     while 4 <= held {
         lent_bytes::put(octet::image((bits % 16) as u8), out, at);
         bits /= 16;
@@ -31,11 +32,4 @@ pub fn lay(pen: Pen, w: usize, v: usize, out: &mut [u8]) -> Pen
         at = crate::further(at, 1);
     }
     Pen { at, held, bits }
-}
-
-// The bits that are laid where w are asked.
-fn most(w: usize) -> usize
-    ensures { result ≡ min w 32 }
-{
-    if WIDEST < w { WIDEST } else { w }
 }

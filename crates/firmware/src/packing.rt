@@ -1,18 +1,20 @@
-// What the unit walk finds, as one number: the firmware's C code can't take an enum.
+// What the unit walk finds, as one number: the firmware's C code can't take an enum or a Result.
 ghost use Rattle.std.specs.Prelude.{◌≡◌, ◌+◌, ◌*◌, ◌%◌, ◌^◌};
 ghost use Rattle.firmware.specs.Values.{packed};
 
+use answer::Refusal;
 use units::DataUnit;
 
 // What the walk finds as one number, for C: specs/Values.antt has its layout.
-pub(crate) fn pack(unit: DataUnit) -> u64
+#[tactic(auto, unfolding(crate::specs::Values::packed))]
+pub(crate) fn pack(unit: Result<DataUnit, Refusal>) -> u64
     ensures { result ≡ packed unit }
 {
     match unit {
-        DataUnit::End => 0,
-        DataUnit::Text(next) => joined(254, next),
-        DataUnit::Stuffing(next) => joined(255, next),
-        DataUnit::Refused(r) => joined(r.no, r.at),
+        Ok(DataUnit::End) => 0,
+        Ok(DataUnit::Text(next)) => joined(254, next),
+        Ok(DataUnit::Stuffing(next)) => joined(255, next),
+        Err(r) => joined(r.no, r.at),
     }
 }
 

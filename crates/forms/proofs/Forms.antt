@@ -1,6 +1,7 @@
 -- A table and its form in lent bytes are each other's inverse. Assumes nothing.
 use mathlib.Core.Path.{◌≡◌, ◌∙◌, refl, sym, ap, ap₂}
 use mathlib.Core.Bool.{Bool, true, false}
+use Rattle.std.proofs.Common.{◌⊎◌, inl, inr}
 use mathlib.Core.List.{List, [], ◌∷◌, ◌++◌}
 use Prim.Native.Nat.{ℕ, zero, suc, ◌+◌, ◌-◌, ◌*◌, ◌/◌, ◌%◌, ◌^◌, ◌≤◌, ◌<◌}
 use native.Mathlib.Nat.{add-zero, mod-eq_of_lt, mul-div_cancel_left}
@@ -12,7 +13,6 @@ use lib.Seq.{drop-drop, drop_at, drop-cons, get_or-drop}
 use Rattle.laws.specs.Pick.{both, either}
 use Rattle.laws.specs.Bytes.{Bytes}
 use Rattle.laws.proofs.Byted.{bytes_drop}
-use Rattle.laws.proofs.Countdown.{at_more}
 use Rattle.laws.proofs.Tests.{both_true}
 use Rattle.fields.specs.Fields.{alike, fitting, parts, whole}
 use Rattle.fields.proofs.Laid.{fitting-append, whole_parts, whole-first, whole-next, whole_lt}
@@ -180,25 +180,25 @@ in_form_lem f b h =
 
 -- one descriptor on: the one at the place `at`, then the others
 pub in_on :
-    (each left at id c words : ℕ) (f : List ℕ) → 0 < left → id ≡ get_or f at 0 → c ≡ get_or f (at + 1) 0 → words ≡ each * c
+    (each left others at id c words : ℕ) (f : List ℕ) → left ≡ suc others → id ≡ get_or f at 0 → c ≡ get_or f (at + 1) 0 → words ≡ each * c
     → descriptors_in each left (drop at f)
-    ≡ record { id = id; words = words_in words (drop (at + 2) f) } ∷ descriptors_in each (left - 1) (drop (at + (2 + 3 * words)) f)
+    ≡ record { id = id; words = words_in words (drop (at + 2) f) } ∷ descriptors_in each others (drop (at + (2 + 3 * words)) f)
 unfolding descriptors_in
-in_on each left at id c words f h e₀ e₁ e₂ =
+in_on each left others at id c words f h e₀ e₁ e₂ =
     let i : get_or (drop at f) 0 0 ≡ id = get_or-drop at f 0 0 ∙ ap (λ (x : ℕ). get_or f x 0) (add-zero at) ∙ sym e₀ in
     let w : each * get_or (drop at f) 1 0 ≡ words = ap (λ (x : ℕ). each * x) (get_or-drop at f 1 0 ∙ sym e₁) ∙ sym e₂ in
-    at_more (λ (n : ℕ). descriptors_in each n (drop at f)) left h ∙ (rw (w, i, drop-drop 2 at f, drop-drop (2 + 3 * words) at f))
+    ap (λ (n : ℕ). descriptors_in each n (drop at f)) h ∙ (rw (w, i, drop-drop 2 at f, drop-drop (2 + 3 * words) at f))
 
 -- as the form's length goes
 pub form-on :
-    (kind left at c words whole : ℕ) (f : List ℕ) → 0 < left → c ≡ get_or f (at + 1) 0 → words ≡ per kind * c
+    (kind left others at c words whole : ℕ) (f : List ℕ) → left ≡ suc others → c ≡ get_or f (at + 1) 0 → words ≡ per kind * c
     → at + length (listed kind (descriptors_in (per kind) left (drop at f))) ≡ whole
-    → at + (2 + 3 * words) + length (listed kind (descriptors_in (per kind) (left - 1) (drop (at + (2 + 3 * words)) f))) ≡ whole
-form-on kind left at c words whole f h e₁ e₂ inv =
+    → at + (2 + 3 * words) + length (listed kind (descriptors_in (per kind) others (drop (at + (2 + 3 * words)) f))) ≡ whole
+form-on kind left others at c words whole f h e₁ e₂ inv =
     let step :
     length (listed kind (descriptors_in (per kind) left (drop at f)))
-    ≡ 2 + 3 * words + length (listed kind (descriptors_in (per kind) (left - 1) (drop (at + (2 + 3 * words)) f))) =
-    rw (in_on (per kind) left at (get_or f at 0) c words f h refl e₁ e₂, length-listed, length_words) in
+    ≡ 2 + 3 * words + length (listed kind (descriptors_in (per kind) others (drop (at + (2 + 3 * words)) f))) =
+    rw (in_on (per kind) left others at (get_or f at 0) c words f h refl e₁ e₂, length-listed, length_words) in
     omega (arith, step)
 
 -- words of three bytes always fit
@@ -211,17 +211,41 @@ words_fit (suc k) f =
 
 -- what of a descriptor can be out of its field: its id and its number of entries
 pub fits_on :
-    (kind left at id c words : ℕ) (f : List ℕ) → 0 < left → id ≡ get_or f at 0 → c ≡ get_or f (at + 1) 0 → words ≡ per kind * c
+    (kind left others at id c words : ℕ) (f : List ℕ) → left ≡ suc others → id ≡ get_or f at 0 → c ≡ get_or f (at + 1) 0 → words ≡ per kind * c
     → fitting (loops kind (descriptors_in (per kind) left (drop at f)))
     ≡ both (ltb id 64)
-    (both (ltb c 16) (fitting (loops kind (descriptors_in (per kind) (left - 1) (drop (at + (2 + 3 * words)) f)))))
+    (both (ltb c 16) (fitting (loops kind (descriptors_in (per kind) others (drop (at + (2 + 3 * words)) f)))))
 unfolding fitting loops
-fits_on kind left at id c words f h e₀ e₁ e₂ =
+fits_on kind left others at id c words f h e₀ e₁ e₂ =
     let ws = words_in words (drop (at + 2) f) in
-    let rest = loops kind (descriptors_in (per kind) (left - 1) (drop (at + (2 + 3 * words)) f)) in
-    rw (in_on (per kind) left at id c words f h e₀ e₁ e₂, entries_in_lem kind c words (drop (at + 2) f) e₂)
+    let rest = loops kind (descriptors_in (per kind) others (drop (at + (2 + 3 * words)) f)) in
+    rw (in_on (per kind) left others at id c words f h e₀ e₁ e₂, entries_in_lem kind c words (drop (at + 2) f) e₂)
     (ap (λ (b : Bool). both (ltb id 64) (both (ltb c 16) b))
     (fitting-append (alike 24 ws) rest ∙ ap (λ (b : Bool). both b (fitting rest)) (words_fit words (drop (at + 2) f))))
+
+-- one whose id or number of entries is out of its field
+pub fits_out :
+    (kind left others at id c : ℕ) (f : List ℕ) → left ≡ suc others → id ≡ get_or f at 0 → c ≡ get_or f (at + 1) 0
+    → (63 < id) ⊎ ((id ≤ 63) × (15 < c))
+    → fitting (loops kind (descriptors_in (per kind) left (drop at f))) ≡ false
+fits_out kind left others at id c f h e₀ e₁ (inl big) =
+    let b : 64 ≤ id = omega arith in
+    fits_on kind left others at id c (per kind * c) f h e₀ e₁ refl ∙ rw (le-ltb id 64 b)
+fits_out kind left others at id c f h e₀ e₁ (inr (low, many)) =
+    let l : id < 64 = omega arith in
+    let b : 16 ≤ c = omega arith in
+    fits_on kind left others at id c (per kind * c) f h e₀ e₁ refl ∙ rw (lt-ltb id 64 l, le-ltb c 16 b)
+
+-- one whose id and number of entries fit
+pub fits_in :
+    (kind left others at id c words : ℕ) (f : List ℕ) → left ≡ suc others → id ≡ get_or f at 0 → c ≡ get_or f (at + 1) 0 → words ≡ per kind * c
+    → id ≤ 63 → c ≤ 15
+    → fitting (loops kind (descriptors_in (per kind) left (drop at f)))
+    ≡ fitting (loops kind (descriptors_in (per kind) others (drop (at + (2 + 3 * words)) f)))
+fits_in kind left others at id c words f h e₀ e₁ e₂ low few =
+    let l : id < 64 = omega arith in
+    let m : c < 16 = omega arith in
+    fits_on kind left others at id c words f h e₀ e₁ e₂ ∙ rw (lt-ltb id 64 l, lt-ltb c 16 m)
 
 -- ---- what of a form can be out of its field
 

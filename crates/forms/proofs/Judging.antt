@@ -9,7 +9,7 @@ use lib.Dec.{ltb}
 use lib.ListN.{length, get_or}
 use Rattle.laws.proofs.Tests.{either_true}
 use Rattle.answer.specs.Rules.{rule, judged}
-use Rattle.answer.specs.declared.Answer.{Answer}
+use Rattle.answer.specs.Answer.{Answer}
 use Rattle.answer.specs.Values.{refused}
 use Rattle.forms.specs.Tables.{known, numbered, fits}
 use Rattle.forms.specs.Form.{form, table_in}

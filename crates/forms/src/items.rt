@@ -5,6 +5,7 @@ ghost use Rattle.forms.specs.Kinds.{per, known as kinds_known, numbered as kinds
 ghost use Rattle.forms.specs.Words.{word_at};
 
 // 11.12.3: the datatype_id of a Subtitle and of a Language table.
+// Kept: kinds are numbers: a form's first byte is any number, and `known` and `per` of specs/Kinds.antt are said of numbers.
 pub const TI: usize = 8;
 
 const LI: usize = 7;
@@ -13,20 +14,14 @@ const LI: usize = 7;
 pub fn known(kind: usize) -> bool
     ensures { result ≡ kinds_known kind }
 {
-    if kind == TI {
-        return true;
-    }
-    kind == LI
+    matches!(kind, TI | LI)
 }
 
 // Whether a table of this edition has this block number: 0000 or 8000 hex (SCOPE 22.1).
 pub fn numbered(block: usize) -> bool
     ensures { result ≡ kinds_numbered block }
 {
-    if block != 0 {
-        return block == 0x8000;
-    }
-    true
+    matches!(block, 0 | 0x8000)
 }
 
 // The words that so many entries of a kind have. Only a byte's worth of entries counts.
@@ -34,10 +29,7 @@ pub fn words_of(kind: usize, entries: usize) -> usize
     ensures { (result ≡ per kind * (entries % 256)) × (result ≤ 2 * (entries % 256)) }
 {
     let n = entries % 256;
-    if kind == TI {
-        return 2 * n;
-    }
-    n
+    if kind == TI { 2 * n } else { n }
 }
 
 // The word at a place of a form, high byte first. Past its end a form reads as zeros.

@@ -8,13 +8,14 @@ use Prim.Native.Nat.{ℕ, ◌≤◌, ◌<◌}
 use borrow.Author.Tests.{ltb-true, lt-ltb, eqb-true}
 use lib.ListN.{length, get_or, drop}
 use lib.Pow.{pow_pos}
+use Rattle.std.specs.declared.result.Result.TheVariants.{Ok}
 use Rattle.laws.specs.Bytes.{Bytes}
 use Rattle.answer.specs.Rules.{Every, more}
 use Rattle.answer.specs.Writing.{answered, left}
 use Rattle.answer.proofs.Steps.{first_holds, others_hold}
 use Rattle.blocks.specs.Outcome.{accepted}
-use Rattle.blocks.specs.declared.Read.{Read}
-use Rattle.blocks.specs.declared.Read.TheVariants.{Taken}
+use Rattle.blocks.specs.Taking.{Read}
+use Rattle.blocks.specs.Taking.{taken}
 use Rattle.blocks.specs.Values.{counted}
 use Rattle.kinds.specs.Kind.{Content, fill, fits as sendable}
 use Rattle.kinds.specs.Block.{record_with}
@@ -109,12 +110,12 @@ call_leaves application r old = left (read_rules application r) (form (found r))
 -- a record that says i, with room: i's form stands at the front of the output, and the count is its own
 pub call-takes :
     (application : ℕ) (r old : List ℕ) (i : Information) → Says application r i → length (form i) ≤ length old
-    → (call_reads application r old ≡ Taken (length (form i)) (mended_control r)) × (call_leaves application r old ≡ form i ++ drop (length (form i)) old)
+    → (call_reads application r old ≡ Ok (taken (length (form i)) (mended_control r))) × (call_leaves application r old ≡ form i ++ drop (length (form i)) old)
 call-takes application r old i s h = KindsCalls.call-takes information owed value form application r old i s h
 
 -- a record that the call accepts says the information whose form it hands out, and the count is its own
 pub call_says :
-    (application : ℕ) (r old : List ℕ) (n m : ℕ) → Bytes r → call_reads application r old ≡ Taken n m
+    (application : ℕ) (r old : List ℕ) (n m : ℕ) → Bytes r → call_reads application r old ≡ Ok (taken n m)
     → Says application r (found r)
     × (n ≡ length (form (found r)))
     × (m ≡ mended_control r)
@@ -124,7 +125,7 @@ call_says application r old n m b e = KindsCalls.call_says information owed valu
 -- a form that writing takes, written and read again by calls with room: it comes back byte for byte, with nothing mended
 pub call_back :
     (application : ℕ) (f old : List ℕ) → Bytes f → Every (write_rules application f) → length f ≤ length old
-    → (call_reads application (record_of application (information_in f)) old ≡ Taken (length f) 0)
+    → (call_reads application (record_of application (information_in f)) old ≡ Ok (taken (length f) 0))
     × (call_leaves application (record_of application (information_in f)) old ≡ f ++ drop (length f) old)
 unfolding form_rules
 call_back application f old b e h =
@@ -132,10 +133,10 @@ call_back application f old b e h =
     let same : form i ≡ f = (writes-back-form application f b e).1 in
     let p = KindsCalls.call_back information owed value form application 0 (content i) old (ltb-true application 32 (first_holds e))
     (first_holds (others_hold (others_hold (others_hold (others_hold e))))) (pow_pos (fill information (content i))) (rw same h) in
-    (p.0 ∙ ap (λ (x : List ℕ). Taken (length x) 0) same, p.1 ∙ ap (λ (x : List ℕ). x ++ drop (length x) old) same)
+    (p.0 ∙ ap (λ (x : List ℕ). Ok (taken (length x) 0)) same, p.1 ∙ ap (λ (x : List ℕ). x ++ drop (length x) old) same)
 
 -- and what a call hands out writing takes, as the same information
 pub call-writable :
-    (application : ℕ) (r old : List ℕ) (n m : ℕ) → Bytes r → call_reads application r old ≡ Taken n m
+    (application : ℕ) (r old : List ℕ) (n m : ℕ) → Bytes r → call_reads application r old ≡ Ok (taken n m)
     → Every (write_rules application (form (found r))) × (information_in (form (found r)) ≡ found r)
 call-writable application r old n m b e = says_writable application r (found r) (call_says application r old n m b e).0

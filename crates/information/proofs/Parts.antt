@@ -6,12 +6,12 @@ use Prim.Native.Nat.{ℕ, ◌+◌, ◌-◌, ◌/◌, ◌≤◌}
 use native.Mathlib.Omega.{arith}
 use lib.ListN.{length, take, drop, length-take, length-drop}
 use lib.Seq.{drop-drop, length-take-le}
+use Rattle.std.specs.declared.result.Result.TheVariants.{Ok, Err}
 use Rattle.laws.proofs.Lists.{part-rest, part_of}
 use Rattle.answer.specs.Rules.{Rule, judged}
 use Rattle.answer.specs.Values.{refused}
 use Rattle.answer.specs.Writing.{answered, after, left, room}
-use Rattle.answer.specs.declared.Answer.{Answer}
-use Rattle.answer.specs.declared.Answer.TheVariants.{Done, Refused}
+use Rattle.answer.specs.Answer.{Answer}
 use Rattle.answer.specs.declared.Refusal.{Refusal}
 use Rattle.answer.proofs.Steps.{done_every, done-value, ends, goes_on}
 use Rattle.answer.proofs.Lent.{front-holds}
@@ -29,7 +29,7 @@ use Rattle.information.specs.Internal.{held}
 use Rattle.information.proofs.Lengths.{held_carried}
 
 module _ (application : ℕ) (r : List ℕ) {first : Answer}
-    (judges : first ≡ judged refused (sum_rules (one_of 1 1) true application r) (Done (length (control_part true (drop 4 r))))) where
+    (judges : first ≡ judged refused (sum_rules (one_of 1 1) true application r) (Ok (length (control_part true (drop 4 r))))) where
   abbrev sums : List Rule
   sums = sum_rules (one_of 1 1) true application r
 
@@ -44,14 +44,14 @@ module _ (application : ℕ) (r : List ℕ) {first : Answer}
 
   -- a rule up to the checksum refuses
   pub sum-refused :
-      (old : List ℕ) {w : Refusal} → first ≡ Refused w
-      → (Refused w ≡ answered (read_rules application r) bytes old) × (old ≡ left (read_rules application r) bytes old)
+      (old : List ℕ) {w : Refusal} → first ≡ Err w
+      → (Err w ≡ answered (read_rules application r) bytes old) × (old ≡ left (read_rules application r) bytes old)
   sum-refused old e =
-      let a = ends sums (lengths ++ room bytes old ∷ []) _ judges (Done (length bytes)) e
-      ∙ ap (λ (rs : List Rule). judged refused rs (Done (length bytes))) (sym (append_assoc sums lengths (room bytes old ∷ []))) in
+      let a = ends sums (lengths ++ room bytes old ∷ []) _ judges (Ok (length bytes)) e
+      ∙ ap (λ (rs : List Rule). judged refused rs (Ok (length bytes))) (sym (append_assoc sums lengths (room bytes old ∷ []))) in
       (a, ap (λ (x : Answer). after x bytes old) a)
 
-  module _ {n : ℕ} (e : first ≡ Done n) where
+  module _ {n : ℕ} (e : first ≡ Ok n) where
     long : n ≡ length (control_part true raw)
     long = done-value sums _ n (sym judges ∙ e)
 
@@ -103,8 +103,8 @@ module _ (application : ℕ) (r : List ℕ) {first : Answer}
         let two : strings ≡ string_part true raw = strings-lent ∙ strings-cut in
         ap₂ (λ (x : ℕ) (i : Information). answered (length_rules information x (carried_by information control strings)) (form i) old) lent-long (sym (held_carried control strings))
         ∙ ap₂ (λ (x y : List ℕ). answered (length_rules information (head_of r / 32) (carried_by information x y)) (form (value (content_of (carried_by information x y)))) old) one two
-        ∙ goes_on sums (lengths ++ room bytes old ∷ []) _ judges (Done (length bytes)) e
-        ∙ ap (λ (rs : List Rule). judged refused rs (Done (length bytes))) (sym (append_assoc sums lengths (room bytes old ∷ [])))
+        ∙ goes_on sums (lengths ++ room bytes old ∷ []) _ judges (Ok (length bytes)) e
+        ∙ ap (λ (rs : List Rule). judged refused rs (Ok (length bytes))) (sym (append_assoc sums lengths (room bytes old ∷ [])))
 
     -- and of the output it is that which they leave
     pub sum-leaves :

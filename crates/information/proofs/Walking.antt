@@ -8,7 +8,8 @@ use native.Mathlib.Omega.{arith}
 use lib.ListN.{length, get_or, take, drop, set, drop_of_length-le}
 use lib.Pow.{shr-shr}
 use lib.Seq.{sets, drop-cons, drop-drop, get_or-drop}
-use Rattle.laws.proofs.Countdown.{at_none, at_more}
+use Rattle.std.specs.Int.{w64, to_le_bytes}
+use Rattle.laws.proofs.Countdown.{at_none}
 use Rattle.laws.proofs.Lists.{sets-append}
 use Rattle.fields.specs.Fields.{field, parts}
 use Rattle.fields.proofs.Laid.{length-parts, field_past}
@@ -17,12 +18,12 @@ use Rattle.information_forms.specs.Rows.{cut, bytes_of, row_form}
 use Rattle.information.specs.Internal.{row_at, spoken}
 
 -- the k lowest bytes of a number
-pub value_bytes : (v k : ℕ) → k ≤ 3 → take k (v % 256 ∷ v / 256 % 256 ∷ v / 256 / 256 % 256 ∷ []) ≡ parts 8 k v
+pub value_bytes : (v k : ℕ) → k ≤ 3 → take k (to_le_bytes w64 v) ≡ parts 8 k v
 unfolding parts
 value_bytes v zero h = refl
 value_bytes v (suc zero) h = refl
 value_bytes v (suc (suc zero)) h = refl
-value_bytes v (suc (suc (suc zero))) h = refl
+value_bytes v (suc (suc (suc zero))) h = let e : v / 65536 ≡ v / 256 / 256 = omega arith in rw e
 value_bytes v (suc (suc (suc (suc k)))) h = absurd (omega arith)
 
 -- ---- a row
@@ -59,13 +60,17 @@ code_at ss i = get_or-drop i (spoken ss) 0 0 ∙ ap (λ (k : ℕ). get_or (spoke
     go (x ∷ ss) (suc i) = go ss i
 
 pub codes-on :
-    (ss : List ℕ) (left i q b : ℕ) (out out' whole : List ℕ) → 0 < left → b ≡ get_or ss i 0 → out' ≡ set out q (b % 128)
-    → sets out q (codes_in left (drop i (spoken ss))) ≡ whole
-    → sets out' (q + 1) (codes_in (left - 1) (drop (i + 1) (spoken ss))) ≡ whole
+    (ss : List ℕ) (count i from to b : ℕ) (out out' whole : List ℕ) → i < count → b ≡ get_or ss (from + i) 0 → out' ≡ set out (to + i) (b % 128)
+    → sets out (to + i) (codes_in (count - i) (drop (from + i) (spoken ss))) ≡ whole
+    → sets out' (to + (i + 1)) (codes_in (count - (i + 1)) (drop (from + (i + 1)) (spoken ss))) ≡ whole
 unfolding codes_in
-codes-on ss left i q b out out' whole some e eo inv =
-    rw (eo, e, add-one q, ← (drop-drop 1 i (spoken ss)), ← (code_at ss i))
-    (sym (at_more (λ (k : ℕ). sets out q (codes_in k (drop i (spoken ss)))) left some) ∙ inv)
+codes-on ss count i from to b out out' whole some e eo inv =
+    let cs = spoken ss in
+    let up : count - i ≡ suc (count - (i + 1)) = omega arith in
+    let q : to + (i + 1) ≡ suc (to + i) = omega arith in
+    let p : from + (i + 1) ≡ from + i + 1 = omega arith in
+    rw (eo, e, q, p, ← (drop-drop 1 (from + i) cs), ← (code_at ss (from + i)))
+    (sym (ap (λ (k : ℕ). sets out (to + i) (codes_in k (drop (from + i) cs))) up) ∙ inv)
 
 pub codes-end : (cs : List ℕ) (left q : ℕ) (out whole : List ℕ) → left ≤ 0 → sets out q (codes_in left cs) ≡ whole → out ≡ whole
 unfolding codes_in

@@ -8,7 +8,7 @@ ghost use Rattle.std.specs.Prelude.{◌≡◌, ◌+◌, ◌^◌, ◌<◌, length
 ghost use Rattle.answer.specs.Rules.{judged};
 ghost use Rattle.answer.specs.Values.{refused};
 ghost use Rattle.answer.specs.Writing.{answered, left};
-ghost use Rattle.answer.specs.declared.Answer.TheVariants.{Done};
+ghost use Rattle.std.specs.declared.result.Result.TheVariants.{Ok};
 ghost use Rattle.blocks.specs.Block.{head_length};
 ghost use Rattle.blocks.specs.Values.{counted};
 ghost use Rattle.kinds.specs.Reading.{carried_by, length_rules};
@@ -17,8 +17,8 @@ ghost use Rattle.information_forms.specs.Form.{form};
 ghost use Rattle.information.specs.Reading.{read_rules, information_read, mended_control};
 ghost use Rattle.information.specs.Internal.{held};
 
-use answer::Answer;
-use blocks::{HEAD, Read};
+use answer::{Answer, Reason};
+use blocks::{HEAD, Read, Taken};
 use information_forms::{NETWORK, OPENING};
 
 // The datatype_id of Application Information.
@@ -32,13 +32,9 @@ pub fn read_information(application: u8, rec: &[u8], out: &mut [u8]) -> Read
     ensures output { out.new
         ≡ left (read_rules application rec.now) (form (information_read (drop head_length rec.now))) out.old }
 {
-    match read_form(application, rec, out) {
-        Answer::Refused(why) => Read::Refused(why),
-        Answer::Done(written) => {
-            let mended = kinds::mended_in(true, rec) as u16;
-            Read::Taken { written, mended }
-        }
-    }
+    let written = read_form(application, rec, out)?;
+    let mended = kinds::mended_in(true, rec) as u16;
+    Ok(Taken { written, mended })
 }
 
 // The same but for the count.
@@ -48,13 +44,9 @@ fn read_form(application: u8, rec: &[u8], out: &mut [u8]) -> Answer
     ensures output { out.new
         ≡ left (read_rules application rec.now) (form (information_read (drop head_length rec.now))) out.old }
 {
-    match kinds::judge(application, AI, AI, true, rec) {
-        Answer::Refused(why) => Answer::Refused(why),
-        Answer::Done(length) => {
-            let end = HEAD + length;
-            read_parts(&rec[HEAD..end], &rec[end..], out)
-        }
-    }
+    let length = kinds::judge(application, AI, AI, true, rec)?;
+    let end = HEAD + length;
+    read_parts(&rec[HEAD..end], &rec[end..], out)
 }
 
 // What is left to be judged of control bytes and string bytes, then the room, then the form.
@@ -71,16 +63,12 @@ fn read_parts(control: &[u8], strings: &[u8], out: &mut [u8]) -> Answer
         (carried_by information control.now strings.now))
         (form (held control.now strings.now)) out.old }
 {
-    match judge_lengths(control, strings) {
-        Answer::Refused(why) => Answer::Refused(why),
-        Answer::Done(need) => {
-            if out.len() < need {
-                return answer::refuse(1, 0);
-            }
-            spelling::spell(control, strings, out);
-            Answer::Done(need)
-        }
+    let need = judge_lengths(control, strings)?;
+    if out.len() < need {
+        return Reason::NoRoom.refuse(0);
     }
+    spelling::spell(control, strings, out);
+    Ok(need)
 }
 
 // 14: where both sizes fit, the bytes of the form. It is spelled into no room to find how many codes its names have.
@@ -90,17 +78,17 @@ fn judge_lengths(control: &[u8], strings: &[u8]) -> Answer
         ≡ judged refused
         (length_rules information (length control.now + length strings.now)
         (carried_by information control.now strings.now))
-        (Done (length (form (held control.now strings.now)))) }
+        (Ok (length (form (held control.now strings.now)))) }
 {
     let mut nowhere = [0u8; 0];
     let names = spelling::spell(control, strings, &mut nowhere);
     let networks = fields::field_of(control, spelling::NETWORKS, 8);
     let size = 20 + (25 * networks + networks % 2) / 2;
     if fields::field_of(control, 8, 10) != size {
-        return answer::refuse(14, 0);
+        return Reason::Parts.refuse(0);
     }
     if control.len() + strings.len() != 2 * size + names {
-        return answer::refuse(14, 0);
+        return Reason::Parts.refuse(0);
     }
-    Answer::Done(OPENING + NETWORK * networks + names)
+    Ok(OPENING + NETWORK * networks + names)
 }

@@ -9,7 +9,7 @@ ghost use Rattle.information_forms.specs.Information.{AI, opening_widths, names}
 ghost use Rattle.information_forms.specs.Form.{network_form, form};
 ghost use Rattle.information.specs.Internal.{row_at, spoken, networks_from, network_from, named, held};
 
-use information_forms::{AI, NETWORK, OPENING};
+use information_forms::{AI, NETWORK, NETWORK_WIDTHS, OPENING, OPENING_WIDTHS};
 
 // The bits of control data before the row of values, before the number of networks, before the length of the service's name, and before
 // the networks.
@@ -45,7 +45,7 @@ fn put_opening(control: &[u8], out: &mut [u8])
         (AI ∷ field 26 1 (compound control.now) ∷ row_at opening_widths (compound control.now / 2 ^ 28)) }
 {
     let copyright = fields::field_of(control, 26, 1);
-    let widths = [6u8, 6, 16, 16, 16, 16, 16, 16, 8, 8, 5, 1];
+    let widths = OPENING_WIDTHS;
     put_value(AI + 256 * copyright, 2, out, 0);
     put_row(control, FRONT, &widths, out, 2);
 }
@@ -57,11 +57,9 @@ fn put_networks(control: &[u8], strings: &[u8], count: usize, first: usize, out:
         × (out.new
         ≡ sets out.old (20 + first) (each network_form (networks_from count 0 first control.now strings.now))) }
 {
-    let mut j = 0;
     let mut from = first;
-    while j < count {
+    for j in 0..count {
         from = put_network(control, strings, j, from, out);
-        j += 1;
     }
     from
 }
@@ -75,7 +73,7 @@ fn put_network(control: &[u8], strings: &[u8], j: usize, from: usize, out: &mut 
 {
     let at = LIST + BITS * j;
     let to = OPENING + NETWORK * j + from;
-    let widths = [16u8, 7, 1, 5, 5, 7, 16, 16, 16, 6, 1, 2, 2];
+    let widths = NETWORK_WIDTHS;
     let codes = fields::field_of(control, at + NETWORK_NAME, 5);
     put_row(control, at, &widths, out, to);
     put_codes(strings, from, codes, out, to + NETWORK);
@@ -83,18 +81,17 @@ fn put_network(control: &[u8], strings: &[u8], j: usize, from: usize, out: &mut 
 }
 
 // So many codes of the strings from a place on.
+// Kept: as in `menu_reader`: one of both would be a public call of a crate below, with its own promise.
 fn put_codes(strings: &[u8], from: usize, count: usize, out: &mut [u8], to: usize)
     requires { (from ≤ 10000) × (count ≤ 31) × (to ≤ 20000) }
     ensures { out.new ≡ sets out.old to (codes_in count (drop from (spoken strings.now))) }
 {
-    let mut i = from;
-    let mut q = to;
-    let mut left = count;
-    while 0 < left {
-        lent_bytes::put((lent_bytes::byte_at(strings, i) % 128) as u8, out, q);
-        i += 1;
-        q += 1;
-        left -= 1;
+    for i in 0..count {
+        lent_bytes::put(
+            (lent_bytes::byte_at(strings, from + i) % 128) as u8,
+            out,
+            to + i,
+        );
     }
 }
 
@@ -103,16 +100,15 @@ fn put_row(control: &[u8], at: usize, widths: &[u8], out: &mut [u8], to: usize)
     requires { (at ≤ 30000) × (to ≤ 20000) × (length widths.now ≤ 100) }
     ensures { out.new ≡ sets out.old to (row_at widths.now (compound control.now / 2 ^ at)) }
 {
-    let mut i = 0;
     let mut p = at;
     let mut q = to;
-    while i < widths.len() {
+    // Kept: by index: `width_at` promises each width as far as the bit reader and the pen go.
+    for i in 0..widths.len() {
         let w = information_forms::width_at(widths, i);
         let k = (w + 7) / 8;
         put_value(fields::field_of(control, p, w), k, out, q);
         p += w;
         q += k;
-        i += 1;
     }
 }
 
@@ -121,10 +117,5 @@ fn put_value(v: usize, k: usize, out: &mut [u8], to: usize)
     requires { k ≤ 3 }
     ensures { out.new ≡ sets out.old to (parts 8 k v) }
 {
-    let bytes = [
-        (v % 256) as u8,
-        (v / 256 % 256) as u8,
-        (v / 256 / 256 % 256) as u8,
-    ];
-    lent_bytes::copy(&bytes, 0, k, out, to);
+    lent_bytes::copy(&v.to_le_bytes(), 0, k, out, to);
 }

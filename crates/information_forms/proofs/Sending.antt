@@ -1,25 +1,25 @@
 -- Information that can be sent: what that says of its parts, that the bits which are no part of it don't matter, how long it is at most, and
 -- that writing takes its form. Assumes nothing.
-use mathlib.Core.Path.{◌≡◌, ◌∙◌, refl, sym, ap, ap₂, subst}
+use mathlib.Core.Path.{◌≡◌, ◌∙◌, refl, sym, ap, subst}
 use mathlib.Core.Bool.{Bool, true, false, true≢false}
 use mathlib.Core.List.{List, [], ◌∷◌, ◌++◌, append-nil}
-use Prim.Native.Nat.{ℕ, ◌+◌, ◌*◌, ◌/◌, ◌%◌, ◌≤◌, ◌<◌}
+use Prim.Native.Nat.{ℕ, ◌+◌, ◌*◌, ◌%◌, ◌≤◌, ◌<◌}
 use native.Mathlib.Omega.{arith}
 use borrow.Author.Tests.{ltb-true, lt-ltb, le-leb, eqb-true, eq-eqb}
 use lib.Dec.{eqb, ltb}
 use lib.ListN.{length, get_or, length-append}
 use Rattle.laws.specs.Pick.{pick, both, either}
 use Rattle.laws.specs.Each.{Each, nil, and}
-use Rattle.laws.proofs.Tests.{both_true, both_first, both-second, both-holds}
+use Rattle.laws.proofs.Tests.{both_true, both-second, both-holds}
 use Rattle.fields.specs.Fields.{Field, fitting}
 use Rattle.fields.proofs.Laid.{fitting-append}
 use Rattle.answer.specs.Rules.{Every, none, more}
 use Rattle.codecs.specs.Rows.{each, rowed}
 use Rattle.codecs.specs.Codec.{fit, row_whole}
-use Rattle.kinds.specs.Kind.{Content, sent, content_of, sevens, format, control, strings, size, fits as sendable}
+use Rattle.kinds.specs.Kind.{Content, sent, sevens, format, control, strings, size, fits as sendable}
 use Rattle.kinds.proofs.Fronts.{Owed}
 use Rattle.information_forms.specs.Information.{Network, Information, opening_widths, network_widths, network_count, name_length, network_name, network_format, fill_up, Behind, behind, sent_behind, names}
-use Rattle.information_forms.specs.Form.{network_form, form, form_opening, information_in}
+use Rattle.information_forms.specs.Form.{form, information_in}
 use Rattle.information_forms.specs.Kind.{information, value, content, fits}
 use Rattle.information_forms.specs.Writing.{form_rules}
 use Rattle.information_forms.specs.Rows.{row_bytes}

@@ -1,6 +1,6 @@
 -- Application Information in lent bytes, the AI form (SCOPE 31.4): 1, copyright, the row of its values, the codes of the service's name; each network:
 -- the row of its values, the codes of its name.
-use Rattle.std.specs.Prelude.{List, [], ◌∷◌, ◌++◌, ℕ, ◌+◌, get_or, drop}
+use Rattle.std.specs.Prelude.{List, ◌∷◌, ◌++◌, ℕ, ◌+◌, get_or, drop}
 use Rattle.codecs.specs.Rows.{each, in_row, codes_in}
 use Rattle.information_forms.specs.Rows.{row_bytes, row_form, row_in}
 use Rattle.information_forms.specs.Information.{Network, Information, AI, opening_widths, network_widths, network_count, name_length, network_name}

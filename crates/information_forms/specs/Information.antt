@@ -1,5 +1,5 @@
 -- Application Information as a value, and the format that table 11 has for it (EN 300 707, clause 11.2; SCOPE 31.1, 31.2).
-use Rattle.std.specs.Prelude.{Bool, true, List, [], ◌∷◌, ◌++◌, ℕ, ◌%◌, eqb, get_or}
+use Rattle.std.specs.Prelude.{List, [], ◌∷◌, ◌++◌, ℕ, ◌%◌, eqb, get_or}
 use Rattle.codecs.specs.Rows.{each}
 use Rattle.codecs.specs.Codec.{Codec, number, filling, values, codes, then, row, seen}
 

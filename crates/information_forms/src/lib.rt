@@ -12,6 +12,11 @@ pub const OPENING: usize = 20;
 // The bytes of a network in a form, without its name.
 pub const NETWORK: usize = 17;
 
+// The widths of the values from epg_version_number on, and those of a network.
+pub const OPENING_WIDTHS: [u8; 12] = [6, 6, 16, 16, 16, 16, 16, 16, 8, 8, 5, 1];
+
+pub const NETWORK_WIDTHS: [u8; 13] = [16, 7, 1, 5, 5, 7, 16, 16, 16, 6, 1, 2, 2];
+
 // The widest value of a row.
 const WIDEST: usize = 24;
 
@@ -19,6 +24,5 @@ const WIDEST: usize = 24;
 pub fn width_at(widths: &[u8], i: usize) -> usize
     ensures { (result ≡ min (get_or widths.now i 0) 24) × (result ≤ 24) }
 {
-    let w = lent_bytes::byte_at(widths, i);
-    if WIDEST < w { WIDEST } else { w }
+    lent_bytes::byte_at(widths, i).min(WIDEST)
 }

@@ -2,7 +2,7 @@
 use mathlib.Core.Path.{◌≡◌, ◌∙◌, refl, sym, ap, ap₂}
 use mathlib.Core.Bool.{Bool, true, false}
 use mathlib.Core.List.{List, [], ◌∷◌}
-use Prim.Native.Nat.{ℕ, zero, suc, ◌+◌, ◌-◌, ◌*◌, ◌%◌, ◌^◌, ◌≤◌, ◌<◌, min}
+use Prim.Native.Nat.{ℕ, ◌+◌, ◌-◌, ◌*◌, ◌%◌, ◌^◌, ◌≤◌, ◌<◌, min}
 use native.Mathlib.Nat.{add-zero, one-mul, mod-eq_of_lt}
 use native.Mathlib.Numerals.{add-one}
 use native.Mathlib.Omega.{arith}
@@ -44,14 +44,6 @@ module _ (f : List ℕ) (at low : ℕ) (e₁ : low ≡ get_or f at 0) (h₁ : lo
         (high : ℕ) → high ≡ get_or f (at + 2) 0 → high < 256 → low + 256 * (mid + 256 * high) ≡ whole 8 (codes_in 3 (drop at f))
     unfolding whole codes_in
     value-three high e₃ h₃ = rw (byte_here at f, byte-on at f, byte_last at f, ← e₁, ← e₂, ← e₃) (omega arith)
-
--- more than two bytes are three
-pub three : (k : ℕ) → k ≤ 3 → (k ≡ 0 → ⊥) → (k ≡ 1 → ⊥) → (k ≡ 2 → ⊥) → k ≡ 3
-three zero h a b c = absurd (a refl)
-three (suc zero) h a b c = absurd (b refl)
-three (suc (suc zero)) h a b c = absurd (c refl)
-three (suc (suc (suc zero))) h a b c = refl
-three (suc (suc (suc (suc k)))) h a b c = absurd (omega arith)
 
 pub value_none : (f : List ℕ) (at : ℕ) → 0 ≡ whole 8 (codes_in 0 (drop at f))
 unfolding whole codes_in

@@ -8,11 +8,11 @@ use native.Mathlib.Omega.{arith}
 use borrow.Author.Tests.{ltb-true, lt-ltb, le-ltb, le-leb, lt-leb, eq-eqb, ne_eqb}
 use lib.Dec.{ltb, eqb}
 use lib.ListN.{length, get_or, drop, length-append, length-map}
+use Rattle.std.specs.declared.result.Result.TheVariants.{Ok}
 use Rattle.laws.proofs.Tests.{both_true, both-holds}
 use Rattle.answer.specs.Rules.{judged}
 use Rattle.answer.specs.Values.{refused}
-use Rattle.answer.specs.declared.Answer.{Answer}
-use Rattle.answer.specs.declared.Answer.TheVariants.{Done}
+use Rattle.answer.specs.Answer.{Answer}
 use Rattle.answer.proofs.Steps.{done_every, first_holds, others_hold}
 use Rattle.octet.specs.Image.{image}
 use Rattle.parity.specs.Parity.{letter}
@@ -224,7 +224,7 @@ module _ (application : ℕ) (f : List ℕ) (a : Answer) where
 
 -- what is judged fine is of an application, and can be sent
 pub writable :
-    (application : ℕ) (f : List ℕ) (n m : ℕ) → judged refused (write_rules application f) (Done n) ≡ Done m
+    (application : ℕ) (f : List ℕ) (n m : ℕ) → judged refused (write_rules application f) (Ok n) ≡ Ok m
     → (application < 32) × (size information (content (information_in f)) < 2048) × ((information_in f).copyright < 2)
 unfolding form_rules
 writable application f n m e =

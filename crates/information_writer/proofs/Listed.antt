@@ -1,16 +1,15 @@
 -- The networks of a form, one behind the other, and what stands before them. Assumes nothing.
 use mathlib.Core.Path.{◌≡◌, ◌∙◌, sym, ap, ap₂}
-use mathlib.Core.Bool.{Bool, true, false}
+use mathlib.Core.Bool.{Bool}
 use mathlib.Core.List.{List, [], ◌∷◌}
 use Prim.Native.Nat.{ℕ, ◌+◌, ◌-◌, ◌≤◌, ◌<◌}
 use native.Mathlib.Omega.{arith}
-use borrow.Author.Tests.{le-ltb}
 use lib.Dec.{ltb}
 use lib.ListN.{length, get_or, drop, length-append}
 use lib.Seq.{drop-drop}
 use Rattle.laws.specs.Pick.{both}
 use Rattle.laws.proofs.Countdown.{at_none, at_more}
-use Rattle.laws.proofs.Tests.{both_assoc, both_right, both_false}
+use Rattle.laws.proofs.Tests.{both_assoc, both_right}
 use Rattle.fields.specs.Fields.{fitting, whole}
 use Rattle.codecs.specs.Rows.{each, codes_in, in_row}
 use Rattle.codecs.proofs.Codes.{codes-count}
@@ -102,10 +101,6 @@ module _ (f : List ℕ) (name : ℕ) (e : name ≡ get_or f 18 0) (h : name < 25
   unfolding information_in cut
   opening_fits = ap (λ (l : List ℕ). both (ltb (get_or f 1 0) 2) (both (fitting (row_at opening_widths 2 f)) (sevens l))) service-name
 
-  pub opening-over : 2 ≤ get_or f 1 0 → false ≡ opening_fine (information_in f)
-  opening-over over =
-      sym (opening_fits ∙ ap (λ (x : Bool). both x (both (fitting (row_at opening_widths 2 f)) (sevens (codes_in name (drop 20 f))))) (le-ltb (get_or f 1 0) 2 over))
-
   pub networks-found : (count : ℕ) → count ≡ get_or f 16 0 → count < 256 → (information_in f).networks ≡ networks_from count 0 name f
   unfolding information_in row_bytes
   networks-found count ec hc =
@@ -121,14 +116,6 @@ count-said f count ec hc =
 -- ---- as the code tests them
 
 -- the second of three tests doesn't hold
-pub second-bad : (before row codes all : Bool) → row ≡ false → all ≡ both row codes → false ≡ both before all
-second-bad before row codes all h e =
-    sym (ap (both before) (e ∙ ap (λ (x : Bool). both x codes) h) ∙ both_false before)
-
-pub last-decides : (before row codes all : Bool) → before ≡ true → row ≡ true → all ≡ both row codes → codes ≡ both before all
-last-decides before row codes all hb hr e =
-    sym (ap₂ both hb (e ∙ ap (λ (x : Bool). both x codes) hr))
-
 -- all of a form
 pub measured :
     (f : List ℕ) (name count : ℕ) (m : Measured) (opened : Bool) → name ≡ get_or f 18 0 → name < 256 → count ≡ get_or f 16 0 → count < 256

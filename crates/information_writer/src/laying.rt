@@ -11,7 +11,7 @@ use crate::measuring;
 use blocks::HEAD;
 use fields::pen;
 use fields::pen::Pen;
-use information_forms::{NETWORK, OPENING};
+use information_forms::{NETWORK, NETWORK_WIDTHS, OPENING, OPENING_WIDTHS};
 
 // Lays all control data behind the head, the checksum as 0.
 pub(crate) fn lay_control(form: &[u8], control: usize, networks: usize, name: usize, out: &mut [u8])
@@ -32,7 +32,7 @@ pub(crate) fn lay_control(form: &[u8], control: usize, networks: usize, name: us
         0,
     ];
     let opening = [8u8, 10, 6, 2, 1, 1];
-    let widths = [6u8, 6, 16, 16, 16, 16, 16, 16, 8, 8, 5, 1];
+    let widths = OPENING_WIDTHS;
     let start = Pen {
         at: HEAD,
         held: 0,
@@ -57,15 +57,13 @@ pub(crate) fn lay_networks(
     ensures { (result ≡ moved from (laid_from count 0 first form.now))
         × (out.new ≡ inked from (laid_from count 0 first form.now) out.old) }
 {
-    let widths = [16u8, 7, 1, 5, 5, 7, 16, 16, 16, 6, 1, 2, 2];
+    let widths = NETWORK_WIDTHS;
     let mut p = from;
-    let mut j = 0;
     let mut codes = first;
-    while j < count {
+    for j in 0..count {
         let at = OPENING + NETWORK * j + codes;
         p = lay_row(form, at, &widths, p, out);
         codes += lent_bytes::byte_at(form, at + measuring::NETWORK_NAME);
-        j += 1;
     }
     p
 }
@@ -77,14 +75,13 @@ pub(crate) fn lay_row(form: &[u8], at: usize, widths: &[u8], from: Pen, out: &mu
         × (out.new ≡ inked from (row_at widths.now at form.now) out.old) }
 {
     let mut p = from;
-    let mut i = 0;
     let mut q = at;
-    while i < widths.len() {
+    // Kept: by index: `width_at` promises each width as far as the bit reader and the pen go.
+    for i in 0..widths.len() {
         let w = information_forms::width_at(widths, i);
         let k = (w + 7) / 8;
         p = pen::lay(p, w, measuring::value_at(form, q, k), out);
         q += k;
-        i += 1;
     }
     p
 }
@@ -104,14 +101,12 @@ pub(crate) fn put_names(form: &[u8], count: usize, first: usize, out: &mut [u8],
     requires { (count ≤ 255) × (first ≤ 255) × (to ≤ 10000) }
     ensures { out.new ≡ sets out.old (to + first) (map parity_letter (spoken_from count 0 first form.now)) }
 {
-    let mut j = 0;
     let mut codes = first;
-    while j < count {
+    for j in 0..count {
         let at = OPENING + NETWORK * j + codes;
         let k = lent_bytes::byte_at(form, at + measuring::NETWORK_NAME);
         put_letters(form, at + NETWORK, k, out, to + codes);
         codes += k;
-        j += 1;
     }
 }
 
@@ -120,13 +115,8 @@ pub(crate) fn put_letters(form: &[u8], from: usize, count: usize, out: &mut [u8]
     requires { (from ≤ 90000) × (count ≤ 255) × (to ≤ 90000) }
     ensures { out.new ≡ sets out.old to (map parity_letter (codes_in count (drop from form.now))) }
 {
-    let mut i = from;
-    let mut q = to;
-    let mut left = count;
-    while 0 < left {
-        lent_bytes::put(parity::letter(lent_bytes::byte_at(form, i) as u8), out, q);
-        i += 1;
-        q += 1;
-        left -= 1;
+    for i in 0..count {
+        let code = lent_bytes::byte_at(form, from + i) as u8;
+        lent_bytes::put(parity::letter(code), out, to + i);
     }
 }

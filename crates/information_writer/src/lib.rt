@@ -9,7 +9,7 @@ ghost use Rattle.std.proofs.lemmas.List.Edits.{sets};
 ghost use Rattle.answer.specs.Rules.{judged};
 ghost use Rattle.answer.specs.Values.{refused};
 ghost use Rattle.answer.specs.Writing.{answered, left};
-ghost use Rattle.answer.specs.declared.Answer.TheVariants.{Done};
+ghost use Rattle.std.specs.declared.result.Result.TheVariants.{Ok};
 ghost use Rattle.kinds.specs.Kind.{size};
 ghost use Rattle.information_forms.specs.Information.{names};
 ghost use Rattle.information_forms.specs.Form.{information_in};
@@ -17,7 +17,7 @@ ghost use Rattle.information_forms.specs.Kind.{information, content, record_of};
 ghost use Rattle.information_forms.specs.Writing.{write_rules};
 ghost use Rattle.information_writer.specs.Internal.{Counted};
 
-use answer::Answer;
+use answer::{Answer, Reason};
 use blocks::HEAD;
 use information_forms::{AI, NETWORK, OPENING};
 
@@ -42,16 +42,12 @@ pub fn write_information(application: u8, form: &[u8], out: &mut [u8]) -> Answer
         out.old }
 {
     let whole = measuring::measure(form);
-    match judge(application, form, whole) {
-        Answer::Refused(why) => Answer::Refused(why),
-        Answer::Done(need) => {
-            if out.len() < need {
-                return answer::refuse(1, 0);
-            }
-            write_record(application, form, whole.codes, out);
-            Answer::Done(need)
-        }
+    let need = judge(application, form, whole)?;
+    if out.len() < need {
+        return Reason::NoRoom.refuse(0);
     }
+    write_record(application, form, whole.codes, out);
+    Ok(need)
 }
 
 // 16, 13, 15; where all hold, the bytes of the record.
@@ -59,29 +55,29 @@ fn judge(application: u8, form: &[u8], whole: Measured) -> Answer
     requires { Counted whole (information_in form.now) × (whole.codes ≤ 65280) }
     ensures { result
         ≡ judged refused (write_rules application form.now)
-        (Done (length (record_of application (information_in form.now)))) }
+        (Ok (length (record_of application (information_in form.now)))) }
 {
     if 32 <= application {
-        return answer::refuse(16, 0);
+        return Reason::Range.refuse(0);
     }
     if form.len() < OPENING {
-        return answer::refuse(13, 0);
+        return Reason::Length.refuse(0);
     }
     if lent_bytes::byte_at(form, 0) != AI {
-        return answer::refuse(15, 0);
+        return Reason::Value.refuse(0);
     }
     let networks = lent_bytes::byte_at(form, measuring::NETWORKS);
     if form.len() != OPENING + NETWORK * networks + whole.codes {
-        return answer::refuse(13, 0);
+        return Reason::Length.refuse(0);
     }
     if !whole.fine {
-        return answer::refuse(15, 0);
+        return Reason::Value.refuse(0);
     }
     let size = 40 + 25 * networks + networks % 2 + whole.codes;
     if LIMIT <= size {
-        return answer::refuse(15, 0);
+        return Reason::Value.refuse(0);
     }
-    Answer::Done(HEAD + size)
+    Ok(HEAD + size)
 }
 
 // The record of a form that can be sent and whose names have so many codes.

@@ -8,7 +8,7 @@ ghost use Rattle.information_forms.specs.Form.{network_in, information_in};
 ghost use Rattle.information_writer.specs.Internal.{networks_from, named, row_at, network_fine, all_fine, opening_fine, Counted};
 
 use crate::Measured;
-use information_forms::{NETWORK, OPENING};
+use information_forms::{NETWORK, NETWORK_WIDTHS, OPENING, OPENING_WIDTHS};
 
 // The places of copyright, of the row of values, of the number of networks and of the length of the service's name.
 const COPYRIGHT: usize = 1;
@@ -36,14 +36,10 @@ fn opening_fine(form: &[u8], name: usize) -> bool
     requires { (name ≡ get_or form.now 18 0) × (name ≤ 255) }
     ensures { result ≡ opening_fine (information_in form.now) }
 {
-    let widths = [6u8, 6, 16, 16, 16, 16, 16, 16, 8, 8, 5, 1];
-    if 2 <= lent_bytes::byte_at(form, COPYRIGHT) {
-        return false;
-    }
-    if !row_fine(form, ROW, &widths) {
-        return false;
-    }
-    codes_fine(form, OPENING, name)
+    let widths = OPENING_WIDTHS;
+    lent_bytes::byte_at(form, COPYRIGHT) < 2
+        && row_fine(form, ROW, &widths)
+        && codes_fine(form, OPENING, name)
 }
 
 // So many networks, behind a name of so many codes.
@@ -52,15 +48,13 @@ fn measure_networks(form: &[u8], count: usize, first: usize, fine: bool) -> Meas
     ensures { (result.codes ≡ first + named (networks_from count 0 first form.now)) × (result.codes ≤ 65280)
         × (result.fine ≡ both fine (all_fine (networks_from count 0 first form.now))) }
 {
-    let mut j = 0;
     let mut codes = first;
     let mut good = fine;
-    while j < count {
+    for j in 0..count {
         let at = OPENING + NETWORK * j + codes;
         let k = lent_bytes::byte_at(form, at + NETWORK_NAME);
         good = network_fine(good, form, at, k);
         codes += k;
-        j += 1;
     }
     Measured { codes, fine: good }
 }
@@ -70,14 +64,8 @@ fn network_fine(before: bool, form: &[u8], at: usize, name: usize) -> bool
     requires { (at ≤ 80000) × (name ≡ get_or form.now (at + 5) 0) × (name ≤ 255) }
     ensures { result ≡ both before (network_fine (network_in (drop at form.now))) }
 {
-    let widths = [16u8, 7, 1, 5, 5, 7, 16, 16, 16, 6, 1, 2, 2];
-    if !before {
-        return false;
-    }
-    if !row_fine(form, at, &widths) {
-        return false;
-    }
-    codes_fine(form, at + NETWORK, name)
+    let widths = NETWORK_WIDTHS;
+    before && row_fine(form, at, &widths) && codes_fine(form, at + NETWORK, name)
 }
 
 // Whether each value of the row of these widths at a place fits its width.
@@ -85,16 +73,15 @@ fn row_fine(form: &[u8], at: usize, widths: &[u8]) -> bool
     requires { (at ≤ 80000) × (length widths.now ≤ 100) }
     ensures { result ≡ fitting (row_at widths.now at form.now) }
 {
-    let mut i = 0;
     let mut p = at;
-    while i < widths.len() {
+    // Kept: by index: `width_at` promises each width as far as the bit reader and the pen go.
+    for i in 0..widths.len() {
         let w = information_forms::width_at(widths, i);
         let k = (w + 7) / 8;
         if 1 << w <= value_at(form, p, k) {
             return false;
         }
         p += k;
-        i += 1;
     }
     true
 }
@@ -107,16 +94,12 @@ pub(crate) fn value_at(form: &[u8], at: usize, k: usize) -> usize
     let low = lent_bytes::byte_at(form, at);
     let mid = lent_bytes::byte_at(form, at + 1);
     let high = lent_bytes::byte_at(form, at + 2);
-    if k == 0 {
-        return 0;
+    match k {
+        0 => 0,
+        1 => low,
+        2 => low + 256 * mid,
+        _ => low + 256 * (mid + 256 * high),
     }
-    if k == 1 {
-        return low;
-    }
-    if k == 2 {
-        return low + 256 * mid;
-    }
-    low + 256 * (mid + 256 * high)
 }
 
 // Whether each of so many codes from a place on has seven bits.
@@ -124,14 +107,10 @@ fn codes_fine(form: &[u8], at: usize, count: usize) -> bool
     requires { (at ≤ 90000) × (count ≤ 255) }
     ensures { result ≡ sevens (codes_in count (drop at form.now)) }
 {
-    let mut i = at;
-    let mut left = count;
-    while 0 < left {
-        if 128 <= lent_bytes::byte_at(form, i) {
+    for i in 0..count {
+        if 128 <= lent_bytes::byte_at(form, at + i) {
             return false;
         }
-        i += 1;
-        left -= 1;
     }
     true
 }

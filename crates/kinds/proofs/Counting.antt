@@ -1,9 +1,9 @@
 -- How many control bytes a block has, for each way that the code goes, and what its first 24 bits hold. Assumes nothing.
 use mathlib.Core.Path.{◌≡◌, ◌∙◌, refl, sym, ap}
 use mathlib.Core.Bool.{Bool, true, false}
-use mathlib.Core.List.{List, [], map}
-use Prim.Native.Nat.{ℕ, ◌+◌, ◌*◌, ◌/◌, ◌%◌, ◌^◌, ◌≤◌, ◌<◌}
-use native.Mathlib.Nat.{div-one, mod-eq_of_lt}
+use mathlib.Core.List.{List, map}
+use Prim.Native.Nat.{ℕ, ◌*◌, ◌/◌, ◌%◌, ◌^◌, ◌≤◌, ◌<◌, max, min}
+use native.Mathlib.Nat.{mod-eq_of_lt}
 use native.Mathlib.Omega.{arith}
 use lib.ListN.{length, take, drop, length-take, drop_of_length-le}
 use lib.Seq.{take_all}
@@ -29,15 +29,8 @@ module _ (spoken : Bool) (raw : List ℕ) (s : ℕ) (t : spoken ≡ true) (e : s
       let m : n ≡ length (take (control_length raw) raw) = sym (length-take (control_length raw) raw ∙ (omega (arith, c))) in
       m ∙ ap (λ (b : Bool). length (control_part b raw)) (sym t)
 
-  pub count-least : 2 * s < 8 → 8 ≡ length (control_part spoken raw)
-  count-least l = counted 8 (rw said (omega arith)) h
-
-  module _ (l : 8 ≤ 2 * s) where
-    pub count-all : length raw < 2 * s → length raw ≡ length (control_part spoken raw)
-    count-all m = counted (length raw) (rw said (omega arith)) (omega arith)
-
-    pub count-said : 2 * s ≤ length raw → 2 * s ≡ length (control_part spoken raw)
-    count-said m = counted (2 * s) (rw said (omega arith)) m
+  pub count-said : (n : ℕ) → n ≡ max 8 (min (2 * s) (length raw)) → n ≡ length (control_part spoken raw)
+  count-said n c = counted n (c ∙ ap (λ (k : ℕ). max 8 (min (2 * k) (length raw))) (sym said)) (omega (arith, c))
 
 -- a block cut where they end
 ends : (raw : List ℕ) (n : ℕ) → 8 ≤ length raw → n ≡ length (take (control_length raw) raw) → n ≡ control_length raw

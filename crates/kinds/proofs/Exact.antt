@@ -7,11 +7,11 @@ use mathlib.Core.List.{List, [], map, append-nil}
 use Prim.Native.Nat.{ℕ, ◌+◌, ◌*◌, ◌/◌, ◌%◌, ◌^◌, ◌≤◌, ◌<◌}
 use native.Mathlib.Nat.{mod-eq_of_lt}
 use native.Mathlib.Omega.{arith}
-use borrow.Author.Tests.{ltb-true, lt-ltb, eqb-true, eq-eqb}
+use borrow.Author.Tests.{lt-ltb, eqb-true, eq-eqb}
 use lib.Dec.{eqb, ltb}
 use lib.ListN.{length, take, drop, length-map, length-take, length-drop}
 use lib.Pow.{shr_lt}
-use Rattle.laws.specs.Pick.{both, either}
+use Rattle.laws.specs.Pick.{either}
 use Rattle.laws.proofs.Tests.{both_true, both-holds}
 use Rattle.laws.specs.Bytes.{Bytes}
 use Rattle.laws.proofs.Byted.{bytes_drop}
@@ -23,9 +23,8 @@ use Rattle.octet.specs.Decoding.{nib}
 use Rattle.octet.proofs.Hearing.{harms_le}
 use Rattle.parity.specs.Parity.{letter, odds}
 use Rattle.blocks.specs.Block.{head_of}
-use Rattle.fields.specs.Fields.{Field, laid, fitting, parts, whole}
+use Rattle.fields.specs.Fields.{laid, fitting, parts, whole}
 use Rattle.fields.proofs.Laid.{laid_lt, whole_lt, whole_parts}
-use Rattle.codecs.specs.Codec.{fit}
 use Rattle.codecs.proofs.Codes.{begins-all}
 use Rattle.blocks.specs.Sums.{checksum, sound}
 use Rattle.blocks.proofs.Nibbles.{sound-parts, sound-take}

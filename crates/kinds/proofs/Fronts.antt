@@ -1,16 +1,13 @@
 -- The format of a kind is lawful where what stands behind its opening fields is, and what these fields take. Assumes nothing.
 use mathlib.Core.Path.{◌≡◌, ◌∙◌, refl, sym, ap}
-use mathlib.Core.Bool.{true, false}
-use mathlib.Core.List.{List, [], map}
-use Prim.Native.Nat.{ℕ, ◌+◌, ◌*◌, ◌/◌, ◌≤◌, ◌<◌}
+use mathlib.Core.Bool.{false}
+use mathlib.Core.List.{List, []}
+use Prim.Native.Nat.{ℕ, ◌+◌, ◌*◌, ◌≤◌, ◌<◌}
 use native.Mathlib.Omega.{arith}
 use lib.ListN.{take}
 use lib.Pow.{shr-shr}
-use Rattle.laws.proofs.Maps.{map-take}
-use Rattle.octet.specs.Decoding.{nib}
 use Rattle.fields.specs.Fields.{width, field, whole}
 use Rattle.fields.proofs.Laid.{field_lt, field_past, field_in}
-use Rattle.codecs.specs.Codec.{Codec}
 use Rattle.codecs.proofs.Lawful.{Lawful, number-lawful, then-lawful, seen-lawful}
 use Rattle.kinds.specs.Front.{Front, opened, named, front}
 use Rattle.kinds.specs.Kind.{Kind, Content, Sent, content_of, format, bits, control, strings}

@@ -8,7 +8,7 @@ use lib.Dec.{eqb}
 use lib.ListN.{length, take}
 use Rattle.laws.specs.Pick.{either}
 use Rattle.answer.specs.Rules.{judged}
-use Rattle.answer.specs.declared.Answer.{Answer}
+use Rattle.answer.specs.Answer.{Answer}
 use Rattle.answer.specs.Values.{refused}
 use Rattle.parity.specs.Parity.{odds}
 use Rattle.blocks.specs.Sums.{checksum, sound}

@@ -1,7 +1,7 @@
 -- What damage to a record's bytes can do, for any kind. Control bytes that are mended change nothing but the count; a control byte that
 -- can't be decoded, or a string byte of wrong parity, is never passed over. Assumes nothing.
 use mathlib.Core.Path.{◌≡◌, ◌∙◌, sym}
-use mathlib.Core.Bool.{true, false, true≢false}
+use mathlib.Core.Bool.{false, true≢false}
 use mathlib.Core.List.{List, map}
 use Prim.Native.Nat.{ℕ, ◌*◌, ◌≤◌, ◌<◌}
 use native.Mathlib.Omega.{arith}

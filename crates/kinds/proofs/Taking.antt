@@ -8,10 +8,10 @@ use native.Mathlib.Nat.{le_refl}
 use native.Mathlib.Omega.{arith}
 use lib.ListN.{length, take, drop, length-take, length-drop}
 use lib.Seq.{drop-drop}
+use Rattle.std.specs.declared.result.Result.TheVariants.{Ok, Err}
 use Rattle.laws.proofs.Lists.{part-rest, part_of}
 use Rattle.answer.specs.declared.Refusal.{Refusal}
-use Rattle.answer.specs.declared.Answer.{Answer}
-use Rattle.answer.specs.declared.Answer.TheVariants.{Done, Refused}
+use Rattle.answer.specs.Answer.{Answer}
 use Rattle.answer.specs.Rules.{Rule, judged, Every}
 use Rattle.answer.specs.Values.{refused}
 use Rattle.answer.specs.Writing.{room, answered, left}
@@ -28,7 +28,7 @@ part_le true raw = omega (arith, length-take (control_length raw) raw)
 part_le false raw = le_refl (length raw)
 
 module _ (asked : ℕ → Bool) (spoken : Bool) (application : ℕ) (r : List ℕ) {first : Answer}
-    (judges : first ≡ judged refused (sum_rules asked spoken application r) (Done (length (control_part spoken (drop 4 r))))) where
+    (judges : first ≡ judged refused (sum_rules asked spoken application r) (Ok (length (control_part spoken (drop 4 r))))) where
   abbrev rules : List Rule
   rules = sum_rules asked spoken application r
 
@@ -36,15 +36,15 @@ module _ (asked : ℕ → Bool) (spoken : Bool) (application : ℕ) (r : List �
   all = length (control_part spoken (drop 4 r))
 
   module _ (qs : List Rule) (bytes old : List ℕ) where
-    pub sum-refused : {w : Refusal} → first ≡ Refused w → (Refused w ≡ answered (rules ++ qs) bytes old) × (old ≡ left (rules ++ qs) bytes old)
-    sum-refused e = lent-refused (rules ++ qs) bytes old all (ends rules qs all judges (Done all) e) refl
+    pub sum-refused : {w : Refusal} → first ≡ Err w → (Err w ≡ answered (rules ++ qs) bytes old) × (old ≡ left (rules ++ qs) bytes old)
+    sum-refused e = lent-refused (rules ++ qs) bytes old all (ends rules qs all judges (Ok all) e) refl
 
-    pub sum-taken : {n : ℕ} → first ≡ Done n → answered qs bytes old ≡ answered (rules ++ qs) bytes old
+    pub sum-taken : {n : ℕ} → first ≡ Ok n → answered qs bytes old ≡ answered (rules ++ qs) bytes old
     sum-taken e =
-        goes_on rules (qs ++ room bytes old ∷ []) all judges (Done (length bytes)) e
-        ∙ ap (λ (l : List Rule). judged refused l (Done (length bytes))) (sym (append_assoc rules qs (room bytes old ∷ [])))
+        goes_on rules (qs ++ room bytes old ∷ []) all judges (Ok (length bytes)) e
+        ∙ ap (λ (l : List Rule). judged refused l (Ok (length bytes))) (sym (append_assoc rules qs (room bytes old ∷ [])))
 
-  module _ {n : ℕ} (e : first ≡ Done n) where
+  module _ {n : ℕ} (e : first ≡ Ok n) where
     -- every rule up to the checksum holds
     pub sum-every : Every rules
     sum-every = done_every rules all n (sym judges ∙ e)

@@ -1,7 +1,6 @@
 // One capture: its records are pulled, the blocks that decide are kept, and the verdict on them is printed.
 use crate::kept::{Kept, STORE};
 use crate::{kept, says};
-use answer::Answer;
 use captures::{Came, PIECE, RECORDS, Source};
 use packet::two::Streams;
 use std::io::Error;
@@ -40,9 +39,8 @@ fn judge_kept(
     kept: Kept,
 ) -> bool {
     let mut text = [0u8; TEXT];
-    let answer = broadcast::lawful(application, told::front(store, kept.used), &mut text);
-    match answer {
-        Answer::Done(n) => {
+    match broadcast::lawful(application, told::front(store, kept.used), &mut text) {
+        Ok(n) => {
             let numbers = kept.numbers;
             if !says::put_verdict(rt, name, is_titled, told::front(&text, n), &numbers) {
                 return false;
@@ -50,7 +48,7 @@ fn judge_kept(
             says::tell_no(rt, name, told::front(&text, n));
             true
         }
-        Answer::Refused(why) => {
+        Err(why) => {
             says::tell_none(rt, name, why.no);
             true
         }
@@ -70,9 +68,7 @@ fn gather<F: std::io::Read>(
     let mut pages = sight::pages(setting);
     let mut capture = captures::start(setting, false);
     let mut kept = kept::none();
-    let mut turns = u64::MAX;
-    while turns > 0 {
-        turns -= 1;
+    for _ in 0..u64::MAX {
         let turn = captures::next(source, capture, &mut piece, &mut records, &mut pages);
         capture = turn.capture;
         let came = turn.came;
@@ -111,15 +107,19 @@ fn keep_all(
     keep_records(kept, setting, told::front(records, n), store)
 }
 
-fn keep_records(kept: Kept, setting: Streams, records: &[u8], store: &mut [u8]) -> Kept {
-    let mut kept = kept;
+#[tactic(auto, using(captures::proofs::Spanning::span_within))]
+fn keep_records(mut kept: Kept, setting: Streams, records: &[u8], store: &mut [u8]) -> Kept {
     let mut at = 0;
+    // Kept: each turn goes to the next record, and records differ in length.
     while at < records.len() {
         let span = captures::span_at(setting, records, at);
-        let from = span.from;
-        let next = span.next;
-        kept = kept::keep(kept, setting.application, &records[from..next], store);
-        at = next;
+        kept = kept::keep(
+            kept,
+            setting.application,
+            &records[span.from..span.next],
+            store,
+        );
+        at = span.next;
     }
     kept
 }

@@ -26,41 +26,34 @@ pub fn none() -> Kept {
 }
 
 // The capture has ended.
-pub fn ended(kept: Kept) -> Kept {
-    let mut kept = kept;
+pub fn ended(mut kept: Kept) -> Kept {
     kept.whole = true;
     kept
 }
 
 // Keeps a record that counts as one of the five kinds, unless its block is kept already. A repeat may have come with other bytes that were mended.
 pub fn keep(kept: Kept, application: u8, rec: &[u8], store: &mut [u8]) -> Kept {
-    let place = place_of(broadcast::counts(application, rec));
-    if KINDS <= place {
-        return kept;
+    match place_of(broadcast::counts(application, rec)) {
+        Some(place) if !is_there(told::front(store, kept.used), rec) => {
+            add(kept, place, rec, store)
+        }
+        _ => kept,
     }
-    if is_there(told::front(store, kept.used), rec) {
-        return kept;
-    }
-    add(kept, place, rec, store)
 }
 
 // The place of a datatype among the five kinds; another has none.
-fn place_of(kind: u8) -> usize {
-    if kind == 1 {
-        return 0;
+fn place_of(kind: u8) -> Option<usize> {
+    match kind {
+        1 => Some(0),
+        5..=8 => Some(usize::from(kind) - 4),
+        _ => None,
     }
-    if kind < 5 {
-        return KINDS;
-    }
-    if 8 < kind {
-        return KINDS;
-    }
-    kind as usize - 4
 }
 
 // Whether a block is among the records of a list.
 fn is_there(records: &[u8], rec: &[u8]) -> bool {
     let mut at = 0;
+    // Kept: each turn goes to the next record, and records differ in length.
     while at < records.len() {
         let next = blocks::after(records, at);
         if broadcast::same(&records[at..next], rec) {
@@ -72,30 +65,17 @@ fn is_there(records: &[u8], rec: &[u8]) -> bool {
 }
 
 // One block more, where it fits.
-fn add(kept: Kept, place: usize, rec: &[u8], store: &mut [u8]) -> Kept {
-    let mut kept = kept;
+fn add(mut kept: Kept, place: usize, rec: &[u8], store: &mut [u8]) -> Kept {
     let used = kept.used;
-    if store.len() < used {
+    if store.len() < used || store.len() - used < rec.len() {
         kept.full = true;
         return kept;
     }
-    if store.len() - used < rec.len() {
-        kept.full = true;
-        return kept;
-    }
-    lent_bytes::copy(rec, 0, rec.len(), store, used);
-    kept.used = used + rec.len();
-    count(kept, place)
-}
-
-fn count(kept: Kept, place: usize) -> Kept {
-    let mut kept = kept;
-    if KINDS <= place {
-        return kept;
-    }
-    let n = kept.numbers[place];
-    if n < u64::MAX {
-        kept.numbers[place] = n + 1;
+    let end = used + rec.len();
+    store[used..end].copy_from_slice(rec);
+    kept.used = end;
+    if let Some(n) = kept.numbers.get_mut(place) {
+        *n = n.saturating_add(1);
     }
     kept
 }

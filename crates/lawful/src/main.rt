@@ -61,16 +61,13 @@ fn main(rt: HostRuntime) {
 
 // Judges each file that is named, or standard input where none is.
 fn judge_all(rt: &(impl Env + Files + Input + Console), setting: Streams) {
-    let count = told::argument_count(rt);
     let mut judged = Judged {
         said: words::start(&TASKS),
         named: false,
         sound: true,
     };
-    let mut i = 1;
-    while i < count {
+    for i in 1..told::argument_count(rt) {
         judged = visit(rt, judged, i, setting);
-        i += 1;
     }
     if !judged.named {
         let mut source = Source::new(rt.reader());
@@ -79,12 +76,15 @@ fn judge_all(rt: &(impl Env + Files + Input + Console), setting: Streams) {
 }
 
 // Hears a word again, and judges the file where it is a name.
-fn visit(rt: &(impl Env + Files + Console), judged: Judged, i: usize, setting: Streams) -> Judged {
+fn visit(
+    rt: &(impl Env + Files + Console),
+    mut judged: Judged,
+    i: usize,
+    setting: Streams,
+) -> Judged {
     let mut word = io::buffer();
-    let mut judged = judged;
     let heard = command_line::hear(rt, &OPTIONS, &TASKS, judged.said, i, &mut word);
-    let said = heard.said;
-    judged.said = said;
+    judged.said = heard.said;
     if heard.place == 0 {
         return judged;
     }

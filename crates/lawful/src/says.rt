@@ -11,34 +11,18 @@ pub fn put_verdict(
     verdict: &[u8],
     numbers: &[u64; KINDS],
 ) -> bool {
-    if is_titled {
-        if !told::put_title(rt, b"lawful", name) {
-            return false;
-        }
-    }
-    if !told::put(rt, b"lawful", verdict) {
-        return false;
-    }
-    put_numbers(rt, numbers)
+    (!is_titled || told::put_title(rt, b"lawful", name))
+        && told::put(rt, b"lawful", verdict)
+        && put_numbers(rt, numbers)
 }
 
 fn put_numbers(rt: &impl Console, numbers: &[u64; KINDS]) -> bool {
-    let sound = put_number(rt, true, b"AI=", numbers[0]);
-    let sound = put_number(rt, sound, b" MI=", numbers[1]);
-    let sound = put_number(rt, sound, b" UI=", numbers[2]);
-    let sound = put_number(rt, sound, b" LI=", numbers[3]);
-    let sound = put_number(rt, sound, b" TI=", numbers[4]);
-    if !sound {
-        return false;
-    }
-    told::put(rt, b"lawful", b"\n")
-}
-
-fn put_number(rt: &impl Console, is_sound: bool, name: &[u8], number: u64) -> bool {
-    if !is_sound {
-        return false;
-    }
-    told::put_count(rt, b"lawful", name, number)
+    told::put_count(rt, b"lawful", b"AI=", numbers[0])
+        && told::put_count(rt, b"lawful", b" MI=", numbers[1])
+        && told::put_count(rt, b"lawful", b" UI=", numbers[2])
+        && told::put_count(rt, b"lawful", b" LI=", numbers[3])
+        && told::put_count(rt, b"lawful", b" TI=", numbers[4])
+        && told::put(rt, b"lawful", b"\n")
 }
 
 // The place of a rule's name in the text of a no, and where it ends.

@@ -1,12 +1,14 @@
 -- Stores in a row: one byte is stored where the others go on, and what goes past the end may be left out. Assumes nothing.
 use mathlib.Core.Path.{◌≡◌, ◌∙◌, refl, sym, ap}
-use mathlib.Core.List.{List, [], ◌∷◌}
+use mathlib.Core.List.{List, [], ◌∷◌, ◌++◌}
 use Prim.Native.Nat.{ℕ, zero, suc, ◌+◌, ◌-◌, ◌≤◌, ◌<◌, min}
-use native.Mathlib.Nat.{zero-add, not-suc-le-zero}
+use native.Mathlib.Nat.{not-suc-le-zero}
 use native.Mathlib.Omega.{arith}
-use lib.ListN.{length, get_or, take, drop, set, replicate, length-take, length-drop, length-set, length-replicate}
-use lib.Seq.{sets, set_out, drop-cons, take-nil, take-take}
-use Rattle.laws.proofs.Runs.{sets-run}
+use lib.ListN.{length, take, drop, set, replicate, length-take, length-drop, length-set, length-replicate}
+use lib.Seq.{sets, set_out, take-nil, take-take, take-length}
+use borrow.Rule.Slice.PartMut.{put_mid}
+use Rattle.std.proofs.lemmas.Slice.{put_mid-paste}
+use Rattle.std.proofs.lemmas.List.Edits.{sets-eq}
 
 -- ---- what goes past the end
 
@@ -20,47 +22,37 @@ sets_within d o m [] h = ap (sets d o) (take-nil m)
 sets_within d o zero (x ∷ xs) h = sym (sets_out d o (x ∷ xs) (omega arith))
 sets_within d o (suc m) (x ∷ xs) h = sets_within (set d o x) (suc o) m xs (rw length-set (omega arith))
 
+-- what a part of a slice holds after a write is what was stored in a row
+stored : (d ys : List ℕ) (o k : ℕ) → o + length ys ≤ length d → length ys ≡ k → put_mid o k d ys ≡ sets d o ys
+stored d ys o k fits e =
+    put_mid-paste o k d ys ys (length ys) refl e refl ∙ ap (λ (l : List ℕ). take o d ++ l ++ drop (o + length ys) d) (take-length ys) ∙ sym (sets-eq ys d o fits)
+
 -- ---- bytes of l from a place on
 
-pub copy-begins :
-    (d l : List ℕ) (o from n : ℕ) {k m : ℕ} → k ≡ min n (length l - from) → m ≡ min k (length d - o)
-    → sets d (o + 0) (take (m - 0) (drop (from + 0) l)) ≡ sets d o (take n (drop from l))
-copy-begins d l o from n {k} {m} e f =
-    let p : o + 0 ≡ o = omega arith in
-    let q : m - 0 ≡ m = omega arith in
-    let r : from + 0 ≡ from = omega arith in
-    rw (p, q, r, ← take-take m n (drop from l) (omega arith))
-    (sets_within d o m (take n (drop from l)) (rw (length-take, length-drop) (omega arith)))
+module _ (d l : List ℕ) (o from n : ℕ) {there m : ℕ} (e : there ≡ min n (length l - from)) (f : m ≡ min there (length d - o)) where
+  part : sets d o (take m (drop from l)) ≡ sets d o (take n (drop from l))
+  part =
+      rw (← take-take m n (drop from l) (omega arith)) (sets_within d o m (take n (drop from l)) (rw (length-take, length-drop) (omega arith)))
 
-pub copy-on :
-    (d l : List ℕ) (o from n i : ℕ) → i < n → from + i < length l
-    → sets (set d (o + i) (get_or l (from + i) 0)) (o + (i + 1)) (take (n - (i + 1)) (drop (from + (i + 1)) l))
-    ≡ sets d (o + i) (take (n - i) (drop (from + i) l))
-copy-on d l o from n i h k =
-    let p : n - i ≡ suc (n - (i + 1)) = omega arith in
-    let q : o + (i + 1) ≡ suc (o + i) = omega arith in
-    let r : from + (i + 1) ≡ suc (from + i) = omega arith in
-    rw (p, q, r, drop-cons l (from + i) 0)
+  pub copied : {k : ℕ} {ys : List ℕ} → ys ≡ take (from + m - from) (drop from l) → k ≡ o + m - o → 0 < m → put_mid o k d ys ≡ sets d o (take n (drop from l))
+  copied {k} {ys} g h some =
+      let q : from + m - from ≡ m = omega arith in
+      let ys-is : ys ≡ take m (drop from l) = rw q at g in
+      let long : length ys ≡ m = ap length ys-is ∙ rw (length-take, length-drop) (omega arith) in
+      stored d ys o k (omega arith) (omega arith) ∙ ap (sets d o) ys-is ∙ part
 
-pub copy-ends : (d l : List ℕ) (o n i : ℕ) → n ≤ i → sets d o (take (n - i) l) ≡ d
-copy-ends d l o n i h = let p : n - i ≡ 0 = omega arith in rw p
+  pub copied_none : m ≤ 0 → d ≡ sets d o (take n (drop from l))
+  copied_none none = let z : m ≡ 0 = omega arith in rw z at part
 
--- ---- zeros from the front on
+-- ---- one byte from the front on
 
 take-replicate : (m n a : ℕ) → m ≤ n → take m (replicate n a) ≡ replicate m a
 take-replicate zero n a h = refl
 take-replicate (suc m) zero a h = absurd (not-suc-le-zero h)
 take-replicate (suc m) (suc n) a h = ap (λ (l : List ℕ). a ∷ l) (take-replicate m n a (omega arith))
 
-pub fill_begins :
-    (d : List ℕ) (n b : ℕ) {m : ℕ} → m ≡ min n (length d - 0) → sets d 0 (replicate (m - 0) b) ≡ sets d 0 (replicate n b)
-fill_begins d n b {m} e =
-    let q : m - 0 ≡ m = omega arith in
-    rw (q, ← take-replicate m n b (omega arith)) (sets_within d 0 m (replicate n b) (rw length-replicate (omega arith)))
-
-pub fill_on :
-    (d : List ℕ) (n b i : ℕ) → i < n → sets (set d i b) (i + 1) (replicate (n - (i + 1)) b) ≡ sets d i (replicate (n - i) b)
-fill_on d n b i h = rw (zero-add i, zero-add (i + 1)) at (sets-run d 0 i n b h)
-
-pub fill-ends : (d : List ℕ) (n b i : ℕ) → n ≤ i → sets d i (replicate (n - i) b) ≡ d
-fill-ends d n b i h = let p : n - i ≡ 0 = omega arith in rw p
+pub filled : (d : List ℕ) (n b : ℕ) {m : ℕ} {ys : List ℕ} → m ≡ min n (length d) → ys ≡ replicate m b → ys ++ drop m d ≡ sets d 0 (replicate n b)
+filled d n b {m} {ys} e g =
+    let long : length ys ≡ m = ap length g ∙ length-replicate m b in
+    stored d ys 0 m (omega arith) long ∙ ap (sets d 0) (g ∙ sym (take-replicate m n b (omega arith)))
+    ∙ sets_within d 0 m (replicate n b) (rw length-replicate (omega arith))

@@ -9,20 +9,16 @@ ghost use Rattle.std.proofs.lemmas.List.Edits.{sets};
 pub fn byte_at(s: &[u8], i: usize) -> usize
     ensures { (result ≡ get_or s.now i 0) × (result < 256) }
 {
-    if i < s.len() {
-        return s[i] as usize;
-    }
-    0
+    if i < s.len() { s[i] as usize } else { 0 }
 }
 
 // One byte at a place of `out`, where there is one.
 pub fn put(b: u8, out: &mut [u8], to: usize)
     ensures { out.new ≡ set out.old to b }
 {
-    if out.len() <= to {
-        return;
+    if to < out.len() {
+        out[to] = b;
     }
-    out[to] = b;
 }
 
 // So many bytes of `src` from `from` on go to `dst` from `to` on.
@@ -31,10 +27,8 @@ pub fn copy(src: &[u8], from: usize, n: usize, dst: &mut [u8], to: usize)
 {
     let there = within(n, src.len(), from);
     let m = within(there, dst.len(), to);
-    let mut i = 0;
-    while i < m {
-        dst[to + i] = src[from + i];
-        i += 1;
+    if 0 < m {
+        dst[to..to + m].copy_from_slice(&src[from..from + m]);
     }
 }
 
@@ -49,24 +43,13 @@ pub fn clear(store: &mut [u8], held: usize)
 pub fn fill(dst: &mut [u8], n: usize, b: u8)
     ensures { dst.new ≡ sets dst.old 0 (replicate n b) }
 {
-    let there = within(n, dst.len(), 0);
-    let mut i = 0;
-    while i < there {
-        dst[i] = b;
-        i += 1;
-    }
+    let there = n.min(dst.len());
+    dst[..there].fill(b);
 }
 
 // How many of n bytes from a place on lie within a slice so long.
 fn within(n: usize, long: usize, from: usize) -> usize
     ensures { result ≡ min n (long - from) }
 {
-    if long < from {
-        return 0;
-    }
-    let there = long - from;
-    if n < there {
-        return n;
-    }
-    there
+    n.min(long.saturating_sub(from))
 }

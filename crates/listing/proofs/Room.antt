@@ -7,10 +7,11 @@ use native.Mathlib.Omega.{arith}
 use lib.Dec.{eqb}
 use lib.ListN.{length, length-append}
 use borrow.Author.Tests.{eqb-true}
+use Rattle.std.specs.Prelude.{Option, Some, None, IfSome}
+use Rattle.std.specs.declared.result.Result.TheVariants.{Ok}
 use Rattle.laws.specs.Pick.{pick}
 use Rattle.answer.specs.Values.{refused}
 use Rattle.answer.specs.Rules.{judged}
-use Rattle.answer.specs.declared.Answer.TheVariants.{Done}
 use Rattle.answer.proofs.Steps.{done_every, first_holds, others_hold}
 use Rattle.fields.specs.Fields.{fitting}
 use Rattle.forms.specs.Tables.{Descriptor, Table, TI, loops, entire, fits}
@@ -22,6 +23,7 @@ use Rattle.text_lines.specs.Lines.{digit_most, hexed, number_line, letters, lang
 use Rattle.text_lines.proofs.Decimals.{digits_few}
 use Rattle.listing.specs.Lines.{block_name, network_name, mended_name, joined_name, joined_line, descriptor_name, kind_line, kind_ti, kind_li, language_lines, subtitle_lines}
 use Rattle.listing.specs.Lines.{entry_lines, descriptor_line, descriptor_lines, head_lines, descriptor_lines_of, lines_of}
+use Rattle.listing.specs.declared.Head.{Head}
 use Rattle.listing.specs.Internal.{lines_from}
 
 -- ---- a line each
@@ -117,27 +119,27 @@ descriptors_room kind (d ∷ ds) h k =
     simp length-append (omega (arith, own, rest, entries-room kind d.words))
 
 pub lines_room :
-    (head : Bool) (mended second : ℕ) (t : Table) → mended < 65536 → Sendable t → length (lines_from head mended second t) ≤ 9 * length (form t)
+    (head : Option Head) (t : Table) → IfSome head (λ h. h.mended < 65536) → Sendable t → length (lines_from head t) ≤ 9 * length (form t)
 unfolding lines_of head_lines descriptor_lines_of
-lines_room head mended second t m s = go head
+lines_room head t small s = go head small
   where
     each : length (descriptor_lines_of t) ≤ 9 * length (listed t.kind t.descriptors)
     each =
         let r = descriptors_room t.kind t.descriptors s.entire_all s.loops_fit in
         omega (arith, r, listed_words t.kind t.descriptors)
 
-    go : (h : Bool) → length (pick h (lines_of mended second t) (descriptor_lines_of t)) ≤ 9 * length (form t)
-    go true =
+    go : (x : Option Head) → IfSome x (λ h. h.mended < 65536) → length (lines_from x t) ≤ 9 * length (form t)
+    go (Some h) m =
         let block = number-room block_name 4 t.block (omega (arith, s.block_fits)) in
         let network = number-room network_name 2 t.network (omega (arith, s.network_fits)) in
-        let count = number-room mended_name 4 mended (omega (arith, m)) in
-        simp length-append (omega (arith, kind_room t.kind, block, network, count, joined-room second, each, length-form t))
-    go false = omega (arith, each, length-form t)
+        let count = number-room mended_name 4 h.mended (omega (arith, m)) in
+        simp length-append (omega (arith, kind_room t.kind, block, network, count, joined-room h.second, each, length-form t))
+    go None m = omega (arith, each, length-form t)
 
 -- ---- what judging a form says of it
 
 pub judged-form :
-    (f : List ℕ) (n m : ℕ) → judged refused (form_rules f) (Done n) ≡ Done m
+    (f : List ℕ) (n m : ℕ) → judged refused (form_rules f) (Ok n) ≡ Ok m
     → (length f ≡ length (form (table_in f))) × (fits (table_in f) ≡ true)
 unfolding form_rules
 judged-form f n m e =

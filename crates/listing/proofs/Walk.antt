@@ -2,7 +2,7 @@
 use mathlib.Core.Path.{◌≡◌, ◌∙◌, refl, ap, ap₂}
 use mathlib.Core.Bool.{Bool, true, false}
 use mathlib.Core.List.{List, [], ◌∷◌, ◌++◌, append-nil}
-use Prim.Native.Nat.{ℕ, suc, ◌+◌, ◌-◌, ◌*◌, ◌≤◌, ◌<◌}
+use Prim.Native.Nat.{ℕ, suc, ◌+◌, ◌*◌, ◌≤◌, ◌<◌}
 use native.Mathlib.Nat.{add-zero, mul-one, mul-zero}
 use native.Mathlib.Omega.{arith}
 use borrow.Author.Tests.{eq-eqb, ne_eqb}
@@ -10,7 +10,7 @@ use lib.Dec.{eqb}
 use lib.ListN.{get_or, drop}
 use lib.Seq.{drop-drop, get_or-drop}
 use Rattle.laws.specs.Pick.{pick}
-use Rattle.laws.proofs.Countdown.{at_none, at_more}
+use Rattle.laws.proofs.Countdown.{at_none}
 use Rattle.forms.specs.Tables.{TI, per}
 use Rattle.forms.specs.Form.{spelled, word_at, words_in, descriptors_in, table_in}
 use Rattle.forms.proofs.Forms.{in_on, two_bytes}
@@ -68,12 +68,12 @@ entries-step false k g =
 
 -- one entry on
 pub entries-on :
-    (kind left i each : ℕ) (f : List ℕ) → 0 < left → each ≡ per kind * 1
+    (kind left others i each : ℕ) (f : List ℕ) → left ≡ suc others → each ≡ per kind * 1
     → entry_lines kind (words_in (per kind * left) (drop i f))
-    ≡ entry_lines kind (words_in (per kind) (drop i f)) ++ entry_lines kind (words_in (per kind * (left - 1)) (drop (i + 3 * each) f))
+    ≡ entry_lines kind (words_in (per kind) (drop i f)) ++ entry_lines kind (words_in (per kind * others) (drop (i + 3 * each) f))
 unfolding entry_lines per
-entries-on kind left i each f h e =
-    at_more (λ (n : ℕ). entry_lines kind (words_in (per kind * n) (drop i f))) left h ∙ entries-step (eqb kind TI) (left - 1) (drop i f)
+entries-on kind left others i each f h e =
+    ap (λ (n : ℕ). entry_lines kind (words_in (per kind * n) (drop i f))) h ∙ entries-step (eqb kind TI) others (drop i f)
     ∙ (rw (e, mul-one, drop-drop))
 
 pub entries-end : (kind left i : ℕ) (f : List ℕ) → left ≤ 0 → entry_lines kind (words_in (per kind * left) (drop i f)) ≡ []
@@ -89,13 +89,13 @@ entries-end kind left i f h =
 
 -- one descriptor on
 pub descriptors_on :
-    (kind left i c words : ℕ) (f : List ℕ) → 0 < left → c ≡ get_or f (i + 1) 0 → words ≡ per kind * c
+    (kind left others i c words : ℕ) (f : List ℕ) → left ≡ suc others → c ≡ get_or f (i + 1) 0 → words ≡ per kind * c
     → descriptor_lines kind (descriptors_in (per kind) left (drop i f))
     ≡ descriptor_line kind (get_or f i 0) (words_in (per kind * c) (drop (i + 2) f))
-    ++ descriptor_lines kind (descriptors_in (per kind) (left - 1) (drop (i + (2 + 3 * words)) f))
+    ++ descriptor_lines kind (descriptors_in (per kind) others (drop (i + (2 + 3 * words)) f))
 unfolding descriptor_lines
-descriptors_on kind left i c words f h e₁ e₂ =
-    rw (in_on (per kind) left i (get_or f i 0) c words f h refl e₁ e₂, ← e₂)
+descriptors_on kind left others i c words f h e₁ e₂ =
+    rw (in_on (per kind) left others i (get_or f i 0) c words f h refl e₁ e₂, ← e₂)
 
 -- ---- the head
 

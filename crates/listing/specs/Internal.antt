@@ -1,12 +1,13 @@
 -- What only private calls cite; nothing here needs to be believed.
-use Rattle.std.specs.Prelude.{Bool, List, ℕ, ◌+◌, ◌*◌}
-use Rattle.laws.specs.Pick.{pick}
+use Rattle.std.specs.Prelude.{Option, Some, None, List, ℕ, ◌+◌, ◌*◌}
 use Rattle.forms.specs.Tables.{Table}
+use Rattle.listing.specs.declared.Head.{Head}
 use Rattle.listing.specs.Lines.{descriptor_lines_of, lines_of}
 
 -- the lines of a table with those of its head, or without
-abbrev pub lines_from : Bool → ℕ → ℕ → Table → List ℕ
-lines_from head mended second t = pick head (lines_of mended second t) (descriptor_lines_of t)
+abbrev pub lines_from : Option Head → Table → List ℕ
+lines_from (Some head) t = lines_of head.mended head.second t
+lines_from None t = descriptor_lines_of t
 
 -- ---- how long lines can be
 

@@ -1,7 +1,7 @@
 // A table as the desk's lines (SCOPE 13, 19.7, 26.6).
 #![tactic(auto)]
 
-ghost use Rattle.std.specs.Prelude.{true, ◌≡◌, ◌+◌, ◌*◌, ◌/◌, ◌<◌, ◌≤◌, ltb, length, get_or, drop};
+ghost use Rattle.std.specs.Prelude.{IfSome, true, ◌≡◌, ◌+◌, ◌*◌, ◌/◌, ◌<◌, ◌≤◌, ltb, length, get_or, drop};
 ghost use Rattle.answer.specs.Writing.{answered, left};
 ghost use Rattle.forms.specs.Tables.{per, fits};
 ghost use Rattle.forms.specs.Form.{form, words_in, table_in};
@@ -11,16 +11,23 @@ ghost use Rattle.listing.specs.Lines.{kind_line, joined_line, entry_lines, descr
 ghost use Rattle.listing.specs.Internal.{lines_from, head_most, joined_most, entry_most, descriptor_lines_most};
 ghost use Rattle.text_lines.specs.Putting.{Put, reach, within};
 
-use answer::{Answer, Refusal};
+use answer::{Answer, Reason};
 use forms::{OPENING, TI};
 use text_lines::REACH;
+
+// What the head's lines say besides the table: how many bytes of its block were mended, and its record's second byte.
+#[derive(Clone, Copy)]
+struct Head {
+    mended: u16,
+    second: u8,
+}
 
 // The lines of the table of this form, of whose block so many bytes were mended and whose record has this second byte, to the front of `out`.
 pub fn list_table(table: &[u8], mended: u16, second: u8, out: &mut [u8]) -> Answer
     ensures answer { result ≡ answered (form_rules table.now) (lines_of mended second (table_in table.now)) out.old }
     ensures output { out.new ≡ left (form_rules table.now) (lines_of mended second (table_in table.now)) out.old }
 {
-    list(table, true, mended, second, out)
+    list(table, Some(Head { mended, second }), out)
 }
 
 // Of these lines those from `descriptor=` on, to the front of `out`.
@@ -29,7 +36,7 @@ pub fn list_descriptors(table: &[u8], out: &mut [u8]) -> Answer
     ensures output { out.new
         ≡ left (form_rules table.now) (descriptor_lines_of (table_in table.now)) out.old }
 {
-    list(table, false, 0, 0, out)
+    list(table, None, out)
 }
 
 // The line of a table's kind.
@@ -40,62 +47,61 @@ pub fn put_kind(kind: usize, out: &mut [u8], q: usize) -> usize
         return q;
     }
     if kind == TI {
-        return text_lines::put(b"kind=TI\n", out, q);
+        text_lines::put(b"kind=TI\n", out, q)
+    } else {
+        text_lines::put(b"kind=LI\n", out, q)
     }
-    text_lines::put(b"kind=LI\n", out, q)
 }
 
 // The lines of a table, with those of its head or without.
-fn list(table: &[u8], head: bool, mended: u16, second: u8, out: &mut [u8]) -> Answer
-    ensures answer { result ≡ answered (form_rules table.now) (lines_from head mended second (table_in table.now)) out.old }
+fn list(table: &[u8], head: Option<Head>, out: &mut [u8]) -> Answer
+    requires { IfSome head (λ h. h.mended < 65536) }
+    ensures answer { result ≡ answered (form_rules table.now) (lines_from head (table_in table.now)) out.old }
     ensures output { out.new
-        ≡ left (form_rules table.now) (lines_from head mended second (table_in table.now)) out.old }
+        ≡ left (form_rules table.now) (lines_from head (table_in table.now)) out.old }
 {
-    match forms::judge_form(table) {
-        Answer::Refused(why) => Answer::Refused(why),
-        Answer::Done(_) => {
-            if is_short(table, head, mended, second, out.len()) {
-                return Answer::Refused(Refusal { no: 1, at: 0 });
-            }
-            Answer::Done(put_lines(table, head, mended, second, out))
-        }
+    forms::judge_form(table)?;
+    if is_short(table, head, out.len()) {
+        return Reason::NoRoom.refuse(0);
     }
+    Ok(put_lines(table, head, out))
 }
 
 // Whether the lines are longer than the room. Nine bytes for each of the form are always enough, and the
 // lines are then not measured.
-fn is_short(table: &[u8], head: bool, mended: u16, second: u8, room: usize) -> bool
-    requires { (length table.now ≡ length (form (table_in table.now))) × (fits (table_in table.now) ≡ true) }
-    ensures { result ≡ ltb room (length (lines_from head mended second (table_in table.now))) }
+fn is_short(table: &[u8], head: Option<Head>, room: usize) -> bool
+    requires { (length table.now ≡ length (form (table_in table.now)))
+        × (fits (table_in table.now) ≡ true)
+        × IfSome head (λ h. h.mended < 65536) }
+    ensures { result ≡ ltb room (length (lines_from head (table_in table.now))) }
 {
-    if table.len() <= room / 9 {
-        return false;
-    }
-    room < measure(table, head, mended, second)
+    room / 9 < table.len() && room < measure(table, head)
 }
 
 // How long the lines are: the walk that writes them, with next to no room.
-fn measure(table: &[u8], head: bool, mended: u16, second: u8) -> usize
-    ensures { result ≡ length (lines_from head mended second (table_in table.now)) }
+fn measure(table: &[u8], head: Option<Head>) -> usize
+    ensures { result ≡ length (lines_from head (table_in table.now)) }
 {
     let mut scrap = [0u8; 1];
-    put_lines(table, head, mended, second, &mut scrap)
+    put_lines(table, head, &mut scrap)
 }
 
 // Puts the lines as far as there is room, and answers how long they are.
-fn put_lines(table: &[u8], head: bool, mended: u16, second: u8, out: &mut [u8]) -> usize
-    ensures { Put out.old 0 (lines_from head mended second (table_in table.now)) out.new result }
+fn put_lines(table: &[u8], head: Option<Head>, out: &mut [u8]) -> usize
+    ensures { Put out.old 0 (lines_from head (table_in table.now)) out.new result }
 {
-    if head {
-        let at = put_head(table, mended, second, out);
-        return put_descriptors(table, out, at);
+    match head {
+        Some(head) => {
+            let at = put_head(table, head, out);
+            put_descriptors(table, out, at)
+        }
+        None => put_descriptors(table, out, 0),
     }
-    put_descriptors(table, out, 0)
 }
 
 // The lines of kind, block, network and mended bytes, and that of the second byte.
-fn put_head(table: &[u8], mended: u16, second: u8, out: &mut [u8]) -> usize
-    ensures { Put out.old 0 (head_lines mended second (table_in table.now)) out.new result × (result ≤ head_most) }
+fn put_head(table: &[u8], head: Head, out: &mut [u8]) -> usize
+    ensures { Put out.old 0 (head_lines head.mended head.second (table_in table.now)) out.new result × (result ≤ head_most) }
 {
     let kind = lent_bytes::byte_at(table, 0);
     let block = lent_bytes::byte_at(table, 2) + 256 * lent_bytes::byte_at(table, 3);
@@ -103,8 +109,8 @@ fn put_head(table: &[u8], mended: u16, second: u8, out: &mut [u8]) -> usize
     let a = put_kind(kind, out, 0);
     let b = text_lines::put_number(b"block=", block, out, a);
     let c = text_lines::put_number(b"network=", network, out, b);
-    let d = text_lines::put_number(b"mended=", mended as usize, out, c);
-    put_joined(second, out, d)
+    let d = text_lines::put_number(b"mended=", head.mended as usize, out, c);
+    put_joined(head.second, out, d)
 }
 
 // The line of a second byte of 1; any other gives none.
@@ -124,14 +130,12 @@ fn put_descriptors(table: &[u8], out: &mut [u8], q: usize) -> usize
     ensures { Put out.old q (descriptor_lines_of (table_in table.now)) out.new result }
 {
     let kind = lent_bytes::byte_at(table, 0);
-    let mut left = lent_bytes::byte_at(table, 5);
     let mut i = OPENING;
     let mut p = q;
-    while 0 < left {
+    for _ in 0..lent_bytes::byte_at(table, 5) {
         let entries = lent_bytes::byte_at(table, i + 1);
         p = put_descriptor(table, kind, i, entries, out, p);
         i += 2 + 3 * forms::words_of(kind, entries);
-        left -= 1;
     }
     p
 }
@@ -163,13 +167,11 @@ fn put_entries(table: &[u8], kind: usize, from: usize, k: usize, out: &mut [u8],
         × (result ≤ q + entry_most * k) }
 {
     let step = 3 * forms::words_of(kind, 1);
-    let mut left = k;
     let mut i = from;
     let mut p = q;
-    while 0 < left {
+    for _ in 0..k {
         p = put_entry(table, kind, i, out, p);
         i += step;
-        left -= 1;
     }
     p
 }

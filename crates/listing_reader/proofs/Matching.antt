@@ -5,9 +5,10 @@ use mathlib.Core.List.{List, [], ◌∷◌, ◌++◌, append_assoc}
 use Prim.Native.Nat.{ℕ, zero, suc, ◌+◌, ◌*◌, ◌-◌, ◌^◌, ◌≤◌, ◌<◌}
 use native.Mathlib.Nat.{zero-add, add_assoc}
 use native.Mathlib.Omega.{arith}
-use borrow.Author.Tests.{le-leb, lt-leb, leb-true, ne_eqb}
-use lib.Dec.{leb, eqb, T}
-use lib.ListN.{length, get_or, take, drop, replicate, length-replicate, length-append, drop_of_length-le}
+use Rattle.std.proofs.Common.{◌⊎◌, inl, inr}
+use borrow.Author.Tests.{le-leb, lt-leb, leb-true, ltb-true, ltb-false, ne_eqb}
+use lib.Dec.{leb, ltb, eqb, T}
+use lib.ListN.{length, get_or, take, drop, replicate, length-replicate, length-append, drop_of_length-le, get_or-eq_default}
 use lib.Seq.{drop-cons, drop-drop, get_or-drop, take-append_seam}
 use Rattle.laws.proofs.Whole.{all-at}
 use Rattle.laws.proofs.Tests.{both_false, both_assoc}
@@ -36,7 +37,7 @@ pub digit-more : (j n b : ℕ) → n < 10 ^ j → b ≤ 57 → n * 10 + (b - 48)
 digit-more j n b h k = let e : j + 1 ≡ suc j = omega arith in rw e (omega arith)
 
 module _ (sheet : List ℕ) (from seen n : ℕ) where
-  pub number-out : length sheet ≤ from + seen → number_from (10 - seen) n (drop (from + seen) sheet) ≡ n
+  number-out : length sheet ≤ from + seen → number_from (10 - seen) n (drop (from + seen) sheet) ≡ n
   unfolding number_from
   number-out h = rw (drop_of_length-le sheet h) (ends (10 - seen))
     where
@@ -48,16 +49,22 @@ module _ (sheet : List ℕ) (from seen n : ℕ) where
     left-of : 10 - seen ≡ suc (10 - (seen + 1))
     left-of = omega arith
 
-    pub number-below : get_or sheet (from + seen) 0 < 48 → number_from (10 - seen) n (drop (from + seen) sheet) ≡ n
+    number-below : get_or sheet (from + seen) 0 < 48 → number_from (10 - seen) n (drop (from + seen) sheet) ≡ n
     unfolding number_from
     number-below h = rw (left-of, drop-cons sheet (from + seen) 0 there, lt-leb 48 (get_or sheet (from + seen) 0) h)
 
-    pub number-above : 57 < get_or sheet (from + seen) 0 → number_from (10 - seen) n (drop (from + seen) sheet) ≡ n
+    number-above : 57 < get_or sheet (from + seen) 0 → number_from (10 - seen) n (drop (from + seen) sheet) ≡ n
     unfolding number_from
     number-above h =
         rw (left-of, drop-cons sheet (from + seen) 0 there, lt-leb (get_or sheet (from + seen) 0) 57 h, both_false (leb 48 (get_or sheet (from + seen) 0)))
 
-    pub number-on :
+    no-digit :
+        {b : ℕ} → b ≡ get_or sheet (from + seen) 0 → (b < 48) ⊎ ((48 ≤ b) × (57 < b))
+        → number_from (10 - seen) n (drop (from + seen) sheet) ≡ n
+    no-digit e (inl low) = number-below (omega (arith, e))
+    no-digit e (inr high) = number-above (omega (arith, e, high.1))
+
+    number-on :
         {b : ℕ} → b ≡ get_or sheet (from + seen) 0 → 48 ≤ b → b ≤ 57
         → number_from (10 - (seen + 1)) (n * 10 + (b - 48)) (drop (from + (seen + 1)) sheet)
         ≡ number_from (10 - seen) n (drop (from + seen) sheet)
@@ -65,6 +72,28 @@ module _ (sheet : List ℕ) (from seen n : ℕ) where
     number-on {b} e l m =
         let q : from + (seen + 1) ≡ suc (from + seen) = omega arith in
         rw (left-of, q, drop-cons sheet (from + seen) 0 there, ← e, le-leb 48 b l, le-leb b 57 m)
+
+-- where no digit stands, past the end too
+pub number-ends :
+    (sheet : List ℕ) (from seen n : ℕ) {b : ℕ} → seen < 10 → b ≡ get_or sheet (from + seen) 0 → (b < 48) ⊎ ((48 ≤ b) × (57 < b))
+    → number_from (10 - seen) n (drop (from + seen) sheet) ≡ n
+number-ends sheet from seen n few e h = go (ltb (from + seen) (length sheet)) refl
+  where
+    go : (t : Bool) → ltb (from + seen) (length sheet) ≡ t → number_from (10 - seen) n (drop (from + seen) sheet) ≡ n
+    go true k = no-digit sheet from seen n few (ltb-true _ _ k) e h
+    go false k = number-out sheet from seen n (ltb-false _ _ k)
+
+-- where one stands, which is not past the end
+pub number-goes :
+    (sheet : List ℕ) (from seen n : ℕ) {b : ℕ} → seen < 10 → b ≡ get_or sheet (from + seen) 0 → 48 ≤ b → b ≤ 57
+    → number_from (10 - (seen + 1)) (n * 10 + (b - 48)) (drop (from + (seen + 1)) sheet) ≡ number_from (10 - seen) n (drop (from + seen) sheet)
+number-goes sheet from seen n {b} few e low high = go (ltb (from + seen) (length sheet)) refl
+  where
+    go :
+        (t : Bool) → ltb (from + seen) (length sheet) ≡ t
+        → number_from (10 - (seen + 1)) (n * 10 + (b - 48)) (drop (from + (seen + 1)) sheet) ≡ number_from (10 - seen) n (drop (from + seen) sheet)
+    go true k = number-on sheet from seen n few (ltb-true _ _ k) e low high
+    go false k = absurd (omega (arith, e, low, get_or-eq_default sheet 0 (ltb-false _ _ k)))
 
 pub number-done : (n seen : ℕ) (bytes : List ℕ) → 10 ≤ seen → number_from (10 - seen) n bytes ≡ n
 unfolding number_from

@@ -12,7 +12,8 @@ use Rattle.laws.specs.Pick.{pick, either}
 use Rattle.laws.proofs.Tests.{either_assoc, either_false}
 use Rattle.forms.specs.Tables.{Descriptor, TI, per, entries}
 use Rattle.listing.specs.Lines.{descriptor_name}
-use Rattle.listing_reader.specs.declared.Piece.{Piece}
+use Rattle.std.specs.declared.result.Result.TheVariants.{Ok, Err}
+use Rattle.listing_reader.specs.declared.End.{End}
 use Rattle.listing_reader.specs.declared.Row.{Row}
 use Rattle.listing_reader.specs.declared.Part.{Part}
 use Rattle.listing_reader.specs.declared.Summary.{Summary}
@@ -76,12 +77,12 @@ module _ (sheet : List ℕ) (at kind : ℕ) (l : Line) (reads-l : l ≡ language
   pub language_room : l.long ≤ length (drop at sheet)
   language_room = rw reads-l (language_within (drop at sheet))
 
-  pub words-stop : l.long ≡ 0 → record { more = false; fine = true; long = 0 } ≡ piece_of (words_at kind (drop at sheet))
+  pub words-stop : l.long ≡ 0 → Err (record { fine = true; long = 0 }) ≡ piece_of (words_at kind (drop at sheet))
   unfolding with_language piece_of
   words-stop e = rw (← reads-l, e)
 
   module _ (some : l.long ≡ 0 → ⊥) where
-    pub words-language : (kind ≡ TI → ⊥) → record { more = true; fine = true; long = l.long } ≡ piece_of (words_at kind (drop at sheet))
+    pub words-language : (kind ≡ TI → ⊥) → Ok l.long ≡ piece_of (words_at kind (drop at sheet))
     unfolding with_language piece_of
     words-language n = rw (← reads-l, ne_eqb l.long 0 some, ne_eqb kind TI n)
 
@@ -89,27 +90,27 @@ module _ (sheet : List ℕ) (at kind : ℕ) (l : Line) (reads-l : l ≡ language
       pub page-room : p.long ≤ length (drop (at + l.long) sheet)
       page-room = rw reads-p (page-within (drop (at + l.long) sheet))
 
-      pub words-unpaged : p.long ≡ 0 → record { more = false; fine = false; long = l.long } ≡ piece_of (words_at kind (drop at sheet))
+      pub words-unpaged : p.long ≡ 0 → Err (record { fine = false; long = l.long }) ≡ piece_of (words_at kind (drop at sheet))
       unfolding with_language with_page piece_of
       words-unpaged e = rw (← reads-l, ne_eqb l.long 0 some, eq-eqb kind TI ti, drop-drop l.long at sheet, ← reads-p, e)
 
       pub words-subtitle :
-          (p.long ≡ 0 → ⊥) → record { more = true; fine = true; long = l.long + p.long } ≡ piece_of (words_at kind (drop at sheet))
+          (p.long ≡ 0 → ⊥) → Ok (l.long + p.long) ≡ piece_of (words_at kind (drop at sheet))
       unfolding with_language with_page piece_of
       words-subtitle n =
           rw (← reads-l, ne_eqb l.long 0 some, eq-eqb kind TI ti, drop-drop l.long at sheet, ← reads-p, ne_eqb p.long 0 n)
 
 -- ---- the entries of a descriptor
 
-piece_item : (t : Step (List ℕ)) → (piece_of t).more ≡ true → (ws : List ℕ) × (t ≡ item ws (piece_of t).long)
+piece_item : (t : Step (List ℕ)) {n : ℕ} → Ok n ≡ piece_of t → (ws : List ℕ) × (t ≡ item ws n)
 unfolding piece_of
-piece_item (item ws n) e = (ws, refl)
-piece_item (stop b n) e = let z : ◌≡◌ {A = ℕ} 0 1 = cc in absurd (omega arith)
+piece_item (item ws m) {n} e = (ws, ap (item ws) (let z : m ≡ n = cc in z))
+piece_item (stop b m) {n} e = let z : ◌≡◌ {A = ℕ} 0 1 = cc in absurd (omega arith)
 
-piece_stop : (t : Step (List ℕ)) → (piece_of t).more ≡ false → t ≡ stop (piece_of t).fine (piece_of t).long
+piece_stop : (t : Step (List ℕ)) {w : End} → Err w ≡ piece_of t → t ≡ stop w.fine w.long
 unfolding piece_of
-piece_stop (item ws n) e = let z : ◌≡◌ {A = ℕ} 0 1 = cc in absurd (omega arith)
-piece_stop (stop b n) e = refl
+piece_stop (item ws n) {w} e = let z : ◌≡◌ {A = ℕ} 0 1 = cc in absurd (omega arith)
+piece_stop (stop b n) {w} e = let z : ◌≡◌ {A = End} (record { fine = b; long = n }) w = cc in ap (λ (x : End). stop x.fine x.long) z
 
 abbrev pub row_after : ℕ → ℕ → Many (List ℕ) → Row
 row_after count passed m = record { count = count + length m.items; fine = m.fine; long = passed + m.long }
@@ -117,36 +118,35 @@ row_after count passed m = record { count = count + length m.items; fine = m.fin
 pub row_from_lem : (at : ℕ) (m : Many (List ℕ)) → row_after 0 (at - at) m ≡ row_of m
 row_from_lem at m = let z : at - at + m.long ≡ m.long = omega arith in let y : 0 + length m.items ≡ length m.items = omega arith in rw (z, y)
 
-module _ (sheet : List ℕ) (at p kind : ℕ) (r : Piece) (reads : r ≡ piece_of (words_at kind (drop p sheet))) (after : at ≤ p) where
+module _ (sheet : List ℕ) (at p kind : ℕ) (after : at ≤ p) where
   pub row_on :
-      (count : ℕ) → r.more ≡ true
-      → (1 ≤ r.long) × (r.long ≤ length (drop p sheet))
-      × (row_after (count + 1) (p + r.long - at) (words_of kind (drop (p + r.long) sheet)) ≡ row_after count (p - at) (words_of kind (drop p sheet)))
+      (count long : ℕ) → Ok long ≡ piece_of (words_at kind (drop p sheet))
+      → (1 ≤ long) × (long ≤ length (drop p sheet))
+      × (row_after (count + 1) (p + long - at) (words_of kind (drop (p + long) sheet)) ≡ row_after count (p - at) (words_of kind (drop p sheet)))
   unfolding words_of
-  row_on count m =
-      let i = piece_item (words_at kind (drop p sheet)) (rw reads at m) in
-      let e : words_at kind (drop p sheet) ≡ item i.0 r.long = i.1 ∙ ap (λ (x : Piece). item i.0 x.long) (sym reads) in
-      let b = words_stepping.moves_on kind (drop p sheet) i.0 r.long e in
-      let w = whole_item same words_at words_stepping kind (drop p sheet) i.0 r.long e in
-      let d = drop-drop r.long p sheet in
-      let m' = many same words_at (length (drop r.long (drop p sheet))) kind (drop r.long (drop p sheet)) in
+  row_on count long m =
+      let i = piece_item (words_at kind (drop p sheet)) m in
+      let e : words_at kind (drop p sheet) ≡ item i.0 long = i.1 in
+      let b = words_stepping.moves_on kind (drop p sheet) i.0 long e in
+      let w = whole_item same words_at words_stepping kind (drop p sheet) i.0 long e in
+      let d = drop-drop long p sheet in
+      let m' = many same words_at (length (drop long (drop p sheet))) kind (drop long (drop p sheet)) in
       let c' : count + 1 + length m'.items ≡ count + suc (length m'.items) = omega arith in
-      let l' : p + r.long - at + m'.long ≡ p - at + (r.long + m'.long) = omega arith in
-      let step : row_after (count + 1) (p + r.long - at) m' ≡ row_after count (p - at) (behind i.0 r.long m') = rw (c', l') in (
+      let l' : p + long - at + m'.long ≡ p - at + (long + m'.long) = omega arith in
+      let step : row_after (count + 1) (p + long - at) m' ≡ row_after count (p - at) (behind i.0 long m') = rw (c', l') in (
         b.0,
         b.1,
-        ap (λ (l : List ℕ). row_after (count + 1) (p + r.long - at) (many same words_at (length l) kind l)) (sym d) ∙ step
+        ap (λ (l : List ℕ). row_after (count + 1) (p + long - at) (many same words_at (length l) kind l)) (sym d) ∙ step
             ∙ sym (ap (row_after count (p - at)) w),
       )
 
   pub row-end :
-      (count : ℕ) → r.more ≡ false
+      (count : ℕ) (r : End) → Err r ≡ piece_of (words_at kind (drop p sheet))
       → (r.long ≤ length (drop p sheet))
       × (record { count = count; fine = r.fine; long = p + r.long - at } ≡ row_after count (p - at) (words_of kind (drop p sheet)))
   unfolding words_of
-  row-end count m =
-      let i = piece_stop (words_at kind (drop p sheet)) (rw reads at m) in
-      let e : words_at kind (drop p sheet) ≡ stop r.fine r.long = i ∙ ap (λ (x : Piece). stop x.fine x.long) (sym reads) in
+  row-end count r m =
+      let e : words_at kind (drop p sheet) ≡ stop r.fine r.long = piece_stop (words_at kind (drop p sheet)) m in
       let b = words_stepping.stays kind (drop p sheet) r.fine r.long e in
       let w = whole-stop same words_at words_stepping kind (drop p sheet) r.fine r.long e in
       let c' : count ≡ count + 0 = omega arith in
@@ -178,7 +178,7 @@ module _ (sheet : List ℕ) (at kind : ℕ) (d : Line) (reads-d : d ≡ number_a
   number-room = rw reads-d (number-within descriptor_name 63 (drop at sheet))
 
   pub descriptor-stop :
-      d.long ≡ 0 → record { more = false; fine = true; count = 0; long = 0 } ≡ part_of kind (descriptor_at kind (drop at sheet))
+      d.long ≡ 0 → Err (record { fine = true; long = 0 }) ≡ part_of kind (descriptor_at kind (drop at sheet))
   unfolding with_number part_of
   descriptor-stop e = rw (← reads-d, e)
 
@@ -192,7 +192,7 @@ module _ (sheet : List ℕ) (at kind : ℕ) (d : Line) (reads-d : d ≡ number_a
 
     pub descriptor-broken :
         r.fine ≡ false
-        → record { more = false; fine = false; count = 0; long = d.long + r.long } ≡ part_of kind (descriptor_at kind (drop at sheet))
+        → Err (record { fine = false; long = d.long + r.long }) ≡ part_of kind (descriptor_at kind (drop at sheet))
     unfolding with_words part_of
     descriptor-broken e =
         let f : (words_of kind (drop (at + d.long) sheet)).fine ≡ false = sym (ap (λ (x : Row). x.fine) reads-r) ∙ e in
@@ -201,7 +201,7 @@ module _ (sheet : List ℕ) (at kind : ℕ) (d : Line) (reads-d : d ≡ number_a
 
     pub descriptor-read :
         r.fine ≡ true
-        → record { more = true; fine = true; count = r.count; long = d.long + r.long } ≡ part_of kind (descriptor_at kind (drop at sheet))
+        → Ok (record { count = r.count; long = d.long + r.long }) ≡ part_of kind (descriptor_at kind (drop at sheet))
     unfolding with_words part_of
     descriptor-read e =
         let m = words_of kind (drop (at + d.long) sheet) in
@@ -214,16 +214,18 @@ module _ (sheet : List ℕ) (at kind : ℕ) (d : Line) (reads-d : d ≡ number_a
 -- ---- the descriptors of a table
 
 part_item :
-    (kind : ℕ) (t : Step Descriptor) → (part_of kind t).more ≡ true
-    → (d : Descriptor) × (t ≡ item d (part_of kind t).long) × ((part_of kind t).count ≡ entries kind d.words)
+    (kind : ℕ) (t : Step Descriptor) {r : Part} → Ok r ≡ part_of kind t
+    → (d : Descriptor) × (t ≡ item d r.long) × (r.count ≡ entries kind d.words)
 unfolding part_of
-part_item kind (item d n) e = (d, refl, refl)
-part_item kind (stop b n) e = let z : ◌≡◌ {A = ℕ} 0 1 = cc in absurd (omega arith)
+part_item kind (item d n) {r} e =
+    let z : ◌≡◌ {A = Part} (record { count = entries kind d.words; long = n }) r = cc in
+    (d, ap (λ (x : Part). item d x.long) z, sym (ap (λ (x : Part). x.count) z))
+part_item kind (stop b n) {r} e = let z : ◌≡◌ {A = ℕ} 0 1 = cc in absurd (omega arith)
 
-part-stop : (kind : ℕ) (t : Step Descriptor) → (part_of kind t).more ≡ false → t ≡ stop (part_of kind t).fine (part_of kind t).long
+part-stop : (kind : ℕ) (t : Step Descriptor) {w : End} → Err w ≡ part_of kind t → t ≡ stop w.fine w.long
 unfolding part_of
-part-stop kind (item d n) e = let z : ◌≡◌ {A = ℕ} 0 1 = cc in absurd (omega arith)
-part-stop kind (stop b n) e = refl
+part-stop kind (item d n) {w} e = let z : ◌≡◌ {A = ℕ} 0 1 = cc in absurd (omega arith)
+part-stop kind (stop b n) {w} e = let z : ◌≡◌ {A = End} (record { fine = b; long = n }) w = cc in ap (λ (x : End). stop x.fine x.long) z
 
 abbrev pub table_after : ℕ → ℕ → ℕ → Bool → ℕ → Many Descriptor → Summary
 table_after kind count entered over passed m =
@@ -242,25 +244,26 @@ table_from kind at m =
     let x : 0 + entries_in kind m.items ≡ entries_in kind m.items = omega arith in
     rw (z, y, x)
 
-module _ (sheet : List ℕ) (at p kind : ℕ) (r : Part) (reads : r ≡ part_of kind (descriptor_at kind (drop p sheet))) (after : at ≤ p) where
+module _ (sheet : List ℕ) (at p kind : ℕ) (after : at ≤ p) where
   pub table_on :
-      (count entered : ℕ) (over over' : Bool) → over' ≡ either over (ltb 15 r.count) → r.more ≡ true
+      (count entered : ℕ) (over over' : Bool) (r : Part) → over' ≡ either over (ltb 15 r.count) → Ok r ≡ part_of kind (descriptor_at kind (drop p sheet))
       → (1 ≤ r.long) × (r.long ≤ length (drop p sheet))
       × (table_after kind (count + 1) (entered + r.count) over' (p + r.long - at) (descriptors_of kind (drop (p + r.long) sheet))
       ≡ table_after kind count entered over (p - at) (descriptors_of kind (drop p sheet)))
   unfolding descriptors_of entries_in over_in
-  table_on count entered over over' f m =
-      let i = part_item kind (descriptor_at kind (drop p sheet)) (rw reads at m) in
+  table_on count entered over over' r f m =
+      let i = part_item kind (descriptor_at kind (drop p sheet)) m in
       let d = i.0 in
-      let e : descriptor_at kind (drop p sheet) ≡ item d r.long = i.1 ∙ ap (λ (x : Part). item d x.long) (sym reads) in
-      let k : r.count ≡ entries kind d.words = ap (λ (x : Part). x.count) reads ∙ i.2 in
+      let e : descriptor_at kind (drop p sheet) ≡ item d r.long = i.1 in
+      let k : r.count ≡ entries kind d.words = i.2 in
       let b = descriptor_stepping.moves_on kind (drop p sheet) d r.long e in
       let w = whole_item same descriptor_at descriptor_stepping kind (drop p sheet) d r.long e in
       let m' = many same descriptor_at (length (drop r.long (drop p sheet))) kind (drop r.long (drop p sheet)) in
       let c' : count + 1 + length m'.items ≡ count + suc (length m'.items) = omega arith in
       let n' : entered + r.count + entries_in kind m'.items ≡ entered + (entries kind d.words + entries_in kind m'.items) = omega (arith, k) in
       let o' : either over' (over_in kind m'.items) ≡ either over (either (ltb 15 (entries kind d.words)) (over_in kind m'.items)) =
-      ap (λ (x : Bool). either x (over_in kind m'.items)) f ∙ either_assoc over (ltb 15 r.count) (over_in kind m'.items) ∙ (rw k) in
+      ap (λ (x : Bool). either x (over_in kind m'.items)) f ∙ either_assoc over (ltb 15 r.count) (over_in kind m'.items)
+      ∙ ap (λ (x : ℕ). either over (either (ltb 15 x) (over_in kind m'.items))) k in
       let l' : p + r.long - at + m'.long ≡ p - at + (r.long + m'.long) = omega arith in
       let step : table_after kind (count + 1) (entered + r.count) over' (p + r.long - at) m'
       ≡ table_after kind count entered over (p - at) (behind d r.long m') = rw (c', n', o', l') in (
@@ -272,14 +275,13 @@ module _ (sheet : List ℕ) (at p kind : ℕ) (r : Part) (reads : r ≡ part_of 
       )
 
   pub table-end :
-      (count entered : ℕ) (over : Bool) → r.more ≡ false
+      (count entered : ℕ) (over : Bool) (r : End) → Err r ≡ part_of kind (descriptor_at kind (drop p sheet))
       → (r.long ≤ length (drop p sheet))
       × (record { count = count; entries = entered; over = over; fine = r.fine; long = p + r.long - at }
       ≡ table_after kind count entered over (p - at) (descriptors_of kind (drop p sheet)))
   unfolding descriptors_of entries_in over_in
-  table-end count entered over m =
-      let i = part-stop kind (descriptor_at kind (drop p sheet)) (rw reads at m) in
-      let e : descriptor_at kind (drop p sheet) ≡ stop r.fine r.long = i ∙ ap (λ (x : Part). stop x.fine x.long) (sym reads) in
+  table-end count entered over r m =
+      let e : descriptor_at kind (drop p sheet) ≡ stop r.fine r.long = part-stop kind (descriptor_at kind (drop p sheet)) m in
       let b = descriptor_stepping.stays kind (drop p sheet) r.fine r.long e in
       let w = whole-stop same descriptor_at descriptor_stepping kind (drop p sheet) r.fine r.long e in
       let c' : count ≡ count + 0 = omega arith in

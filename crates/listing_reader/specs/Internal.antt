@@ -1,7 +1,9 @@
 -- What only private calls cite; nothing here needs to be believed.
-use Rattle.std.specs.Prelude.{true, false, List, ℕ, ◌+◌, ◌^◌, ◌≤◌, ◌<◌, length}
+use Rattle.std.specs.Prelude.{List, ℕ, ◌+◌, ◌^◌, ◌≤◌, ◌<◌, length}
 use Rattle.forms.specs.Tables.{Descriptor, entries}
-use Rattle.listing_reader.specs.declared.Piece.{Piece}
+use Rattle.std.specs.declared.result.Result.{Result}
+use Rattle.std.specs.declared.result.Result.TheVariants.{Ok, Err}
+use Rattle.listing_reader.specs.declared.End.{End}
 use Rattle.listing_reader.specs.declared.Row.{Row}
 use Rattle.listing_reader.specs.declared.Part.{Part}
 use Rattle.listing_reader.specs.Many.{Step, item, stop, Many}
@@ -17,13 +19,13 @@ pub record Inside (sheet : List ℕ) (at : ℕ) : Type 0 where
 
 -- ---- what the walk keeps of what it reads
 
-unfoldable pub piece_of : Step (List ℕ) → Piece
-piece_of (item ws n) = record { more = true; fine = true; long = n }
-piece_of (stop b n) = record { more = false; fine = b; long = n }
+unfoldable pub piece_of : Step (List ℕ) → Result ℕ End
+piece_of (item ws n) = Ok n
+piece_of (stop b n) = Err (record { fine = b; long = n })
 
 abbrev pub row_of : Many (List ℕ) → Row
 row_of m = record { count = length m.items; fine = m.fine; long = m.long }
 
-unfoldable pub part_of : ℕ → Step Descriptor → Part
-part_of kind (item d n) = record { more = true; fine = true; count = entries kind d.words; long = n }
-part_of kind (stop b n) = record { more = false; fine = b; count = 0; long = n }
+unfoldable pub part_of : ℕ → Step Descriptor → Result Part End
+part_of kind (item d n) = Ok (record { count = entries kind d.words; long = n })
+part_of kind (stop b n) = Err (record { fine = b; long = n })

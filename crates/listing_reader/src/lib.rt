@@ -4,7 +4,7 @@
 
 pub mod lines;
 
-ghost use Rattle.std.specs.Prelude.{Bool, ◌≡◌, ◌≤◌, ltb, drop};
+ghost use Rattle.std.specs.Prelude.{IfOk, ◌≡◌, ◌≤◌, ltb, drop};
 ghost use Rattle.laws.specs.Pick.{either};
 ghost use Rattle.listing_reader.specs.Reading.{words_at, words_of, descriptor_at, descriptors_of, summary_of};
 ghost use Rattle.listing_reader.specs.Internal.{Inside, piece_of, row_of, part_of};
@@ -14,10 +14,9 @@ pub use lines::{kind_at, number_at};
 // The most entries that a descriptor's field counts.
 const ENTRIES: usize = 15;
 
-// An entry of a descriptor, and its length; or none, whether that is well, and where the line stands that is none.
+// Where a row ends: whether that is well, and where the line stands that ends it.
 #[derive(Drop)]
-pub struct Piece {
-    pub more: bool,
+pub struct End {
     pub fine: bool,
     pub long: usize,
 }
@@ -30,11 +29,9 @@ pub struct Row {
     pub long: usize,
 }
 
-// A descriptor's number of entries, and its length; or none, as above.
+// A descriptor's number of entries, and its length.
 #[derive(Drop)]
 pub struct Part {
-    pub more: bool,
-    pub fine: bool,
     pub count: usize,
     pub long: usize,
 }
@@ -74,67 +71,59 @@ fn table_from(sheet: &[u8], at: usize, kind: usize) -> Summary
     let mut count = 0;
     let mut entries = 0;
     let mut over = false;
+    // Kept: a `loop`: each step goes on by what it read, up to where a row ends.
     loop {
-        let part = descriptor_at(sheet, p, kind);
-        let more = part.more;
-        if !more {
-            return Summary {
-                count,
-                entries,
-                over,
-                fine: part.fine,
-                long: p + part.long - at,
-            };
+        match descriptor_at(sheet, p, kind) {
+            Ok(part) => {
+                count += 1;
+                entries += part.count;
+                over = is_over(over, part.count);
+                p += part.long;
+            }
+            Err(end) => {
+                return Summary {
+                    count,
+                    entries,
+                    over,
+                    fine: end.fine,
+                    long: p + end.long - at,
+                };
+            }
         }
-        count += 1;
-        entries += part.count;
-        over = is_over(over, part.count);
-        p += part.long;
     }
 }
 
 fn is_over(over: bool, entries: usize) -> bool
     ensures { result ≡ either over (ltb 15 entries) }
 {
-    if over {
-        return true;
-    }
-    ENTRIES < entries
+    over || ENTRIES < entries
 }
 
-// A descriptor with its entries.
-fn descriptor_at(sheet: &[u8], at: usize, kind: usize) -> Part
+// A descriptor with its entries; or where the row of them ends.
+fn descriptor_at(sheet: &[u8], at: usize, kind: usize) -> Result<Part, End>
     requires { Inside sheet.now at }
-    ensures { (result ≡ part_of kind (descriptor_at kind (drop at sheet.now))) × (result.count ≤ result.long) }
+    ensures { (result ≡ part_of kind (descriptor_at kind (drop at sheet.now))) × IfOk result (λ d. d.count ≤ d.long) }
 {
     let line = lines::number_at(sheet, at, b"descriptor=", 63);
     let long = line.long;
     if long == 0 {
-        return ended(true, 0);
+        return Err(End {
+            fine: true,
+            long: 0,
+        });
     }
     let row = row_at(sheet, at + long, kind);
-    let fine = row.fine;
-    if !fine {
-        return ended(false, long + row.long);
+    let whole = long + row.long;
+    if !row.fine {
+        return Err(End {
+            fine: false,
+            long: whole,
+        });
     }
-    Part {
-        more: true,
-        fine: true,
+    Ok(Part {
         count: row.count,
-        long: long + row.long,
-    }
-}
-
-// No descriptor.
-fn ended(fine: bool, long: usize) -> Part
-    ensures { result ≡ record { more = Bool.false; fine = fine; count = 0; long = long } }
-{
-    Part {
-        more: false,
-        fine,
-        count: 0,
-        long,
-    }
+        long: whole,
+    })
 }
 
 // The entries of a descriptor.
@@ -144,44 +133,44 @@ fn row_at(sheet: &[u8], at: usize, kind: usize) -> Row
 {
     let mut p = at;
     let mut count = 0;
+    // Kept: a `loop`, as above.
     loop {
-        let piece = words_at(sheet, p, kind);
-        let more = piece.more;
-        if !more {
-            return Row {
-                count,
-                fine: piece.fine,
-                long: p + piece.long - at,
-            };
+        match words_at(sheet, p, kind) {
+            Ok(long) => {
+                count += 1;
+                p += long;
+            }
+            Err(end) => {
+                return Row {
+                    count,
+                    fine: end.fine,
+                    long: p + end.long - at,
+                };
+            }
         }
-        count += 1;
-        p += piece.long;
     }
 }
 
-// An entry of a descriptor: a language, and in TI its page.
-fn words_at(sheet: &[u8], at: usize, kind: usize) -> Piece
+// How long an entry of a descriptor is, a language, and in TI its page; or where the row of them ends.
+fn words_at(sheet: &[u8], at: usize, kind: usize) -> Result<usize, End>
     requires { Inside sheet.now at }
     ensures { result ≡ piece_of (words_at kind (drop at sheet.now)) }
 {
     let language = lines::language_at(sheet, at);
     let long = language.long;
     if long == 0 {
-        return met(false, true, 0);
+        return Err(End {
+            fine: true,
+            long: 0,
+        });
     }
     if kind != forms::TI {
-        return met(true, true, long);
+        return Ok(long);
     }
     let page = lines::page_at(sheet, at + long);
     let more = page.long;
     if more == 0 {
-        return met(false, false, long);
+        return Err(End { fine: false, long });
     }
-    met(true, true, long + more)
-}
-
-fn met(more: bool, fine: bool, long: usize) -> Piece
-    ensures { result ≡ record { more = more; fine = fine; long = long } }
-{
-    Piece { more, fine, long }
+    Ok(long + more)
 }

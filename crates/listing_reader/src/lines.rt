@@ -12,6 +12,7 @@ const LI: usize = 7;
 const DIGITS: usize = 10;
 
 // The value that was read, and how long the line is; a line that isn't in form has length 0.
+// Kept: a length of 0 for none: `number_at` and its kin of specs/Lines.antt say so, and the value is read all the same.
 #[derive(Drop)]
 pub struct Line {
     pub value: usize,
@@ -27,10 +28,7 @@ pub fn number_at(sheet: &[u8], at: usize, name: &[u8], most: usize) -> Line
     }
     let from = at + name.len();
     let n = number_from(sheet, from);
-    if most < n {
-        return Line { value: n, long: 0 };
-    }
-    if !starts_at(sheet, at, name) {
+    if most < n || !starts_at(sheet, at, name) {
         return Line { value: n, long: 0 };
     }
     let mut text = [0u8; 32];
@@ -58,6 +56,7 @@ pub fn kind_at(sheet: &[u8], at: usize) -> Line
 }
 
 // A language, of three letters or in hex.
+// Kept: `page_at` goes the same way by another reader, another printer and a shorter text; closures for the three are no plainer.
 pub(crate) fn language_at(sheet: &[u8], at: usize) -> Line
     requires { Inside sheet.now at }
     ensures { result ≡ language_at (drop at sheet.now) }
@@ -83,23 +82,22 @@ pub(crate) fn page_at(sheet: &[u8], at: usize) -> Line
 fn line_of(sheet: &[u8], at: usize, value: usize, text: &[u8]) -> Line
     ensures { result ≡ line_of (begins_with text.now (drop at sheet.now)) value text.now }
 {
-    if starts_at(sheet, at, text) {
-        return Line {
-            value,
-            long: text.len(),
-        };
-    }
-    Line { value, long: 0 }
+    let long = if starts_at(sheet, at, text) {
+        text.len()
+    } else {
+        0
+    };
+    Line { value, long }
 }
 
 // Whether a text stands at the place.
 fn starts_at(sheet: &[u8], at: usize, text: &[u8]) -> bool
     ensures { result ≡ begins_with text.now (drop at sheet.now) }
 {
-    if sheet.len() < at {
-        return text.len() == 0;
+    match sheet.get(at..) {
+        Some(rest) => texts::begins(rest, text),
+        None => text.is_empty(),
     }
-    texts::begins(&sheet[at..], text)
 }
 
 // The number of the digits from a place on, of ten at most.
@@ -109,21 +107,13 @@ fn number_from(sheet: &[u8], from: usize) -> usize
     if sheet.len() <= from {
         return 0;
     }
-    let mut seen = 0;
     let mut n = 0;
-    while seen < DIGITS {
-        if sheet.len() <= from + seen {
-            return n;
-        }
+    for seen in 0..DIGITS {
         let b = lent_bytes::byte_at(sheet, from + seen);
-        if b < 48 {
-            return n;
-        }
-        if 57 < b {
+        if b < 48 || 57 < b {
             return n;
         }
         n = n * 10 + (b - 48);
-        seen += 1;
     }
     n
 }
@@ -134,9 +124,10 @@ fn language_in(sheet: &[u8], i: usize) -> usize
     ensures { result ≡ language_in sheet.now i }
 {
     if lent_bytes::byte_at(sheet, i + 3) == 10 {
-        return forms::word_at(sheet, i);
+        forms::word_at(sheet, i)
+    } else {
+        hex_word(sheet, i)
     }
-    hex_word(sheet, i)
 }
 
 // The word of the six hex digits at a place.
@@ -163,14 +154,9 @@ fn nibble_of(b: usize) -> usize
     requires { b < 256 }
     ensures { (result ≡ nibble_of b) × (result < 256) }
 {
-    if b < 48 {
-        return 0;
-    }
     if b < 58 {
-        return b - 48;
+        b.saturating_sub(48)
+    } else {
+        b.saturating_sub(87)
     }
-    if b < 87 {
-        return 0;
-    }
-    b - 87
 }

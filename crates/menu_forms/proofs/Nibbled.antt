@@ -15,7 +15,6 @@ use Rattle.menu_forms.specs.Menus.{Descriptor, Escape, Text, Attribute, Event, M
 use Rattle.menu_forms.specs.Menus.{descriptor_fields, escape_fields, attribute_fields, text_fields, event_fields, fill_fields, fields, event_format, fill_up, text_format}
 use Rattle.menu_forms.specs.Form.{attribute_form}
 use Rattle.menu_forms.proofs.Forms.{high_length}
-use Rattle.menu_forms.proofs.Spelling.{each-nibbled}
 
 pub attribute_nibbled : (a : Attribute) → width (attribute_fields a) % 4 ≡ 0
 unfolding width

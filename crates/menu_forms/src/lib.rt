@@ -11,17 +11,14 @@ pub const OPENING: usize = 9;
 pub const NI: usize = 3;
 
 // Table 41: the bytes of the information that an attribute of this kind has.
+#[tactic(auto, unfolding(crate::specs::Menus::info_bytes))]
 pub fn info_bytes(kind: usize) -> usize
     ensures { (result ≡ info_bytes kind) × (1 ≤ result) × (result ≤ 4) }
 {
-    if kind < 128 {
-        return 1;
+    match kind {
+        0x00..=0x7f => 1,
+        0x80..=0xbf => 2,
+        0xc0..=0xdf => 3,
+        _ => 4,
     }
-    if kind < 192 {
-        return 2;
-    }
-    if kind < 224 {
-        return 3;
-    }
-    4
 }

@@ -8,23 +8,29 @@ use native.Mathlib.Omega.{arith}
 use borrow.Author.Tests.{eq-eqb, ne_eqb}
 use lib.Dec.{eqb}
 use lib.ListN.{length, take, drop, length-drop, drop_of_length-le}
+use Rattle.std.specs.declared.result.Result.{Result}
+use Rattle.std.specs.declared.result.Result.TheVariants.{Ok, Err}
+use Rattle.std.specs.Result.{is_ok}
 use Rattle.laws.specs.Pick.{pick, both}
 use Rattle.laws.proofs.Tests.{both_false}
 use Rattle.answer.specs.Rules.{Rule, Every, First}
 use Rattle.answer.specs.Writing.{answered, left}
-use Rattle.answer.specs.declared.Answer.{Answer}
-use Rattle.answer.specs.declared.Answer.TheVariants.{Done, Refused as Answer-as-Refused}
+use Rattle.answer.specs.Answer.{Answer}
 use Rattle.answer.specs.declared.Refusal.{Refusal}
 use Rattle.answer.proofs.Judging.{passes, refuses, decided}
 use Rattle.answer.proofs.Lent.{lent-accepted, lent-all}
 use Rattle.blocks.specs.Block.{head_length, size_of, record_of, record_length, begins, block_of, whole, blocks, whole_within, blocks_within}
-use Rattle.blocks.proofs.Walking.{Standing, begins-head, blocks_at, blocks_not, whole_not}
+use Rattle.blocks.specs.Place.{found_at}
+use Rattle.blocks.specs.declared.Found.{Found}
+use Rattle.blocks.specs.declared.Found.TheVariants.{End, Broken, Record}
+use Rattle.blocks.specs.declared.Taken.{Taken}
+use Rattle.blocks.proofs.Walking.{Standing, begins-head, blocks_at, blocks_not, whole_not, ended, broken}
 use Rattle.fields.specs.Fields.{field}
 use Rattle.fields.specs.Compound.{compound}
 use Rattle.laws.specs.Bytes.{Bytes}
 use Rattle.blocks.specs.Framing.{frame_rules}
 use Rattle.blocks.specs.Values.{counted}
-use Rattle.blocks.specs.declared.Read.TheVariants.{Taken, Refused}
+use Rattle.blocks.specs.Taking.{taken}
 use Rattle.menu_forms.specs.Menus.{Menu, navigation}
 use Rattle.menu_forms.specs.Form.{form, menu_in}
 use Rattle.menu_forms.proofs.Forms.{form-back-on}
@@ -113,6 +119,14 @@ pub none-broken : (application number : ℕ) (g : List ℕ) → begins g ≡ fal
 unfolding menus_of
 none-broken application number g b = ap (menus_of application number) (blocks_not g b)
 
+-- no record stands there
+pub none-left :
+    (application number : ℕ) (l : List ℕ) (p : ℕ) (f : Found) → f ≡ found_at l p → ((x x' x'' : ℕ) → f ≡ Record x x' x'' → ⊥)
+    → menus_of application number (blocks (drop p l)) ≡ []
+none-left application number l p End e never = none-ended application number l p (ended l p (sym e))
+none-left application number l p Broken e never = none-broken application number (drop p l) (broken l p (sym e)).1
+none-left application number l p (Record x x' x'') e never = absurd (never x x' x'' refl)
+
 pub none-held : {ms : List Menu} (f : List ℕ) → [] ≡ ms → Held ms f false
 none-held f e = subst (λ (x : List Menu). Held x f false) e none
 
@@ -149,13 +163,13 @@ module _ (application number : ℕ) (rec f : List ℕ) (b : Bytes rec) where
     -- accepted
     pub judged-taken :
         {written count : ℕ} → field 28 16 (compound (drop head_length rec)) ≡ number
-        → counted mended (answered rules bytes old) ≡ Taken written count → f ≡ left rules bytes old
+        → counted mended (answered rules bytes old) ≡ Ok (taken written count) → f ≡ left rules bytes old
         → Judged application number rec f true
     judged-taken {written} {count} k h e = go (answered rules bytes old) refl h
       where
-        go : (a : Answer) → answered rules bytes old ≡ a → counted mended a ≡ Taken written count → Judged application number rec f true
-        go (Answer-as-Refused w) ea ec = let z : ◌≡◌ {A = ℕ} 0 1 = cc in absurd (omega arith)
-        go (Done n) ea ec =
+        go : (a : Answer) → answered rules bytes old ≡ a → counted mended a ≡ Ok (taken written count) → Judged application number rec f true
+        go (Err w) ea ec = let z : ◌≡◌ {A = ℕ} 0 1 = cc in absurd (omega arith)
+        go (Ok n) ea ec =
             let all = lent-all rules bytes old n ea in
             let there : (menu_read (drop head_length rec)).block ≡ number = accepted-number application rec b all.0 ∙ k in
             record {
@@ -168,13 +182,21 @@ module _ (application number : ℕ) (rec f : List ℕ) (b : Bytes rec) where
     -- refused, though there is room for any form
     pub judged-refused :
         {why : Refusal} → length old ≡ form_most
-        → counted mended (answered rules bytes old) ≡ Refused why → Judged application number rec f false
+        → counted mended (answered rules bytes old) ≡ Err why → Judged application number rec f false
     judged-refused {why} l h = go (decided rules)
       where
         go : Every rules ⊎ ((q : Rule) × First q rules) → Judged application number rec f false
         go (inr q) = refuses-it q.1
         go (inl e) =
             let d = (lent-accepted rules bytes old e (omega (arith, accepted-form application rec b e))).0 in
-            let t : counted mended (Done (length bytes)) ≡ Refused why = sym (ap (counted mended) d) ∙ h in
+            let t : counted mended (Ok (length bytes)) ≡ Err why = sym (ap (counted mended) d) ∙ h in
             let z : ◌≡◌ {A = ℕ} 0 1 = cc in
             absurd (omega arith)
+
+    -- whatever reading answers
+    pub judged-read :
+        (x : Result Taken Refusal) (r : Bool) → x ≡ counted mended (answered rules bytes old) → r ≡ is_ok x
+        → field 28 16 (compound (drop head_length rec)) ≡ number → f ≡ left rules bytes old → length old ≡ form_most
+        → Judged application number rec f r
+    judged-read (Ok t) r h e k w l = subst (λ (x : Bool). Judged application number rec f x) (sym e) (judged-taken k (sym h) w)
+    judged-read (Err w') r h e k w l = subst (λ (x : Bool). Judged application number rec f x) (sym e) (judged-refused l (sym h))

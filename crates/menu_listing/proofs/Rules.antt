@@ -5,26 +5,26 @@ use mathlib.Core.List.{List, []}
 use Prim.Native.Nat.{ℕ, ◌≤◌, ◌<◌}
 use borrow.Author.Tests.{lt-ltb, le-ltb, leb-true}
 use lib.Dec.{leb}
+use Rattle.std.specs.declared.result.Result.TheVariants.{Ok}
 use Rattle.laws.proofs.Tests.{both_first}
 use Rattle.answer.specs.Rules.{judged}
 use Rattle.answer.specs.Values.{refused}
 use Rattle.answer.specs.Writing.{answered, left}
-use Rattle.answer.specs.declared.Answer.TheVariants.{Done}
 use Rattle.blocks.specs.Block.{whole}
 use Rattle.menu_listing.specs.Listing.{are_levels, levels_rules}
 use Rattle.menu_listing.specs.Kept.{kept_rules}
 
 module _ (application levels : ℕ) (records : List ℕ) where
-  pub listed-16 : 32 ≤ application → judged refused (levels_rules application levels records) (Done 0) ≡ refused 16 0
+  pub listed-16 : 32 ≤ application → judged refused (levels_rules application levels records) (Ok 0) ≡ refused 16 0
   listed-16 h = rw (le-ltb application 32 h)
 
   pub levels-16 :
-      application < 32 → are_levels levels ≡ false → judged refused (levels_rules application levels records) (Done 0) ≡ refused 16 0
+      application < 32 → are_levels levels ≡ false → judged refused (levels_rules application levels records) (Ok 0) ≡ refused 16 0
   levels-16 h n = rw (lt-ltb application 32 h, n)
 
   pub listed-13 :
       application < 32 → are_levels levels ≡ true → whole records ≡ false
-      → judged refused (levels_rules application levels records) (Done 0) ≡ refused 13 0
+      → judged refused (levels_rules application levels records) (Ok 0) ≡ refused 13 0
   listed-13 h n w = rw (lt-ltb application 32 h, n, w)
 
   -- where they hold the room decides

@@ -18,17 +18,12 @@ pub(crate) fn is_whole(records: &[u8]) -> bool
     ensures { result ≡ whole records.now }
 {
     let mut at = 0;
+    // Kept: the step is no count: it goes to the next record.
     loop {
         match blocks::record_at(records, at) {
             Found::End => return true,
             Found::Broken => return false,
-            Found::Record {
-                head: _,
-                raw: _,
-                next,
-            } => {
-                at = next;
-            }
+            Found::Record { next, .. } => at = next,
         }
     }
 }
@@ -69,22 +64,14 @@ fn find_menu(application: u8, number: usize, records: &[u8], form: &mut [u8]) ->
     ensures { Held (menus_of application number (blocks records.now)) form.new result }
 {
     let mut at = 0;
-    loop {
-        match blocks::record_at(records, at) {
-            Found::End => return false,
-            Found::Broken => return false,
-            Found::Record {
-                head: _,
-                raw: _,
-                next,
-            } => {
-                if judge(application, number, &records[at..next], form) {
-                    return true;
-                }
-                at = next;
-            }
+    // Kept: the step is no count: it goes to the next record.
+    while let Found::Record { next, .. } = blocks::record_at(records, at) {
+        if judge(application, number, &records[at..next], form) {
+            return true;
         }
+        at = next;
     }
+    false
 }
 
 // Whether a record is accepted as a menu with this number; then its form is in `form`. The number is looked at before anything else.
@@ -92,14 +79,6 @@ fn judge(application: u8, number: usize, rec: &[u8], form: &mut [u8]) -> bool
     requires { (head_length ≤ length rec.now) × (length form.old ≡ form_most) }
     ensures { Judged application number rec.now form.new result }
 {
-    if fields::field_of(&rec[HEAD..], NUMBER, WIDE) != number {
-        return false;
-    }
-    match menu_reader::read_menu(application, rec, form) {
-        Read::Taken {
-            written: _,
-            mended: _,
-        } => true,
-        Read::Refused(_) => false,
-    }
+    fields::field_of(&rec[HEAD..], NUMBER, WIDE) == number
+        && menu_reader::read_menu(application, rec, form).is_ok()
 }

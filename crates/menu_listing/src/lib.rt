@@ -10,7 +10,7 @@ ghost use Rattle.menu_listing.specs.Listing.{are_levels, listing, full_listing, 
 ghost use Rattle.menu_listing.specs.Kept.{kept_listing, kept_rules};
 ghost use Rattle.menu_listing.specs.Internal.{Penned, menus_from, event_lines_at, room_most, beyond, place_most};
 
-use answer::Answer;
+use answer::{Answer, Reason};
 
 // The greatest number of levels.
 const LEVELS: u8 = 8;
@@ -47,13 +47,13 @@ pub fn list_levels(
         out.old }
 {
     if 32 <= application {
-        return answer::refuse(16, 0);
+        return Reason::Range.refuse(0);
     }
     if !are_levels(levels) {
-        return answer::refuse(16, 0);
+        return Reason::Range.refuse(0);
     }
     if !finding::is_whole(records) {
-        return answer::refuse(13, 0);
+        return Reason::Length.refuse(0);
     }
     print(
         Source::Records(application),
@@ -83,7 +83,7 @@ pub fn list_kept(number: u16, levels: u8, heads: &[u8], shelf: &[u8], out: &mut 
         ≡ left (kept_rules levels) (kept_listing number levels heads.now shelf.now) out.old }
 {
     if !are_levels(levels) {
-        return answer::refuse(16, 0);
+        return Reason::Range.refuse(0);
     }
     print(
         Source::Shelf,
@@ -99,10 +99,7 @@ pub fn list_kept(number: u16, levels: u8, heads: &[u8], shelf: &[u8], out: &mut 
 fn are_levels(levels: u8) -> bool
     ensures { result ≡ are_levels levels }
 {
-    if levels == 0 {
-        return false;
-    }
-    levels <= LEVELS
+    (1..=LEVELS).contains(&levels)
 }
 
 // The listing, where only the room is left to judge: the walk that measures, and the walk that writes. A list of records has no heads: what
@@ -126,10 +123,10 @@ fn print(
         source, number, levels, below, list, heads, room, &mut scrap, 0,
     );
     if room < need {
-        return answer::refuse(1, 0);
+        return Reason::NoRoom.refuse(0);
     }
     let written = walk_menu(source, number, levels, below, list, heads, room, out, 0);
-    Answer::Done(written)
+    Ok(written)
 }
 
 // The menu walk: the lines of a menu, with so many levels left below it, and of what its events lead to. Past the room it puts nothing more.
@@ -157,16 +154,15 @@ fn walk_menu(
         return lines::put_line(b"missing=", number, out, q);
     }
     let level = levels - below;
-    let mut left = lent_bytes::byte_at(&form, 8);
+    let events = lent_bytes::byte_at(&form, 8);
     let mut i = lines::events_place(&form);
     let mut p = lines::put_head(&form, level, number, out, q);
-    while 0 < left {
+    for _ in 0..events {
         if room < p {
             return p;
         }
         p = walk_event(source, &form, i, levels, below, list, heads, room, out, p);
         i = lines::next_event(&form, i);
-        left -= 1;
     }
     p
 }

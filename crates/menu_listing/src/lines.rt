@@ -75,30 +75,25 @@ fn put_codes(form: &[u8], from: usize, count: usize, out: &mut [u8], q: usize) -
     ensures { Put out.old q (map lines_shown (codes_in count (drop from form.now))) out.new result
         × (result ≤ q + count) }
 {
-    let mut i = from;
-    let mut left = count;
     let mut p = q;
-    while 0 < left {
-        let code = [shown(lent_bytes::byte_at(form, i))];
+    for i in 0..count {
+        let code = [shown(lent_bytes::byte_at(form, from + i))];
         p = text_lines::put(&code, out, p);
-        i += 1;
-        left -= 1;
     }
     p
 }
 
 // A code as it is printed.
+#[tactic(auto, unfolding(crate::specs::Lines::shown))]
 fn shown(code: usize) -> u8
     requires { code < 256 }
     ensures { result ≡ lines_shown code }
 {
-    if code < 32 {
-        return b' ';
+    match code {
+        0..=31 => b' ',
+        127 => b'#',
+        _ => code as u8,
     }
-    if code == 127 {
-        return b'#';
-    }
-    code as u8
 }
 
 // The number of the block that the event at the place i of a form leads to.
@@ -138,11 +133,10 @@ fn text_place(form: &[u8], i: usize) -> usize
     requires { i ≤ place_most }
     ensures { (result ≡ i + text_place (drop i form.now)) × (result ≤ i + 1279) }
 {
-    let mut left = lent_bytes::byte_at(form, i + 3);
+    let attributes = lent_bytes::byte_at(form, i + 3);
     let mut at = i + 4;
-    while 0 < left {
+    for _ in 0..attributes {
         at += 1 + menu_forms::info_bytes(lent_bytes::byte_at(form, at));
-        left -= 1;
     }
     at
 }

@@ -6,13 +6,14 @@ use Prim.Native.Nat.{ℕ, ◌≤◌}
 use lib.ListN.{length, drop}
 use lib.Pow.{pow_pos}
 use borrow.Author.Tests.{ltb-true}
+use Rattle.std.specs.declared.result.Result.TheVariants.{Ok}
 use Rattle.blocks.specs.Block.{head_length}
 use Rattle.answer.specs.Rules.{Every}
 use Rattle.answer.specs.Writing.{left}
 use Rattle.answer.proofs.Steps.{first_holds}
 use Rattle.laws.specs.Bytes.{Bytes}
-use Rattle.blocks.specs.declared.Read.{Read}
-use Rattle.blocks.specs.declared.Read.TheVariants.{Taken}
+use Rattle.blocks.specs.Taking.{Read}
+use Rattle.blocks.specs.Taking.{taken}
 use Rattle.kinds.specs.Kind.{fill}
 use Rattle.kinds.proofs.Calls as Kinds
 use Rattle.menu_forms.specs.Menus.{Menu, zeros, navigation, content, menu_sent, fits}
@@ -35,13 +36,13 @@ module _ (application : ℕ) (r : List ℕ) (old : List ℕ) where
   -- a record that says m, with room: m's form stands at the front of the output, and the count is its own
   pub call-takes :
       (m : Menu) → Says application r m → length (form m) ≤ length old
-      → (call_reads ≡ Taken (length (form m)) (mended_control r))
+      → (call_reads ≡ Ok (taken (length (form m)) (mended_control r)))
       × (left (read_rules application r) (form (found r)) old ≡ form m ++ drop (length (form m)) old)
   call-takes = Kinds.call-takes navigation owed menu_sent form application r old
 
   -- a record that the call accepts says the menu whose form it hands out, and the count is its own
   pub call_says :
-      (n c : ℕ) → Bytes r → call_reads ≡ Taken n c
+      (n c : ℕ) → Bytes r → call_reads ≡ Ok (taken n c)
       → Says application r (found r)
       × (n ≡ length (form (found r)))
       × (c ≡ mended_control r)
@@ -51,7 +52,7 @@ module _ (application : ℕ) (r : List ℕ) (old : List ℕ) where
 -- a form that writing takes, written and read again by calls with room: it comes back byte for byte, with nothing mended
 pub call_back :
     (application : ℕ) (f old : List ℕ) → Bytes f → Every (write_rules application f) → length f ≤ length old
-    → (call_reads application (record_of application (menu_in f)) old ≡ Taken (length f) 0)
+    → (call_reads application (record_of application (menu_in f)) old ≡ Ok (taken (length f) 0))
     × (left (read_rules application (record_of application (menu_in f))) (form (found (record_of application (menu_in f)))) old
     ≡ f ++ drop (length f) old)
 unfolding fits
@@ -62,10 +63,10 @@ call_back application f old b e h =
     let p =
     Kinds.call_back navigation owed menu_sent form application 0 (content zeros m) old (ltb-true application 32 (first_holds e)) can
     (pow_pos (fill navigation (content zeros m))) (rw same h) in
-    (p.0 ∙ ap (λ (x : List ℕ). Taken (length x) 0) same, p.1 ∙ ap (λ (x : List ℕ). x ++ drop (length x) old) same)
+    (p.0 ∙ ap (λ (x : List ℕ). Ok (taken (length x) 0)) same, p.1 ∙ ap (λ (x : List ℕ). x ++ drop (length x) old) same)
 
 -- and what a call hands out writing takes, as the same menu
 pub call-writable :
-    (application : ℕ) (r old : List ℕ) (n c : ℕ) → Bytes r → call_reads application r old ≡ Taken n c
+    (application : ℕ) (r old : List ℕ) (n c : ℕ) → Bytes r → call_reads application r old ≡ Ok (taken n c)
     → Every (write_rules application (form (found r))) × (menu_in (form (found r)) ≡ found r)
 call-writable application r old n c b e = says_writable application r (found r) (call_says application r old n c b e).0

@@ -3,7 +3,7 @@ use mathlib.Core.Path.{◌≡◌, ◌∙◌, sym}
 use Prim.Native.Nat.{ℕ, ◌<◌}
 use borrow.Author.Tests.{lt-ltb, le-ltb, eq-eqb, ne_eqb}
 use Rattle.answer.specs.Rules.{judged}
-use Rattle.answer.specs.declared.Answer.{Answer}
+use Rattle.answer.specs.Answer.{Answer}
 use Rattle.answer.specs.Values.{refused}
 use Rattle.kinds.specs.Kind.{Sent, content_of, control as kind_control, size as kind_size}
 use Rattle.kinds.specs.Reading.{length_rules as kind_length_rules}

@@ -3,9 +3,10 @@ use mathlib.Core.Path.{◌≡◌, ◌∙◌, refl, sym, ap, ap₂}
 use mathlib.Core.List.{List, [], ◌∷◌, ◌++◌, map}
 use Prim.Native.Nat.{ℕ, zero, suc, ◌+◌, ◌-◌, ◌*◌, ◌/◌, ◌%◌, ◌^◌, ◌≤◌, ◌<◌}
 use native.Mathlib.Nat.{add-zero}
-use native.Mathlib.Numerals.{add-one}
 use native.Mathlib.Omega.{arith}
-use lib.ListN.{length, get_or, drop, set, length-append}
+use lib.ListN.{length, get_or, take, drop, set, length-append}
+use native.Mathlib.Nat.{div-div-eq-div-mul, pow-suc}
+use Rattle.std.specs.Int.{w64, byte_at, bytes_low_first, to_le_bytes}
 use lib.Seq.{sets, drop-drop, get_or-drop}
 use Rattle.laws.proofs.Countdown.{at_none, at_more}
 use Rattle.fields.specs.Fields.{width, field, parts, whole}
@@ -126,17 +127,21 @@ pub word-last : (a : ℕ) → a < 65536 → parts 8 2 a ≡ a % 256 ∷ a / 256 
 unfolding parts
 word-last a h = let e : a / 256 % 256 ≡ a / 256 = omega arith in rw e
 
--- one of them on
-pub bytes_on :
-    (left q rest b : ℕ) (out out' whole : List ℕ) → 0 < left → b ≡ rest % 256 → out' ≡ set out q b → sets out q (parts 8 left rest) ≡ whole
-    → sets out' (q + 1) (parts 8 (left - 1) (rest / 256)) ≡ whole
+-- the bytes that std takes a number apart into, from byte i on
+bytes-at : (i k m v : ℕ) → k ≤ m → take k (bytes_low_first i m v) ≡ parts 8 k (v / 256 ^ i)
 unfolding parts
-bytes_on left q rest b out out' whole some e eo inv =
-    rw (eo, e, add-one q) (sym (at_more (λ (k : ℕ). sets out q (parts 8 k rest)) left some) ∙ inv)
+bytes-at i zero m v h = refl
+bytes-at i (suc k) zero v h = absurd (omega arith)
+bytes-at i (suc k) (suc m) v h =
+    let next : v / 256 ^ i / 256 ≡ v / 256 ^ suc i = div-div-eq-div-mul v (256 ^ i) 256 ∙ ap (λ (x : ℕ). v / x) (sym (pow-suc 256 i)) in
+    ap₂ (λ (x : ℕ) (l : List ℕ). x ∷ l) (byte_is i v) (bytes-at (suc i) k m v (omega arith) ∙ ap (parts 8 k) (sym next))
+  where
+    byte_is : (i v : ℕ) → byte_at i v ≡ v / 256 ^ i % 256
+    byte_is zero v = let e : v / 1 ≡ v = omega arith in ap (λ (x : ℕ). x % 256) (sym e)
+    byte_is (suc i) v = refl
 
-pub bytes_end : (left q rest : ℕ) (out whole : List ℕ) → left ≤ 0 → sets out q (parts 8 left rest) ≡ whole → out ≡ whole
-unfolding parts
-bytes_end left q rest out whole none inv = sym (at_none (λ (k : ℕ). sets out q (parts 8 k rest)) left none) ∙ inv
+pub bytes-taken : (k v : ℕ) → k ≤ 8 → take k (to_le_bytes w64 v) ≡ parts 8 k v
+bytes-taken k v h = let e : v / 1 ≡ v = omega arith in bytes-at 0 k 8 v h ∙ ap (parts 8 k) e
 
 -- ---- bytes of a number, the highest first
 
@@ -157,16 +162,18 @@ info_byte ns k i h =
     field_in (8 * i) 8 (8 * k) (n / 2 ^ 8) (omega arith) ∙ field_past (8 * i) 8 8 n ∙ ap (λ (x : ℕ). field x 8 n) e
 
 pub info_on :
-    (ns : List ℕ) (k left q b : ℕ) (out out' whole : List ℕ) → 0 < left → left ≤ k → b ≡ bits_at (8 * left) 8 ns → out' ≡ set out q b
-    → sets out q (high_first left (bits_at 8 (8 * k) ns)) ≡ whole
-    → sets out' (q + 1) (high_first (left - 1) (bits_at 8 (8 * k) ns)) ≡ whole
-info_on ns k left q b out out' whole some le e eo inv =
+    (ns : List ℕ) (k i to b : ℕ) (out out' whole : List ℕ) → i < k → b ≡ bits_at (8 * (k - i)) 8 ns → out' ≡ set out (to + i) b
+    → sets out (to + i) (high_first (k - i) (bits_at 8 (8 * k) ns)) ≡ whole
+    → sets out' (to + (i + 1)) (high_first (k - (i + 1)) (bits_at 8 (8 * k) ns)) ≡ whole
+info_on ns k i to b out out' whole some e eo inv =
     let v = bits_at 8 (8 * k) ns in
-    let up : suc (left - 1) ≡ left = omega arith in
-    let first : field (8 * (left - 1)) 8 v ≡ b =
-    info_byte ns k (left - 1) (omega arith) ∙ ap (λ (x : ℕ). bits_at (8 * x) 8 ns) up ∙ sym e in
-    let all = at_more (λ (j : ℕ). high_first j v) left some ∙ high_top (left - 1) v ∙ ap (λ (x : ℕ). x ∷ high_first (left - 1) v) first in
-    rw (eo, add-one q) (sym (ap (λ (l : List ℕ). sets out q l) all) ∙ inv)
+    let left = k - (i + 1) in
+    let up : k - i ≡ suc left = omega arith in
+    let on : to + (i + 1) ≡ suc (to + i) = omega arith in
+    let first : field (8 * left) 8 v ≡ b =
+    info_byte ns k left (omega arith) ∙ ap (λ (x : ℕ). bits_at (8 * x) 8 ns) (sym up) ∙ sym e in
+    let all = ap (λ (j : ℕ). high_first j v) up ∙ high_top left v ∙ ap (λ (x : ℕ). x ∷ high_first left v) first in
+    rw (eo, on) (sym (ap (λ (l : List ℕ). sets out (to + i) l) all) ∙ inv)
 
 pub info_end :
     (left q v : ℕ) (out whole : List ℕ) → left ≤ 0 → sets out q (high_first left v) ≡ whole → out ≡ whole
@@ -185,13 +192,17 @@ code_at ss i = get_or-drop i (map code_of ss) 0 0 ∙ ap (λ (k : ℕ). get_or (
     go (x ∷ ss) (suc i) = go ss i
 
 pub codes-on :
-    (ss : List ℕ) (left i q b : ℕ) (out out' whole : List ℕ) → 0 < left → b ≡ get_or ss i 0 → out' ≡ set out q (b % 128)
-    → sets out q (codes_in left (drop i (map code_of ss))) ≡ whole
-    → sets out' (q + 1) (codes_in (left - 1) (drop (i + 1) (map code_of ss))) ≡ whole
+    (ss : List ℕ) (count i from to b : ℕ) (out out' whole : List ℕ) → i < count → b ≡ get_or ss (from + i) 0 → out' ≡ set out (to + i) (b % 128)
+    → sets out (to + i) (codes_in (count - i) (drop (from + i) (map code_of ss))) ≡ whole
+    → sets out' (to + (i + 1)) (codes_in (count - (i + 1)) (drop (from + (i + 1)) (map code_of ss))) ≡ whole
 unfolding codes_in
-codes-on ss left i q b out out' whole some e eo inv =
-    rw (eo, e, add-one q, ← (drop-drop 1 i (map code_of ss)), ← (code_at ss i))
-    (sym (at_more (λ (k : ℕ). sets out q (codes_in k (drop i (map code_of ss)))) left some) ∙ inv)
+codes-on ss count i from to b out out' whole some e eo inv =
+    let cs = map code_of ss in
+    let up : count - i ≡ suc (count - (i + 1)) = omega arith in
+    let q : to + (i + 1) ≡ suc (to + i) = omega arith in
+    let p : from + (i + 1) ≡ from + i + 1 = omega arith in
+    rw (eo, e, q, p, ← (drop-drop 1 (from + i) cs), ← (code_at ss (from + i)))
+    (sym (ap (λ (k : ℕ). sets out (to + i) (codes_in k (drop (from + i) cs))) up) ∙ inv)
 
 pub codes-end :
     (cs : List ℕ) (left q : ℕ) (out whole : List ℕ) → left ≤ 0 → sets out q (codes_in left cs) ≡ whole → out ≡ whole

@@ -8,14 +8,14 @@ ghost use Rattle.std.specs.Prelude.{◌≡◌, length, drop};
 ghost use Rattle.answer.specs.Rules.{judged};
 ghost use Rattle.answer.specs.Values.{refused};
 ghost use Rattle.answer.specs.Writing.{answered, left};
-ghost use Rattle.answer.specs.declared.Answer.TheVariants.{Done};
+ghost use Rattle.std.specs.declared.result.Result.TheVariants.{Ok};
 ghost use Rattle.blocks.specs.Block.{head_length};
 ghost use Rattle.blocks.specs.Values.{counted};
 ghost use Rattle.menu_forms.specs.Form.{form};
 ghost use Rattle.menu_reader.specs.Reading.{length_rules, read_rules, sent_held, menu_held, menu_read, mended_control};
 
-use answer::Answer;
-use blocks::{HEAD, Read};
+use answer::{Answer, Reason};
+use blocks::{HEAD, Read, Taken};
 
 // The datatype_id of Navigation Information.
 const KIND: u8 = 3;
@@ -44,13 +44,9 @@ pub fn read_menu(application: u8, rec: &[u8], out: &mut [u8]) -> Read
     ensures output { out.new
         ≡ left (read_rules application rec.now) (form (menu_read (drop head_length rec.now))) out.old }
 {
-    match read_form(application, rec, out) {
-        Answer::Refused(why) => Read::Refused(why),
-        Answer::Done(written) => {
-            let mended = kinds::mended_in(true, rec) as u16;
-            Read::Taken { written, mended }
-        }
-    }
+    let written = read_form(application, rec, out)?;
+    let mended = kinds::mended_in(true, rec) as u16;
+    Ok(Taken { written, mended })
 }
 
 // The same but for the count.
@@ -59,13 +55,9 @@ fn read_form(application: u8, rec: &[u8], out: &mut [u8]) -> Answer
     ensures output { out.new
         ≡ left (read_rules application rec.now) (form (menu_read (drop head_length rec.now))) out.old }
 {
-    match kinds::judge(application, KIND, KIND, true, rec) {
-        Answer::Refused(why) => Answer::Refused(why),
-        Answer::Done(length) => {
-            let end = HEAD + length;
-            read_parts(rec.len() - HEAD, &rec[HEAD..end], &rec[end..], out)
-        }
-    }
+    let length = kinds::judge(application, KIND, KIND, true, rec)?;
+    let end = HEAD + length;
+    read_parts(rec.len() - HEAD, &rec[HEAD..end], &rec[end..], out)
 }
 
 // What follows the checksum: the lengths, by a block's size, its control bytes and its string bytes; then the room.
@@ -77,16 +69,12 @@ fn read_parts(size: usize, control: &[u8], strings: &[u8], out: &mut [u8]) -> An
         ≡ left (length_rules size (sent_held control.now strings.now))
         (form (menu_held control.now strings.now)) out.old }
 {
-    match judge_lengths(size, control, strings) {
-        Answer::Refused(why) => Answer::Refused(why),
-        Answer::Done(need) => {
-            if out.len() < need {
-                return answer::refuse(1, 0);
-            }
-            spelling::spell(control, strings, out);
-            Answer::Done(need)
-        }
+    let need = judge_lengths(size, control, strings)?;
+    if out.len() < need {
+        return Reason::NoRoom.refuse(0);
     }
+    spelling::spell(control, strings, out);
+    Ok(need)
 }
 
 // 14: where header_size is one of 0, 1, 2, and both sizes fit, the bytes of the menu's form. The menu is spelled into no room to find
@@ -95,18 +83,18 @@ fn judge_lengths(size: usize, control: &[u8], strings: &[u8]) -> Answer
     ensures { result
         ≡ judged refused
         (length_rules size (sent_held control.now strings.now))
-        (Done (length (form (menu_held control.now strings.now)))) }
+        (Ok (length (form (menu_held control.now strings.now)))) }
 {
     let mut nowhere = [0u8; 0];
     let s = spelling::spell(control, strings, &mut nowhere);
     if 2 < fields::field_of(control, 44, 2) {
-        return answer::refuse(14, 0);
+        return Reason::Parts.refuse(0);
     }
     if fields::field_of(control, 8, 10) != s.at / 2 {
-        return answer::refuse(14, 0);
+        return Reason::Parts.refuse(0);
     }
     if size != 2 * (s.at / 2) + s.from {
-        return answer::refuse(14, 0);
+        return Reason::Parts.refuse(0);
     }
-    Answer::Done(s.to)
+    Ok(s.to)
 }

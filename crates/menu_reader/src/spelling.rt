@@ -87,10 +87,8 @@ fn put_events(control: &[u8], strings: &[u8], s: Spot, count: usize, out: &mut [
         × Within s result (2710 * count) (255 * count) (1611 * count) }
 {
     let mut p = s;
-    let mut left = count;
-    while 0 < left {
+    for _ in 0..count {
         p = put_event(control, strings, p, out);
-        left -= 1;
     }
     p
 }
@@ -110,8 +108,8 @@ fn put_event(control: &[u8], strings: &[u8], s: Spot, out: &mut [u8]) -> Spot
         control,
         Spot {
             at: s.at + 6,
-            from: s.from,
             to: s.to + 4,
+            ..s
         },
         count,
         out,
@@ -133,8 +131,8 @@ fn put_text(control: &[u8], strings: &[u8], s: Spot, out: &mut [u8]) -> Spot
         control,
         Spot {
             at: s.at + 2,
-            from: s.from,
             to: s.to + 2,
+            ..s
         },
         escapes,
         out,
@@ -152,14 +150,12 @@ fn put_codes(strings: &[u8], from: usize, count: usize, out: &mut [u8], to: usiz
     requires { (from ≤ 60000) × (count < 256) × (to ≤ 70000) }
     ensures { out.new ≡ sets out.old to (codes_in count (drop from (map code_of strings.now))) }
 {
-    let mut i = from;
-    let mut q = to;
-    let mut left = count;
-    while 0 < left {
-        lent_bytes::put((lent_bytes::byte_at(strings, i) % 128) as u8, out, q);
-        i += 1;
-        q += 1;
-        left -= 1;
+    for i in 0..count {
+        lent_bytes::put(
+            (lent_bytes::byte_at(strings, from + i) % 128) as u8,
+            out,
+            to + i,
+        );
     }
 }
 
@@ -171,10 +167,8 @@ fn put_entries(what: Loop, control: &[u8], s: Spot, count: usize, out: &mut [u8]
         × Within s result (10 * count) 0 (5 * count) }
 {
     let mut p = s;
-    let mut left = count;
-    while 0 < left {
+    for _ in 0..count {
         p = put_entry(what, control, p, out);
-        left -= 1;
     }
     p
 }
@@ -205,8 +199,8 @@ fn put_descriptor(control: &[u8], s: Spot, out: &mut [u8]) -> Spot
     put_bytes(which + 256 * (id + 256 * eval), 3, out, s.to);
     Spot {
         at: s.at + 5,
-        from: s.from,
         to: s.to + 3,
+        ..s
     }
 }
 
@@ -222,8 +216,8 @@ fn put_escape(control: &[u8], s: Spot, out: &mut [u8]) -> Spot
     put_bytes(position + 65536 * (mode + 256 * content), 4, out, s.to);
     Spot {
         at: s.at + 6,
-        from: s.from,
         to: s.to + 4,
+        ..s
     }
 }
 
@@ -239,8 +233,8 @@ fn put_attribute(control: &[u8], s: Spot, out: &mut [u8]) -> Spot
     put_info(control, s.at, k, out, s.to + 1);
     Spot {
         at: s.at + 2 + 2 * k,
-        from: s.from,
         to: s.to + 1 + k,
+        ..s
     }
 }
 
@@ -250,12 +244,8 @@ fn put_info(control: &[u8], at: usize, k: usize, out: &mut [u8], to: usize)
     ensures { out.new
         ≡ sets out.old to (high_first k (bits_at 8 (8 * k) (drop at (map nib control.now)))) }
 {
-    let mut q = to;
-    let mut left = k;
-    while 0 < left {
-        lent_bytes::put(info_at(control, at, left), out, q);
-        q += 1;
-        left -= 1;
+    for i in 0..k {
+        lent_bytes::put(info_at(control, at, k - i), out, to + i);
     }
 }
 
@@ -280,13 +270,5 @@ fn put_bytes(v: usize, k: usize, out: &mut [u8], to: usize)
     requires { (k ≤ 8) × (to ≤ 90000) }
     ensures { out.new ≡ sets out.old to (parts 8 k v) }
 {
-    let mut rest = v;
-    let mut q = to;
-    let mut left = k;
-    while 0 < left {
-        lent_bytes::put((rest % 256) as u8, out, q);
-        rest /= 256;
-        q += 1;
-        left -= 1;
-    }
+    lent_bytes::copy(&v.to_le_bytes(), 0, k, out, to);
 }

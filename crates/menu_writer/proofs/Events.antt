@@ -119,17 +119,15 @@ module _ (f : List ℕ) (at a : ℕ) (ha : a ≡ get_or f (at + 3) 0) where
 
   -- the event is measured
   pub event-told :
-      (aend control : ℕ) (afine first second fine : Bool) (x : Tally)
+      (aend control : ℕ) (afine fine : Bool) (x : Tally)
       → aend ≡ at + 4 + loop_length Attributes a (drop (at + 4) f)
       → afine ≡ loop_fine Attributes a (drop (at + 4) f)
       → Told x aend (text_form (text_in (drop aend f))) (text_fields (text_in (drop aend f))) (text_in (drop aend f)).codes
       → control ≡ 3 + (aend - (at + 4)) + x.control
-      → first ≡ both (ltb (get_or f (at + 2) 0) 16) (ltb a 16)
-      → second ≡ both afine x.fine
-      → fine ≡ both first second
+      → fine ≡ both (both (ltb (get_or f (at + 2) 0) 16) (ltb a 16)) (both afine x.fine)
       → Told (record { end = x.end; control = control; strings = x.strings; fine = fine }) at (event_form (event_in (drop at f)))
       (event_fields (event_in (drop at f))) (codes_of (event_in (drop at f)))
-  event-told aend control afine first second fine x ha hf told hc h1 h2 hx =
+  event-told aend control afine fine x ha hf told hc hx =
       let at' : at + 4 + loop_length Attributes a (drop (at + 4) f) ≡ aend = sym ha in
       let l : length (event_form (event_in (drop at f))) ≡ 4 + loop_length Attributes a (drop (at + 4) f) + length (text_form (text_in (drop aend f))) =
       event-length ∙ ap (λ (z : ℕ). 4 + loop_length Attributes a (drop (at + 4) f) + length (text_form (text_in (drop z f)))) at' in
@@ -142,7 +140,7 @@ module _ (f : List ℕ) (at a : ℕ) (ha : a ≡ get_or f (at + 3) 0) where
         sends = told.sends ∙ sym (ap length cs);
         fine =
             hx
-            ∙ ap₂ (λ (p q : Bool). both p q) h1 (h2 ∙ ap₂ (λ (p q : Bool). both p q) hf told.fine)
+            ∙ ap (both (both (ltb (get_or f (at + 2) 0) 16) (ltb a 16))) (ap₂ (λ (p q : Bool). both p q) hf told.fine)
             ∙ five (ltb (get_or f (at + 2) 0) 16) (ltb a 16) (loop_fine Attributes a (drop (at + 4) f)) (fitting (text_fields (text_in (drop aend f)))) (sevens (text_in (drop aend f)).codes)
             ∙ sym
             (ap₂ (λ (p q : Bool). both p q)

@@ -8,10 +8,10 @@ use borrow.Author.Tests.{lt-ltb, le-ltb, le-leb, lt-leb, eq-eqb, ne_eqb, ltb-tru
 use lib.Dec.{ltb}
 use lib.ListN.{length, get_or, drop, length-append, length-map}
 use lib.Seq.{sets}
+use Rattle.std.specs.declared.result.Result.TheVariants.{Ok}
 use Rattle.laws.specs.Pick.{both}
 use Rattle.laws.proofs.Tests.{both-second}
-use Rattle.answer.specs.declared.Answer.{Answer}
-use Rattle.answer.specs.declared.Answer.TheVariants.{Done}
+use Rattle.answer.specs.Answer.{Answer}
 use Rattle.answer.specs.Rules.{judged}
 use Rattle.answer.specs.Values.{refused}
 use Rattle.answer.proofs.Steps.{done_every, first_holds, others_hold}
@@ -109,7 +109,7 @@ module _ (application : ℕ) (f : List ℕ) (a : Answer) where
           by-none h = rw (lt-ltb application 32 h₀, le-leb 9 (length f) h₁, eq-eqb (get_or f 0 0) 3 h₂, eq-eqb (length f) (length (form (menu_in f))) h₃, h)
 
 -- a form that is taken is of an application below 32, and its menu can be sent
-pub writable : (application : ℕ) (f : List ℕ) (n m : ℕ) → judged refused (write_rules application f) (Done n) ≡ Done m → (application < 32) × (fits (menu_in f) ≡ true)
+pub writable : (application : ℕ) (f : List ℕ) (n m : ℕ) → judged refused (write_rules application f) (Ok n) ≡ Ok m → (application < 32) × (fits (menu_in f) ≡ true)
 unfolding form_rules
 writable application f n m e =
     let all = done_every (write_rules application f) n m e in

@@ -153,18 +153,15 @@ module _ (f : List ℕ) (d n b h : ℕ) (hd : d ≡ get_or f 7 0) (hn : n ≡ ge
       (seven (ltb (get_or f 1 0) 2) (ltb (get_or f 4 0) 4) (ltb n 16) (ltb (get_or f 5 0) 8) (ltb d 64) _))
 
   pub whole-told :
-      (dfine first second third fine : Bool) (control strings' : ℕ) (x y : Tally)
+      (dfine fine : Bool) (control strings' : ℕ) (x y : Tally)
       → dfine ≡ loop_fine Descriptors d (drop 9 f)
       → Told x b (text_form (text_in (drop b f))) (text_fields (text_in (drop b f))) (text_in (drop b f)).codes
       → Told y h (each event_form (events_in n (drop h f))) (each event_fields (events_in n (drop h f))) (each codes_of (events_in n (drop h f)))
-      → first ≡ opening_fine f
-      → second ≡ both x.fine y.fine
-      → third ≡ both dfine second
-      → fine ≡ both first third
+      → fine ≡ both (opening_fine f) (both dfine (both x.fine y.fine))
       → control ≡ 9 + 5 * d / 2 + x.control + y.control
       → strings' ≡ x.strings + y.strings
       → Whole (record { end = y.end; control = control; strings = strings'; fine = fine }) f
-  whole-told dfine first second third fine control strings' x y hdf tx ty h1 h2 h3 hf hc hs =
+  whole-told dfine fine control strings' x y hdf tx ty hf hc hs =
       record {
         ends = ty.ends ∙ sym form-length;
         takes = omega (arith, tx.takes, ty.takes, fields-width, hc);
@@ -172,8 +169,8 @@ module _ (f : List ℕ) (d n b h : ℕ) (hd : d ≡ get_or f 7 0) (hn : n ≡ ge
         fine =
             hf
             ∙ ap₂ (λ (p q : Bool). both p q)
-            (h1 ∙ ap₂ (λ (p q : ℕ). both (both (ltb (get_or f 4 0) 3) (ltb (get_or f 5 0) 8)) (both (both (ltb p 64) (ltb q 16)) (both (ltb (get_or f 1 0) 2) (ltb (get_or f 6 0) 256)))) (sym hd) (sym hn))
-            (h3 ∙ ap₂ (λ (p q : Bool). both p q) hdf (h2 ∙ ap₂ (λ (p q : Bool). both p q) tx.fine ty.fine))
+            (ap₂ (λ (p q : ℕ). both (both (ltb (get_or f 4 0) 3) (ltb (get_or f 5 0) 8)) (both (both (ltb p 64) (ltb q 16)) (both (ltb (get_or f 1 0) 2) (ltb (get_or f 6 0) 256)))) (sym hd) (sym hn))
+            (ap₂ (λ (p q : Bool). both p q) hdf (ap₂ (λ (p q : Bool). both p q) tx.fine ty.fine))
             ∙ order (ltb (get_or f 1 0) 2) (ltb (get_or f 4 0) 3) (ltb (get_or f 4 0) 4) (ltb n 16) (ltb (get_or f 5 0) 8) (ltb d 64) (ltb (get_or f 6 0) 256)
             (loop_fine Descriptors d (drop 9 f)) (fitting (text_fields (text_in (drop b f)))) (sevens (text_in (drop b f)).codes)
             (fitting (each event_fields (events_in n (drop h f)))) (sevens (each codes_of (events_in n (drop h f))))

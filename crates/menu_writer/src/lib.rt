@@ -12,7 +12,7 @@ ghost use Rattle.octet.specs.Image.{image};
 ghost use Rattle.answer.specs.Rules.{judged};
 ghost use Rattle.answer.specs.Values.{refused};
 ghost use Rattle.answer.specs.Writing.{answered, left};
-ghost use Rattle.answer.specs.declared.Answer.TheVariants.{Done};
+ghost use Rattle.std.specs.declared.result.Result.TheVariants.{Ok};
 ghost use Rattle.fields.specs.Fields.{parts};
 ghost use Rattle.blocks.specs.Sums.{checksum};
 ghost use Rattle.menu_forms.specs.Menus.{size};
@@ -21,7 +21,7 @@ ghost use Rattle.menu_forms.specs.Block.{record_of};
 ghost use Rattle.menu_forms.specs.Writing.{write_rules};
 ghost use Rattle.menu_writer.specs.Internal.{Whole};
 
-use answer::Answer;
+use answer::{Answer, Reason};
 use blocks::HEAD;
 use menu_forms::{NI, OPENING};
 
@@ -71,16 +71,12 @@ pub fn write_menu(application: u8, form: &[u8], out: &mut [u8]) -> Answer
         out.old }
 {
     let whole = measuring::measure(form);
-    match judge(application, form, whole) {
-        Answer::Refused(why) => Answer::Refused(why),
-        Answer::Done(need) => {
-            if out.len() < need {
-                return answer::refuse(1, 0);
-            }
-            write_record(application, form, whole, out);
-            Answer::Done(need)
-        }
+    let need = judge(application, form, whole)?;
+    if out.len() < need {
+        return Reason::NoRoom.refuse(0);
     }
+    write_record(application, form, whole, out);
+    Ok(need)
 }
 
 // 16, 13, 15; where all hold, the bytes of the record.
@@ -88,25 +84,25 @@ fn judge(application: u8, form: &[u8], whole: Tally) -> Answer
     requires { Whole whole form.now × (whole.control ≤ 600000) × (whole.strings ≤ 70000) }
     ensures { result
         ≡ judged refused (write_rules application form.now)
-        (Done (length (record_of application (menu_in form.now)))) }
+        (Ok (length (record_of application (menu_in form.now)))) }
 {
     if 32 <= application {
-        return answer::refuse(16, 0);
+        return Reason::Range.refuse(0);
     }
     if form.len() < OPENING {
-        return answer::refuse(13, 0);
+        return Reason::Length.refuse(0);
     }
     if lent_bytes::byte_at(form, 0) != NI {
-        return answer::refuse(15, 0);
+        return Reason::Value.refuse(0);
     }
     if form.len() != whole.end {
-        return answer::refuse(13, 0);
+        return Reason::Length.refuse(0);
     }
     let size = 2 * whole.control + whole.strings;
-    if !loops::both(whole.fine, size < LIMIT) {
-        return answer::refuse(15, 0);
+    if !whole.fine || LIMIT <= size {
+        return Reason::Value.refuse(0);
     }
-    Answer::Done(HEAD + size)
+    Ok(HEAD + size)
 }
 
 // The record of a form whose menu can be sent.

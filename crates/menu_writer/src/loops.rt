@@ -1,7 +1,6 @@
 // The loops of a form, entry by entry: what an entry takes, whether its values fit, and what is sent for it.
 ghost use Rattle.std.specs.Prelude.{true, ◌≡◌, ◌∷◌, [], ◌+◌, ◌*◌, ◌<◌, ◌≤◌, ◌^◌, min, length, drop};
 ghost use Rattle.std.proofs.lemmas.List.Edits.{sets};
-ghost use Rattle.laws.specs.Pick.{both as pick_both};
 ghost use Rattle.fields.specs.Fields.{fitting};
 ghost use Rattle.fields.specs.Pens.{inked, begun};
 ghost use Rattle.menu_forms.specs.Menus.{descriptor_fields, escape_fields};
@@ -21,12 +20,10 @@ pub(crate) fn pass(what: Loop, form: &[u8], from: usize, count: usize) -> Passed
         × (result.end ≤ from + 5 * count) }
 {
     let mut at = from;
-    let mut left = count;
     let mut fine = true;
-    while 0 < left {
-        fine = both(fine, entry_fine(what, form, at));
+    for _ in 0..count {
+        fine &= entry_fine(what, form, at);
         at += entry_length(what, form, at);
-        left -= 1;
     }
     Passed { end: at, fine }
 }
@@ -49,11 +46,9 @@ pub(crate) fn put_entries(
 {
     let mut at = from;
     let mut q = to;
-    let mut left = count;
-    while 0 < left {
+    for _ in 0..count {
         q += put_entry(what, form, at, out, q);
         at += entry_length(what, form, at);
-        left -= 1;
     }
     Spot { at, to: q }
 }
@@ -87,29 +82,20 @@ fn descriptor_fine(form: &[u8], at: usize) -> bool
     requires { at < 2000000 }
     ensures { result ≡ fitting (descriptor_fields (descriptor_in (drop at form.now))) }
 {
+    let which = lent_bytes::byte_at(form, at);
+    let id = lent_bytes::byte_at(form, at + 1);
     let eval = lent_bytes::byte_at(form, at + 2);
-    if 63 < lent_bytes::byte_at(form, at) {
-        return false;
-    }
-    if 63 < lent_bytes::byte_at(form, at + 1) {
-        return false;
-    }
-    eval < 256
+    which < 64 && id < 64 && eval < 256
 }
 
 fn escape_fine(form: &[u8], at: usize) -> bool
     requires { at < 2000000 }
     ensures { result ≡ fitting (escape_fields (escape_in (drop at form.now))) }
 {
-    let content = lent_bytes::byte_at(form, at + 3);
     let position = lent_bytes::byte_at(form, at) + 256 * lent_bytes::byte_at(form, at + 1);
-    if 1023 < position {
-        return false;
-    }
-    if 63 < lent_bytes::byte_at(form, at + 2) {
-        return false;
-    }
-    content < 256
+    let mode = lent_bytes::byte_at(form, at + 2);
+    let content = lent_bytes::byte_at(form, at + 3);
+    position < 1024 && mode < 64 && content < 256
 }
 
 // Sends the entry at a place of the form: how many bytes that takes.
@@ -190,10 +176,8 @@ fn number_at(form: &[u8], at: usize, k: usize) -> usize
     ensures { (result ≡ number_in k (drop at form.now)) × (result < 2 ^ 32) }
 {
     let mut n: usize = 0;
-    let mut i = 0;
-    while i < k {
+    for i in 0..k {
         n = n * 256 + lent_bytes::byte_at(form, at + i);
-        i += 1;
     }
     n
 }
@@ -212,14 +196,4 @@ pub(crate) fn put_field(v: usize, w: usize, out: &mut [u8], to: usize)
         v,
         out,
     );
-}
-
-// Whether both hold.
-pub(crate) fn both(a: bool, b: bool) -> bool
-    ensures { result ≡ pick_both a b }
-{
-    if a {
-        return b;
-    }
-    false
 }

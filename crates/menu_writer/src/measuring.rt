@@ -17,14 +17,12 @@ pub(crate) fn measure(form: &[u8]) -> Tally
     let d = loops::pass(Loop::Descriptors, form, OPENING, descriptors);
     let h = measure_text(form, d.end);
     let e = measure_events(form, h.end, events);
+    let fine = opening_fine(form) && d.fine && h.fine && e.fine;
     Tally {
         end: e.end,
         control: 9 + 5 * descriptors / 2 + h.control + e.control,
         strings: h.strings + e.strings,
-        fine: loops::both(
-            opening_fine(form),
-            loops::both(d.fine, loops::both(h.fine, e.fine)),
-        ),
+        fine,
     }
 }
 
@@ -32,19 +30,18 @@ pub(crate) fn measure(form: &[u8]) -> Tally
 fn opening_fine(form: &[u8]) -> bool
     ensures { result ≡ opening_fine form.now }
 {
-    let lines = loops::both(
-        lent_bytes::byte_at(form, 4) < 3,
-        lent_bytes::byte_at(form, 5) < 8,
-    );
-    let counts = loops::both(
-        lent_bytes::byte_at(form, 7) < 64,
-        lent_bytes::byte_at(form, 8) < 16,
-    );
-    let rest = loops::both(
-        lent_bytes::byte_at(form, 1) < 2,
-        lent_bytes::byte_at(form, 6) < 256,
-    );
-    loops::both(lines, loops::both(counts, rest))
+    let copyright = lent_bytes::byte_at(form, 1);
+    let header_size = lent_bytes::byte_at(form, 4);
+    let message_size = lent_bytes::byte_at(form, 5);
+    let message = lent_bytes::byte_at(form, 6);
+    let descriptors = lent_bytes::byte_at(form, 7);
+    let events = lent_bytes::byte_at(form, 8);
+    header_size < 3
+        && message_size < 8
+        && descriptors < 64
+        && events < 16
+        && copyright < 2
+        && message < 256
 }
 
 // The string at a place of the form.
@@ -60,11 +57,12 @@ pub(crate) fn measure_text(form: &[u8], at: usize) -> Tally
     let codes = lent_bytes::byte_at(form, at + 1);
     let a = loops::pass(Loop::Escapes, form, at + 2, escapes);
     let b = loops::pass(Loop::Codes, form, a.end, codes);
+    let fine = a.fine && b.fine;
     Tally {
         end: b.end,
         control: 2 + 3 * escapes,
         strings: codes,
-        fine: loops::both(a.fine, b.fine),
+        fine,
     }
 }
 
@@ -81,14 +79,12 @@ fn measure_event(form: &[u8], at: usize) -> Tally
     let count = lent_bytes::byte_at(form, at + 3);
     let a = loops::pass(Loop::Attributes, form, at + 4, count);
     let t = measure_text(form, a.end);
+    let fine = kind < 16 && count < 16 && a.fine && t.fine;
     Tally {
         end: t.end,
         control: 3 + (a.end - (at + 4)) + t.control,
         strings: t.strings,
-        fine: loops::both(
-            loops::both(kind < 16, count < 16),
-            loops::both(a.fine, t.fine),
-        ),
+        fine,
     }
 }
 
@@ -102,23 +98,20 @@ pub(crate) fn measure_events(form: &[u8], from: usize, count: usize) -> Tally
         × (result.control ≤ 2300 * count)
         × (result.strings ≤ 255 * count) }
 {
-    let mut at = from;
-    let mut control = 0;
-    let mut strings = 0;
-    let mut fine = true;
-    let mut left = count;
-    while 0 < left {
-        let e = measure_event(form, at);
-        at = e.end;
-        control += e.control;
-        strings += e.strings;
-        fine = loops::both(fine, e.fine);
-        left -= 1;
+    let mut sum = Tally {
+        end: from,
+        control: 0,
+        strings: 0,
+        fine: true,
+    };
+    for _ in 0..count {
+        let e = measure_event(form, sum.end);
+        sum = Tally {
+            end: e.end,
+            control: sum.control + e.control,
+            strings: sum.strings + e.strings,
+            fine: sum.fine && e.fine,
+        };
     }
-    Tally {
-        end: at,
-        control,
-        strings,
-        fine,
-    }
+    sum
 }

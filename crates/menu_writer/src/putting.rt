@@ -124,10 +124,8 @@ pub(crate) fn put_events(form: &[u8], from: usize, count: usize, out: &mut [u8],
         ≡ sets out.old to (map image (in_nibbles (each event_fields (in_row event_form event_in count (drop from form.now)))))) }
 {
     let mut p = Spot { at: from, to };
-    let mut left = count;
-    while 0 < left {
+    for _ in 0..count {
         p = put_event(form, p.at, out, p.to);
-        left -= 1;
     }
     p
 }
@@ -154,11 +152,9 @@ pub(crate) fn put_strings(form: &[u8], from: usize, count: usize, out: &mut [u8]
         ≡ sets out.old to (map letter (each codes_of (in_row event_form event_in count (drop from form.now)))) }
 {
     let mut p = Spot { at: from, to };
-    let mut left = count;
-    while 0 < left {
-        let count = lent_bytes::byte_at(form, p.at + 3);
-        let a = loops::pass(Loop::Attributes, form, p.at + 4, count);
+    for _ in 0..count {
+        let attributes = lent_bytes::byte_at(form, p.at + 3);
+        let a = loops::pass(Loop::Attributes, form, p.at + 4, attributes);
         p = put_string(form, a.end, out, p.to);
-        left -= 1;
     }
 }

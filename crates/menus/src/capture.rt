@@ -3,8 +3,7 @@
 // doesn't fit never comes.
 use crate::kept::{FORM, Kept, NUMBERS, SHELF};
 use crate::{Asked, kept, says};
-use answer::Answer;
-use blocks::Read;
+use blocks::Taken;
 use captures::{Came, PIECE, RECORDS, Source};
 use packet::two::Streams;
 use shelf::HEADS;
@@ -70,34 +69,20 @@ fn show(
 ) -> bool {
     let block = asked.block;
     let levels = asked.levels;
-    let answer = menu_listing::list_kept(block, levels, heads, shelf, text);
-    match answer {
-        Answer::Done(n) => says::put_listing(rt, name, is_titled, told::front(text, n)),
-        Answer::Refused(_) => {
+    match menu_listing::list_kept(block, levels, heads, shelf, text) {
+        Ok(n) => says::put_listing(rt, name, is_titled, told::front(text, n)),
+        Err(_) => {
             says::refuse(rt, name, block, fitting(block, levels, heads, shelf, text));
             true
         }
     }
 }
 
-// The greatest number of levels below the one that was asked for with which the listing fits; 0 where none does.
-fn fitting(block: u16, levels: u8, heads: &[u8], shelf: &[u8], text: &mut [u8]) -> u8 {
-    let mut fewer = levels;
-    while fewer > 1 {
-        fewer -= 1;
-        if fits(block, fewer, heads, shelf, text) {
-            return fewer;
-        }
-    }
-    0
-}
-
-fn fits(block: u16, levels: u8, heads: &[u8], shelf: &[u8], text: &mut [u8]) -> bool {
-    let answer = menu_listing::list_kept(block, levels, heads, shelf, text);
-    match answer {
-        Answer::Done(_) => true,
-        Answer::Refused(_) => false,
-    }
+// The greatest number of levels below the one that was asked for with which the listing fits, if any.
+fn fitting(block: u16, levels: u8, heads: &[u8], shelf: &[u8], text: &mut [u8]) -> Option<u8> {
+    (1..levels).rev().find(|fewer| menu_listing::list_kept(
+        block, *fewer, heads, shelf, text,
+    ).is_ok())
 }
 
 // The menus that come from a source.
@@ -113,12 +98,10 @@ fn gather<F: std::io::Read>(
     let mut records = [0u8; RECORDS];
     let mut pages = sight::pages(asked.setting);
     let mut form = [0u8; FORM];
-    let mut numbers = [0u8; NUMBERS];
+    let mut numbers = [false; NUMBERS];
     let mut capture = captures::start(asked.setting, false);
     let mut kept = kept::none(asked.block);
-    let mut turns = u64::MAX;
-    while turns > 0 {
-        turns -= 1;
+    for _ in 0..u64::MAX {
         let turn = captures::next(source, capture, &mut piece, &mut records, &mut pages);
         capture = turn.capture;
         let came = turn.came;
@@ -164,7 +147,7 @@ fn keep_all(
     form: &mut [u8; FORM],
     heads: &mut [u8; HEADS],
     store: &mut [u8; SHELF],
-    numbers: &mut [u8; NUMBERS],
+    numbers: &mut [bool; NUMBERS],
 ) -> Kept {
     keep_records(
         kept,
@@ -177,31 +160,30 @@ fn keep_all(
     )
 }
 
+#[tactic(auto, using(captures::proofs::Spanning::span_within))]
 fn keep_records(
-    kept: Kept,
+    mut kept: Kept,
     setting: Streams,
     records: &[u8],
     form: &mut [u8],
     heads: &mut [u8],
     store: &mut [u8],
-    numbers: &mut [u8],
+    numbers: &mut [bool],
 ) -> Kept {
-    let mut kept = kept;
     let mut at = 0;
+    // Kept: each turn goes to the next record, and records differ in length.
     while at < records.len() {
         let span = captures::span_at(setting, records, at);
-        let from = span.from;
-        let next = span.next;
         kept = keep_record(
             kept,
             setting.application,
-            &records[from..next],
+            &records[span.from..span.next],
             form,
             heads,
             store,
             numbers,
         );
-        at = next;
+        at = span.next;
     }
     kept
 }
@@ -214,11 +196,10 @@ fn keep_record(
     form: &mut [u8],
     heads: &mut [u8],
     store: &mut [u8],
-    numbers: &mut [u8],
+    numbers: &mut [bool],
 ) -> Kept {
-    let answer = menu_reader::read_menu(application, record, form);
-    match answer {
-        Read::Taken { written, mended: _ } => {
+    match menu_reader::read_menu(application, record, form) {
+        Ok(Taken { written, mended: _ }) => {
             kept::keep(
                 kept,
                 record.len(),
@@ -228,6 +209,6 @@ fn keep_record(
                 numbers,
             )
         }
-        Read::Refused(_) => kept,
+        Err(_) => kept,
     }
 }

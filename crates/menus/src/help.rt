@@ -6,39 +6,23 @@ pub const USAGE: [u8; 105] =
     *b"usage: menus [-b 0..65535] [-l 1..8] [-m 1..8] [-p 00..FF] [-s 0..15[,0..15]] [-a 0..31] [--] [FILE ...]\n";
 
 pub fn put(rt: &impl Console) -> bool {
-    let sound = line(rt, true, &USAGE);
-    let sound = line(
-        rt,
-        sound,
-        b"  -b 0..65535  the block of the menu, usually 0\n",
-    );
-    let sound = line(
-        rt,
-        sound,
-        b"  -l 1..8      how many levels of it, usually 8\n",
-    );
-    let sound = line(rt, sound, b"  -m 1..8      the magazine, usually 1\n");
-    let sound = line(rt, sound, b"  -p 00..FF    the page, usually DF\n");
-    let sound = line(
-        rt,
-        sound,
-        b"  -s 0..15     the stream, usually 1; -s 1,2 reads two streams at once\n",
-    );
-    let sound = line(rt, sound, b"  -a 0..31     the application, usually 1\n");
-    let sound = line(rt, sound, b"  --           only names of files follow\n");
-    let sound = line(rt, sound, b"  --help       as the first word: print this\n");
-    let sound = line(
-        rt,
-        sound,
-        b"  --version    as the first word: print the version\n",
-    );
-    line(rt, sound, b"example: menus -b 0 -l 2 night.t42\n")
+    line(rt, &USAGE)
+        && line(rt, b"  -b 0..65535  the block of the menu, usually 0\n")
+        && line(rt, b"  -l 1..8      how many levels of it, usually 8\n")
+        && line(rt, b"  -m 1..8      the magazine, usually 1\n")
+        && line(rt, b"  -p 00..FF    the page, usually DF\n")
+        && line(
+            rt,
+            b"  -s 0..15     the stream, usually 1; -s 1,2 reads two streams at once\n",
+        )
+        && line(rt, b"  -a 0..31     the application, usually 1\n")
+        && line(rt, b"  --           only names of files follow\n")
+        && line(rt, b"  --help       as the first word: print this\n")
+        && line(rt, b"  --version    as the first word: print the version\n")
+        && line(rt, b"example: menus -b 0 -l 2 night.t42\n")
 }
 
-// Writes a line where standard output took all so far, and answers whether it still does.
-fn line(rt: &impl Console, is_sound: bool, text: &[u8]) -> bool {
-    if !is_sound {
-        return false;
-    }
+// Writes a line, and answers whether standard output took it.
+fn line(rt: &impl Console, text: &[u8]) -> bool {
     told::put(rt, b"menus", text)
 }

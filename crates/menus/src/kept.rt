@@ -1,6 +1,5 @@
 // The menus that are kept of a capture: the first accepted of each number, as forms on a shelf. How many are kept goes by the bytes of their
 // records: from the first whose record doesn't fit on none is kept, and the numbers left out are counted.
-use answer::Answer;
 
 // So many bytes of records are kept.
 const STORE: usize = 524288;
@@ -9,7 +8,7 @@ const STORE: usize = 524288;
 // and of 255 or more the forms have at most 524,288 - 255 * 12, which is 521,228.
 pub const SHELF: usize = 521280;
 
-// The numbers that a block can have. The byte of one that has come is 1.
+// The numbers that a block can have: whether each has come.
 pub const NUMBERS: usize = 65536;
 
 // More than the longest form of a menu.
@@ -46,8 +45,7 @@ pub fn none(block: u16) -> Kept {
 }
 
 // The capture has ended.
-pub fn ended(kept: Kept) -> Kept {
-    let mut kept = kept;
+pub fn ended(mut kept: Kept) -> Kept {
     kept.whole = true;
     kept
 }
@@ -59,26 +57,21 @@ pub fn keep(
     form: &[u8],
     heads: &mut [u8],
     store: &mut [u8],
-    numbers: &mut [u8],
+    numbers: &mut [bool],
 ) -> Kept {
     if form.len() < 4 {
         return kept;
     }
-    let number = word(form[2], form[3]);
-    let place = number as usize;
-    if numbers.len() <= place {
-        return kept;
+    let number = u16::from_le_bytes([form[2], form[3]]);
+    match numbers.get_mut(usize::from(number)) {
+        Some(came) if !*came => *came = true,
+        _ => return kept,
     }
-    if numbers[place] == 1 {
-        return kept;
-    }
-    numbers[place] = 1;
     add(met(kept, number), long, form, heads, store)
 }
 
 // One number more has come. One more than those that are told is counted, which says that there are more.
-fn met(kept: Kept, number: u16) -> Kept {
-    let mut kept = kept;
+fn met(mut kept: Kept, number: u16) -> Kept {
     if number == kept.block {
         kept.came = true;
     }
@@ -94,51 +87,24 @@ fn met(kept: Kept, number: u16) -> Kept {
 
 // Its form is kept where its record fits and none was left out before.
 fn add(kept: Kept, long: usize, form: &[u8], heads: &mut [u8], store: &mut [u8]) -> Kept {
-    if kept.left > 0 {
+    if kept.left > 0 || kept.size.saturating_add(long) > STORE {
         return leave(kept);
     }
-    if STORE < kept.size {
-        return leave(kept);
-    }
-    if STORE - kept.size < long {
-        return leave(kept);
-    }
-    let answer = shelf::put(form, kept.used, heads, store);
-    match answer {
-        Answer::Done(n) => grown(kept, long, n),
-        Answer::Refused(_) => leave(kept),
+    match shelf::put(form, kept.used, heads, store) {
+        Ok(n) => grown(kept, long, n),
+        Err(_) => leave(kept),
     }
 }
 
 // So many bytes of records more, and so many of the shelf.
-fn grown(kept: Kept, long: usize, n: usize) -> Kept {
-    let mut kept = kept;
-    kept.size = on(kept.size, long, STORE);
-    kept.used = on(kept.used, n, SHELF);
+fn grown(mut kept: Kept, long: usize, n: usize) -> Kept {
+    kept.size = kept.size.saturating_add(long).min(STORE);
+    kept.used = kept.used.saturating_add(n).min(SHELF);
     kept
-}
-
-// The place so many bytes further on, or the end where that is nearer.
-fn on(at: usize, more: usize, end: usize) -> usize {
-    if end < at {
-        return end;
-    }
-    if end - at < more {
-        return end;
-    }
-    at + more
 }
 
 // One number more is left out.
-fn leave(kept: Kept) -> Kept {
-    let mut kept = kept;
-    if kept.left < u64::MAX {
-        kept.left = kept.left + 1;
-    }
+fn leave(mut kept: Kept) -> Kept {
+    kept.left = kept.left.saturating_add(1);
     kept
-}
-
-// A number of two bytes.
-fn word(low: u8, high: u8) -> u16 {
-    low as u16 + 256 * high as u16
 }

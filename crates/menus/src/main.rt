@@ -78,16 +78,13 @@ fn asked_by(said: Said) -> Asked {
 
 // Lists each file that is named, or standard input where none is.
 fn list_all(rt: &(impl Env + Files + Input + Console), asked: Asked) {
-    let count = told::argument_count(rt);
     let mut listed = Listed {
         said: words::start(&TASKS),
         named: false,
         sound: true,
     };
-    let mut i = 1;
-    while i < count {
+    for i in 1..told::argument_count(rt) {
         listed = visit(rt, listed, i, asked);
-        i += 1;
     }
     if !listed.named {
         let mut source = Source::new(rt.reader());
@@ -96,12 +93,10 @@ fn list_all(rt: &(impl Env + Files + Input + Console), asked: Asked) {
 }
 
 // Hears a word again, and lists the file where it is a name.
-fn visit(rt: &(impl Env + Files + Console), listed: Listed, i: usize, asked: Asked) -> Listed {
+fn visit(rt: &(impl Env + Files + Console), mut listed: Listed, i: usize, asked: Asked) -> Listed {
     let mut word = io::buffer();
-    let mut listed = listed;
     let heard = command_line::hear(rt, &OPTIONS, &TASKS, listed.said, i, &mut word);
-    let said = heard.said;
-    listed.said = said;
+    listed.said = heard.said;
     if heard.place == 0 {
         return listed;
     }

@@ -4,21 +4,16 @@ use told::Console;
 
 // A listing, under a line with the file's name where that is asked for.
 pub fn put_listing(rt: &impl Console, name: &[u8], is_titled: bool, listing: &[u8]) -> bool {
-    if is_titled {
-        if !told::put_title(rt, b"menus", name) {
-            return false;
-        }
-    }
-    told::put(rt, b"menus", listing)
+    (!is_titled || told::put_title(rt, b"menus", name)) && told::put(rt, b"menus", listing)
 }
 
 // Tells of a listing that isn't printed, and of how many levels would be; none are named where none would.
-pub fn refuse(rt: &impl Console, name: &[u8], block: u16, levels: u8) {
+pub fn refuse(rt: &impl Console, name: &[u8], block: u16, levels: Option<u8>) {
     told::begin(rt, b"menus");
     told::say(rt, name);
     told::say_count(rt, b": the listing of menu ", block as u64);
     told::say(rt, b" is longer than 1 MB and isn't printed");
-    if levels > 0 {
+    if let Some(levels) = levels {
         told::say_count(rt, b"; -l ", levels as u64);
         told::say(rt, b" fits");
     }
@@ -36,26 +31,13 @@ pub fn note(rt: &impl Console, name: &[u8], block: u16, count: usize, first: &[u
         return;
     }
     told::say(rt, b"came:");
-    say_first(rt, count, first);
+    for number in first.iter().take(count) {
+        told::say_count(rt, b" ", u64::from(*number));
+    }
     if first.len() < count {
         told::say(rt, b" ..");
     }
     told::say(rt, b"\n");
-}
-
-fn say_first(rt: &impl Console, count: usize, first: &[u16]) {
-    let mut i = 0;
-    while i < count {
-        if first.len() <= i {
-            return;
-        }
-        say_word(rt, first[i]);
-        i += 1;
-    }
-}
-
-fn say_word(rt: &impl Console, number: u16) {
-    told::say_count(rt, b" ", number as u64);
 }
 
 // How many numbers were left out of the menus kept, where some were.

@@ -17,6 +17,7 @@ const CHECKS: [[u8; 8]; 4] = [
 
 // The bit of b, 0 to 7, at which the parity checks find the one fault; 8 where there is none, and 16
 // where b can't be mended.
+// Kept: 8 and 16 are the numbers of the definition `fault_place`.
 pub fn fault_place(b: u8) -> u8
     ensures { result ≡ fault_place b }
 {
@@ -24,12 +25,10 @@ pub fn fault_place(b: u8) -> u8
     if failing == 0 {
         return 8;
     }
-    let mut i: u8 = 0;
-    while i < 8 {
+    for i in 0..8 {
         if column(i) == failing {
             return i;
         }
-        i += 1;
     }
     16
 }
@@ -42,11 +41,9 @@ fn fails(k: usize, b: u8) -> u8
 {
     let mut sum: u8 = 1;
     let mut rest = b;
-    let mut i = 0;
-    while i < 8 {
+    for i in 0..8 {
         sum = (sum + check(k, i) * (rest % 2)) % 2;
         rest /= 2;
-        i += 1;
     }
     sum
 }

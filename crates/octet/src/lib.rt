@@ -63,6 +63,7 @@ pub fn decodings() -> [u8; 256]
 
 // The nibble that b stands for, 0 to 15: b is its image or one bit away from it. 16 where b can't be
 // decoded.
+// Kept: 16 is the number of the definition `nib` and of the C interface, not a None.
 pub fn decode(b: u8) -> u8
     ensures { result ≡ nib b }
 {
@@ -87,16 +88,17 @@ pub fn hear(b: u8) -> Heard
 {
     let n = decode(b);
     if n == 16 {
-        return Heard::Neither;
+        Heard::Neither
+    } else if b == image(n) {
+        Heard::Image(n)
+    } else {
+        Heard::Mended(n)
     }
-    if b == image(n) {
-        return Heard::Image(n);
-    }
-    Heard::Mended(n)
 }
 
 // b with its bits in the other order: bit i goes to bit 7 - i. The halves are exchanged, in each half its
 // pairs, in each pair its neighbours.
+// Kept: SCOPE 21.1 says that the turning goes in these three steps; `reverse_bits` goes a bit at a time.
 pub fn turn(b: u8) -> u8
     ensures { result ≡ turned b }
 {

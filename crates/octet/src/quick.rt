@@ -7,6 +7,7 @@ ghost use Rattle.octet.specs.Hearing.{mark as hearing_mark};
 ghost use Rattle.octet.specs.Packing.{packed};
 
 // The nibble that a protected byte decodes to, 0 to 15, or 16 where it can't be decoded.
+// Kept: 16 is the number of the definition `nib`, and what is summed over many bytes is numbers.
 pub fn decode(b: u8) -> u8
     ensures { result ≡ nib b }
 {
@@ -21,6 +22,7 @@ pub fn mark(b: u8) -> u8
 }
 
 // The marks of the eight bytes from 8 i on, the first lowest.
+// Kept: a `match` on numbers becomes one load; an array would be laid out in memory at each call.
 fn eight_marks(i: u8) -> u64
     requires { i < 32 }
     ensures { result ≡ packed hearing_mark (8 * i) 8 }

@@ -24,6 +24,7 @@ pub const PACKET: usize = 42;
 pub fn is_in_range(s: Setting) -> bool
     ensures { result ≡ in_range s }
 {
+    // Kept: the early returns, a proof a rule; as one chain of `&&` the joins have no names and three goals stayed open.
     if s.magazine < 1 {
         return false;
     }
@@ -33,13 +34,11 @@ pub fn is_in_range(s: Setting) -> bool
     if s.stream > 15 {
         return false;
     }
-    if s.application > 31 {
-        return false;
-    }
-    true
+    s.application <= 31
 }
 
 // A packet's address: the magazine modulo 8, and Y times 8; 256 where there is none that can be decoded.
+// Kept: 256 and, of a byte, 16 are the numbers of the definitions `address_of` and `nib`.
 pub fn address(packet: &[u8]) -> usize
     ensures { result ≡ address_of packet.now }
 {
@@ -61,8 +60,5 @@ pub fn address(packet: &[u8]) -> usize
 pub fn passes_by(setting: Setting, address: usize) -> bool
     ensures { result ≡ elsewhere setting address }
 {
-    if address > 255 {
-        return false;
-    }
-    address % 8 != (setting.magazine % 8) as usize
+    address <= 255 && address % 8 != (setting.magazine % 8) as usize
 }

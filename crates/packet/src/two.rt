@@ -22,32 +22,34 @@ pub fn is_in_range(s: Streams) -> bool
     if !crate::is_in_range(first(s)) {
         return false;
     }
-    if !crate::is_in_range(second(s)) {
-        return false;
-    }
-    s.first != s.second
+    crate::is_in_range(second(s)) && s.first != s.second
 }
 
 // The setting of the first stream alone.
 pub fn first(s: Streams) -> Setting
     ensures { result ≡ first_of s }
 {
-    Setting {
-        magazine: s.magazine,
-        page: s.page,
-        stream: s.first,
-        application: s.application,
-    }
+    alone(s, s.first)
 }
 
 // The setting of the second stream alone.
 pub fn second(s: Streams) -> Setting
     ensures { result ≡ second_of s }
 {
+    alone(s, s.second)
+}
+
+// The setting of one of the two streams.
+fn alone(s: Streams, stream: u8) -> Setting
+    ensures magazine { result.magazine ≡ s.magazine }
+    ensures page { result.page ≡ s.page }
+    ensures stream { result.stream ≡ stream }
+    ensures application { result.application ≡ s.application }
+{
     Setting {
         magazine: s.magazine,
         page: s.page,
-        stream: s.second,
+        stream,
         application: s.application,
     }
 }

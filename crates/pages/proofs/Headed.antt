@@ -3,6 +3,7 @@ use mathlib.Core.Path.{◌≡◌, refl, sym}
 use mathlib.Core.Bool.{Bool, true, false, not}
 use mathlib.Core.List.{List}
 use Prim.Native.Nat.{ℕ, ◌+◌, ◌*◌, ◌%◌, ◌≤◌, ◌<◌}
+use native.Mathlib.Omega.{arith}
 use lib.Dec.{eqb}
 use lib.ListN.{length, get_or, drop}
 use lib.Seq.{get_or-drop}
@@ -31,6 +32,11 @@ pub legible-at : (p : List ℕ) (i : ℕ) → true ≡ legible p → i < 6 → n
 legible-at p i e h =
     let d = decodes-at 6 i (drop 2 p) (sym (both-second (eqb (length p) packet_length) _ (sym e))) h in
     rw (get_or-drop 2 p i 0) at d
+
+-- so the two of its page's number are
+pub page_number :
+    (p : List ℕ) {u t : ℕ} → true ≡ legible p → u ≡ nib (get_or p 2 0) → t ≡ nib (get_or p 3 0) → (u < undecodable) × (t < undecodable)
+page_number p e f g = (rw f (legible-at p 0 e (omega arith)), rw g (legible-at p 1 e (omega arith)))
 
 module _ (s : Setting) (p : List ℕ) where
   pub zero_junk : false ≡ legible p → seen_zero s p ≡ junk
@@ -66,8 +72,9 @@ module _ (page : Page) (index : ℕ) {x : Seen} where
   as-lost e f = rw (e, f)
 
   pub as-foreign :
-      {t : Bool} → t ≡ incomplete page → x ≡ foreign → record { page = Shut; index = index; drops = t; opens = false; reads = false } ≡ verdict_of page index x
-  as-foreign g f = rw (g, f)
+      {r : Verdict} {t : Bool} → r ≡ record { page = Shut; index = index; drops = t; opens = false; reads = false } → t ≡ incomplete page → x ≡ foreign
+      → r ≡ verdict_of page index x
+  as-foreign e g f = rw (e, g, f)
 
   -- n is over 25
   pub as_many :

@@ -4,10 +4,9 @@ use mathlib.Core.Bool.{Bool, true, false, not}
 use mathlib.Core.List.{List}
 use Prim.Native.Nat.{ℕ, ◌+◌, ◌*◌, ◌/◌, ◌%◌, ◌≤◌, ◌<◌}
 use native.Mathlib.Omega.{arith}
-use native.Mathlib.Decide.{dec_lt}
-use lib.Dec.{leb, ltb, eqb, lit<}
+use lib.Dec.{leb, eqb, lit<}
 use lib.ListN.{length, get_or, drop}
-use borrow.Author.Tests.{le-leb, lt-leb, lt-ltb, le-ltb, eq-eqb, ne_eqb}
+use borrow.Author.Tests.{le-leb, lt-leb, eq-eqb, ne_eqb}
 use Rattle.laws.specs.Pick.{pick, both}
 use Rattle.laws.proofs.Picks.{same}
 use Rattle.laws.proofs.Tests.{both_first, both-second, both_false}
@@ -65,10 +64,6 @@ module _ (s : Setting) (p : List ℕ) where
       go : (t : Bool) → not t ≡ true → pick t (see_y s (x / 8) p) other ≡ other
       go true k = cc
       go false k = refl
-
-  pub as_short : (x : ℕ) → (length p ≡ packet_length → ⊥) → seen_as s x p ≡ junk
-  unfolding seen_as
-  as_short x h = rw (ne_eqb _ _ h)
 
   module _ (long : length p ≡ packet_length) {x : ℕ} where
     pub as-junk : 255 < x → seen_as s x p ≡ junk
@@ -139,20 +134,5 @@ shaped s q =
 -- ---- the verdict, by what a packet is seen as
 
 module _ (page : Page) (index : ℕ) {x : Seen} where
-  pub as-stays : x ≡ other → record { page = page; index = index; drops = false; opens = false; reads = false } ≡ verdict_of page index x
-  as-stays f = rw f
-
   pub as-numbered : {r : Verdict} {y q : ℕ} {l : List ℕ} → r ≡ verdict_of_y page index y → x ≡ packet_y y q l → r ≡ verdict_of page index x
   as-numbered e f = rw (e, f)
-
-  pub as_same : {r : Verdict} {y : Seen} → r ≡ verdict_of page index y → x ≡ y → r ≡ verdict_of page index x
-  as_same e f = rw (e, f)
-
--- ---- the test of a packet's number
-
-pub over : (a b : ℕ) → ltb a b ≡ not (leb b a)
-over a b =
-    elim (dec_lt a b) [
-      | yes h ↦ rw (lt-ltb _ _ h, lt-leb _ _ h)
-      | no h ↦ let k : b ≤ a = omega arith in rw (le-ltb _ _ k, le-leb _ _ k)
-    ]

@@ -1,6 +1,8 @@
 // What a packet 0, a page's header, is to the open page of ours and to our last index: the two as they are then, and whether it drops
 // the running block.
-ghost use Rattle.std.specs.Prelude.{◌≡◌, false, not, ◌+◌, ◌%◌, eqb};
+ghost use Rattle.std.specs.Prelude.{◌≡◌, false, not, ◌+◌, ◌%◌, eqb, ltb};
+ghost use Rattle.std.specs.List.{list_all};
+ghost use Rattle.octet.specs.Decoding.{nib, undecodable};
 ghost use Rattle.laws.specs.Pick.{both, either};
 ghost use Rattle.pages.specs.declared.headers.Page.TheVariants.{Shut};
 ghost use Rattle.pages.specs.Internal.{legible, seen_zero};
@@ -10,6 +12,7 @@ use packet::{PACKET, Setting};
 
 // The page of ours that is open, if one is: how many packets follow its packet 0, and the number of
 // the last one that came.
+// Kept: an enum and no Option, since that a page is open or shut is what the rules of reading say of it.
 #[derive(Clone, Copy)]
 pub enum Page {
     Shut,
@@ -37,13 +40,7 @@ pub(crate) fn judge_zero(setting: Setting, page: Page, last: u8, packet: &[u8]) 
     let number = octet::quick::decode(packet[2]) + 16 * octet::quick::decode(packet[3]);
     let stream = octet::quick::decode(packet[6]);
     if !is_ours(setting, number, stream) {
-        return Verdict {
-            page: Page::Shut,
-            index: last,
-            drops: is_incomplete(page),
-            opens: false,
-            reads: false,
-        };
+        return shut(last, is_incomplete(page));
     }
     let index = octet::quick::decode(packet[4]);
     let n = octet::quick::decode(packet[5]) % 8 + 8 * (octet::quick::decode(packet[7]) % 4);
@@ -51,8 +48,8 @@ pub(crate) fn judge_zero(setting: Setting, page: Page, last: u8, packet: &[u8]) 
         return shut(index, true);
     }
     Verdict {
-        page: Page::Open { n: n, last: 0 },
-        index: index,
+        page: Page::Open { n, last: 0 },
+        index,
         drops: is_break(page, last, index),
         opens: true,
         reads: false,
@@ -60,31 +57,41 @@ pub(crate) fn judge_zero(setting: Setting, page: Page, last: u8, packet: &[u8]) 
 }
 
 // Whether it is 42 bytes long and the six bytes after its address can all be decoded.
+#[tactic(auto, using(crate::proofs::Seeing::legible_by_all))]
 fn readable(packet: &[u8]) -> bool
     ensures { result ≡ legible packet.now }
 {
-    if packet.len() != PACKET {
-        return false;
-    }
-    let mut i = 2;
-    while i < 8 {
-        if octet::quick::decode(packet[i]) == 16 {
-            return false;
-        }
-        i += 1;
-    }
-    true
+    packet.len() == PACKET && all_decode(&packet[2..8])
+}
+
+// Whether each of some bytes can be decoded.
+fn all_decode(bytes: &[u8]) -> bool
+    ensures { result ≡ list_all (λ b. ltb (nib b) undecodable) bytes.now }
+{
+    bytes.iter().all(|byte| octet::quick::decode(*byte) < 16)
 }
 
 // No page of ours is open then.
-fn shut(index: u8, drops: bool) -> Verdict
+pub(crate) fn shut(index: u8, drops: bool) -> Verdict
     ensures { result ≡ record { page = Shut; index = index; drops = drops; opens = false; reads = false } }
 {
-    let page = Page::Shut;
     Verdict {
-        page: page,
-        index: index,
-        drops: drops,
+        page: Page::Shut,
+        index,
+        drops,
+        opens: false,
+        reads: false,
+    }
+}
+
+// A packet that changes nothing.
+pub(crate) fn passed(page: Page, index: u8) -> Verdict
+    ensures { result ≡ record { page = page; index = index; drops = false; opens = false; reads = false } }
+{
+    Verdict {
+        page,
+        index,
+        drops: false,
         opens: false,
         reads: false,
     }
@@ -94,10 +101,7 @@ fn shut(index: u8, drops: bool) -> Verdict
 fn is_ours(setting: Setting, number: u8, stream: u8) -> bool
     ensures { result ≡ both (eqb number setting.page) (eqb stream setting.stream) }
 {
-    if number != setting.page {
-        return false;
-    }
-    stream == setting.stream
+    number == setting.page && stream == setting.stream
 }
 
 // Whether a packet 0 of ours with n up to 25 drops the running block: our page isn't complete (SCOPE 8.5), or
@@ -105,10 +109,7 @@ fn is_ours(setting: Setting, number: u8, stream: u8) -> bool
 fn is_break(page: Page, last: u8, index: u8) -> bool
     ensures { result ≡ either (incomplete page) (not (eqb index ((last + 1) % 16))) }
 {
-    if is_incomplete(page) {
-        return true;
-    }
-    index != (last % 16 + 1) % 16
+    is_incomplete(page) || index != (last % 16 + 1) % 16
 }
 
 // Whether our page is open and not complete.

@@ -14,45 +14,21 @@ pub use headers::{Page, Verdict};
 use packet::{PACKET, Setting};
 
 // A packet with this address. One that isn't 42 bytes long counts as one that can't be read.
+#[tactic(auto, unfolding(crate::specs::Seen::seen_as, crate::specs::Seen::see_y, crate::specs::Internal::seen_zero))]
 pub fn judge(setting: Setting, page: Page, index: u8, address: usize, packet: &[u8]) -> Verdict
     ensures { result ≡ verdict_of page index (seen_as setting address packet.now) }
 {
-    let unread = Verdict {
-        page: Page::Shut,
-        index: index,
-        drops: true,
-        opens: false,
-        reads: false,
-    };
-    if packet.len() != PACKET {
-        return unread;
+    if packet.len() != PACKET || 255 < address {
+        return headers::shut(index, true);
     }
-    if 255 < address {
-        return unread;
+    if address % 8 != usize::from(setting.magazine % 8) {
+        return headers::passed(page, index);
     }
-    if address % 8 != (setting.magazine % 8) as usize {
-        return Verdict {
-            page: page,
-            index: index,
-            drops: false,
-            opens: false,
-            reads: false,
-        };
+    match (address / 8) as u8 {
+        0 => headers::judge_zero(setting, page, index, packet),
+        y @ 1..=25 => judge_y(page, index, y),
+        _ => headers::passed(page, index),
     }
-    let y = (address / 8) as u8;
-    if y == 0 {
-        return headers::judge_zero(setting, page, index, packet);
-    }
-    if y > 25 {
-        return Verdict {
-            page: page,
-            index: index,
-            drops: false,
-            opens: false,
-            reads: false,
-        };
-    }
-    judge_y(page, index, y)
 }
 
 // Packet y of our magazine, 1 to 25: what `judge` says of one, where the address has been looked at.
@@ -60,30 +36,18 @@ pub fn judge_y(page: Page, index: u8, y: u8) -> Verdict
     ensures { result ≡ verdict_of_y page index y }
 {
     match page {
-        Page::Shut => Verdict {
-            page: page,
-            index: index,
-            drops: false,
-            opens: false,
-            reads: false,
-        },
+        Page::Shut => headers::passed(page, index),
         Page::Open { n, last } => {
-            let wrong = is_wrong(n, last, y);
-            if y > n {
-                return Verdict {
-                    page: page,
-                    index: index,
-                    drops: wrong,
-                    opens: false,
-                    reads: false,
-                };
-            }
+            let reads = y <= n;
             Verdict {
-                page: Page::Open { n: n, last: y },
-                index: index,
-                drops: wrong,
+                page: Page::Open {
+                    n,
+                    last: if reads { y } else { last },
+                },
+                index,
+                drops: is_wrong(n, last, y),
                 opens: false,
-                reads: true,
+                reads,
             }
         }
     }
@@ -93,11 +57,5 @@ pub fn judge_y(page: Page, index: u8, y: u8) -> Verdict
 fn is_wrong(n: u8, last: u8, y: u8) -> bool
     ensures { result ≡ wrong_y n last y }
 {
-    if y == 0 {
-        return true;
-    }
-    if y - 1 != last {
-        return true;
-    }
-    y > n
+    y == 0 || y - 1 != last || y > n
 }

@@ -12,7 +12,7 @@ use packet::two::Streams;
 const NONE: u8 = 16;
 
 // One of the two streams, by the order of the setting.
-#[derive(Clone, Copy)]
+#[derive(Clone, Copy, PartialEq, Eq)]
 pub enum Whose {
     First,
     Second,
@@ -20,6 +20,7 @@ pub enum Whose {
 
 // The open page that the two streams share: none; or whose it is, how many packets follow its packet 0, and the number
 // of the last one that came.
+// Kept: an enum and no Option, as `Page`.
 #[derive(Clone, Copy)]
 pub enum SharedPage {
     None,
@@ -52,10 +53,8 @@ pub fn judge(
     let theirs = page_of(page, Whose::Second);
     let a = crate::judge(one, mine, first, address, packet);
     let b = crate::judge(two, theirs, second, address, packet);
-    let left = a.page;
-    let right = b.page;
     Verdicts {
-        page: shared(left, right),
+        page: shared(a.page, b.page),
         first: a,
         second: b,
     }
@@ -66,21 +65,12 @@ pub fn page_of(page: SharedPage, whose: Whose) -> Page
     ensures { result ≡ page_for whose page }
 {
     match page {
-        SharedPage::None => Page::Shut,
         SharedPage::One {
             whose: owner,
             n,
             last,
-        } => match owner {
-            Whose::First => match whose {
-                Whose::First => Page::Open { n: n, last: last },
-                Whose::Second => Page::Shut,
-            },
-            Whose::Second => match whose {
-                Whose::First => Page::Shut,
-                Whose::Second => Page::Open { n: n, last: last },
-            },
-        },
+        } if owner == whose => Page::Open { n, last },
+        _ => Page::Shut,
     }
 }
 
@@ -88,34 +78,31 @@ pub fn page_of(page: SharedPage, whose: Whose) -> Page
 fn second_only(s: Streams) -> Setting
     ensures { result ≡ second_only s }
 {
+    let second = packet::two::second(s);
     if s.first == s.second {
         return Setting {
-            magazine: s.magazine,
-            page: s.page,
             stream: NONE,
-            application: s.application,
+            ..second
         };
     }
-    packet::two::second(s)
+    second
 }
 
 // The open page, of what is open to each stream.
 fn shared(first: Page, second: Page) -> SharedPage
     ensures { result ≡ internal_shared first second }
 {
-    match first {
-        Page::Open { n, last } => SharedPage::One {
+    match (first, second) {
+        (Page::Open { n, last }, _) => SharedPage::One {
             whose: Whose::First,
-            n: n,
-            last: last,
+            n,
+            last,
         },
-        Page::Shut => match second {
-            Page::Open { n, last } => SharedPage::One {
-                whose: Whose::Second,
-                n: n,
-                last: last,
-            },
-            Page::Shut => SharedPage::None,
+        (Page::Shut, Page::Open { n, last }) => SharedPage::One {
+            whose: Whose::Second,
+            n,
+            last,
         },
+        (Page::Shut, Page::Shut) => SharedPage::None,
     }
 }

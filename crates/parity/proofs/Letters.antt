@@ -3,7 +3,7 @@
 use mathlib.Core.Path.{◌≡◌, refl, sym, subst}
 use mathlib.Core.Bool.{Bool, true, false}
 use mathlib.Core.List.{List, [], ◌∷◌}
-use Prim.Native.Nat.{ℕ, zero, suc, ◌+◌, ◌/◌, ◌%◌, ◌<◌, ◌≤◌, zero-le, suc-le-suc}
+use Prim.Native.Nat.{ℕ, zero, suc, ◌+◌, ◌%◌, ◌<◌, ◌≤◌, zero-le, suc-le-suc}
 use native.Mathlib.Numerals.{add-one}
 use native.Mathlib.Nat.{le_refl, add-zero, le_of_suc-le-suc, not-suc-le-zero}
 use native.Mathlib.Omega.{arith}
@@ -11,31 +11,15 @@ use borrow.Author.Tests.{eq-eqb}
 use lib.Dec.{T, eqb, eqb→eq}
 use lib.ListN.{length, get_or, drop, drop_of_length-le}
 use lib.Seq.{drop-cons}
+use lib.Count.{ones as count_ones}
 use Rattle.laws.specs.Pick.{pick}
 use Rattle.laws.proofs.Whole.{all-at}
 use Rattle.parity.specs.Parity.{ones, is_odd, letter, odds}
 
--- the ones of a byte, counted in two halves
-pub ones_halves :
-    (b : ℕ) → b < 256
-    → (b % 2 + b / 2 % 2 + b / 2 / 2 % 2 + b / 2 / 2 / 2 % 2
-    + (b / 16 % 2 + b / 16 / 2 % 2 + b / 16 / 2 / 2 % 2 + b / 16 / 2 / 2 / 2 % 2))
-    % 2
-    ≡ ones 8 b % 2
-unfolding ones
-ones_halves b h =
-    eqb→eq _ _
-    (all-at
-    (λ (x : ℕ).
-    eqb
-    ((x % 2 + x / 2 % 2 + x / 2 / 2 % 2 + x / 2 / 2 / 2 % 2
-    + (x / 16 % 2 + x / 16 / 2 % 2 + x / 16 / 2 / 2 % 2 + x / 16 / 2 / 2 / 2 % 2))
-    % 2)
-    (ones 8 x % 2))
-    256
-    tt
-    b
-    h)
+-- the ones of a byte, as the library counts them
+pub ones_counted : (b : ℕ) → b < 256 → count_ones b % 2 ≡ ones 8 b % 2
+unfolding ones count_ones
+ones_counted b h = eqb→eq _ _ (all-at (λ (x : ℕ). eqb (count_ones x % 2) (ones 8 x % 2)) 256 tt b h)
 
 -- the byte of a code by the parity of its seven bits
 pub letter_by : (c : ℕ) → c < 256 → letter c ≡ c % 128 + pick (is_odd (c % 128)) 0 128

@@ -11,13 +11,14 @@ use lib.Dec.{ltb}
 use lib.ListN.{length, drop, drop_of_length-le}
 use lib.Seq.{drop-cons}
 use borrow.Author.Tests.{ltb-true, ltb-false}
+use Rattle.std.specs.declared.option.Option.{Option}
+use Rattle.std.specs.declared.option.Option.TheVariants.{None, Some}
 use Rattle.pes.specs.Finding.{begins_packet, first_in, Tells}
-use Rattle.pes.specs.declared.Start.{Start}
 
 -- ---- one place
 
 module _ (s : List ℕ) (at : ℕ) where
-  pub first-here : at < length s → begins_packet (drop at s) ≡ true → first_in (drop at s) at ≡ Start.At at
+  pub first-here : at < length s → begins_packet (drop at s) ≡ true → first_in (drop at s) at ≡ Some at
   unfolding first_in
   first-here h e = let d = drop-cons s at 0 h in rw d (rw (rw d at e))
 
@@ -25,7 +26,7 @@ module _ (s : List ℕ) (at : ℕ) where
   unfolding first_in
   first-later h e = let d = drop-cons s at 0 h in rw (add-one, d) (rw (rw d at e))
 
-  pub first-none : length s ≤ at → first_in (drop at s) at ≡ Start.Nowhere
+  pub first-none : length s ≤ at → first_in (drop at s) at ≡ None
   unfolding first_in
   first-none h = rw (drop_of_length-le s h)
 
@@ -38,10 +39,10 @@ none_from :
 none_from s from k e f h =
     ⊎_elim (λ (q : from ≡ k). rw (← q) e) (λ (q : from < k). f (omega arith)) (eq-or-lt_of_le h)
 
-tells_on : (s : List ℕ) (from : ℕ) (r : Start) → begins_packet (drop from s) ≡ false → Tells s (from + 1) r → Tells s from r
-tells_on s from (Start.At at) e t =
+tells_on : (s : List ℕ) (from : ℕ) (r : Option ℕ) → begins_packet (drop from s) ≡ false → Tells s (from + 1) r → Tells s from r
+tells_on s from (Some at) e t =
     record { ahead = omega (arith, t.ahead); here = t.here; none = λ k h l. none_from s from k e (λ i. t.none k i l) h }
-tells_on s from Start.Nowhere e t = λ k h. none_from s from k e (t k) h
+tells_on s from None e t = λ k h. none_from s from k e (t k) h
 
 tells_end : (s : List ℕ) (from : ℕ) → length s ≤ from → Tells s from (first_in (drop from s) from)
 tells_end s from h = rw (first-none s from h) (λ k l. let q : length s ≤ k = omega arith in rw (drop_of_length-le s q))

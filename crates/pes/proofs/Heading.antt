@@ -1,19 +1,15 @@
 -- What a header tells that passes its rules: how long the packet is. Assumes nothing.
 use mathlib.Core.Path.{◌≡◌, refl}
-use mathlib.Core.Bool.{true, false}
+use mathlib.Core.Bool.{true}
 use mathlib.Core.List.{List}
-use Prim.Native.Nat.{ℕ, ◌+◌, ◌-◌, ◌*◌, ◌/◌, ◌≤◌, ◌<◌}
+use Prim.Native.Nat.{ℕ, ◌+◌, ◌-◌, ◌*◌, ◌/◌, ◌≤◌}
 use native.Mathlib.Omega.{arith}
 use lib.Dec.{eqb, leb}
-use lib.ListN.{length, get_or-eq_default}
+use lib.ListN.{length}
 use borrow.Author.Tests.{le-leb, leb-true, eq-eqb, eqb-true}
 use Rattle.laws.specs.Pick.{both}
-use Rattle.laws.proofs.Tests.{both_first, both-second, both_false}
-use Rattle.pes.specs.Header.{starts_right, length_fits}
-
--- fewer than four bytes don't begin a packet
-pub too_short : (l : List ℕ) → length l < 4 → starts_right l ≡ false
-too_short l h = rw (get_or-eq_default l 0 {n = 3} (omega arith), both_false, both_false, both_false)
+use Rattle.laws.proofs.Tests.{both_first, both-second}
+use Rattle.pes.specs.Header.{starts_right, pes_length, length_fits}
 
 pub started : (pes : List ℕ) → both (leb 45 (length pes)) (starts_right pes) ≡ true → 45 ≤ length pes
 started pes h = leb-true 45 (length pes) (both_first _ (starts_right pes) h)
@@ -34,6 +30,10 @@ sized l whole h =
     let b : n ≤ 356 = leb-true n 356 (both_first (leb n 356) _ g) in
     let e : l ≡ n * 184 - 6 = eqb-true l (n * 184 - 6) (both-second (leb n 356) _ g) in
     record { least = omega arith; most = omega arith; packets = omega arith }
+
+-- so it has all of its header
+pub long_enough : (pes : List ℕ) → both (length_fits (pes_length pes)) (eqb (pes_length pes + 6) (length pes)) ≡ true → 184 ≤ length pes
+long_enough pes h = (sized (pes_length pes) (length pes) h).least
 
 -- and the other way round, as a writer sets it
 pub sized-holds : (n whole : ℕ) → 1 ≤ n → n ≤ 356 → whole ≡ n * 184 → both (length_fits (n * 184 - 6)) (eqb (n * 184 - 6 + 6) whole) ≡ true

@@ -1,12 +1,15 @@
 -- Bytes that a loop stores turned, one after the other; and what the whole store is where both places have room. Assumes nothing.
 use mathlib.Core.Path.{◌≡◌}
+use mathlib.Core.Bool.{false}
 use mathlib.Core.List.{List, map}
 use Prim.Native.Nat.{ℕ, suc, ◌+◌, ◌-◌, ◌<◌, ◌≤◌}
 use native.Mathlib.Nat.{add-zero}
 use native.Mathlib.Omega.{arith}
 use lib.ListN.{length, get_or, take, drop, set}
 use lib.Seq.{sets, drop-cons}
-use borrow.Author.Tests.{le-leb, lt-leb}
+use lib.Dec.{leb}
+use borrow.Author.Tests.{le-leb}
+use Rattle.laws.proofs.Tests.{both_false}
 use Rattle.octet.specs.Turning.{turned}
 use Rattle.pes.specs.Texts.{text_bytes, text_of, with_text}
 
@@ -43,12 +46,12 @@ unfolding with_text
 text-fits src from out to f t = rw (le-leb (from + text_bytes) (length src) f, le-leb (to + text_bytes) (length out) t)
 
 -- the first has no 42 bytes there, or the second no room
-pub text-short : (src : List ℕ) (from : ℕ) (out : List ℕ) (to : ℕ) → length src < from + text_bytes → with_text src from out to ≡ out
+pub text-short :
+    (src : List ℕ) (from : ℕ) (out : List ℕ) (to : ℕ) → leb (from + text_bytes) (length src) ≡ false → with_text src from out to ≡ out
 unfolding with_text
-text-short src from out to f = rw (lt-leb (from + text_bytes) (length src) f)
+text-short src from out to f = rw f
 
 pub text-no_room :
-    (src : List ℕ) (from : ℕ) (out : List ℕ) (to : ℕ) → from + text_bytes ≤ length src → length out < to + text_bytes
-    → with_text src from out to ≡ out
+    (src : List ℕ) (from : ℕ) (out : List ℕ) (to : ℕ) → leb (to + text_bytes) (length out) ≡ false → with_text src from out to ≡ out
 unfolding with_text
-text-no_room src from out to f t = rw (le-leb (from + text_bytes) (length src) f, lt-leb (to + text_bytes) (length out) t)
+text-no_room src from out to t = rw (t, both_false)

@@ -9,9 +9,10 @@ use native.Mathlib.Omega.{arith}
 use lib.Dec.{ltb}
 use lib.ListN.{length, length-append, length-map, length-take, length-drop}
 use borrow.Author.Tests.{lt-ltb, le-ltb}
+use Rattle.std.specs.declared.result.Result.{Result}
+use Rattle.std.specs.declared.result.Result.TheVariants.{Ok, Err}
 use Rattle.answer.specs.declared.Refusal.{Refusal}
-use Rattle.answer.specs.declared.Answer.{Answer}
-use Rattle.answer.specs.declared.Answer.TheVariants.{Done, Refused}
+use Rattle.answer.specs.Answer.{Answer}
 use Rattle.answer.specs.Rules.{Rule, judged, Every}
 use Rattle.answer.specs.Values.{refused}
 use Rattle.answer.proofs.Judging.{passes, refuses}
@@ -67,14 +68,14 @@ record_length_lem pes at h = simp (length-map, length-take, length-drop) (omega 
 
 -- the answer of judging the units from a place on, with n bytes of records before it
 abbrev pub scanned : List ℕ → ℕ → ℕ → Answer
-scanned pes at n = judged refused (flat_map (rules_at pes) (from pes at)) (Done (n + length (flat_map (given_at pes) (from pes at))))
+scanned pes at n = judged refused (flat_map (rules_at pes) (from pes at)) (Ok (n + length (flat_map (given_at pes) (from pes at))))
 
 -- the same where the unit at the place is known
-abbrev pub onward : List ℕ → ℕ → DataUnit → Answer
-onward pes n DataUnit.End = Done n
-onward pes n (DataUnit.Text next) = scanned pes next (n + 44)
-onward pes n (DataUnit.Stuffing next) = scanned pes next n
-onward pes n (DataUnit.Refused r) = Refused r
+abbrev pub onward : List ℕ → ℕ → Result DataUnit Refusal → Answer
+onward pes n (Ok DataUnit.End) = Ok n
+onward pes n (Ok (DataUnit.Text next)) = scanned pes next (n + 44)
+onward pes n (Ok (DataUnit.Stuffing next)) = scanned pes next n
+onward pes n (Err r) = Err r
 
 -- the rules of the first unit come before those of the others
 scan-first :
@@ -82,20 +83,20 @@ scan-first :
     → scanned pes at n
     ≡ judged refused (rules_at pes at)
     (judged refused (flat_map (rules_at pes) (from pes (next_unit pes at)))
-    (Done (n + length (given_at pes at ++ flat_map (given_at pes) (from pes (next_unit pes at))))))
+    (Ok (n + length (given_at pes at ++ flat_map (given_at pes) (from pes (next_unit pes at))))))
 unfolding flat_map
 scan-first pes at n h = rw (from_step pes at h) (judged-append refused (rules_at pes at) _ _)
 
-pub scan_step : (pes : List ℕ) (at n : ℕ) (u : DataUnit) → Met pes at u → scanned pes at n ≡ onward pes n u
+pub scan_step : (pes : List ℕ) (at n : ℕ) (u : Result DataUnit Refusal) → Met pes at u → scanned pes at n ≡ onward pes n u
 unfolding flat_map
-scan_step pes at n DataUnit.End m = rw (from_end pes at m, add-zero)
-scan_step pes at n (DataUnit.Text next) m =
+scan_step pes at n (Ok DataUnit.End) m = rw (from_end pes at m, add-zero)
+scan_step pes at n (Ok (DataUnit.Text next)) m =
     let t = text_unit pes at m.kind m.every in
     scan-first pes at n m.within ∙ passes refused _ m.every
     ∙ rw (m.after, m.kind, length-append, record_length_lem pes at t.ends, ← (add_assoc n 44))
-scan_step pes at n (DataUnit.Stuffing next) m =
+scan_step pes at n (Ok (DataUnit.Stuffing next)) m =
     scan-first pes at n m.within ∙ passes refused _ m.every ∙ rw (m.after, m.kind)
-scan_step pes at n (DataUnit.Refused r) m =
+scan_step pes at n (Err r) m =
     scan-first pes at n m.0 ∙ refuses refused _ m.1.1 ∙ rw m.1.2
 
 -- ---- what the units give
@@ -139,7 +140,7 @@ unfolding flat_map
 lawful-next pes at next s w e = rw w.after (back-holds (rules_at pes at) _ (rw (from_step pes at w.within) at e))
 
 -- where all rules hold, the walk is never refused
-pub lawful-met : (pes : List ℕ) (at : ℕ) (r : Refusal) → Met pes at (DataUnit.Refused r) → Every (lawful pes at) → ⊥
+pub lawful-met : (pes : List ℕ) (at : ℕ) (r : Refusal) → Met pes at (Err r) → Every (lawful pes at) → ⊥
 unfolding flat_map
 lawful-met pes at r m e =
     every_first (front-holds (rules_at pes at) _ (rw (from_step pes at m.0) at e)) m.1.1

@@ -8,17 +8,18 @@
 
 pub mod ebu;
 
-ghost use Rattle.std.specs.Prelude.{◌≡◌, ◌+◌, ◌*◌, ◌≤◌, leb, eqb, length, drop};
+ghost use Rattle.std.specs.Prelude.{◌≡◌, ◌+◌, ◌<◌, ◌≤◌, leb, eqb, length, drop};
 ghost use Rattle.std.proofs.lemmas.List.Edits.{sets};
 ghost use Rattle.laws.specs.Pick.{both};
 ghost use Rattle.answer.specs.Rules.{judged, Every};
 ghost use Rattle.answer.specs.Values.{refused};
 ghost use Rattle.answer.specs.Writing.{answered, left};
+ghost use Rattle.std.specs.declared.result.Result.TheVariants.{Ok};
 ghost use Rattle.pes.specs.Finding.{begins_packet, first_in};
-ghost use Rattle.pes.specs.Header.{starts_right, length_fits, flags_fit};
+ghost use Rattle.pes.specs.Header.{starts_right, pes_length, length_fits, flags_fit};
 ghost use Rattle.pes.specs.Reading.{record_at, units_rules, read_rules, records_of};
 
-use answer::{Answer, Refusal};
+use answer::{Answer, Reason};
 pub use ebu::{is_ebu, turn_run};
 use units::DataUnit;
 
@@ -34,109 +35,80 @@ const PART: usize = 184;
 // The bytes up to the end of PES_packet_length, which counts those after it.
 pub const HEAD: usize = 6;
 
-// Where a packet begins.
-#[derive(Drop)]
-pub enum Start {
-    At(usize),
-    Nowhere,
-}
-
 // The records of a PES packet's text units, 44 bytes each (SCOPE 6.9), into the front of `out`. Goes
 // along the packet twice, to judge it and to write, and holds nothing but its place.
 pub fn read(pes: &[u8], out: &mut [u8]) -> Answer
     ensures answer { result ≡ answered (read_rules pes.now) (records_of pes.now) out.old }
     ensures bytes { out.new ≡ left (read_rules pes.now) (records_of pes.now) out.old }
 {
-    match judge(pes) {
-        Answer::Refused(r) => Answer::Refused(r),
-        Answer::Done(need) => {
-            if out.len() < need {
-                return Answer::Refused(Refusal { no: 1, at: 0 });
-            }
-            put_records(pes, out);
-            Answer::Done(need)
-        }
+    let need = judge(pes)?;
+    if out.len() < need {
+        return Reason::NoRoom.refuse(0);
     }
+    put_records(pes, out);
+    Ok(need)
 }
 
 // Judges a whole packet, writing nothing: its refusal, or how many bytes of records it gives.
+#[tactic(auto, using(crate::proofs::Heading::started, crate::proofs::Heading::long_enough), unfolding(crate::specs::Reading::read_rules, crate::specs::Header::header_rules))]
 pub fn judge(pes: &[u8]) -> Answer
-    ensures { result ≡ judged refused (read_rules pes.now) (Answer.Done (length (records_of pes.now))) }
+    ensures { result ≡ judged refused (read_rules pes.now) (Ok (length (records_of pes.now))) }
 {
     if !starts(pes) {
-        return Answer::Refused(Refusal { no: 2, at: 0 });
+        return Reason::NotAPacket.refuse(0);
     }
-    if !length_fits(pes[4], pes[5], pes.len()) {
-        return Answer::Refused(Refusal { no: 3, at: 4 });
+    if !length_fits(pes) {
+        return Reason::PacketLength.refuse(4);
     }
     if !flags_fit(pes[6]) {
-        return Answer::Refused(Refusal { no: 4, at: 6 });
+        return Reason::PacketFlags.refuse(6);
     }
     if pes[8] != 0x24 {
-        return Answer::Refused(Refusal { no: 4, at: 8 });
+        return Reason::PacketFlags.refuse(8);
     }
     if !ebu::is_ebu(pes[45]) {
-        return Answer::Refused(Refusal { no: 5, at: 45 });
+        return Reason::DataIdentifier.refuse(45);
     }
     scan(pes)
 }
 
 // The first place from `from` on where a packet begins: 00 00 01 BD, and a length that reading takes. A
 // reader of a damaged capture goes on from there.
-pub fn find(bytes: &[u8], from: usize) -> Start
+pub fn find(bytes: &[u8], from: usize) -> Option<usize>
     ensures { result ≡ first_in (drop from bytes.now) from }
 {
-    let mut at = from;
-    while at < bytes.len() {
+    for at in from..bytes.len() {
         if begins(&bytes[at..]) {
-            return Start::At(at);
+            return Some(at);
         }
-        at += 1;
     }
-    Start::Nowhere
+    None
 }
 
 // Whether bytes begin as a PES packet of teletext does: 00 00 01 BD.
 pub fn has_code(bytes: &[u8]) -> bool
     ensures { result ≡ starts_right bytes.now }
 {
-    if bytes.len() < 4 {
-        return false;
-    }
-    if bytes[0] != 0x00 {
-        return false;
-    }
-    if bytes[1] != 0x00 {
-        return false;
-    }
-    if bytes[2] != 0x01 {
-        return false;
-    }
-    bytes[3] == 0xBD
+    matches!(bytes, [0x00, 0x00, 0x01, 0xBD, ..])
 }
 
 // Whether a packet begins at the front.
 fn begins(bytes: &[u8]) -> bool
     ensures { result ≡ begins_packet bytes.now }
 {
-    if bytes.len() < HEAD {
-        return false;
-    }
-    if !has_code(bytes) {
-        return false;
-    }
-    is_length(bytes[4], bytes[5])
+    HEAD <= bytes.len() && has_code(bytes) && is_length(said_length(bytes))
 }
 
 // Judges the units from first to last: the first refusal, or how many bytes of records they give.
 fn scan(pes: &[u8]) -> Answer
-    ensures { result ≡ judged refused (units_rules pes.now) (Answer.Done (length (records_of pes.now))) }
+    ensures { result ≡ judged refused (units_rules pes.now) (Ok (length (records_of pes.now))) }
 {
     let mut at = FIRST;
     let mut given = 0;
+    // Kept: a `loop`, since a turn goes on to the next unit and not to the next place.
     loop {
-        match units::unit_at(pes, at) {
-            DataUnit::End => return Answer::Done(given),
+        match units::unit_at(pes, at)? {
+            DataUnit::End => return Ok(given),
             DataUnit::Text(next) => {
                 given += RECORD;
                 at = next;
@@ -144,7 +116,6 @@ fn scan(pes: &[u8]) -> Answer
             DataUnit::Stuffing(next) => {
                 at = next;
             }
-            DataUnit::Refused(r) => return Answer::Refused(r),
         }
     }
 }
@@ -153,43 +124,40 @@ fn scan(pes: &[u8]) -> Answer
 fn starts(pes: &[u8]) -> bool
     ensures { result ≡ both (leb 45 (length pes.now)) (starts_right pes.now) }
 {
-    if pes.len() < 45 {
-        return false;
-    }
-    has_code(pes)
+    45 <= pes.len() && has_code(pes)
 }
 
-// Whether PES_packet_length, by its two bytes, is that of some N times 184 bytes, and the packet is as
-// long as it says.
-fn length_fits(high: u8, low: u8, whole: usize) -> bool
-    ensures { result ≡ both (length_fits (high * 256 + low)) (eqb (high * 256 + low + 6) whole) }
+// PES_packet_length, by its two bytes.
+fn said_length(bytes: &[u8]) -> usize
+    requires { 6 ≤ length bytes.now }
+    ensures { result ≡ pes_length bytes.now }
 {
-    if !is_length(high, low) {
-        return false;
-    }
-    (high as usize) * 256 + (low as usize) + HEAD == whole
+    usize::from(bytes[4]) * 256 + usize::from(bytes[5])
 }
 
-// Whether PES_packet_length is N×184−6 with N from 1 to 356. Two bytes hold no N above 356.
-fn is_length(high: u8, low: u8) -> bool
-    ensures { result ≡ length_fits (high * 256 + low) }
+// Whether PES_packet_length is that of some N times 184 bytes, and the packet is as long as it says.
+fn length_fits(pes: &[u8]) -> bool
+    requires { 6 ≤ length pes.now }
+    ensures { result ≡ both (length_fits (pes_length pes.now)) (eqb (pes_length pes.now + 6) (length pes.now)) }
 {
-    let size = (high as usize) * 256 + (low as usize);
+    let size = said_length(pes);
+    is_length(size) && size + HEAD == pes.len()
+}
+
+// Whether PES_packet_length is N×184−6 with N from 1 to 356.
+fn is_length(size: usize) -> bool
+    requires { size < 65536 }
+    ensures { result ≡ length_fits size }
+{
     let n = (size + HEAD) / PART;
-    if n < 1 {
-        return false;
-    }
-    size == n * PART - HEAD
+    (1..=356).contains(&n) && size == n * PART - HEAD
 }
 
 // Whether byte 6 has its leading bits 10 and the alignment bit.
 fn flags_fit(b: u8) -> bool
     ensures { result ≡ flags_fit b }
 {
-    if b / 64 != 2 {
-        return false;
-    }
-    b / 4 % 2 == 1
+    b / 64 == 2 && b / 4 % 2 == 1
 }
 
 // Writes the records of a packet that is accepted, where they have room.
@@ -199,8 +167,9 @@ fn put_records(pes: &[u8], out: &mut [u8])
 {
     let mut at = FIRST;
     let mut to = 0;
-    loop {
-        match units::unit_at(pes, at) {
+    // Kept: a `while`, as the `loop` of `scan`.
+    while let Ok(unit) = units::unit_at(pes, at) {
+        match unit {
             DataUnit::End => return,
             DataUnit::Text(next) => {
                 put_record(pes, at, out, to);
@@ -210,7 +179,6 @@ fn put_records(pes: &[u8], out: &mut [u8])
             DataUnit::Stuffing(next) => {
                 at = next;
             }
-            DataUnit::Refused(_) => return,
         }
     }
 }
@@ -220,8 +188,7 @@ fn put_record(pes: &[u8], at: usize, out: &mut [u8], to: usize)
     requires { (at + 46 ≤ length pes.now) × (to + 44 ≤ length out.old) }
     ensures { out.new ≡ sets out.old to (record_at pes.now at) }
 {
-    let line = pes[at + 2];
     out[to] = pes[at];
-    out[to + 1] = line;
+    out[to + 1] = pes[at + 2];
     ebu::turn_run(pes, at + 4, out, to + 2);
 }

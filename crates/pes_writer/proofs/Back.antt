@@ -7,7 +7,6 @@ use Prim.Native.Nat.{ℕ, zero, suc, ◌+◌, ◌*◌, ◌<◌, ◌≤◌}
 use native.Mathlib.Nat.{add-zero, zero-add}
 use native.Mathlib.Numerals.{add-one, add-two}
 use native.Mathlib.Omega.{arith}
-use lib.Dec.{lit<}
 use lib.ListN.{length, get_or, take, drop, length-append, length-map, length-take, length-drop}
 use lib.Seq.{drop-cons, take-add, take_at, drop_at, drop-drop, get_or-drop}
 use Rattle.laws.specs.Bytes.{Bytes}

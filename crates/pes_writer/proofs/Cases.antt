@@ -3,8 +3,8 @@ use mathlib.Core.Path.{◌≡◌, refl}
 use mathlib.Core.List.{List, [], ◌∷◌, flat_map}
 use Prim.Native.Nat.{ℕ}
 use lib.ListN.{length, replicate, set}
-use Rattle.answer.specs.declared.Answer.{Answer}
-use Rattle.answer.specs.declared.Answer.TheVariants.{Done}
+use Rattle.std.specs.declared.result.Result.TheVariants.{Ok}
+use Rattle.answer.specs.Answer.{Answer}
 use Rattle.answer.specs.Values.{refused}
 use Rattle.answer.specs.Writing.{answered}
 use Rattle.octet.specs.Bits.{bits, number}
@@ -24,7 +24,7 @@ write_answer d rs = answered (write_rules d rs) (packet_of d rs) (replicate 1000
 -- J: the smallest packet, its bytes, its length field and its units
 abbrev pub CaseJ : Type 0
 CaseJ =
-    (write_answer 0x10 [] ≡ Done 184) × (pes_length (packet_of 0x10 []) ≡ 178) × (length (places (packet_of 0x10 [])) ≡ 3)
+    (write_answer 0x10 [] ≡ Ok 184) × (pes_length (packet_of 0x10 []) ≡ 178) × (length (places (packet_of 0x10 [])) ≡ 3)
 
 pub case_j : CaseJ
 unfolding write_rules records_fit packet_of header_of units_of stuffing_unit stuffing_units places places_from
@@ -41,12 +41,12 @@ airing o = set (packet_of 0x10 (lined 0)) 48 o
 abbrev pub CaseK : Type 0
 CaseK =
     (read_answer (airing 0x06) ≡ refused 9 48)
-    × (read_answer (airing 0x07) ≡ Done 44)
-    × (read_answer (airing 0x16) ≡ Done 44)
+    × (read_answer (airing 0x07) ≡ Ok 44)
+    × (read_answer (airing 0x16) ≡ Ok 44)
     × (read_answer (airing 0x17) ≡ refused 9 48)
     × (write_answer 0x10 (lined 0x06) ≡ refused 15 0)
-    × (write_answer 0x10 (lined 0x07) ≡ Done 184)
-    × (write_answer 0x10 (lined 0x16) ≡ Done 184)
+    × (write_answer 0x10 (lined 0x07) ≡ Ok 184)
+    × (write_answer 0x10 (lined 0x16) ≡ Ok 184)
     × (write_answer 0x10 (lined 0x17) ≡ refused 15 0)
 
 pub case_k : CaseK

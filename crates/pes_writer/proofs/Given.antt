@@ -8,7 +8,10 @@ use native.Mathlib.Nat.{add_assoc}
 use native.Mathlib.Omega.{arith}
 use lib.ListN.{length, length-append}
 use lib.Seq.{get_or-append-add}
+use Rattle.std.specs.declared.result.Result.{Result}
+use Rattle.std.specs.declared.result.Result.TheVariants.{Ok, Err}
 use Rattle.laws.proofs.Tests.{both-holds}
+use Rattle.answer.specs.declared.Refusal.{Refusal}
 use Rattle.answer.specs.Rules.{Every}
 use Rattle.units.specs.declared.DataUnit.{DataUnit}
 use Rattle.units.specs.Units.{text_id, line_fits, unit_at, byte_at}
@@ -63,9 +66,9 @@ given (suc f) pes at b h e = go (λ next. given f pes next) (unit_at pes at) (me
   where
     go :
         ((next : ℕ) → length pes ≤ next + f → next ≤ length pes → Every (lawful pes next) → Given pes next (rest pes next))
-        → (u : DataUnit) → Met pes at u → Given pes at (rest pes at)
-    go later DataUnit.End m = rw (rest_end pes at m) (given-none pes at h)
-    go later (DataUnit.Text next) w =
+        → (u : Result DataUnit Refusal) → Met pes at u → Given pes at (rest pes at)
+    go later (Ok DataUnit.End) m = rw (rest_end pes at m) (given-none pes at h)
+    go later (Ok (DataUnit.Text next)) w =
         let t = text_unit pes at w.kind w.every in
         let m = whole_moves pes at next _ w in
         let e' = lawful-next pes at next _ w e in
@@ -73,8 +76,8 @@ given (suc f) pes at b h e = go (λ next. given f pes next) (unit_at pes at) (me
         rw (rest-text pes at next w)
         (given-text pes at (rest pes next) t.id t.line t.ends
         (subst (λ (p : ℕ). Given pes p (rest pes next)) n (later next (omega arith) m.inside e')))
-    go later (DataUnit.Stuffing next) w =
+    go later (Ok (DataUnit.Stuffing next)) w =
         let m = whole_moves pes at next _ w in
         let k = later next (omega arith) m.inside (lawful-next pes at next _ w e) in
         rw (rest_stuffing pes at next w) (record { count = k.count; long = k.long; fit = k.fit; few = omega (arith, k.few, m.past) })
-    go later (DataUnit.Refused r) m = absurd (lawful-met pes at r m e)
+    go later (Err r) m = absurd (lawful-met pes at r m e)

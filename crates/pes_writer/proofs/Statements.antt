@@ -9,9 +9,9 @@ use lib.Dec.{leb, eqb}
 use lib.ListN.{length, take, drop}
 use lib.Seq.{drop_at, take_all}
 use borrow.Author.Tests.{le-leb, eq-eqb, eqb-true}
+use Rattle.std.specs.declared.result.Result.TheVariants.{Ok}
 use Rattle.laws.specs.Pick.{both}
 use Rattle.laws.proofs.Tests.{both-second, both-holds}
-use Rattle.answer.specs.declared.Answer.TheVariants.{Done}
 use Rattle.answer.specs.Rules.{Every, none, more}
 use Rattle.answer.specs.Writing.{answered, left}
 use Rattle.answer.proofs.Judging.{every_append}
@@ -77,7 +77,7 @@ writes-back d rs e b =
 -- so reading a written packet gives the records, where they have room
 pub reads-back :
     (d : ℕ) (rs old : List ℕ) → Every (write_rules d rs) → Bytes rs → length rs ≤ length old
-    → (answered (read_rules (packet_of d rs)) (records_of (packet_of d rs)) old ≡ Done (length rs))
+    → (answered (read_rules (packet_of d rs)) (records_of (packet_of d rs)) old ≡ Ok (length rs))
     × (left (read_rules (packet_of d rs)) (records_of (packet_of d rs)) old ≡ rs ++ drop (length rs) old)
 reads-back d rs old e b h =
     let w = writes-back d rs e b in

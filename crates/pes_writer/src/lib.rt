@@ -13,7 +13,7 @@ ghost use Rattle.answer.specs.Writing.{answered, left};
 ghost use Rattle.pes_writer.specs.Writing.{unit_count, write_rules, header_of, unit_of, units_of, stuffing_unit, stuffing_units, packet_of};
 ghost use Rattle.pes_writer.specs.Internal.{packet_bytes};
 
-use answer::{Answer, Refusal};
+use answer::{Answer, Reason};
 
 // A record's bytes: a unit's id, its line byte, and the text.
 const RECORD: usize = 44;
@@ -33,16 +33,12 @@ pub fn write(data_identifier: u8, records: &[u8], out: &mut [u8]) -> Answer
     ensures answer { result ≡ answered (write_rules data_identifier records.now) (packet_of data_identifier records.now) out.old }
     ensures bytes { out.new ≡ left (write_rules data_identifier records.now) (packet_of data_identifier records.now) out.old }
 {
-    match writable::judge_records(data_identifier, records) {
-        Answer::Refused(r) => Answer::Refused(r),
-        Answer::Done(need) => {
-            if out.len() < need {
-                return Answer::Refused(Refusal { no: 1, at: 0 });
-            }
-            put_packet(data_identifier, records, out);
-            Answer::Done(need)
-        }
+    let need = writable::judge_records(data_identifier, records)?;
+    if out.len() < need {
+        return Reason::NoRoom.refuse(0);
     }
+    put_packet(data_identifier, records, out);
+    Ok(need)
 }
 
 // Writes the whole packet, where it has room.
@@ -65,16 +61,8 @@ fn put_header(n: usize, d: u8, out: &mut [u8])
     let size = n * PART - 6;
     let high = (size / 256) as u8;
     let low = (size % 256) as u8;
-    out[0] = 0x00;
-    out[1] = 0x00;
-    out[2] = 0x01;
-    out[3] = 0xBD;
-    out[4] = high;
-    out[5] = low;
-    out[6] = 0x84;
-    out[7] = 0x00;
-    out[8] = 0x24;
-    fill(9, 36, out);
+    out[..9].copy_from_slice(&[0x00, 0x00, 0x01, 0xBD, high, low, 0x84, 0x00, 0x24]);
+    out[9..45].fill(0xFF);
     out[45] = d;
 }
 
@@ -83,14 +71,8 @@ fn put_units(records: &[u8], units: usize, out: &mut [u8])
     requires { (44 * units ≤ length records.now) × (46 + 46 * units ≤ length out.old) }
     ensures { out.new ≡ sets out.old 46 (units_of units records.now 0) }
 {
-    let mut at = 0;
-    let mut to = FIRST;
-    let mut more = units;
-    while 0 < more {
-        put_unit(records, at, out, to);
-        at += RECORD;
-        to += UNIT;
-        more -= 1;
+    for i in 0..units {
+        put_unit(records, RECORD * i, out, FIRST + UNIT * i);
     }
 }
 
@@ -99,25 +81,20 @@ fn put_unit(records: &[u8], at: usize, out: &mut [u8], to: usize)
     requires { (at + 44 ≤ length records.now) × (to + 46 ≤ length out.old) }
     ensures { out.new ≡ sets out.old to (unit_of records.now at) }
 {
-    let line = records[at + 1];
     out[to] = records[at];
     out[to + 1] = 0x2C;
-    out[to + 2] = line;
+    out[to + 2] = records[at + 1];
     out[to + 3] = 0xE4;
     pes::turn_run(records, at + 2, out, to + 4);
 }
 
 // Writes so many stuffing units.
-fn put_stuffing(from: usize, units: usize, out: &mut [u8])
-    requires { from + 46 * units ≤ length out.old }
-    ensures { out.new ≡ sets out.old from (stuffing_units units) }
+fn put_stuffing(from: usize, count: usize, out: &mut [u8])
+    requires { from + 46 * count ≤ length out.old }
+    ensures { out.new ≡ sets out.old from (stuffing_units count) }
 {
-    let mut to = from;
-    let mut left = units;
-    while 0 < left {
-        put_stuffing_unit(to, out);
-        to += UNIT;
-        left -= 1;
+    for i in 0..count {
+        put_stuffing_unit(from + UNIT * i, out);
     }
 }
 
@@ -128,17 +105,5 @@ fn put_stuffing_unit(to: usize, out: &mut [u8])
 {
     out[to] = 0xFF;
     out[to + 1] = 0x2C;
-    fill(to + 2, 0x2C, out);
-}
-
-// Writes so many bytes of FF.
-fn fill(from: usize, count: usize, out: &mut [u8])
-    requires { from + count ≤ length out.old }
-    ensures { out.new ≡ sets out.old from (replicate count 0xFF) }
-{
-    let mut i = 0;
-    while i < count {
-        out[from + i] = 0xFF;
-        i += 1;
-    }
+    out[to + 2..to + UNIT].fill(0xFF);
 }

@@ -10,7 +10,7 @@ ghost use Rattle.units.specs.Marks.{text_id, line_fits};
 ghost use Rattle.pes_writer.specs.Records.{records_fit, write_rules};
 ghost use Rattle.pes_writer.specs.Internal.{packet_bytes};
 
-use answer::{Answer, Refusal};
+use answer::{Answer, Reason};
 
 // A record's bytes: a unit's id, its line byte, and the text.
 const RECORD: usize = 44;
@@ -19,23 +19,21 @@ const RECORD: usize = 44;
 const PART: usize = 184;
 
 // Judges what is to be written, writing nothing: its refusal, or how many bytes the packet takes.
+#[tactic(auto, unfolding(crate::specs::Records::write_rules))]
 pub(crate) fn judge_records(data_identifier: u8, records: &[u8]) -> Answer
-    ensures { result ≡ judged refused (write_rules data_identifier records.now) (Answer.Done (packet_bytes records.now)) }
+    ensures { result ≡ judged refused (write_rules data_identifier records.now) (Ok (packet_bytes records.now)) }
 {
     if !pes::is_ebu(data_identifier) {
-        return Answer::Refused(Refusal { no: 16, at: 0 });
+        return Reason::Range.refuse(0);
     }
     if records.len() % RECORD != 0 {
-        return Answer::Refused(Refusal { no: 13, at: 0 });
+        return Reason::Length.refuse(0);
     }
     let units = records.len() / RECORD;
-    if 1423 < units {
-        return Answer::Refused(Refusal { no: 15, at: 0 });
+    if 1423 < units || !records_fit(records, units) {
+        return Reason::Value.refuse(0);
     }
-    if !records_fit(records, units) {
-        return Answer::Refused(Refusal { no: 15, at: 0 });
-    }
-    Answer::Done((units / 4 + 1) * PART)
+    Ok((units / 4 + 1) * PART)
 }
 
 // Whether each of the records is one that reading gives.
@@ -43,14 +41,10 @@ fn records_fit(records: &[u8], units: usize) -> bool
     requires { 44 * units ≤ length records.now }
     ensures { result ≡ records_fit units records.now 0 }
 {
-    let mut at = 0;
-    let mut more = units;
-    while 0 < more {
-        if !record_fits(records[at], records[at + 1]) {
+    for i in 0..units {
+        if !record_fits(records[RECORD * i], records[RECORD * i + 1]) {
             return false;
         }
-        at += RECORD;
-        more -= 1;
     }
     true
 }
@@ -59,8 +53,5 @@ fn records_fit(records: &[u8], units: usize) -> bool
 fn record_fits(id: u8, line: u8) -> bool
     ensures { result ≡ both (text_id id) (line_fits line) }
 {
-    if !units::is_text(id) {
-        return false;
-    }
-    units::line_fits(line)
+    units::is_text(id) && units::line_fits(line)
 }

@@ -1,54 +1,32 @@
 -- The answers of a reader's calls, whatever a packet does: of the call for a list from its tests in order and from what the packets did, and of the
 -- call for one packet from those for a list of one. Assumes nothing.
-use mathlib.Core.Path.{◌≡◌, ◌∙◌, refl, sym}
+use mathlib.Core.Path.{◌≡◌, ◌∙◌, refl, sym, ap}
 use mathlib.Core.Bool.{Bool, true, false}
 use mathlib.Core.List.{List, []}
-use Prim.Native.Nat.{ℕ, ◌%◌, ◌≤◌, ◌<◌}
+use Prim.Native.Nat.{ℕ, ◌%◌, ◌≤◌}
 use native.Mathlib.Omega.{arith}
-use lib.Dec.{leb}
+use lib.Dec.{eqb, leb}
 use lib.ListN.{length}
-use borrow.Author.Tests.{le-leb, lt-leb, leb-true, eq-eqb, ne_eqb}
-use Rattle.laws.specs.Pick.{both}
+use borrow.Author.Tests.{leb-true, eq-eqb, ne_eqb, eqb-true, eqb-false}
+use Rattle.laws.specs.Pick.{pick, both}
 use Rattle.laws.proofs.Lists.{sets-front}
-use Rattle.laws.proofs.Tests.{both_false, both_assoc}
+use Rattle.laws.proofs.Tests.{both_false}
 use Rattle.packet.specs.Packet.{packet_length}
-use Rattle.reader.specs.declared.Heard.{Heard}
-use Rattle.reader.specs.declared.many.HeardAll.{HeardAll}
-use Rattle.reader.specs.declared.many.HeardAll.TheVariants.{TookAll}
-use Rattle.reader.specs.Calls.{Tuned, begun, ran_all, refused_heard, refused_all, feed_heard, feed_reader, feed_out, feed_all_heard, feed_all_reader, feed_all_out}
-use Rattle.reader.specs.Internal.{told, CameTo}
+use Rattle.reader.specs.Taking.{Heard, took_all}
+use Rattle.reader.specs.Calls.{Tuned, Ran, begun, refused_heard, feed_heard, feed_reader, feed_out, feed_all_heard, feed_all_reader, feed_all_out}
+use Rattle.reader.specs.Internal.{told, CameTo, reading, laid, one_heard, one_reader, one_out}
 use Rattle.reader.proofs.Running.{run-one}
 
 -- ---- a list of packets
 
--- the answer, the reader and the output are these
-abbrev pub AnswersAll : {R S B : Type 0} → Tuned R S B → R → List ℕ → List ℕ → HeardAll → R → List ℕ → Type 0
-AnswersAll t r l old h after new =
-    (h ≡ feed_all_heard t r l old) × ((after ≡ feed_all_reader t r l old) × (new ≡ feed_all_out t r l old))
+-- what packets have come to is what is heard of them, and their bytes stand at the front of the output
+module _ {S B : Type 0} {bytes : List B → List ℕ} {b : Ran S B} {count blocks written : ℕ} {drops : Bool} {old new : List ℕ}
+    (w : CameTo bytes b count blocks written drops old new) where
+  pub came_took : took_all count blocks written drops ≡ took_all b.packets (length b.blocks) (length (bytes b.blocks)) b.dropped
+  came_took = rw (w.packets, w.blocks, w.written, w.dropped)
 
--- a refusal hands the reader back, and leaves the output
-abbrev Refuses : {R S B : Type 0} → Tuned R S B → R → List ℕ → List ℕ → ℕ → Type 0
-Refuses t r l old number = AnswersAll t r l old (refused_all number 0) r old
-
-module _ {R S B : Type 0} (t : Tuned R S B) (r : R) (l old : List ℕ) where
-  pub not-whole : (length l % packet_length ≡ 0 → ⊥) → Refuses t r l old 16
-  not-whole n = rw (ne_eqb _ _ n, both_false, both_false) (refl, (refl, refl))
-
-  module _ {ready : Bool} (e : ready ≡ both t.fits (t.in_range r)) where
-    pub not-ready : ready ≡ false → Refuses t r l old 16
-    not-ready i = rw (both_assoc, ← e, i) (refl, (refl, refl))
-
-    pub no_room : ready ≡ true → length l % packet_length ≡ 0 → length old < t.does.room → Refuses t r l old 1
-    no_room i z h = rw (both_assoc, ← e, i, eq-eqb _ _ z, lt-leb _ _ h) (refl, (refl, refl))
-
-    pub all-taken :
-        {count blocks written : ℕ} {drops : Bool} {after : R} {new : List ℕ} → ready ≡ true → length l % packet_length ≡ 0 → t.does.room ≤ length old
-        → written ≤ length old → CameTo t.does.bytes (ran_all t r l old) count blocks written drops old new
-        → after ≡ t.held (ran_all t r l old).state → AnswersAll t r l old (TookAll count blocks written drops) after new
-    all-taken i z h f w a =
-        let bytes : List ℕ = t.does.bytes (ran_all t r l old).blocks in
-        rw (both_assoc, ← e, i, eq-eqb _ _ z, le-leb _ _ h)
-        (rw (w.packets, w.blocks, w.written, w.dropped), (a, w.out ∙ sets-front old bytes (omega (arith, f, w.written))))
+  pub came_out : written ≤ length old → new ≡ laid (bytes b.blocks) old
+  came_out f = w.out ∙ sets-front old (bytes b.blocks) (omega (arith, f, w.written))
 
 -- ---- one packet
 
@@ -77,9 +55,31 @@ module _ {R S B : Type 0} (t : Tuned R S B) (none : t.does.bytes [] ≡ []) (r :
           rw (eq-eqb _ _ l, eq-eqb _ _ z, ← e, ← f, run-one t.does (length old) (begun (t.state r)) p l (rw none (omega (arith, enough))))
           (refl, (refl, refl))
 
-  -- the packet as a list of one
+-- the packet as a list of one
+module _ {X R S B : Type 0} (t : X → Tuned R S B) (x : X) (none : (t x).does.bytes [] ≡ []) (r : R) (p old : List ℕ) where
+  abbrev need : ℕ
+  need = (t x).does.room
+
   pub one :
-      {h : HeardAll} {x : Heard} {after : R} {new : List ℕ} → length p ≡ packet_length
-      → h ≡ feed_all_heard t r p old → x ≡ told h → after ≡ feed_all_reader t r p old → new ≡ feed_all_out t r p old
-      → Answers t r p old x after new
-  one l e x f g = rw (x, e, f, g) (of-list l)
+      Answers (t x) r p old (one_heard (reading t) need x r p old) (one_reader (reading t) need x r p old) (one_out (reading t) need x r p old)
+  one = go (eqb (length p) packet_length) refl
+    where
+      go :
+          (long : Bool) → eqb (length p) packet_length ≡ long
+          → Answers (t x) r p old (one_heard (reading t) need x r p old) (one_reader (reading t) need x r p old) (one_out (reading t) need x r p old)
+      go true e =
+          let it = of-list (t x) none r p old (eqb-true _ _ e) in (
+            ap (λ (i : Bool). pick i (told (feed_all_heard (t x) r p old)) (refused_heard 16 0)) e ∙ it.0,
+            (
+              ap (λ (i : Bool). pick i (feed_all_reader (t x) r p old) r) e ∙ it.1.0,
+              ap (λ (i : Bool). pick i (feed_all_out (t x) r p old) old) e ∙ it.1.1,
+            ),
+          )
+      go false e =
+          let it = other_length (t x) none r p old (eqb-false _ _ e) in (
+            ap (λ (i : Bool). pick i (told (feed_all_heard (t x) r p old)) (refused_heard 16 0)) e ∙ it.0,
+            (
+              ap (λ (i : Bool). pick i (feed_all_reader (t x) r p old) r) e ∙ it.1.0,
+              ap (λ (i : Bool). pick i (feed_all_out (t x) r p old) old) e ∙ it.1.1,
+            ),
+          )

@@ -8,3 +8,4 @@ pub mod HeedingTwo
 pub mod RunningTwo
 pub mod MarksTwo
 pub mod AnsweringTwo
+mod Holding

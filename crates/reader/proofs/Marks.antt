@@ -226,7 +226,7 @@ module _ (s : Setting) (alone : Bool) (packets : List ℕ) (limit from : ℕ) (a
 
 -- all of them, for a reader that is alone
 pub went_all :
-    (s : Setting) (packets : List ℕ) (a : Going) (store out : List ℕ) {r : Gone} {store' new : List ℕ} → Kept a.got.run store
+    (s : Setting) (packets : List ℕ) (a : Going) (store out : List ℕ) {r : Gone Going} {store' new : List ℕ} → Kept a.got.run store
     → (a.got.blocks ≡ 0) × (a.got.written ≡ 0) × (a.got.dropped ≡ false) → WentOn s true packets (length out) 0 a store out r store' new
     → RanTo (ran_from s (length out) a store packets) (taking r.going (r.at / packet_length)) store' out new
 went_all s packets a store out {r} {store'} {new} k z w = go r.full refl

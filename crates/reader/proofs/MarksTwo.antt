@@ -44,10 +44,9 @@ use Rattle.state.specs.Acting.{State, pointer_of, bytes_of, act, handed, dropped
 use Rattle.state.specs.Two.{Own, TwoState, Handed, own_of, state_for, handed_from, act_of_two, handed_of_two, dropped_of_two}
 use Rattle.state.proofs.Bounding.{packet-room}
 use Rattle.state.proofs.Beside.{owner_of}
-use Rattle.reader.specs.declared.many.Going.{Going}
 use Rattle.reader.specs.declared.many.Gone.{Gone}
 use Rattle.reader.specs.declared.two.Pair.{Pair}
-use Rattle.reader.specs.declared.two.Stretch.{Stretch}
+use Rattle.reader.specs.declared.many.Going.{Going}
 use Rattle.reader.specs.Calls.{ran_on, run}
 use Rattle.reader.specs.Feeding.{does_for}
 use Rattle.reader.specs.Many.{Ran, begun}
@@ -230,7 +229,7 @@ started_for packets at limit hold e q k p l =
 
 pub gone_for :
     (w : Whose) (s : Streams) (packets : List ℕ) (limit at : ℕ) (page : SharedPage) (first second : Half) (was1 was2 old store1 store2 : List ℕ) {own : Page} {half : Half} {f : Going}
-    {mine : Setting} {r : Gone} {new : List ℕ} → own ≡ page_for w page → half ≡ which w first second
+    {mine : Setting} {r : Gone Going} {new : List ℕ} → own ≡ page_for w page → half ≡ which w first second
     → f ≡ started own half.index half.run half.joined → mine ≡ setting_for w s
     → WentOn mine false packets limit at f (which w was1 was2) old r (which w store1 store2) new → which w store2 store1 ≡ which w was2 was1
     → WentFor w s packets limit at page first second was1 was2 old r store1 store2 new
@@ -277,7 +276,7 @@ which-kept First a was1 was2 k l = k
 which-kept Second a was1 was2 k l = l
 
 module _ (s : Streams) (fits : in_range_of_two s ≡ true) (packets : List ℕ) (at : ℕ) (a : Pair) (was1 was2 mid hold : List ℕ) (limit : ℕ)
-    (one : Kept a.first.run was1) (two : Kept a.second.run was2) (room_for : Ample a limit hold mid) (w : Whose) (store1 store2 : List ℕ) {t : Gone} {held : List ℕ}
+    (one : Kept a.first.run was1) (two : Kept a.second.run was2) (room_for : Ample a limit hold mid) (w : Whose) (store1 store2 : List ℕ) {t : Gone Going} {held : List ℕ}
     (gone : WentFor w s packets limit at a.page a.first a.second was1 was2 hold t store1 store2 held) where
   abbrev h : Half
   h = which w a.first a.second
@@ -454,7 +453,7 @@ module _ (s : Streams) (fits : in_range_of_two s ≡ true) (packets : List ℕ) 
       w ≡ owner_of a.page → {k : ℕ} {new : List ℕ} {page : SharedPage} {left right : Half} {d : Bool} → k ≡ stream_for w s
       → new ≡ sets mid a.written (tagged k (blocks (take written held))) → page ≡ owned_by w t.going.page → left ≡ which w its-half a.first
       → right ≡ which w a.second its-half → d ≡ either a.dropped t.going.got.dropped
-      → WentOnOfTwo s packets at a was1 was2 mid (record { pair = its_pair page left right d; at = t.at; address = t.address; full = t.full }) store1 store2 new
+      → WentOnOfTwo s packets at a was1 was2 mid (record { going = its_pair page left right d; at = t.at; address = t.address; full = t.full }) store1 store2 new
   gone-on o i put p x1 x2 y =
       let g = gone.0 in
       record {
@@ -472,9 +471,9 @@ module _ (s : Streams) (fits : in_range_of_two s ≡ true) (packets : List ℕ) 
 
 -- so what is left still comes to the same
 pub went_reached :
-    (s : Streams) (packets : List ℕ) (long : ℕ) {at : ℕ} {a : Pair} {was1 was2 mid store1 store2 new old : List ℕ} {r : Stretch} {whole : RanOfTwo}
+    (s : Streams) (packets : List ℕ) (long : ℕ) {at : ℕ} {a : Pair} {was1 was2 mid store1 store2 new old : List ℕ} {r : Gone Pair} {whole : RanOfTwo}
     → length mid ≡ long → WentOnOfTwo s packets at a was1 was2 mid r store1 store2 new → ReachedTwo s long packets at a was1 was2 old mid whole
-    → ReachedTwo s long packets r.at r.pair store1 store2 old new whole
+    → ReachedTwo s long packets r.at r.going store1 store2 old new whole
 went_reached s packets long {mid = mid} {store1 = store1} {store2 = store2} {new = new} {old = old} {r = r} {whole = whole} e x q =
-    let y : ReachedTwo s (length mid) packets r.at r.pair store1 store2 old new whole = x.reached old whole (rw e q) in
+    let y : ReachedTwo s (length mid) packets r.at r.going store1 store2 old new whole = x.reached old whole (rw e q) in
     rw e at y

@@ -7,7 +7,7 @@ use Prim.Native.Nat.{ℕ, zero, suc, ◌+◌, ◌-◌, ◌*◌, ◌/◌, ◌%◌
 use native.Mathlib.Nat.{zero-add, le_refl}
 use native.Mathlib.Omega.{arith}
 use lib.ListN.{length, take, drop, length-append, length-drop}
-use lib.Seq.{sets, drop-drop, length-take-le, take_all}
+use lib.Seq.{sets, drop-drop, length-take-le, take_all, take-append_seam, drop-append_seam}
 use borrow.Author.Tests.{le-leb, lt-leb}
 use Rattle.laws.specs.Pick.{either}
 use Rattle.laws.proofs.Lists.{sets-append, part_of}
@@ -172,3 +172,16 @@ still_room s p st g l w f =
     let r = packet-room s st p l g in
     let t = head-each (handed st (see s p)) in
     (omega (arith, w.went.written), omega (arith, w.went.written, w.went.blocks))
+
+-- ---- the packets as chunks
+
+-- a chunk at the front of what is left is the packet at that place, and the next stands behind it
+pub chunk_on :
+    (packets : List ℕ) (at : ℕ) {x left : List ℕ} → drop at packets ≡ x ++ left → length x ≡ packet_length
+    → (x ≡ packet_at packets at) × (left ≡ drop (at + packet_length) packets) × (at + packet_length ≤ length packets)
+chunk_on packets at {x} {left} e k =
+    let whole : length packets - at ≡ length x + length left = sym (length-drop at packets) ∙ ap length e ∙ length-append x left in (
+      rw (part_of at packet_length packets, e, ← k) (sym (take-append_seam x left)),
+      rw (← (drop-drop packet_length at packets), e, ← k) (sym (drop-append_seam x left)),
+      omega (arith, whole, k),
+    )

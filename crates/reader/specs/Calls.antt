@@ -5,10 +5,8 @@ use Rattle.laws.specs.Pick.{pick, both, either}
 use Rattle.answer.specs.Rules.{Rule, rule, judged}
 use Rattle.answer.specs.Values.{refusal}
 use Rattle.packet.specs.Packet.{packet_length}
-use Rattle.reader.specs.declared.Heard.{Heard}
-use Rattle.reader.specs.declared.Heard.TheVariants.{Took, Refused}
-use Rattle.reader.specs.declared.many.HeardAll.{HeardAll}
-use Rattle.reader.specs.declared.many.HeardAll.TheVariants.{TookAll, RefusedAll}
+use Rattle.reader.specs.Taking.{Heard, HeardAll, took, took_all}
+use Rattle.std.specs.declared.result.Result.TheVariants.{Ok, Err}
 
 -- ---- packets one after the other
 
@@ -59,10 +57,10 @@ pub record Tuned (R S B : Type 0) : Type 0 where
   pub held : S → R
 
 abbrev pub refused_heard : ℕ → ℕ → Heard
-refused_heard number offset = Refused (refusal number offset)
+refused_heard number offset = Err (refusal number offset)
 
 abbrev pub refused_all : ℕ → ℕ → HeardAll
-refused_all number offset = RefusedAll (refusal number offset)
+refused_all number offset = Err (refusal number offset)
 
 -- 16 for setting, state or what isn't whole packets, and after it 1, whatever the packets are (SCOPE 3.5, 10.6)
 abbrev pub rules : {R S B : Type 0} → Tuned R S B → R → Bool → List ℕ → List Rule
@@ -80,7 +78,7 @@ handed_bytes d st p = d.bytes (d.handed st p)
 abbrev pub feed_heard : {R S B : Type 0} → Tuned R S B → R → List ℕ → List ℕ → Heard
 feed_heard t r p old =
     judged refused_heard (feed_rules t r p old)
-    (Took (length (t.does.handed (t.state r) p)) (length (handed_bytes t.does (t.state r) p)) (t.does.dropped (t.state r) p))
+    (Ok (took (length (t.does.handed (t.state r) p)) (length (handed_bytes t.does (t.state r) p)) (t.does.dropped (t.state r) p)))
 
 -- the reader handed back: a refusal's is equal to the one handed in (SCOPE 3.2)
 abbrev pub feed_reader : {R S B : Type 0} → Tuned R S B → R → List ℕ → List ℕ → R
@@ -104,7 +102,7 @@ abbrev pub feed_all_heard : {R S B : Type 0} → Tuned R S B → R → List ℕ 
 feed_all_heard t r l old =
     let a = ran_all t r l old in
     judged refused_all (feed_all_rules t r l old)
-    (TookAll a.packets (length a.blocks) (length (t.does.bytes a.blocks)) a.dropped)
+    (Ok (took_all a.packets (length a.blocks) (length (t.does.bytes a.blocks)) a.dropped))
 
 abbrev pub feed_all_reader : {R S B : Type 0} → Tuned R S B → R → List ℕ → List ℕ → R
 feed_all_reader t r l old = judged (λ number offset. r) (feed_all_rules t r l old) (t.held (ran_all t r l old).state)

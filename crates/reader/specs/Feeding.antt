@@ -5,7 +5,7 @@ use Rattle.blocks.specs.Block.{Block, records_of}
 use Rattle.packet.specs.declared.Setting.{Setting}
 use Rattle.packet.specs.Setting.{in_range}
 use Rattle.state.specs.declared.Reader.{Reader}
-use Rattle.reader.specs.declared.Heard.{Heard}
+use Rattle.reader.specs.Taking.{Heard}
 use Rattle.walk.specs.Reading.{room}
 use Rattle.pages.specs.Seen.{see}
 use Rattle.state.specs.Acting.{State, act, handed, dropped}

@@ -1,9 +1,10 @@
 -- What only private calls cite; nothing here needs to be believed. How the code holds what packets have come to, what one more adds, and
 -- what was heard of one packet, from what was heard of a list of one.
-use Rattle.std.specs.Prelude.{◌≡◌, Bool, true, false, List, ℕ, ◌+◌, ◌-◌, ◌*◌, ◌/◌, ◌%◌, ◌≤◌, ◌<◌, eqb, ltb, length, get_or, take, drop}
+use Rattle.std.specs.Prelude.{◌≡◌, Bool, true, false, List, [], ◌∷◌, ◌++◌, leb, ℕ, ◌+◌, ◌-◌, ◌*◌, ◌/◌, ◌%◌, ◌≤◌, ◌<◌, eqb, ltb, length, get_or, take, drop}
 use Rattle.std.proofs.lemmas.List.Edits.{sets}
 use Rattle.octet.specs.Decoding.{nib}
-use Rattle.laws.specs.Pick.{either}
+use Rattle.laws.specs.Pick.{pick, both, either}
+use Rattle.answer.specs.Rules.{Rule, rule, judged}
 use Rattle.blocks.specs.Block.{Block, head_length, records_of}
 use Rattle.packet.specs.declared.Setting.{Setting}
 use Rattle.packet.specs.Packet.{packet_length}
@@ -20,16 +21,15 @@ use Rattle.walk.specs.Store.{mode_of}
 use Rattle.walk.specs.Reading.{room}
 use Rattle.walk.specs.Internal.{Holds, Kept, Went, TookIn, ContinuedTo, ContinuedOn, ReadPacket, runs}
 use Rattle.state.specs.Acting.{State, heeded, heeded_blocks, heeded_drops, act, handed, dropped}
-use Rattle.reader.specs.declared.Heard.{Heard}
-use Rattle.reader.specs.declared.Heard.TheVariants.{Took, Refused}
-use Rattle.reader.specs.declared.many.HeardAll.{HeardAll}
-use Rattle.reader.specs.declared.many.HeardAll.TheVariants.{TookAll, RefusedAll}
+use Rattle.reader.specs.Taking.{Heard, HeardAll, took, took_all}
+use Rattle.std.specs.declared.result.Result.TheVariants.{Ok, Err}
 use Rattle.reader.specs.declared.many.Going.{Going}
 use Rattle.reader.specs.declared.many.Taking.{Taking}
 use Rattle.reader.specs.declared.many.Met.{Met}
 use Rattle.reader.specs.declared.many.Gone.{Gone}
-use Rattle.reader.specs.Calls.{Ran as Calls-as-Ran, run as calls_run}
-use Rattle.reader.specs.Calls.{Does}
+use Rattle.reader.specs.declared.many.TookAll.{TookAll}
+use Rattle.reader.specs.Calls.{Ran as Calls-as-Ran, run as calls_run, begun as calls_begun}
+use Rattle.reader.specs.Calls.{Does, Tuned, refused_heard, refused_all}
 use Rattle.reader.specs.Feeding.{does_for}
 use Rattle.reader.specs.Many.{Ran, begun, run}
 
@@ -97,14 +97,14 @@ abbrev pub ran_from : Setting → ℕ → Going → List ℕ → List ℕ → Ra
 ran_from s long a store l = run s long (length l / packet_length) (begun (state_in a store)) l
 
 -- packets taken one after the other have come to b
-pub record RanTo (b : Ran) (r : Taking) (store old new : List ℕ) : Type 0 where
+pub record RanTo (b : Ran) (r : Taking Going) (store old new : List ℕ) : Type 0 where
   pub page : r.going.page ≡ b.state.page
   pub index : r.going.index ≡ b.state.index
   pub joined : r.going.joined ≡ b.state.joined
   pub holds : Holds b.state.mode r.going.got.run store
   pub came : CameTo records_of b r.packets r.going.got.blocks r.going.got.written r.going.got.dropped old new
 
-abbrev pub taking : Going → ℕ → Taking
+abbrev pub taking : Going → ℕ → Taking Going
 taking a count = record { going = a; packets = count }
 
 -- the packets up to the place `at` have come to a, and what is left from there comes to the whole
@@ -172,7 +172,7 @@ pub record WentTo (s : Setting) (alone : Bool) (packets : List ℕ) (limit from 
   pub long : length new ≡ length old
 
 -- and end there: for want of room, at a mark where the reader isn't alone, or because none is left
-pub record WentOn (s : Setting) (alone : Bool) (packets : List ℕ) (limit from : ℕ) (a₀ : Going) (store₀ old : List ℕ) (r : Gone) (store new : List ℕ) : Type 0 where
+pub record WentOn (s : Setting) (alone : Bool) (packets : List ℕ) (limit from : ℕ) (a₀ : Going) (store₀ old : List ℕ) (r : Gone Going) (store new : List ℕ) : Type 0 where
   pub went : WentTo s alone packets limit from a₀ store₀ old r.at r.going store new
   pub full : r.full ≡ true → limit < r.going.got.written + room
   pub fits : r.full ≡ false → r.at < length packets → r.going.got.written + room ≤ limit
@@ -183,5 +183,58 @@ pub record WentOn (s : Setting) (alone : Bool) (packets : List ℕ) (limit from 
 
 -- what was heard of its packet
 abbrev pub told : HeardAll → Heard
-told (RefusedAll r) = Refused r
-told (TookAll packets blocks written dropped) = Took blocks written dropped
+told (Ok t) = Ok (took t.blocks t.written t.dropped)
+told (Err r) = Err r
+
+-- ---- the calls of a reader, of one stream or of two
+
+-- whether setting and state are in range, and what packets come to in an output so long: what is heard of them, the reader then, and the bytes
+-- that go out
+pub record Reading (X R : Type 0) : Type 0 where
+  pub fits : X → Bool
+  pub in_range : X → R → Bool
+  pub took : X → R → List ℕ → ℕ → TookAll
+  pub left : X → R → List ℕ → ℕ → R
+  pub bytes : X → R → List ℕ → ℕ → List ℕ
+
+-- those of a reader that is tuned so
+abbrev pub ran_in : {X R S B : Type 0} → (X → Tuned R S B) → X → R → List ℕ → ℕ → Calls-as-Ran S B
+ran_in t x r l long = calls_run (t x).does long (length l / packet_length) (calls_begun ((t x).state r)) l
+
+abbrev pub reading : {X R S B : Type 0} → (X → Tuned R S B) → Reading X R
+reading t =
+    record {
+      fits = λ x. (t x).fits;
+      in_range = λ x. (t x).in_range;
+      took = λ x r l long. let a = ran_in t x r l long in took_all a.packets (length a.blocks) (length ((t x).does.bytes a.blocks)) a.dropped;
+      left = λ x r l long. (t x).held (ran_in t x r l long).state;
+      bytes = λ x r l long. (t x).does.bytes (ran_in t x r l long).blocks;
+    }
+
+-- bytes at the front of the output
+abbrev pub laid : List ℕ → List ℕ → List ℕ
+laid bytes old = bytes ++ drop (length bytes) old
+
+-- the call for a list: its rules, the answer, the reader handed back, and the output
+abbrev pub all_rules : {X R : Type 0} → Reading X R → ℕ → X → R → List ℕ → List ℕ → List Rule
+all_rules g need x r l old =
+    rule (both (g.fits x) (both (g.in_range x r) (eqb (length l % packet_length) 0))) 16 0 ∷ rule (leb need (length old)) 1 0 ∷ []
+
+abbrev pub all_heard : {X R : Type 0} → Reading X R → ℕ → X → R → List ℕ → List ℕ → HeardAll
+all_heard g need x r l old = judged refused_all (all_rules g need x r l old) (Ok (g.took x r l (length old)))
+
+abbrev pub all_reader : {X R : Type 0} → Reading X R → ℕ → X → R → List ℕ → List ℕ → R
+all_reader g need x r l old = judged (λ number offset. r) (all_rules g need x r l old) (g.left x r l (length old))
+
+abbrev pub all_out : {X R : Type 0} → Reading X R → ℕ → X → R → List ℕ → List ℕ → List ℕ
+all_out g need x r l old = judged (λ number offset. old) (all_rules g need x r l old) (laid (g.bytes x r l (length old)) old)
+
+-- the call for one packet: one that isn't 42 bytes long is refused, another is a list of one
+abbrev pub one_heard : {X R : Type 0} → Reading X R → ℕ → X → R → List ℕ → List ℕ → Heard
+one_heard g need x r p old = pick (eqb (length p) packet_length) (told (all_heard g need x r p old)) (refused_heard 16 0)
+
+abbrev pub one_reader : {X R : Type 0} → Reading X R → ℕ → X → R → List ℕ → List ℕ → R
+one_reader g need x r p old = pick (eqb (length p) packet_length) (all_reader g need x r p old) r
+
+abbrev pub one_out : {X R : Type 0} → Reading X R → ℕ → X → R → List ℕ → List ℕ → List ℕ
+one_out g need x r p old = pick (eqb (length p) packet_length) (all_out g need x r p old) old

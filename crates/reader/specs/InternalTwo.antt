@@ -26,7 +26,7 @@ use Rattle.state.specs.Acting.{State, heeded, heeded_blocks, heeded_drops}
 use Rattle.state.specs.Two.{Own, TwoState, Handed, own_of, own_held, act_of_two, handed_of_two, dropped_of_two}
 use Rattle.reader.specs.declared.two.Pair.{Pair}
 use Rattle.reader.specs.declared.two.Turned.{Turned}
-use Rattle.reader.specs.declared.two.Stretch.{Stretch}
+use Rattle.reader.specs.declared.many.Going.{Going}
 use Rattle.reader.specs.declared.many.Gone.{Gone}
 use Rattle.reader.specs.Calls.{begun, run}
 use Rattle.reader.specs.Internal.{CameTo, ReachedBy, started, packet_at, marks, WentOn}
@@ -130,7 +130,7 @@ pub record Ample (a : Pair) (limit : ℕ) (hold out : List ℕ) : Type 0 where
   pub long : a.written + 2 * (limit - room) + room_of_two ≤ length out
 
 -- one stream's own reader has gone on, and the other's store is as it was
-abbrev pub WentFor : Whose → Streams → List ℕ → ℕ → ℕ → SharedPage → Half → Half → List ℕ → List ℕ → List ℕ → Gone → List ℕ → List ℕ → List ℕ → Type 0
+abbrev pub WentFor : Whose → Streams → List ℕ → ℕ → ℕ → SharedPage → Half → Half → List ℕ → List ℕ → List ℕ → Gone Going → List ℕ → List ℕ → List ℕ → Type 0
 WentFor w s packets limit at page first second was1 was2 old r store1 store2 new =
     let h = which w first second in
     WentOn (setting_for w s) false packets limit at (started (page_for w page) h.index h.run h.joined) (which w was1 was2) old r
@@ -138,16 +138,16 @@ WentFor w s packets limit at page first second was1 was2 old r store1 store2 new
     × (which w store2 store1 ≡ which w was2 was1)
 
 -- what has come from the place on is still what all comes to, and the packets end for want of room held, at a mark, or because none is left
-pub record WentOnOfTwo (s : Streams) (packets : List ℕ) (at : ℕ) (a : Pair) (was1 was2 mid : List ℕ) (r : Stretch) (store1 store2 new : List ℕ) : Type 0 where
+pub record WentOnOfTwo (s : Streams) (packets : List ℕ) (at : ℕ) (a : Pair) (was1 was2 mid : List ℕ) (r : Gone Pair) (store1 store2 new : List ℕ) : Type 0 where
   pub reached :
       (old : List ℕ) (whole : RanOfTwo) → ReachedTwo s (length mid) packets at a was1 was2 old mid whole
-      → ReachedTwo s (length mid) packets r.at r.pair store1 store2 old new whole
+      → ReachedTwo s (length mid) packets r.at r.going store1 store2 old new whole
   pub onward : at ≤ r.at
   pub within : r.at ≤ length packets
   pub even : (length packets - r.at) % packet_length ≡ 0
-  pub fits : r.pair.written ≤ length mid
-  pub few : r.pair.blocks ≤ r.pair.written
+  pub fits : r.going.written ≤ length mid
+  pub few : r.going.blocks ≤ r.going.written
   pub some : r.full ≡ true → at < r.at
-  pub room : r.full ≡ false → r.at < length packets → r.pair.written + room_of_two ≤ length mid
+  pub room : r.full ≡ false → r.at < length packets → r.going.written + room_of_two ≤ length mid
   pub met : r.full ≡ false → r.at < length packets → r.address ≡ address_of (packet_at packets r.at)
   pub mark : r.full ≡ false → r.at < length packets → marks (first_of s) r.address ≡ true

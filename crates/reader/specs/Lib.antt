@@ -1,4 +1,5 @@
 -- The reader's calls, for one packet and for a list of them, of one stream and of two: SCOPE 8 to 10 and 27. The state and what a packet does to it stand in `state`.
+pub mod Taking
 pub mod Values
 pub mod Calls
 pub mod Feeding

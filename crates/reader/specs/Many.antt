@@ -5,7 +5,7 @@ use Rattle.blocks.specs.Block.{Block}
 use Rattle.packet.specs.declared.Setting.{Setting}
 use Rattle.state.specs.declared.Reader.{Reader}
 use Rattle.state.specs.Acting.{State}
-use Rattle.reader.specs.declared.many.HeardAll.{HeardAll}
+use Rattle.reader.specs.Taking.{HeardAll}
 use Rattle.reader.specs.Calls.{Ran as Calls-as-Ran, begun as calls_begun, feed_all_heard as calls_feed_all_heard, feed_all_out as calls_feed_all_out, feed_all_reader as calls_feed_all_reader, feed_all_rules as calls_feed_all_rules, ran_all as calls_ran_all, ran_on as calls_ran_on, run as calls_run}
 pub use Rattle.reader.specs.Calls.{refused_all}
 use Rattle.reader.specs.Feeding.{does_for, tuned_to}

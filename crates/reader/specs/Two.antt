@@ -9,8 +9,7 @@ use Rattle.pages.specs.declared.two.Whose.TheVariants.{First, Second}
 use Rattle.pages.specs.Two.{see_by_two}
 use Rattle.state.specs.declared.two.Readers.{Readers}
 use Rattle.state.specs.Two.{TwoState, Handed, act_of_two, handed_of_two, dropped_of_two, readers_in_range, two_state_of, readers_of}
-use Rattle.reader.specs.declared.Heard.{Heard}
-use Rattle.reader.specs.declared.many.HeardAll.{HeardAll}
+use Rattle.reader.specs.Taking.{Heard, HeardAll}
 use Rattle.reader.specs.Calls.{Ran as Calls-as-Ran, feed_all_heard as calls_feed_all_heard, feed_all_out as calls_feed_all_out, feed_all_reader as calls_feed_all_reader, feed_all_rules as calls_feed_all_rules, feed_heard as calls_feed_heard, feed_out as calls_feed_out, feed_reader as calls_feed_reader, feed_rules as calls_feed_rules}
 use Rattle.reader.specs.Calls.{Does, Tuned}
 

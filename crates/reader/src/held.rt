@@ -49,13 +49,11 @@ pub(crate) fn lose(t: bool, got: Got, store: &mut [u8; STORE]) -> Got
     ensures { (out : List ℕ) → Lost t (mode_of got.run store.old) got result store.new out }
 {
     let run = got.run;
-    let kept = drop_if(t, run, store);
-    let dropped = either(got.dropped, both(t, is_running(run)));
+    let dropped = got.dropped || (t && is_running(run));
     Got {
-        run: kept,
-        blocks: got.blocks,
-        written: got.written,
-        dropped: dropped,
+        run: drop_if(t, run, store),
+        dropped,
+        ..got
     }
 }
 
@@ -75,15 +73,13 @@ fn continue_to(
 {
     let run = taken.run;
     let lost = walk::falls(run, s, taken.next);
-    let kept = drop_if(lost, run, store);
-    let was = got.run;
-    let dropped = either(got.dropped, both(is_running(was), lost));
+    let dropped = got.dropped || (is_running(got.run) && lost);
+    let run = drop_if(lost, run, store);
     finish(
         Got {
-            run: kept,
-            blocks: got.blocks,
-            written: got.written,
-            dropped: dropped,
+            run,
+            dropped,
+            ..got
         },
         joined,
         store,
@@ -98,14 +94,12 @@ fn continue_on(got: Got, joined: bool, taken: Taken, store: &mut [u8; STORE], ou
     ensures { GoneOn joined got taken store.old result store.new out.old out.new }
 {
     let run = taken.run;
-    let was = got.run;
-    let dropped = either(got.dropped, both(is_running(was), !is_running(run)));
+    let dropped = got.dropped || (is_running(got.run) && !is_running(run));
     finish(
         Got {
-            run: run,
-            blocks: got.blocks,
-            written: got.written,
-            dropped: dropped,
+            run,
+            dropped,
+            ..got
         },
         joined,
         store,
@@ -124,18 +118,15 @@ fn flow(got: Got, store: &mut [u8; STORE], s: &[u8], out: &mut [u8]) -> Got
     let mut blocks = got.blocks;
     let mut q = got.written;
     let mut at = 0;
+    // Kept: a step is no count: it goes to the next block that starts in the bytes.
     loop {
         match walk::find(s, at) {
-            Ahead::Nothing => {
-                return so_far(Run::Idle, blocks, q, dropped);
-            }
-            Ahead::Broken => {
-                return so_far(Run::Idle, blocks, q, true);
-            }
-            Ahead::Cut { got: g, bits, part } => {
+            Ahead::Nothing => return so_far(Run::Idle, blocks, q, dropped),
+            Ahead::Broken => return so_far(Run::Idle, blocks, q, true),
+            Ahead::Cut { got, bits, part } => {
                 let left = Run::Head {
-                    got: g,
-                    bits: bits,
+                    got,
+                    bits,
                     part: part as u8,
                 };
                 return so_far(left, blocks, q, dropped);
@@ -147,7 +138,7 @@ fn flow(got: Got, store: &mut [u8; STORE], s: &[u8], out: &mut [u8]) -> Got
                 if there < size {
                     lent_bytes::copy(s, next, there, store, 0);
                     let left = Run::Body {
-                        head: head,
+                        head,
                         part: mended,
                         held: there,
                     };
@@ -167,10 +158,10 @@ fn so_far(run: Run, blocks: usize, written: usize, dropped: bool) -> Got
     ensures { result ≡ record { run = run; blocks = blocks; written = written; dropped = dropped } }
 {
     Got {
-        run: run,
-        blocks: blocks,
-        written: written,
-        dropped: dropped,
+        run,
+        blocks,
+        written,
+        dropped,
     }
 }
 
@@ -185,22 +176,14 @@ fn take_in(run: Run, store: &mut [u8; STORE], s: &[u8]) -> Taken
             next: 0,
         },
         Run::Head { got, bits, part } => match walk::head_on(s, 0, got, bits, part) {
-            Ahead::Nothing => Taken {
+            Ahead::Nothing | Ahead::Broken => Taken {
                 run: Run::Idle,
                 next: 0,
             },
-            Ahead::Broken => Taken {
-                run: Run::Idle,
-                next: 0,
-            },
-            Ahead::Cut {
-                got: g,
-                bits: v,
-                part: p,
-            } => Taken {
+            Ahead::Cut { got, bits, part: p } => Taken {
                 run: Run::Head {
-                    got: g,
-                    bits: v,
+                    got,
+                    bits,
                     part: p as u8,
                 },
                 next: s.len(),
@@ -231,23 +214,14 @@ fn body_in(
     let need = (head / 32) as usize - held;
     let there = s.len() - from;
     lent_bytes::copy(s, from, need, store, held);
-    if need < there {
-        return Taken {
-            run: Run::Body {
-                head: head,
-                part: part,
-                held: held + need,
-            },
-            next: from + need,
-        };
-    }
+    let took = need.min(there);
     Taken {
         run: Run::Body {
-            head: head,
-            part: part,
-            held: held + there,
+            head,
+            part,
+            held: held + took,
         },
-        next: from + there,
+        next: from + took,
     }
 }
 
@@ -257,28 +231,19 @@ fn finish(got: Got, joined: bool, store: &mut [u8; STORE], out: &mut [u8]) -> Go
     requires room { Room got out.old }
     ensures { Finished joined (mode_of got.run store.old) got result store.new out.old out.new }
 {
-    let run = got.run;
-    match run {
-        Run::Idle => got,
-        Run::Head {
-            got: _,
-            bits: _,
-            part: _,
-        } => got,
-        Run::Body { head, part, held } => {
-            if held < (head / 32) as usize {
-                return got;
-            }
-            let q = got.written;
-            let blocks = got.blocks;
-            hand_out(head, part, joined, held, store, out, q);
-            Got {
-                run: Run::Idle,
-                blocks: blocks + 1,
-                written: q + HEAD + held,
-                dropped: got.dropped,
-            }
-        }
+    let Run::Body { head, part, held } = got.run else {
+        return got;
+    };
+    if held < (head / 32) as usize {
+        return got;
+    }
+    let q = got.written;
+    hand_out(head, part, joined, held, store, out, q);
+    Got {
+        run: Run::Idle,
+        blocks: got.blocks + 1,
+        written: q + HEAD + held,
+        dropped: got.dropped,
     }
 }
 
@@ -297,18 +262,8 @@ fn hand_out(
     ensures store_after { store.new ≡ zeroed [] }
     ensures out_after { out.new ≡ sets out.old q (record_of (spanning joined (block_with head part (take held store.old)))) }
 {
-    emit(head, part, second_byte(joined), &*store, 0, held, out, q);
+    emit(head, part, u8::from(joined), &*store, 0, held, out, q);
     lent_bytes::clear(store, held);
-}
-
-// The second byte of the record of a block that spans pages or not.
-fn second_byte(joined: bool) -> u8
-    ensures { result ≡ pick joined 1 0 }
-{
-    if joined {
-        return 1;
-    }
-    0
 }
 
 // The running block, dropped where the test holds.
@@ -328,18 +283,8 @@ fn let_go(run: Run, store: &mut [u8; STORE])
     requires { Kept run store.old }
     ensures { store.new ≡ zeroed [] }
 {
-    match run {
-        Run::Idle => {}
-        Run::Head {
-            got: _,
-            bits: _,
-            part: _,
-        } => {}
-        Run::Body {
-            head: _,
-            part: _,
-            held,
-        } => lent_bytes::clear(store, held),
+    if let Run::Body { held, .. } = run {
+        lent_bytes::clear(store, held);
     }
 }
 
@@ -347,19 +292,7 @@ fn let_go(run: Run, store: &mut [u8; STORE])
 pub(crate) fn is_running(run: Run) -> bool
     ensures { result ≡ runs run }
 {
-    match run {
-        Run::Idle => false,
-        Run::Head {
-            got: _,
-            bits: _,
-            part: _,
-        } => true,
-        Run::Body {
-            head: _,
-            part: _,
-            held: _,
-        } => true,
-    }
+    !matches!(run, Run::Idle)
 }
 
 // The record of a block whose raw bytes are so many of `raw` from `from` on, to the place q of the
@@ -382,24 +315,4 @@ fn emit(
     out[q + 2] = part;
     out[q + 3] = second;
     lent_bytes::copy(raw, from, size, out, q + HEAD);
-}
-
-// At least one of two tests.
-fn either(a: bool, b: bool) -> bool
-    ensures { result ≡ pick_either a b }
-{
-    if a {
-        return true;
-    }
-    b
-}
-
-// Both of two tests.
-fn both(a: bool, b: bool) -> bool
-    ensures { result ≡ pick_both a b }
-{
-    if a {
-        return b;
-    }
-    false
 }

@@ -2,16 +2,17 @@
 // only where a byte can't be decoded, and then what was held is dropped: a missing table is fetched at
 // the next repeat.
 ghost use Rattle.std.specs.Prelude.{◌≡◌, true, false, List, ℕ, ◌-◌, ◌%◌, ◌≤◌, length, get_or, drop};
-ghost use Rattle.laws.specs.Pick.{both};
-ghost use Rattle.packet.specs.Setting.{in_range};
 ghost use Rattle.packet.specs.Packet.{packet_length};
 ghost use Rattle.octet.specs.Decoding.{nib};
 ghost use Rattle.walk.specs.Internal.{Kept, PacketRoom};
-ghost use Rattle.state.specs.State.{reader_in_range, Sixteen};
-ghost use Rattle.reader.specs.Many.{refused_all, feed_all_heard, feed_all_reader, feed_all_out};
-ghost use Rattle.reader.specs.Internal.{state_in, Heeded, started, ran_from, RanTo, PassedTo, marks, Startable, WentOn};
+ghost use Rattle.state.specs.State.{Sixteen};
+ghost use Rattle.walk.specs.Reading.{room};
+ghost use Rattle.reader.specs.Feeding.{tuned_to};
+ghost use Rattle.reader.specs.Many.{feed_all_heard, feed_all_reader, feed_all_out};
+ghost use Rattle.reader.specs.Internal.{reading, state_in, Heeded, started, ran_from, RanTo, PassedTo, marks, Startable, WentOn};
 
-use crate::ROOM;
+use crate::calls::Reads;
+use crate::{Fed, ROOM, calls};
 use answer::Refusal;
 use packet::{PACKET, Setting};
 use pages::{Page, Verdict};
@@ -21,22 +22,15 @@ use walk::{Got, Run};
 // What a list of packets gave: how many of them were taken, how many blocks they finished, as how many
 // bytes of records at the front of the output, and whether a block was dropped.
 #[derive(Drop)]
-pub enum HeardAll {
-    TookAll {
-        packets: usize,
-        blocks: usize,
-        written: usize,
-        dropped: bool,
-    },
-    RefusedAll(Refusal),
+pub struct TookAll {
+    pub packets: usize,
+    pub blocks: usize,
+    pub written: usize,
+    pub dropped: bool,
 }
 
-// A state with an array stands beside the enum.
-#[derive(Drop)]
-pub struct FedAll {
-    pub heard: HeardAll,
-    pub reader: Reader,
-}
+// What is heard of a list of packets.
+pub type HeardAll = Result<TookAll, Refusal>;
 
 // What packets taken one after the other have come to.
 #[derive(Drop)]
@@ -47,11 +41,11 @@ pub(crate) struct Going {
     pub got: Got,
 }
 
-// The same, and how many packets.
+// The same, of one stream or of two, and how many packets.
 #[derive(Drop)]
-struct Taking {
-    going: Going,
-    packets: usize,
+pub(crate) struct Taking<G> {
+    pub going: G,
+    pub packets: usize,
 }
 
 // The place of a packet, and its address.
@@ -61,11 +55,11 @@ struct Met {
     address: usize,
 }
 
-// What packets up to a mark have come to: the place where they end, whether that is for want of room, and the mark's address if
+// What packets up to a mark have come to, of one stream or of two: the place where they end, whether that is for want of room, and the mark's address if
 // one stands there.
 #[derive(Drop)]
-pub(crate) struct Gone {
-    pub going: Going,
+pub(crate) struct Gone<G> {
+    pub going: G,
     pub at: usize,
     pub address: usize,
     pub full: bool,
@@ -76,43 +70,50 @@ pub(crate) struct Gone {
 // on. Refused with 16 where the setting or the state is out of range or the list isn't whole packets, then
 // with 1 where the output is under 2,112 bytes, also for an empty list: the output and the reader are then
 // as they were. The state is tested once, and it is copied in and out once a call, not once a packet.
-pub fn feed_all(setting: Setting, reader: Reader, packets: &[u8], out: &mut [u8]) -> FedAll
+pub fn feed_all(
+    setting: Setting,
+    reader: Reader,
+    packets: &[u8],
+    out: &mut [u8],
+) -> Fed<TookAll, Reader>
     ensures heard_value { result.heard ≡ feed_all_heard setting reader packets.now out.old }
     ensures reader_value { result.reader ≡ feed_all_reader setting reader packets.now out.old }
     ensures out_after { out.new ≡ feed_all_out setting reader packets.now out.old }
 {
-    if packets.len() % PACKET != 0 {
-        return refused(16, reader);
+    calls::feed_all(setting, reader, packets, out)
+}
+
+impl Reads for Reader {
+    type Setting = Setting;
+
+    ghost reading = { reading tuned_to };
+
+    ghost Typed = { λ r. Sixteen r.run };
+
+    ghost ROOM = { room };
+
+    const ROOM: usize = crate::ROOM;
+
+    fn is_ready(&self, setting: Setting) -> bool {
+        packet::is_in_range(setting)
+            && state::in_range(self.page, self.index, self.run, self.joined, &self.store)
     }
-    let page = reader.page;
-    let run = reader.run;
-    let mut store = reader.store;
-    if !is_ready(setting, page, reader.index, run, reader.joined, &store) {
-        return refused(16, reader);
-    }
-    if out.len() < ROOM {
-        return refused(1, reader);
-    }
-    let from = start(page, reader.index, run, reader.joined);
-    let t = take_all(setting, from, &mut store, packets, out);
-    let a = t.going;
-    let got = a.got;
-    let now_open = a.page;
-    let now_running = got.run;
-    FedAll {
-        heard: HeardAll::TookAll {
+
+    fn take(&mut self, setting: Setting, packets: &[u8], out: &mut [u8]) -> TookAll {
+        let from = start(self.page, self.index, self.run, self.joined);
+        let t = take_all(setting, from, &mut self.store, packets, out);
+        let a = t.going;
+        let got = a.got;
+        self.page = a.page;
+        self.index = a.index;
+        self.run = got.run;
+        self.joined = a.joined;
+        TookAll {
             packets: t.packets,
             blocks: got.blocks,
             written: got.written,
             dropped: got.dropped,
-        },
-        reader: Reader {
-            page: now_open,
-            index: a.index,
-            run: now_running,
-            joined: a.joined,
-            store: store,
-        },
+        }
     }
 }
 
@@ -123,7 +124,7 @@ fn take_all(
     store: &mut [u8; STORE],
     packets: &[u8],
     out: &mut [u8],
-) -> Taking
+) -> Taking<Going>
     requires kept { Kept from.got.run store.old }
     requires packet_length_len { length packets.now % packet_length ≡ 0 }
     requires blocks_value { (from.got.blocks ≡ 0) × (from.got.written ≡ 0) × (from.got.dropped ≡ false) }
@@ -131,11 +132,10 @@ fn take_all(
     ensures written_in_bounds { result.going.got.written ≤ length out.old }
 {
     let limit = out.len();
-    let t = go_on(setting, from, store, packets, 0, out, limit, true);
-    let a = t.going;
+    let Gone { going, at, .. } = go_on(setting, from, store, packets, 0, out, limit, true);
     Taking {
-        going: a,
-        packets: t.at / PACKET,
+        going,
+        packets: at / PACKET,
     }
 }
 
@@ -151,7 +151,7 @@ pub(crate) fn go_on(
     out: &mut [u8],
     limit: usize,
     alone: bool,
-) -> Gone
+) -> Gone<Going>
     requires kept { Kept from.got.run kept.old }
     requires startable { Startable packets.now start from limit out.old }
     ensures { WentOn setting alone packets.now limit start from kept.old out.old result kept.new out.new }
@@ -172,13 +172,14 @@ fn go_past(
     out: &mut [u8],
     limit: usize,
     alone: bool,
-) -> Gone
+) -> Gone<Going>
     requires kept { Kept from.got.run store.old }
     requires startable { Startable packets.now start from limit out.old }
     ensures { WentOn setting alone packets.now limit start from store.old out.old result store.new out.new }
 {
     let mut a = from;
     let mut at = start;
+    // Kept: a step is no count: it goes to the next mark.
     while at < packets.len() {
         let t = go_along(setting, a, store, packets, at, out, limit);
         a = t.going;
@@ -186,7 +187,7 @@ fn go_past(
         if t.full {
             return Gone {
                 going: a,
-                at: at,
+                at,
                 address: 256,
                 full: true,
             };
@@ -195,7 +196,7 @@ fn go_past(
             if !alone {
                 return Gone {
                     going: a,
-                    at: at,
+                    at,
                     address: t.address,
                     full: false,
                 };
@@ -209,7 +210,7 @@ fn go_past(
     }
     Gone {
         going: a,
-        at: at,
+        at,
         address: 256,
         full: false,
     }
@@ -224,20 +225,21 @@ fn go_along(
     start: usize,
     out: &mut [u8],
     limit: usize,
-) -> Gone
+) -> Gone<Going>
     requires kept { Kept from.got.run store.old }
     requires startable { Startable packets.now start from limit out.old }
     ensures { WentOn setting false packets.now limit start from store.old out.old result store.new out.new }
 {
     let mut a = from;
     let mut at = start;
+    // Kept: a step is no count: it goes to the next packet of ours.
     while at < packets.len() {
         let got = a.got;
         let q = got.written;
         if limit - q < ROOM {
             return Gone {
                 going: a,
-                at: at,
+                at,
                 address: 256,
                 full: true,
             };
@@ -248,8 +250,8 @@ fn go_along(
         if is_mark(setting, address) {
             return Gone {
                 going: a,
-                at: at,
-                address: address,
+                at,
+                address,
                 full: false,
             };
         }
@@ -264,7 +266,7 @@ fn go_along(
     }
     Gone {
         going: a,
-        at: at,
+        at,
         address: 256,
         full: false,
     }
@@ -272,13 +274,11 @@ fn go_along(
 
 // Whether a packet with this address is a mark: one that can't be read, or a packet 0 of our magazine. Only at a mark can a page
 // be opened or shut.
+#[tactic(auto, unfolding(crate::specs::Internal::marks))]
 fn is_mark(setting: Setting, address: usize) -> bool
     ensures { result ≡ marks setting address }
 {
-    if address > 255 {
-        return true;
-    }
-    address == (setting.magazine % 8) as usize
+    address > 255 || address == (setting.magazine % 8) as usize
 }
 
 // The first packet from `from` on that isn't another magazine's; the end where there is none.
@@ -288,13 +288,12 @@ fn pass_on(setting: Setting, packets: &[u8], from: usize) -> Met
     ensures { PassedTo setting packets.now from result }
 {
     let mut at = from;
-    while at < packets.len() {
-        let next = at + PACKET;
-        let address = packet::address(&packets[at..next]);
+    for packet in packets[from..].chunks_exact(PACKET) {
+        let address = packet::address(packet);
         if !packet::passes_by(setting, address) {
             return Met { at, address };
         }
-        at = next;
+        at += PACKET;
     }
     Met { at, address: 256 }
 }
@@ -317,17 +316,17 @@ fn heed(v: Verdict, a: Going, store: &mut [u8; STORE], packet: &[u8], out: &mut 
         let left = next.run;
         let runs = crate::held::is_running(left);
         return Going {
-            page: page,
+            page,
             index: v.index,
             joined: state::joined::goes_on(joined, packet[2], runs),
             got: next,
         };
     }
     Going {
-        page: page,
+        page,
         index: v.index,
-        joined: joined,
-        got: got,
+        joined,
+        got,
     }
 }
 
@@ -344,10 +343,10 @@ pub(crate) fn turn(v: Verdict, a: Going, store: &mut [u8; STORE]) -> Going
     let joined = state::joined::spans(v, ran, a.joined);
     let got = crate::held::lose(v.drops, was, store);
     Going {
-        page: page,
+        page,
         index: v.index,
-        joined: joined,
-        got: got,
+        joined,
+        got,
     }
 }
 
@@ -356,35 +355,14 @@ pub(crate) fn start(page: Page, index: u8, run: Run, joined: bool) -> Going
     ensures { result ≡ started page index run joined }
 {
     Going {
-        page: page,
-        index: index,
-        joined: joined,
+        page,
+        index,
+        joined,
         got: Got {
-            run: run,
+            run,
             blocks: 0,
             written: 0,
             dropped: false,
         },
     }
-}
-
-// A refusal, by this number: the reader is the one handed in.
-fn refused(no: u8, reader: Reader) -> FedAll
-    ensures { result ≡ record { heard = refused_all no 0; reader = reader } }
-{
-    FedAll {
-        heard: HeardAll::RefusedAll(Refusal { no: no, at: 0 }),
-        reader: reader,
-    }
-}
-
-// Whether setting and state are in range.
-fn is_ready(setting: Setting, page: Page, index: u8, run: Run, joined: bool, store: &[u8]) -> bool
-    ensures value { result ≡ both (in_range setting) (reader_in_range (record { page = page; index = index; run = run; joined = joined; store = store.now })) }
-    ensures sixteen { result ≡ true → Sixteen run }
-{
-    if !packet::is_in_range(setting) {
-        return false;
-    }
-    state::in_range(page, index, run, joined, store)
 }

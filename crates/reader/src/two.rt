@@ -3,7 +3,7 @@
 // are for the stream whose page is open, and that stream's own reader takes them.
 ghost use Rattle.std.specs.Prelude.{◌≡◌, true, false, List, ℕ, ◌+◌, ◌-◌, ◌*◌, ◌%◌, ◌≤◌, length, take};
 ghost use Rattle.std.proofs.lemmas.List.Edits.{sets};
-ghost use Rattle.laws.specs.Pick.{both as pick_both, either as pick_either};
+ghost use Rattle.laws.specs.Pick.{either as pick_either};
 ghost use Rattle.blocks.specs.Block.{head_length, blocks};
 ghost use Rattle.packet.specs.Packet.{packet_length};
 ghost use Rattle.packet.specs.Address.{address_of};
@@ -13,17 +13,15 @@ ghost use Rattle.pages.specs.Two.{setting_for};
 ghost use Rattle.walk.specs.Reading.{room};
 ghost use Rattle.walk.specs.Internal.{Kept};
 ghost use Rattle.state.specs.State.{Sixteen};
-ghost use Rattle.state.specs.Two.{readers_in_range};
 ghost use Rattle.state.proofs.Beside.{owner_of};
-ghost use Rattle.reader.specs.Internal.{marks};
-ghost use Rattle.reader.specs.Many.{refused_all};
-ghost use Rattle.reader.specs.Two.{room_of_two, stream_for, feed_heard_of_two, feed_readers_of_two, feed_out_of_two, feed_all_heard_of_two, feed_all_readers_of_two, feed_all_out_of_two};
+ghost use Rattle.reader.specs.Internal.{reading, marks};
+ghost use Rattle.reader.specs.Two.{room_of_two, tuned_to_two, stream_for, feed_heard_of_two, feed_readers_of_two, feed_out_of_two, feed_all_heard_of_two, feed_all_readers_of_two, feed_all_out_of_two};
 ghost use Rattle.reader.specs.InternalTwo.{tagged, long_at, Laid, alone_in, ActedOfTwo, started_of_two, ran_of_two_from, RanOfTwoTo, none_yet, which, owned_by, TurnedTo, Ample, WentFor, WentOnOfTwo};
 
-use crate::{Heard, HeardAll, ROOM, many};
-use answer::Refusal;
+use crate::calls::Reads;
+use crate::{Fed, ROOM, Took, TookAll, calls, many};
 use blocks::HEAD;
-use many::Gone;
+use many::{Going, Gone, Taking};
 use packet::two::Streams;
 use packet::{PACKET, Setting};
 use pages::two::{SharedPage, Whose};
@@ -39,19 +37,6 @@ const HOLD: usize = 4224;
 
 const AMPLE: usize = 6400;
 
-// A state with arrays stands beside the enum.
-#[derive(Drop)]
-pub struct FedTwo {
-    pub heard: Heard,
-    pub readers: Readers,
-}
-
-#[derive(Drop)]
-pub struct FedAllTwo {
-    pub heard: HeardAll,
-    pub readers: Readers,
-}
-
 // What packets taken one after the other have come to.
 #[derive(Drop)]
 struct Pair {
@@ -61,22 +46,6 @@ struct Pair {
     blocks: usize,
     written: usize,
     dropped: bool,
-}
-
-// The same, and how many packets.
-#[derive(Drop)]
-struct TakingTwo {
-    pair: Pair,
-    packets: usize,
-}
-
-// What packets up to a mark have come to, as `many::Gone` is of one stream.
-#[derive(Drop)]
-struct Stretch {
-    pair: Pair,
-    at: usize,
-    address: usize,
-    full: bool,
 }
 
 // What a mark is to one of the two.
@@ -90,77 +59,74 @@ struct Turned {
 // then with 1 where the output is under 2,176 bytes: the output and the state are then as they were. Else the blocks that
 // the packet finishes stand at the front of the output, each as the number of its stream in one byte and then its record,
 // and the state has gone on.
-pub fn feed(setting: Streams, readers: Readers, packet: &[u8], out: &mut [u8]) -> FedTwo
+pub fn feed(setting: Streams, readers: Readers, packet: &[u8], out: &mut [u8]) -> Fed<Took, Readers>
     ensures heard_value { result.heard ≡ feed_heard_of_two setting readers packet.now out.old }
-    ensures readers_value { result.readers ≡ feed_readers_of_two setting readers packet.now out.old }
+    ensures readers_value { result.reader ≡ feed_readers_of_two setting readers packet.now out.old }
     ensures out_after { out.new ≡ feed_out_of_two setting readers packet.now out.old }
 {
-    if packet.len() != PACKET {
-        return FedTwo {
-            heard: Heard::Refused(Refusal { no: 16, at: 0 }),
-            readers: readers,
-        };
-    }
-    let fed = feed_all(setting, readers, packet, out);
-    let heard = fed.heard;
-    let after = fed.readers;
-    FedTwo {
-        heard: crate::told(heard),
-        readers: after,
-    }
+    calls::feed(setting, readers, packet, out)
 }
 
 // A list of packets of 42 bytes, taken one after the other, while at least 2,176 bytes of the output are left. Refused with
 // 16 where the setting or the state is out of range or the list isn't whole packets, then with 1 where the output is under
 // 2,176 bytes, also for an empty list: the output and the state are then as they were.
-pub fn feed_all(setting: Streams, readers: Readers, packets: &[u8], out: &mut [u8]) -> FedAllTwo
+pub fn feed_all(
+    setting: Streams,
+    readers: Readers,
+    packets: &[u8],
+    out: &mut [u8],
+) -> Fed<TookAll, Readers>
     ensures heard_value { result.heard ≡ feed_all_heard_of_two setting readers packets.now out.old }
-    ensures readers_value { result.readers ≡ feed_all_readers_of_two setting readers packets.now out.old }
+    ensures readers_value { result.reader ≡ feed_all_readers_of_two setting readers packets.now out.old }
     ensures out_after { out.new ≡ feed_all_out_of_two setting readers packets.now out.old }
 {
-    if packets.len() % PACKET != 0 {
-        return refused(16, readers);
+    calls::feed_all(setting, readers, packets, out)
+}
+
+impl Reads for Readers {
+    type Setting = Streams;
+
+    ghost reading = { reading tuned_to_two };
+
+    ghost Typed = { λ r. Sixteen r.first.run × Sixteen r.second.run };
+
+    ghost ROOM = { room_of_two };
+
+    const ROOM: usize = ROOM_OF_TWO;
+
+    fn is_ready(&self, setting: Streams) -> bool {
+        packet::two::is_in_range(setting)
+            && state::two::in_range(
+                self.page,
+                self.first,
+                self.second,
+                &self.store1,
+                &self.store2,
+            )
     }
-    let page = readers.page;
-    let first = readers.first;
-    let second = readers.second;
-    let mut store1 = readers.store1;
-    let mut store2 = readers.store2;
-    if !is_ready(setting, page, first, second, &store1, &store2) {
-        return refused(16, readers);
-    }
-    if out.len() < ROOM_OF_TWO {
-        return refused(1, readers);
-    }
-    let mut hold = [0u8; HOLD];
-    let from = start(page, first, second);
-    let t = take_all(
-        setting,
-        from,
-        &mut store1,
-        &mut store2,
-        packets,
-        &mut hold,
-        out,
-    );
-    let a = t.pair;
-    let now_open = a.page;
-    let one = a.first;
-    let two = a.second;
-    FedAllTwo {
-        heard: HeardAll::TookAll {
+
+    fn take(&mut self, setting: Streams, packets: &[u8], out: &mut [u8]) -> TookAll {
+        let mut hold = [0u8; HOLD];
+        let from = start(self.page, self.first, self.second);
+        let t = take_all(
+            setting,
+            from,
+            &mut self.store1,
+            &mut self.store2,
+            packets,
+            &mut hold,
+            out,
+        );
+        let a = t.going;
+        self.page = a.page;
+        self.first = a.first;
+        self.second = a.second;
+        TookAll {
             packets: t.packets,
             blocks: a.blocks,
             written: a.written,
             dropped: a.dropped,
-        },
-        readers: Readers {
-            page: now_open,
-            first: one,
-            second: two,
-            store1: store1,
-            store2: store2,
-        },
+        }
     }
 }
 
@@ -174,29 +140,30 @@ fn take_all(
     packets: &[u8],
     hold: &mut [u8],
     out: &mut [u8],
-) -> TakingTwo
+) -> Taking<Pair>
     requires setting_value { in_range_of_two setting ≡ true }
     requires kept { Kept from.first.run store1.old }
     requires kept_2 { Kept from.second.run store2.old }
     requires packet_length_len { length packets.now % packet_length ≡ 0 }
     requires hold_len { length hold.old ≡ 2 * room }
     requires none_yet { none_yet from }
-    ensures ran_of_two_to { RanOfTwoTo setting (ran_of_two_from setting (length out.old) from store1.old store2.old packets.now) result.pair result.packets store1.new store2.new out.old out.new }
-    ensures written_in_bounds { result.pair.written ≤ length out.old }
+    ensures ran_of_two_to { RanOfTwoTo setting (ran_of_two_from setting (length out.old) from store1.old store2.old packets.now) result.going result.packets store1.new store2.new out.old out.new }
+    ensures written_in_bounds { result.going.written ≤ length out.old }
 {
     let mut a = from;
     let mut at = 0;
+    // Kept: a step is no count: it goes past the next mark.
     while at < packets.len() {
         let q = a.written;
         if out.len() - q < ROOM_OF_TWO {
-            return TakingTwo {
-                pair: a,
+            return Taking {
+                going: a,
                 packets: at / PACKET,
             };
         }
         let limit = limit_for(out.len() - q);
         let t = go_on(setting, a, store1, store2, packets, at, hold, limit, out);
-        a = t.pair;
+        a = t.going;
         at = t.at;
         if !t.full {
             if at < packets.len() {
@@ -206,8 +173,8 @@ fn take_all(
             }
         }
     }
-    TakingTwo {
-        pair: a,
+    Taking {
+        going: a,
         packets: at / PACKET,
     }
 }
@@ -218,10 +185,7 @@ fn limit_for(left: usize) -> usize
     requires { room_of_two ≤ left }
     ensures { (room ≤ result) × (result ≤ 2 * room) × (2 * result + room_of_two ≤ left + 2 * room) }
 {
-    if left < AMPLE {
-        return ROOM;
-    }
-    HOLD
+    if left < AMPLE { ROOM } else { HOLD }
 }
 
 // Packets from a place on up to the next mark, for the stream whose page is open: the other's reader leaves them alone. Their
@@ -236,7 +200,7 @@ fn go_on(
     hold: &mut [u8],
     limit: usize,
     out: &mut [u8],
-) -> Stretch
+) -> Gone<Pair>
     requires setting_value { in_range_of_two setting ≡ true }
     requires kept { Kept a.first.run store1.old }
     requires kept_2 { Kept a.second.run store2.old }
@@ -263,8 +227,8 @@ fn go_on(
         joined: g.joined,
     };
     let now_open = g.page;
-    Stretch {
-        pair: Pair {
+    Gone {
+        going: Pair {
             page: owned(whose, now_open),
             first: chosen(whose, half, first),
             second: chosen(whose, second, half),
@@ -291,7 +255,7 @@ fn go_on_for(
     at: usize,
     hold: &mut [u8],
     limit: usize,
-) -> Gone
+) -> Gone<Going>
     requires kept { Kept first.run store1.old }
     requires kept_2 { Kept second.run store2.old }
     requires at_in_bounds { (at ≤ length packets.now) × ((length packets.now - at) % packet_length ≡ 0) }
@@ -375,11 +339,7 @@ fn owner(page: SharedPage) -> Whose
 {
     match page {
         SharedPage::None => Whose::First,
-        SharedPage::One {
-            whose,
-            n: _,
-            last: _,
-        } => whose,
+        SharedPage::One { whose, .. } => whose,
     }
 }
 
@@ -389,11 +349,7 @@ fn owned(whose: Whose, page: Page) -> SharedPage
 {
     match page {
         Page::Shut => SharedPage::None,
-        Page::Open { n, last } => SharedPage::One {
-            whose: whose,
-            n: n,
-            last: last,
-        },
+        Page::Open { n, last } => SharedPage::One { whose, n, last },
     }
 }
 
@@ -434,6 +390,7 @@ fn put_tagged(stream: u8, records: &[u8], n: usize, out: &mut [u8], to: usize)
 {
     let mut p = 0;
     let mut q = to;
+    // Kept: a step is no count: it goes to the next record, as far as the record says.
     while p < n {
         let long = long_at(records, p);
         out[q] = stream;
@@ -448,9 +405,8 @@ fn long_at(records: &[u8], p: usize) -> usize
     requires { p + head_length ≤ length records.now }
     ensures { result ≡ long_at records.now p }
 {
-    let low = records[p] as usize;
-    let high = records[p + 1] as usize;
-    HEAD + (low + 256 * high) / 32
+    let head = u16::from_le_bytes([records[p], records[p + 1]]);
+    HEAD + (head / 32) as usize
 }
 
 // No packet has come yet.
@@ -458,41 +414,13 @@ fn start(page: SharedPage, first: Half, second: Half) -> Pair
     ensures { result ≡ started_of_two page first second }
 {
     Pair {
-        page: page,
-        first: first,
-        second: second,
+        page,
+        first,
+        second,
         blocks: 0,
         written: 0,
         dropped: false,
     }
-}
-
-// A refusal, by this number: the state is the one handed in.
-fn refused(no: u8, readers: Readers) -> FedAllTwo
-    ensures { result ≡ record { heard = refused_all no 0; readers = readers } }
-{
-    FedAllTwo {
-        heard: HeardAll::RefusedAll(Refusal { no: no, at: 0 }),
-        readers: readers,
-    }
-}
-
-// Whether setting and state are in range.
-fn is_ready(
-    setting: Streams,
-    page: SharedPage,
-    first: Half,
-    second: Half,
-    store1: &[u8],
-    store2: &[u8],
-) -> bool
-    ensures value { result ≡ pick_both (in_range_of_two setting) (readers_in_range (record { page = page; first = first; second = second; store1 = store1.now; store2 = store2.now })) }
-    ensures sixteen { result ≡ true → Sixteen first.run × Sixteen second.run }
-{
-    if !packet::two::is_in_range(setting) {
-        return false;
-    }
-    state::two::in_range(page, first, second, store1, store2)
 }
 
 // At least one of two tests.

@@ -4,8 +4,8 @@ ghost use Rattle.std.specs.Prelude.{◌≤◌};
 
 use crate::work::Work;
 use crate::{kept, says, standing, work};
-use answer::Answer;
-use blocks::Read;
+use answer::Refusal;
+use blocks::Taken;
 use captures::{Came, Capture, Course, PIECE, RECORDS};
 use packet::two::Streams;
 use sheet_entry::Form;
@@ -34,12 +34,17 @@ struct Going {
     on: bool,
 }
 
-// What was done, and a refusal's number (0 for none), offset, and the word that names its capture.
+// What was done, and the refusal of a table, where one was refused.
 #[derive(Drop)]
 struct Added {
     work: Work,
-    no: u8,
-    at: usize,
+    refused: Option<Refused>,
+}
+
+// Why a table was refused, and the word that names its capture.
+#[derive(Drop)]
+struct Refused {
+    why: Refusal,
     word: usize,
 }
 
@@ -118,9 +123,7 @@ fn read<F: std::io::Read>(
     let mut pages = sight::pages(setting);
     let mut form = [0u8; FORM];
     let mut going = begin(setting, work);
-    let mut turns = u64::MAX;
-    while turns > 0 {
-        turns -= 1;
+    for _ in 0..u64::MAX {
         going = pull(
             rt,
             from,
@@ -135,7 +138,9 @@ fn read<F: std::io::Read>(
             spare,
             kept,
         );
-        turns = left(going.on, turns);
+        if !going.on {
+            break;
+        }
     }
     end(going)
 }
@@ -147,16 +152,6 @@ fn begin(setting: Streams, work: Work) -> Going {
         before: work.tables,
         on: true,
     }
-}
-
-// How many turns are left: none where the capture has ended.
-fn left(is_on: bool, turns: u64) -> u64
-    ensures { result ≤ turns }
-{
-    if is_on {
-        return turns;
-    }
-    0
 }
 
 // Where more may come, the capture didn't end.
@@ -273,12 +268,14 @@ fn tell_end(
 
 // It goes on where no table was refused.
 fn judge(rt: &impl Console, name: &[u8], added: Added) -> Step {
-    let work = added.work;
-    if added.no > 0 {
-        says::refuse_table(rt, name, added.no, added.at);
-        return stop(work);
+    let Added { work, refused } = added;
+    match refused {
+        Some(Refused { why, word: _ }) => {
+            says::refuse_table(rt, name, why.no, why.at);
+            stop(work)
+        }
+        None => Step { work, on: true },
     }
-    Step { work, on: true }
 }
 
 fn stop(work: Work) -> Step {
@@ -288,8 +285,9 @@ fn stop(work: Work) -> Step {
     }
 }
 
+#[tactic(auto, using(captures::proofs::Spanning::span_within))]
 fn add_records(
-    added: Added,
+    mut added: Added,
     source: Source,
     setting: Streams,
     records: &[u8],
@@ -298,23 +296,21 @@ fn add_records(
     spare: &mut [u8],
     kept: &mut [u8],
 ) -> Added {
-    let mut added = added;
     let mut at = 0;
+    // Kept: each turn goes to the next record, and records differ in length.
     while at < records.len() {
         let span = captures::span_at(setting, records, at);
-        let from = span.from;
-        let next = span.next;
         added = add_record(
             added,
             source,
             setting.application,
-            &records[from..next],
+            &records[span.from..span.next],
             form,
             sheet,
             spare,
             kept,
         );
-        at = next;
+        at = span.next;
     }
     added
 }
@@ -330,12 +326,11 @@ fn add_record(
     spare: &mut [u8],
     kept: &mut [u8],
 ) -> Added {
-    if added.no > 0 {
+    if added.refused.is_some() {
         return added;
     }
-    let answer = table::read_block(application, record, form);
-    match answer {
-        Read::Taken { written, mended } => {
+    match table::read_block(application, record, form) {
+        Ok(Taken { written, mended }) => {
             take(
                 added,
                 source,
@@ -346,7 +341,7 @@ fn add_record(
                 kept,
             )
         }
-        Read::Refused(_) => added,
+        Err(_) => added,
     }
 }
 
@@ -384,14 +379,13 @@ fn note(work: Work, at: usize, mended: u16, kept: &mut [u8]) -> Kept {
     Kept { work, at }
 }
 
-fn note_number(work: Work, has_fallen: bool, mended: u16, kept: &mut [u8]) -> Work {
+fn note_number(mut work: Work, has_fallen: bool, mended: u16, kept: &mut [u8]) -> Work {
     if !has_fallen {
         return work;
     }
     if kept::keep_number(kept, work.fallen, mended) {
         return work::falls(work);
     }
-    let mut work = work;
     work.whole = false;
     work
 }
@@ -419,8 +413,7 @@ fn keep_first(work: Work, source: Source, form: &[u8], kept: &mut [u8]) -> Kept 
 }
 
 // The next slot is taken.
-fn in_slot(work: Work) -> Kept {
-    let mut work = work;
+fn in_slot(mut work: Work) -> Kept {
     let at = work.kept;
     work.kept = kept::after(at);
     Kept { work, at }
@@ -436,21 +429,10 @@ pub fn add_again(
 ) -> Work {
     let mut form = [0u8; FORM];
     let mut added = done(work);
-    let mut left = work.came;
-    while left > 0 {
-        let i = passed(work.came, left);
-        left -= 1;
+    for i in 0..work.came {
         added = add_kept(added, i, &mut form, sheet, spare, kept);
     }
     end_again(rt, added)
-}
-
-// How many of so many were passed, where so many are left.
-fn passed(count: usize, left: usize) -> usize {
-    if count < left {
-        return 0;
-    }
-    count - left
 }
 
 // One of the tables that were kept, unless one was refused before.
@@ -462,7 +444,7 @@ fn add_kept(
     spare: &mut [u8],
     kept: &mut [u8],
 ) -> Added {
-    if added.no > 0 {
+    if added.refused.is_some() {
         return added;
     }
     add_noted(added.work, i, form, sheet, spare, kept)
@@ -519,14 +501,14 @@ fn fall_again(work: Work, i: usize, at: usize, kept: &mut [u8]) -> Work {
 }
 
 fn end_again(rt: &(impl Env + Console), added: Added) -> Work {
-    let work = added.work;
-    if added.no == 0 {
+    let Added { work, refused } = added;
+    let Some(Refused { why, word }) = refused else {
         return work;
-    }
+    };
     let mut name = io::buffer();
-    let n = told::argument(rt, added.word, &mut name);
+    let n = told::argument(rt, word, &mut name);
     told::plain(&mut name);
-    says::refuse_table(rt, told::front(&name, n), added.no, added.at);
+    says::refuse_table(rt, told::front(&name, n), why.no, why.at);
     work::broken(work)
 }
 
@@ -549,19 +531,16 @@ fn add_form(
     kept: &mut [u8],
 ) -> Added {
     let work = work::table(work);
-    let stands = kept::stands(kept, at, mended, work.changes);
-    if stands != kept::UNKNOWN {
-        return done(work::stays(work, stands == kept::SAME));
+    match kept::stands(kept, at, mended, work.changes) {
+        Some(is_same) => done(work::stays(work, is_same)),
+        None => add_other(work, at, source, mended, form, sheet, spare, kept),
     }
-    add_other(work, at, source, mended, form, sheet, spare, kept)
 }
 
 fn done(work: Work) -> Added {
     Added {
         work,
-        no: 0,
-        at: 0,
-        word: 0,
+        refused: None,
     }
 }
 
@@ -586,28 +565,28 @@ fn add_beside(
     at: usize,
     source: Source,
     mended: u16,
-    stood: u16,
+    stood: Option<u16>,
     form: &[u8],
     sheet: &mut [u8],
     spare: &mut [u8],
     kept: &mut [u8],
 ) -> Added {
     let stamp = source.stamp;
-    let answer = sheet_joins::add(
+    match sheet_joins::add(
         Form::New,
         stamp,
         mended,
         told::front(sheet, work.length),
         form,
         spare,
-    );
-    match answer {
-        Answer::Done(n) => done(settle(work, at, mended, stood, n, sheet, spare, kept)),
-        Answer::Refused(r) => Added {
+    ) {
+        Ok(n) => done(settle(work, at, mended, stood, n, sheet, spare, kept)),
+        Err(why) => Added {
             work,
-            no: r.no,
-            at: r.at,
-            word: source.word,
+            refused: Some(Refused {
+                why,
+                word: source.word,
+            }),
         },
     }
 }
@@ -617,26 +596,26 @@ fn settle(
     work: Work,
     at: usize,
     mended: u16,
-    stood: u16,
+    stood: Option<u16>,
     n: usize,
     sheet: &mut [u8],
     spare: &[u8],
     kept: &mut [u8],
 ) -> Work {
-    if texts::same(told::front(spare, n), told::front(sheet, work.length)) {
+    if told::front(spare, n) == told::front(sheet, work.length) {
         kept::judge(kept, at, stood, work.changes);
-        return work::stays(work, stood != kept::NO_NUMBER);
+        return work::stays(work, stood.is_some());
     }
     lent_bytes::copy(spare, 0, n, sheet, 0);
     let work = changed(work, stood, n, spare);
-    kept::judge(kept, at, mended, work.changes);
+    kept::judge(kept, at, Some(mended), work.changes);
     work
 }
 
 // The sheet has n bytes now. Where the entry stood but for its number, nothing else has changed.
-fn changed(work: Work, stood: u16, n: usize, spare: &[u8]) -> Work {
-    if stood != kept::NO_NUMBER {
-        return work::lowered(work, n);
+fn changed(work: Work, stood: Option<u16>, n: usize, spare: &[u8]) -> Work {
+    match stood {
+        Some(_) => work::lowered(work, n),
+        None => work::changed(work, n, texts::entries(told::front(spare, n)) as u64),
     }
-    work::changed(work, n, texts::entries(told::front(spare, n)) as u64)
 }

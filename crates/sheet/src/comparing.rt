@@ -2,23 +2,14 @@
 use crate::files::SHEET;
 use crate::help::PROGRAM;
 use crate::says;
-use answer::Answer;
 use captures::{Got, Source};
 use sheet_entry::Form;
 use sheet_file::modes;
-use sheet_file::modes::Opened;
 use std::rt::Files;
 use told::Console;
 
 // The most that is printed: two sheets together.
 const PRINT: usize = 34304;
-
-// A sheet that was read, or couldn't be.
-#[derive(Drop)]
-struct Read {
-    sound: bool,
-    length: usize,
-}
 
 // Compares the sheets of two names.
 pub fn compare(
@@ -30,46 +21,37 @@ pub fn compare(
 ) {
     let mut first = [0u8; SHEET];
     let mut second = [0u8; SHEET];
-    let a = open(rt, name, n, &mut first);
-    if !a.sound {
+    let Some(a) = open(rt, name, n, &mut first) else {
         return;
-    }
-    let b = open(rt, other, m, &mut second);
-    if !b.sound {
+    };
+    let Some(b) = open(rt, other, m, &mut second) else {
         return;
-    }
-    print(rt, name, n, &first, a.length, other, m, &second, b.length);
+    };
+    print(rt, name, n, &first, a, other, m, &second, b);
 }
 
-// Reads the sheet of a name. What can't be read, or is no plain file, is told.
+// Reads the sheet of a name, and answers how long it is. What can't be read, or is no plain file, is told.
 fn open(
     rt: &(impl Files + Console),
     word: &mut [u8; 4096],
     n: usize,
     sheet: &mut [u8; SHEET],
-) -> Read {
+) -> Option<usize> {
     let opened = modes::open_plain(rt, told::front(word, n));
     told::plain(word);
     match opened {
-        Opened::Plain(file) => {
+        Ok(Some(file)) => {
             let mut source = Source::new(file);
             fill(rt, &mut source, told::front(word, n), sheet)
         }
-        Opened::NotPlain => {
+        Ok(None) => {
             says::tell(rt, told::front(word, n), b"it is no plain file");
-            unread()
+            None
         }
-        Opened::Failed(why) => {
+        Err(why) => {
             says::fail(rt, told::front(word, n), b"it can't be opened", why);
-            unread()
+            None
         }
-    }
-}
-
-fn unread() -> Read {
-    Read {
-        sound: false,
-        length: 0,
     }
 }
 
@@ -78,16 +60,13 @@ fn fill<F: std::io::Read>(
     source: &mut Source<F>,
     name: &[u8],
     sheet: &mut [u8; SHEET],
-) -> Read {
+) -> Option<usize> {
     let got = captures::fill(source, sheet);
     let Got::Bytes(length) = got else {
         says::fail(rt, name, b"it can't be read", source.why);
-        return unread();
+        return None;
     };
-    Read {
-        sound: true,
-        length,
-    }
+    Some(length)
 }
 
 // Prints what changed, or tells which sheet is at fault.
@@ -109,10 +88,10 @@ fn print(
     let sheet = found.sheet;
     let answer = found.answer;
     match answer {
-        Answer::Done(n) => {
+        Ok(n) => {
             told::put(rt, &PROGRAM, told::front(&out, n));
         }
-        Answer::Refused(r) => {
+        Err(r) => {
             if sheet == 2 {
                 says::refuse_compared(rt, told::front(other, m), r.no, r.at, second);
                 return;

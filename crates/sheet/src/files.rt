@@ -1,11 +1,9 @@
 // Sheets as the tasks take them: one is judged, another joined to it, an entry dropped, and each is looked at.
 use crate::work::Work;
 use crate::{says, work};
-use answer::Answer;
 use captures::{Got, Source};
 use sheet_entry::Form;
 use sheet_file::modes;
-use sheet_file::modes::Opened;
 use std::io::Read;
 use std::rt::Files;
 use told::Console;
@@ -15,10 +13,9 @@ pub const SHEET: usize = 17153;
 
 // Whether the sheet is in form, in order and within its limits; what it isn't is told.
 pub fn is_judged(rt: &impl Console, name: &[u8], sheet: &[u8], spare: &mut [u8]) -> bool {
-    let answer = day_sheet::rewrite(Form::New, sheet, spare);
-    match answer {
-        Answer::Done(_) => true,
-        Answer::Refused(r) => {
+    match day_sheet::rewrite(Form::New, sheet, spare) {
+        Ok(_) => true,
+        Err(r) => {
             says::refuse_sheet(rt, name, r.no, r.at, sheet);
             false
         }
@@ -40,11 +37,11 @@ pub fn open_other(
     let opened = modes::open_plain(rt, told::front(word, n));
     told::plain(word);
     match opened {
-        Opened::Plain(file) => {
+        Ok(Some(file)) => {
             let mut source = Source::new(file);
             read_other(rt, &mut source, told::front(word, n), work, sheet, spare)
         }
-        Opened::NotPlain => {
+        Ok(None) => {
             says::tell(
                 rt,
                 told::front(word, n),
@@ -52,7 +49,7 @@ pub fn open_other(
             );
             work::broken(work)
         }
-        Opened::Failed(why) => {
+        Err(why) => {
             says::fail(
                 rt,
                 told::front(word, n),
@@ -115,13 +112,12 @@ fn join(
     sheet: &mut [u8],
     spare: &mut [u8],
 ) -> Work {
-    let answer = sheet_joins::join(Form::New, told::front(sheet, work.length), other, spare);
-    match answer {
-        Answer::Done(n) => {
+    match sheet_joins::join(Form::New, told::front(sheet, work.length), other, spare) {
+        Ok(n) => {
             lent_bytes::copy(spare, 0, n, sheet, 0);
             work::resized(work, n, texts::entries(told::front(spare, n)) as u64)
         }
-        Answer::Refused(r) => {
+        Err(r) => {
             says::refuse_other(rt, name, r.no, r.at);
             work::broken(work)
         }
@@ -148,8 +144,8 @@ pub fn drop(
         spare,
     );
     match answer {
-        Answer::Done(n) => dropped(rt, shown, network, kind, block, n, work, sheet, spare),
-        Answer::Refused(r) => {
+        Ok(n) => dropped(rt, shown, network, kind, block, n, work, sheet, spare),
+        Err(r) => {
             says::refuse_sheet(rt, shown, r.no, r.at, told::front(sheet, work.length));
             work::broken(work)
         }
@@ -181,15 +177,15 @@ pub fn check(rt: &(impl Files + Console), word: &mut [u8; 4096], n: usize) -> bo
     let opened = modes::open_plain(rt, told::front(word, n));
     told::plain(word);
     match opened {
-        Opened::Plain(file) => {
+        Ok(Some(file)) => {
             let mut source = Source::new(file);
             check_read(rt, &mut source, told::front(word, n))
         }
-        Opened::NotPlain => {
+        Ok(None) => {
             says::tell(rt, told::front(word, n), b"it is no plain file");
             true
         }
-        Opened::Failed(why) => {
+        Err(why) => {
             says::fail(rt, told::front(word, n), b"it can't be opened", why);
             true
         }

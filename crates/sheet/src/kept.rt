@@ -3,7 +3,6 @@
 // left the sheet as it is changes nothing again, until the sheet changes, or until it comes with fewer mended bytes than the entry that stands.
 //
 // A table whose form came before with as few mended bytes, or fewer, can't lower what stands, so its own number is let go: only those that fall are kept, in their order.
-ghost use Rattle.std.specs.Prelude.{◌≡◌, ◌≤◌, ◌<◌};
 
 // So many forms are kept.
 const SLOTS: usize = 512;
@@ -42,12 +41,12 @@ const FALLEN: usize = 4096;
 pub const KEPT: usize = 598016;
 
 // More than every number of mended bytes.
-pub const NO_NUMBER: u16 = 65535;
+const NO_NUMBER: u16 = 65535;
 
-// How a form stands: it isn't known, it is what stands in the sheet, or it lost to that.
-pub const UNKNOWN: u8 = 0;
+// How a form stands, as its slot holds it: it isn't known, it is what stands in the sheet, or it lost to that.
+const UNKNOWN: u8 = 0;
 
-pub const SAME: u8 = 1;
+const SAME: u8 = 1;
 
 const OLDER: u8 = 2;
 
@@ -55,9 +54,7 @@ const OLDER: u8 = 2;
 // after the last is the likeliest.
 pub fn find(kept: &[u8], since: usize, count: usize, from: usize, form: &[u8]) -> usize {
     let mut at = from;
-    let mut left = count;
-    while left > 0 {
-        left -= 1;
+    for _ in 0..count {
         at = around(at, since, count);
         if is_at(kept, at, form) {
             return at;
@@ -69,67 +66,49 @@ pub fn find(kept: &[u8], since: usize, count: usize, from: usize, form: &[u8]) -
 
 // The first where there is no such form.
 fn around(at: usize, since: usize, count: usize) -> usize {
-    if at < since {
-        return since;
+    if (since..count).contains(&at) {
+        at
+    } else {
+        since
     }
-    if at < count {
-        return at;
-    }
-    since
 }
 
 pub fn after(at: usize) -> usize {
-    if at < usize::MAX {
-        return at + 1;
-    }
-    0
+    at.wrapping_add(1)
 }
 
 fn is_at(kept: &[u8], at: usize, form: &[u8]) -> bool {
-    texts::same(form_at(kept, at), form)
+    form_at(kept, at) == form
 }
 
 // The form in a slot; nothing where there is none.
 pub fn form_at(kept: &[u8], at: usize) -> &[u8] {
     let slot = slot(kept, at);
-    if slot.len() < HEAD {
-        return &slot[0..0];
-    }
-    let long = wide(slot[0]) + 256 * wide(slot[1]);
-    if slot.len() - HEAD < long {
-        return &slot[0..0];
-    }
-    &slot[HEAD..HEAD + long]
+    let end = HEAD + usize::from(half(slot, 0));
+    slot.get(HEAD..end).unwrap_or(&[])
 }
 
 // The bytes of a slot; nothing where there is none.
 fn slot(kept: &[u8], at: usize) -> &[u8] {
     if at >= SLOTS {
-        return &kept[0..0];
+        return &[];
     }
     let from = at * SLOT;
-    if kept.len() < from + SLOT {
-        return &kept[0..0];
-    }
-    &kept[from..from + SLOT]
+    kept.get(from..from + SLOT).unwrap_or(&[])
 }
 
-// How a form with so many mended bytes stands to the sheet that has changed so often. One that is what stands is known from the number that stands on.
-pub fn stands(kept: &[u8], at: usize, mended: u16, changes: u32) -> u8 {
+// Whether a form with so many mended bytes is what stands in the sheet that has changed so often, or lost to that; none where it isn't known. One that
+// is what stands is known from the number that stands on.
+pub fn stands(kept: &[u8], at: usize, mended: u16, changes: u32) -> Option<bool> {
     let slot = slot(kept, at);
-    if slot.len() < HEAD {
-        return UNKNOWN;
+    if slot.len() < HEAD || number(slot, CHANGES) != changes {
+        return None;
     }
-    if number(slot, CHANGES) != changes {
-        return UNKNOWN;
+    match slot[STANDS] {
+        SAME if mended >= half(slot, STOOD) => Some(true),
+        OLDER => Some(false),
+        _ => None,
     }
-    if slot[STANDS] != SAME {
-        return slot[STANDS];
-    }
-    if mended < half(slot, STOOD) {
-        return UNKNOWN;
-    }
-    SAME
 }
 
 pub fn stamp_at(kept: &[u8], at: usize) -> u32 {
@@ -147,77 +126,47 @@ pub fn least_at(kept: &[u8], at: usize) -> u16 {
 
 // The number in two bytes at a place, low byte first; 0 where there are none.
 fn half(bytes: &[u8], at: usize) -> u16 {
-    if bytes.len() < 2 {
+    if bytes.len() < 2 || bytes.len() - 2 < at {
         return 0;
     }
-    if bytes.len() - 2 < at {
-        return 0;
-    }
-    let sum = wide(bytes[at]) + 256 * wide(bytes[at + 1]);
-    (sum % 65536) as u16
+    u16::from_le_bytes([bytes[at], bytes[at + 1]])
 }
 
 // The number in four bytes at a place, low byte first; 0 where there are none.
 fn number(slot: &[u8], at: usize) -> u32 {
-    if slot.len() < 4 {
+    if slot.len() < 4 || slot.len() - 4 < at {
         return 0;
     }
-    if slot.len() - 4 < at {
-        return 0;
-    }
-    let sum = wide(slot[at])
-        + 256 * wide(slot[at + 1])
-        + 65536 * wide(slot[at + 2])
-        + 16777216 * wide(slot[at + 3]);
-    (sum % 4294967296) as u32
-}
-
-fn bytes_of(n: usize) -> [u8; 4] {
-    [
-        (n % 256) as u8,
-        (n / 256 % 256) as u8,
-        (n / 65536 % 256) as u8,
-        (n / 16777216 % 256) as u8,
-    ]
+    u32::from_le_bytes([slot[at], slot[at + 1], slot[at + 2], slot[at + 3]])
 }
 
 // Says how the form in a slot stands to the sheet that has changed so often, and which number stands where it is the same; else there is no number.
-pub fn judge(kept: &mut [u8], at: usize, stood: u16, changes: u32) {
+pub fn judge(kept: &mut [u8], at: usize, stood: Option<u16>, changes: u32) {
     if at >= SLOTS {
         return;
     }
-    let head = [mark(stood)];
-    lent_bytes::copy(&head, 0, 1, kept, at * SLOT + STANDS);
-    let head = bytes_of(changes as usize);
-    lent_bytes::copy(&head, 0, 4, kept, at * SLOT + CHANGES);
-    put_half(kept, at * SLOT + STOOD, stood);
+    let mark = if stood.is_some() { SAME } else { OLDER };
+    lent_bytes::put(mark, kept, at * SLOT + STANDS);
+    lent_bytes::copy(&changes.to_le_bytes(), 0, 4, kept, at * SLOT + CHANGES);
+    put_half(kept, at * SLOT + STOOD, stood.unwrap_or(NO_NUMBER));
 }
 
 // Puts a number of two bytes at a place, low byte first.
 fn put_half(kept: &mut [u8], at: usize, number: u16) {
-    let two = [(number % 256) as u8, (number / 256) as u8];
-    lent_bytes::copy(&two, 0, 2, kept, at);
+    lent_bytes::copy(&number.to_le_bytes(), 0, 2, kept, at);
 }
 
 // Keeps a form in a slot, and answers whether there was room for it. No number came with it yet.
 pub fn keep(kept: &mut [u8], at: usize, stamp: u32, word: usize, form: &[u8]) -> bool {
-    if at >= SLOTS {
-        return false;
-    }
-    if SLOT - HEAD < form.len() {
+    if at >= SLOTS || SLOT - HEAD < form.len() {
         return false;
     }
     let from = at * SLOT;
-    let head = [
-        (form.len() % 256) as u8,
-        (form.len() / 256 % 256) as u8,
-        UNKNOWN,
-    ];
-    lent_bytes::copy(&head, 0, 3, kept, from);
-    let four = bytes_of(stamp as usize);
-    lent_bytes::copy(&four, 0, 4, kept, from + STAMP);
-    let four = bytes_of(word);
-    lent_bytes::copy(&four, 0, 4, kept, from + WORD);
+    let word = (word % 4294967296) as u32;
+    put_half(kept, from, form.len() as u16);
+    lent_bytes::put(UNKNOWN, kept, from + STANDS);
+    lent_bytes::copy(&stamp.to_le_bytes(), 0, 4, kept, from + STAMP);
+    lent_bytes::copy(&word.to_le_bytes(), 0, 4, kept, from + WORD);
     put_half(kept, from + LEAST, NO_NUMBER);
     lent_bytes::copy(form, 0, form.len(), kept, from + HEAD);
     true
@@ -225,10 +174,7 @@ pub fn keep(kept: &mut [u8], at: usize, stamp: u32, word: usize, form: &[u8]) ->
 
 // Whether a number is less than every one with which the form in a slot came; then it is the least.
 pub fn is_fallen(kept: &mut [u8], at: usize, mended: u16) -> bool {
-    if at >= SLOTS {
-        return false;
-    }
-    if least_at(kept, at) <= mended {
+    if at >= SLOTS || least_at(kept, at) <= mended {
         return false;
     }
     put_least(kept, at, mended);
@@ -262,24 +208,12 @@ pub fn number_at(kept: &[u8], i: usize) -> u16 {
 
 // Keeps which form a table was and whether its number fell, and answers whether there was room for it.
 pub fn note(kept: &mut [u8], i: usize, at: usize, has_fallen: bool) -> bool {
-    if i >= TABLES {
+    if i >= TABLES || at >= SLOTS {
         return false;
     }
-    if at >= SLOTS {
-        return false;
-    }
-    let falls = falls_of(has_fallen);
-    put_half(kept, BEHIND + 2 * i, (at % SLOTS) as u16 + falls);
+    let falls = if has_fallen { FALLS } else { 0 };
+    put_half(kept, BEHIND + 2 * i, at as u16 + falls);
     true
-}
-
-fn falls_of(has_fallen: bool) -> u16
-    ensures { result ≤ 32768 }
-{
-    if has_fallen {
-        return FALLS;
-    }
-    0
 }
 
 // Which form a table was.
@@ -297,17 +231,4 @@ fn noted_at(kept: &[u8], i: usize) -> u16 {
         return 0;
     }
     half(kept, BEHIND + 2 * i)
-}
-
-fn mark(stood: u16) -> u8 {
-    if stood == NO_NUMBER {
-        return OLDER;
-    }
-    SAME
-}
-
-fn wide(b: u8) -> usize
-    ensures { (result ≡ b) × (result ≤ 255) }
-{
-    b as usize
 }

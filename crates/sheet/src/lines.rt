@@ -23,20 +23,7 @@ pub fn say_fault(rt: &impl Console, sheet: &[u8], at: usize) {
 
 // The number of the line behind a text: one more than the lines that end in it.
 fn number(text: &[u8]) -> u64 {
-    let mut count = 1;
-    let mut i = 0;
-    while i < text.len() {
-        count = one_more_if(text[i] == LINE_END, count);
-        i += 1;
-    }
-    count
-}
-
-fn one_more_if(holds: bool, count: u64) -> u64 {
-    if !holds {
-        return count;
-    }
-    if count < u64::MAX { count + 1 } else { count }
+    1 + text.iter().filter(|b| **b == LINE_END).count() as u64
 }
 
 // The first line of a text, with a `?` for each byte that isn't printed; of a long one its first bytes.
@@ -57,12 +44,7 @@ fn say_line(rt: &impl Console, text: &[u8]) {
 fn length_of(text: &[u8]) -> usize
     ensures { result ≤ length text.now }
 {
-    let mut i = 0;
-    while i < text.len() {
-        if text[i] == LINE_END {
-            return i;
-        }
-        i += 1;
-    }
-    i
+    text.iter()
+        .position(|b| *b == LINE_END)
+        .unwrap_or(text.len())
 }

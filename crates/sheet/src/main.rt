@@ -47,16 +47,20 @@ const OPTIONS: [u32; 20] = [
 const TASKS: [u8; 71] =
     *b"add mpsa f+sc\njoin  f+o\ndrop  fknb\ncheck  +f\ncompare  fo\nup  f\ndown  f\n";
 
-// The tasks that change a sheet. From `drop` on the call that does it judges the sheet, and what is printed is the line of `check`.
-const ADD: u8 = 1;
+// The tasks that change a sheet.
+#[derive(Clone, Copy, PartialEq, Eq)]
+enum Task {
+    Add,
+    Join,
+    Drop,
+    Up,
+    Down,
+}
 
-const JOIN: u8 = 2;
-
-const DROP: u8 = 3;
-
-const UP: u8 = 4;
-
-const DOWN: u8 = 5;
+// Whether the call that does a task judges the sheet; what is printed is then the line of `check`.
+fn is_judging(task: Task) -> bool {
+    matches!(task, Task::Drop | Task::Up | Task::Down)
+}
 
 // How often the work is done at most: once, and sixteen times anew where the sheet has changed meanwhile.
 const TURNS: usize = 17;
@@ -64,7 +68,7 @@ const TURNS: usize = 17;
 // What is to be done: the task, and the setting in which captures are read.
 #[derive(Clone, Copy)]
 struct Job {
-    task: u8,
+    task: Task,
     setting: Streams,
 }
 
@@ -111,44 +115,36 @@ fn main(rt: HostRuntime) {
     );
 }
 
-fn task_of(said: Said) -> u8 {
+fn task_of(said: Said) -> Task {
     if words::is_task(&TASKS, said, b"add") {
-        return ADD;
+        Task::Add
+    } else if words::is_task(&TASKS, said, b"join") {
+        Task::Join
+    } else if words::is_task(&TASKS, said, b"up") {
+        Task::Up
+    } else if words::is_task(&TASKS, said, b"down") {
+        Task::Down
+    } else {
+        Task::Drop
     }
-    if words::is_task(&TASKS, said, b"join") {
-        return JOIN;
-    }
-    if words::is_task(&TASKS, said, b"up") {
-        return UP;
-    }
-    if words::is_task(&TASKS, said, b"down") {
-        return DOWN;
-    }
-    DROP
 }
 
 // Tells of the first word that has to be a stamp and isn't. Answers whether there is one.
 fn tell_stamp(rt: &(impl Env + Console)) -> bool {
     let mut word = io::buffer();
-    let count = told::argument_count(rt);
     let mut said = words::start(&TASKS);
-    let mut i = 1;
-    while i < count {
+    for i in 1..told::argument_count(rt) {
         let heard = command_line::hear(rt, &OPTIONS, &TASKS, said, i, &mut word);
         if is_bad_stamp(rt, heard.place, heard.long, &mut word) {
             return true;
         }
         said = heard.said;
-        i += 1;
     }
     false
 }
 
 fn is_bad_stamp(rt: &impl Console, place: u8, n: usize, word: &mut [u8; 4096]) -> bool {
-    if place != b's' {
-        return false;
-    }
-    if words::number_of(told::front(word, n)) <= MOST {
+    if place != b's' || words::number_of(told::front(word, n)) <= MOST {
         return false;
     }
     told::plain(word);
@@ -162,12 +158,19 @@ fn change(rt: &(impl Env + Files + Alloc + RandomSource + Console), job: Job) {
     let mut shown = io::buffer();
     let m = told::argument(rt, named, &mut shown);
     told::plain(&mut shown);
+    let shown = told::front(&shown, m);
     let mut path = io::buffer();
     let n = told::argument(rt, named, &mut path);
-    let way = paths::follow(rt, &mut path, n);
+    let Some(way) = way_of(rt, &mut path, n, shown) else {
+        return;
+    };
     let path = told::front(&path, way.length);
-    let shown = told::front(&shown, m);
-    if !is_place(rt, way, path, shown) {
+    if !paths::has_room(path) {
+        says::tell(
+            rt,
+            shown,
+            b"its name is too long for a temporary file beside it, and it stays as it was",
+        );
         return;
     }
     change_at(rt, job, way.linked, path, shown);
@@ -178,46 +181,43 @@ fn word_of(rt: &impl Env, place: u8) -> usize {
     let mut word = io::buffer();
     let count = told::argument_count(rt);
     let mut said = words::start(&TASKS);
-    let mut i = 1;
-    while i < count {
+    for i in 1..count {
         let heard = command_line::hear(rt, &OPTIONS, &TASKS, said, i, &mut word);
         if heard.place == place {
             return i;
         }
         said = heard.said;
-        i += 1;
     }
-    i
+    count.max(1)
 }
 
-// Whether a sheet can stand where a name leads to, with a temporary file beside it. What is wrong is told.
-fn is_place(rt: &impl Console, way: Way, path: &[u8], shown: &[u8]) -> bool {
-    if let Some(why) = way.lost {
-        says::fail(
-            rt,
-            shown,
-            b"it leads through a link that can't be followed, and stays as it was",
-            why,
-        );
-        return false;
+// Where a name leads to; where it leads nowhere, that is told.
+fn way_of(
+    rt: &(impl Files + Alloc + Console),
+    path: &mut [u8],
+    n: usize,
+    shown: &[u8],
+) -> Option<Way> {
+    match paths::follow(rt, path, n) {
+        Ok(Some(way)) => Some(way),
+        Ok(None) => {
+            says::tell(
+                rt,
+                shown,
+                b"it leads through more than 40 links, and stays as it was",
+            );
+            None
+        }
+        Err(why) => {
+            says::fail(
+                rt,
+                shown,
+                b"it leads through a link that can't be followed, and stays as it was",
+                why,
+            );
+            None
+        }
     }
-    if !way.ends {
-        says::tell(
-            rt,
-            shown,
-            b"it leads through more than 40 links, and stays as it was",
-        );
-        return false;
-    }
-    if !paths::has_room(path) {
-        says::tell(
-            rt,
-            shown,
-            b"its name is too long for a temporary file beside it, and it stays as it was",
-        );
-        return false;
-    }
-    true
 }
 
 // Reads the sheet at its path and judges it. Where tables are added, one that is missing is empty, but for one that a link names.
@@ -230,27 +230,21 @@ fn change_at(
 ) {
     let mut base = [0u8; SHEET];
     let mut spare = [0u8; SHEET];
-    let stand = sheet_file::read(rt, path, shown, &mut base);
-    if !stand.sound {
+    let Some(stand) = sheet_file::read(rt, path, shown, &mut base) else {
         return;
-    }
-    if !stand.there {
+    };
+    if let Err(why) = stand.mode {
         if is_linked {
             says::fail(
                 rt,
                 shown,
                 b"it is a link that names no file, and stays as it was",
-                stand.why,
+                why,
             );
             return;
         }
-        if job.task != ADD {
-            says::fail(
-                rt,
-                shown,
-                b"it can't be opened, and stays as it was",
-                stand.why,
-            );
+        if job.task != Task::Add {
+            says::fail(rt, shown, b"it can't be opened, and stays as it was", why);
             return;
         }
     }
@@ -263,17 +257,14 @@ fn change_at(
 // Whether a sheet is one to begin with. Where an entry is dropped, the call that drops it judges that, since one entry too many may be the one; and so does the call
 // that moves a sheet, which may have the old form.
 fn is_fit(rt: &impl Console, job: Job, shown: &[u8], sheet: &[u8], spare: &mut [u8]) -> bool {
-    if job.task >= DROP {
-        return true;
-    }
-    files::is_judged(rt, shown, sheet, spare)
+    is_judging(job.task) || files::is_judged(rt, shown, sheet, spare)
 }
 
 // The work, and the work anew as long as the sheet has changed meanwhile.
 fn change_all(
     rt: &(impl Env + Files + RandomSource + Console),
     job: Job,
-    stand: Stand,
+    mut stand: Stand,
     path: &[u8],
     shown: &[u8],
     base: &mut [u8; SHEET],
@@ -282,20 +273,19 @@ fn change_all(
     let mut sheet = [0u8; SHEET];
     let mut again = [0u8; SHEET];
     let mut kept = [0u8; KEPT];
-    let mut stand = stand;
     let mut work = visit_all(rt, job, stand, shown, base, &mut sheet, spare, &mut kept);
-    let mut left = TURNS;
-    while left > 0 {
-        left -= 1;
+    for _ in 0..TURNS {
         if is_idle(rt, job, work) {
             return;
         }
-        let placed = put(rt, stand, work, path, shown, base, &sheet, &mut again);
-        if placed.over {
-            finish(rt, job, work, shown, placed.renamed);
-            return;
+        match put(rt, stand, work, path, shown, base, &sheet, &mut again) {
+            Placed::Renamed => {
+                finish(rt, job, work, shown);
+                return;
+            }
+            Placed::Failed => return,
+            Placed::Changed(now) => stand = now,
         }
-        stand = placed.stand;
         work = redo(
             rt, job, stand, work, shown, &again, base, &mut sheet, spare, &mut kept,
         );
@@ -318,10 +308,7 @@ fn is_idle(rt: &impl Console, job: Job, work: Work) -> bool {
     if !work.sound {
         return true;
     }
-    if job.task != ADD {
-        return false;
-    }
-    if work.tables > 0 {
+    if job.task != Task::Add || work.tables > 0 {
         return false;
     }
     says::put_work(rt, work, false);
@@ -343,15 +330,12 @@ fn put(
 }
 
 // Prints the line where the new sheet stands.
-fn finish(rt: &impl Console, job: Job, work: Work, shown: &[u8], is_renamed: bool) {
-    if !is_renamed {
-        return;
-    }
-    if job.task >= DROP {
+fn finish(rt: &impl Console, job: Job, work: Work, shown: &[u8]) {
+    if is_judging(job.task) {
         says::put_left(rt, shown, work);
-        return;
+    } else {
+        says::put_work(rt, work, true);
     }
-    says::put_work(rt, work, true);
 }
 
 // Does the work anew on what stands in the sheet's place now.
@@ -371,7 +355,7 @@ fn redo(
     if !is_fit(rt, job, shown, told::front(again, stand.length), spare) {
         return work::broken(work);
     }
-    if job.task != ADD {
+    if job.task != Task::Add {
         return visit_all(rt, job, stand, shown, base, sheet, spare, kept);
     }
     if !work.whole {
@@ -405,7 +389,6 @@ fn visit_all(
     kept: &mut [u8; KEPT],
 ) -> Work {
     lent_bytes::copy(base, 0, SHEET, sheet, 0);
-    let count = told::argument_count(rt);
     let mut visited = Visited {
         said: words::start(&TASKS),
         stamp: 0,
@@ -413,10 +396,8 @@ fn visit_all(
         network: 0,
         work: start(stand, base),
     };
-    let mut i = 1;
-    while i < count {
+    for i in 1..told::argument_count(rt) {
         visited = visit(rt, visited, i, job, shown, sheet, spare, kept);
-        i += 1;
     }
     visited.work
 }
@@ -484,25 +465,22 @@ fn visit(
 // The sheet itself is heard: it is moved, where that is the task.
 fn move_sheet(
     rt: &impl Console,
-    task: u8,
+    task: Task,
     shown: &[u8],
     work: Work,
     sheet: &mut [u8; SHEET],
     spare: &mut [u8; SHEET],
 ) -> Work {
-    if task == UP {
-        return moving::up(rt, shown, work, sheet, spare);
+    match task {
+        Task::Up => moving::up(rt, shown, work, sheet, spare),
+        Task::Down => moving::down(rt, shown, work, sheet, spare),
+        _ => work,
     }
-    if task == DOWN {
-        return moving::down(rt, shown, work, sheet, spare);
-    }
-    work
 }
 
 // Notes what a word says; the words were judged before.
-fn note(visited: Visited, said: Said, place: u8, word: &[u8; 4096], n: usize) -> Visited {
+fn note(mut visited: Visited, said: Said, place: u8, word: &[u8; 4096], n: usize) -> Visited {
     let word = told::front(word, n);
-    let mut visited = visited;
     visited.said = said;
     match place {
         b's' => {
@@ -528,26 +506,18 @@ fn block_of(word: &[u8; 4096], n: usize) -> u16 {
 // Looks at each sheet that is named, and goes on after one that is refused.
 fn check_all(rt: &(impl Env + Files + Console)) {
     let mut word = io::buffer();
-    let count = told::argument_count(rt);
     let mut said = words::start(&TASKS);
     let mut is_sound = true;
-    let mut i = 1;
-    while i < count {
+    for i in 1..told::argument_count(rt) {
         let heard = command_line::hear(rt, &OPTIONS, &TASKS, said, i, &mut word);
         said = heard.said;
-        if is_sound {
-            is_sound = check(rt, heard.place, heard.long, &mut word);
-        }
-        i += 1;
+        is_sound = is_sound && check(rt, heard.place, heard.long, &mut word);
     }
 }
 
 // Answers whether standard output still takes what is written.
 fn check(rt: &(impl Files + Console), place: u8, n: usize, word: &mut [u8; 4096]) -> bool {
-    if place == b'f' {
-        return files::check(rt, word, n);
-    }
-    true
+    place != b'f' || files::check(rt, word, n)
 }
 
 // Holds two sheets side by side.

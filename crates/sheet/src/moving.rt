@@ -2,25 +2,19 @@
 // keeps it is told what it is.
 use crate::work::Work;
 use crate::{says, work};
-use answer::Answer;
 use sheet_entry::Form;
 use told::Console;
 
 // Whether a sheet has a form, and is within its limits.
 pub fn is_of(form: Form, sheet: &[u8]) -> bool {
-    let answer = day_sheet::judge(form, sheet);
-    match answer {
-        Answer::Done(_) => true,
-        Answer::Refused(_) => false,
-    }
+    day_sheet::judge(form, sheet).is_ok()
 }
 
 // Moves the sheet to the new form.
 pub fn up(rt: &impl Console, shown: &[u8], work: Work, sheet: &mut [u8], spare: &mut [u8]) -> Work {
-    let answer = sheet_moves::up(told::front(sheet, work.length), spare);
-    match answer {
-        Answer::Done(n) => moved(n, work, sheet, spare),
-        Answer::Refused(r) => {
+    match sheet_moves::up(told::front(sheet, work.length), spare) {
+        Ok(n) => moved(n, work, sheet, spare),
+        Err(r) => {
             says::refuse_up(rt, shown, r.no, r.at, told::front(sheet, work.length));
             work::broken(work)
         }
@@ -35,10 +29,9 @@ pub fn down(
     sheet: &mut [u8],
     spare: &mut [u8],
 ) -> Work {
-    let answer = sheet_moves::down(told::front(sheet, work.length), spare);
-    match answer {
-        Answer::Done(n) => moved(n, work, sheet, spare),
-        Answer::Refused(r) => {
+    match sheet_moves::down(told::front(sheet, work.length), spare) {
+        Ok(n) => moved(n, work, sheet, spare),
+        Err(r) => {
             says::refuse_down(rt, shown, r.no, r.at, told::front(sheet, work.length));
             work::broken(work)
         }

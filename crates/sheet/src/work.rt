@@ -22,7 +22,7 @@ pub struct Work {
     pub came: usize,
     pub fallen: usize,
     pub whole: bool,
-    // How often the sheet has changed, but for a number alone.
+    // How often the sheet has changed, but for a number alone. It tells those changes apart in which a form was looked at, and begins anew where it is full.
     pub changes: u32,
 }
 
@@ -56,41 +56,37 @@ pub fn anew(work: Work, length: usize, entries: u64) -> Work {
     fresh.since = work.since;
     fresh.came = work.came;
     fresh.whole = work.whole;
-    fresh.changes = one_change_more(work.changes);
+    fresh.changes = work.changes.wrapping_add(1);
     fresh
 }
 
 // Something failed.
-pub fn broken(work: Work) -> Work {
-    let mut work = work;
+pub fn broken(mut work: Work) -> Work {
     work.sound = false;
     work
 }
 
 // One capture more: no form is known of it.
-pub fn capture(work: Work) -> Work {
-    let mut work = work;
-    work.captures = one_more(work.captures);
+pub fn capture(mut work: Work) -> Work {
+    work.captures = work.captures.saturating_add(1);
     work.since = work.kept;
     work.next = work.kept;
     work
 }
 
 // One table more that was accepted.
-pub fn table(work: Work) -> Work {
-    let mut work = work;
-    work.tables = one_more(work.tables);
+pub fn table(mut work: Work) -> Work {
+    work.tables = work.tables.saturating_add(1);
     work
 }
 
 // A table that changes nothing.
-pub fn stays(work: Work, is_same: bool) -> Work {
-    let mut work = work;
+pub fn stays(mut work: Work, is_same: bool) -> Work {
     if is_same {
-        work.same = one_more(work.same);
-        return work;
+        work.same = work.same.saturating_add(1);
+    } else {
+        work.older = work.older.saturating_add(1);
     }
-    work.older = one_more(work.older);
     work
 }
 
@@ -98,55 +94,40 @@ pub fn stays(work: Work, is_same: bool) -> Work {
 pub fn changed(work: Work, length: usize, entries: u64) -> Work {
     let is_new = work.entries < entries;
     let mut work = resized(work, length, entries);
-    work.changes = one_change_more(work.changes);
+    work.changes = work.changes.wrapping_add(1);
     if is_new {
-        work.new = one_more(work.new);
-        return work;
+        work.new = work.new.saturating_add(1);
+    } else {
+        work.replaced = work.replaced.saturating_add(1);
     }
-    work.replaced = one_more(work.replaced);
     work
 }
 
 // A table that only lowered the number of the entry that stands: what is known of other forms stays.
-pub fn lowered(work: Work, length: usize) -> Work {
-    let mut work = work;
+pub fn lowered(mut work: Work, length: usize) -> Work {
     work.length = length;
-    work.replaced = one_more(work.replaced);
+    work.replaced = work.replaced.saturating_add(1);
     work
 }
 
 // One number more that fell.
-pub fn falls(work: Work) -> Work {
-    let mut work = work;
-    if work.fallen < usize::MAX {
-        work.fallen += 1;
-    }
+pub fn falls(mut work: Work) -> Work {
+    work.fallen = work.fallen.saturating_add(1);
     work
 }
 
 // The sheet has so many bytes and entries.
-pub fn resized(work: Work, length: usize, entries: u64) -> Work {
-    let mut work = work;
+pub fn resized(mut work: Work, length: usize, entries: u64) -> Work {
     work.length = length;
     work.entries = entries;
     work
 }
 
 // Forms that came can't be kept any more, and those that were are let go.
-pub fn forget(work: Work) -> Work {
-    let mut work = work;
+pub fn forget(mut work: Work) -> Work {
     work.kept = 0;
     work.since = 0;
     work.next = 0;
     work.whole = false;
     work
-}
-
-fn one_more(count: u64) -> u64 {
-    if count < u64::MAX { count + 1 } else { count }
-}
-
-// The count of changes tells those apart in which a form was looked at, so it begins anew where it is full.
-fn one_change_more(count: u32) -> u32 {
-    if count < u32::MAX { count + 1 } else { 0 }
 }

@@ -20,7 +20,7 @@ use Rattle.sheet_entry.specs.declared.Form.{Form}
 use Rattle.sheet_entry.specs.declared.Form.TheVariants.{Old, New}
 use Rattle.sheet_entry.specs.Entries.{Entry, key_of, stamp_name, number_head, kind_head, absent_head, mended_most, mended_head, key_lines, heading, head_values, spelled_by, head_lines, table_lines, empty_line, entry_text, stamp_most, written}
 use Rattle.listing_reader.specs.Lines.{line_of, number_at, kind_at}
-use Rattle.listing_reader.specs.Many.{Step, item, stop, Many, behind}
+use Rattle.listing_reader.specs.Many.{Step, item, stop, Many}
 use Rattle.listing_reader.specs.Reading.{same, flat, words_at, descriptor_at, descriptors_of}
 use Rattle.sheet_entry.specs.Reading.{lines_at, kind_in, network_in, block_in, entry_from, rises, ended, with_table, with_head, entry_at, above}
 use Rattle.listing_reader.proofs.Spells.{begins_with_lem, number-sound, number-back, kind_sound, kind_back_ti, kind_back_li}

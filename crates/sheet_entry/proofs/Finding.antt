@@ -19,34 +19,37 @@ use Rattle.listing_reader.specs.declared.Summary.{Summary}
 use Rattle.sheet_entry.specs.declared.Found.{Found}
 use Rattle.sheet_entry.specs.Entries.{Entry, key_in, key_of, heading, head_lines, empty_line, written}
 use Rattle.texts.specs.Texts.{begins_with}
-use Rattle.listing_reader.specs.Many.{Step, item, stop, Many, behind}
+use Rattle.listing_reader.specs.Many.{Step, item, stop, Many}
 use Rattle.listing_reader.specs.Reading.{same, descriptor_at, descriptors_of}
 use Rattle.sheet_entry.specs.Reading.{lines_at, kind_in, network_in, block_in, entry_from, ended, with_table, with_head, entry_at}
 use Rattle.listing_reader.specs.Reading.{summary_of}
-use Rattle.sheet_entry.specs.Internal.{counts_fit, head_of}
+use Rattle.sheet_entry.specs.Internal.{counts_fit, head_in, head_of}
+use Rattle.sheet_entry.proofs.Heads.{value_of, error_of, came, read_all, read_none}
+use Rattle.sheet_entry.specs.declared.NoEntry.{NoEntry}
+use Rattle.sheet_entry.specs.declared.NoEntry.TheVariants.{End, Fault}
+use Rattle.std.specs.declared.result.Result.{Result}
+use Rattle.std.specs.declared.result.Result.TheVariants.{Ok, Err}
 use Rattle.sheet_entry.specs.Reading.{found_of}
 use Rattle.listing_reader.proofs.Rows.{Each}
 use Rattle.listing_reader.proofs.Rowed.{Described, table-row, table-within}
 use Rattle.sheet_entry.proofs.Entered.{Headed, headed, values_of, head_lines_lem, head-within, entry-begins, written-parts}
 use Rattle.sheet_entry.proofs.Counting.{fits-counts}
 
-abbrev pub nowhere : Bool → ℕ → Found
-nowhere b n = record { more = false; fine = b; long = n; key = 0; stamp = 0; mended = 0; head = 0 }
+abbrev pub nowhere : Bool → ℕ → Result Found NoEntry
+nowhere b n = Err (pick b End (Fault n))
 
-abbrev pub somewhere : Head → ℕ → Found
+abbrev pub somewhere : Head → ℕ → Result Found NoEntry
 somewhere h end =
-    record {
-      more = true;
-      fine = true;
+    Ok (record {
       long = end + 1;
       key = key_in h.network h.kind h.block;
       stamp = h.stamp;
       mended = h.mended;
       head = h.long;
-    }
+    })
 
 -- what stands behind a head, by the tests on the counts
-abbrev pub by_tests : ℕ → List ℕ → Head → Summary → Found
+abbrev pub by_tests : ℕ → List ℕ → Head → Summary → Result Found NoEntry
 by_tests least bytes h t =
     pick
     (both (begins_with empty_line (drop (h.long + t.long) bytes))
@@ -70,7 +73,7 @@ module _ (form : Form) (least : ℕ) (bytes : List ℕ) (h : Many ℕ) (ds : Man
 
   table-found :
       Headed form bytes h → ds.fine ≡ true → Each same descriptor_at Described (kind_in h.items) ds.items
-      → by_tests least bytes (head_of h) (summary_of (head_of h).kind ds) ≡ found_of form (with_table least bytes h ds)
+      → by_tests least bytes (head_in h) (summary_of (head_in h).kind ds) ≡ found_of form (with_table least bytes h ds)
   unfolding with_table ended found_of key_of
   table-found r e each =
       let known-kind : known (kind_in h.items) ≡ true = (values_of form r.fit).kind_known in
@@ -83,7 +86,7 @@ module _ (form : Form) (least : ℕ) (bytes : List ℕ) (h : Many ℕ) (ds : Man
     where
       go :
           (t : Bool) → length (head_lines form (entry_from h.items ds.items)) ≡ h.long
-          → pick t (somewhere (head_of h) (h.long + ds.long)) (nowhere false (h.long + ds.long))
+          → pick t (somewhere (head_in h) (h.long + ds.long)) (nowhere false (h.long + ds.long))
           ≡ found_of form (pick t (item (entry_from h.items ds.items) (h.long + ds.long + 1)) (stop false (h.long + ds.long)))
       go true l = rw l
       go false l = refl
@@ -93,11 +96,13 @@ module _
     (sheet : List ℕ)
     (at least : ℕ)
     (head : Head)
-    (reads-h : head ≡ head_of (lines_at (heading form) (drop at sheet)))
-    (whole-h : head.fine ≡ true)
+    (reads : Ok head ≡ head_of (lines_at (heading form) (drop at sheet)))
   where
     h : Many ℕ
     h = lines_at (heading form) (drop at sheet)
+
+    reads-h : head ≡ head_in (lines_at (heading form) (drop at sheet))
+    reads-h = (read_all head_in (lines_at (heading form) (drop at sheet)) reads).0
 
     long-h : head.long ≡ (lines_at (heading form) (drop at sheet)).long
     long-h = ap (λ (x : Head). x.long) reads-h
@@ -106,7 +111,7 @@ module _
     head-room = rw long-h (head-within form (drop at sheet))
 
     head-is : Headed form (drop at sheet) (lines_at (heading form) (drop at sheet))
-    head-is = headed form (drop at sheet) (sym (ap (λ (x : Head). x.fine) reads-h) ∙ whole-h)
+    head-is = headed form (drop at sheet) (read_all head_in (lines_at (heading form) (drop at sheet)) reads).1
 
     -- the fields that make the key
     pub head-fits : (head.network ≤ 255) × (head.block ≤ 65535)
@@ -127,7 +132,7 @@ module _
           let b = head-room in
           omega (arith, simp length-drop at a, simp length-drop at b, length-drop at sheet)
 
-      abbrev pub found_here : Found
+      abbrev pub found_here : Result Found NoEntry
       found_here = found_of form (with_table least (drop at sheet) (lines_at (heading form) (drop at sheet)) (descriptors_of head.kind (drop head.long (drop at sheet))))
 
       same-ds : descriptors_of head.kind (drop (at + head.long) sheet) ≡ descriptors_of head.kind (drop head.long (drop at sheet))
@@ -151,11 +156,11 @@ module _
           ap (by_tests least bytes head) r ∙ go head reads-h f
         where
           go :
-              (x : Head) → x ≡ head_of (lines_at (heading form) (drop at sheet)) → (descriptors_of x.kind (drop x.long (drop at sheet))).fine ≡ true
+              (x : Head) → x ≡ head_in (lines_at (heading form) (drop at sheet)) → (descriptors_of x.kind (drop x.long (drop at sheet))).fine ≡ true
               → by_tests least (drop at sheet) x (summary_of x.kind (descriptors_of x.kind (drop x.long (drop at sheet))))
               ≡ found_of form (with_table least (drop at sheet) (lines_at (heading form) (drop at sheet)) (descriptors_of x.kind (drop x.long (drop at sheet))))
           go x q f =
-              let y = head_of (lines_at (heading form) (drop at sheet)) in
+              let y = head_in (lines_at (heading form) (drop at sheet)) in
               let g : (descriptors_of y.kind (drop y.long (drop at sheet))).fine ≡ true =
               subst (λ (z : Head). (descriptors_of z.kind (drop z.long (drop at sheet))).fine ≡ true) q f in
               subst
@@ -191,7 +196,7 @@ module _
 
             pub found_all :
                 least ≤ key
-                → record { more = true; fine = true; long = head.long + t.long + 1; key = key; stamp = head.stamp; mended = head.mended; head = head.long } ≡ found_here
+                → Ok (record { long = head.long + t.long + 1; key = key; stamp = head.stamp; mended = head.mended; head = head.long }) ≡ found_here
             found_all l =
                 rw is (found-by true true true ends fit (le-leb least (key_in head.network head.kind head.block) (omega (arith, is))))
 
@@ -202,40 +207,54 @@ module _ (form : Form) (sheet : List ℕ) (at least : ℕ) where
   unfolding entry_at found_of
   entry-end h = rw (drop_of_length-le sheet h)
 
-  module _ (there : at < length sheet) (head : Head) (reads : head ≡ head_of (lines_at (heading form) (drop at sheet))) where
+  module _ (there : at < length sheet) where
     begins : entry_at form least (drop at sheet) ≡ with_head least (drop at sheet) (lines_at (heading form) (drop at sheet))
     begins = entry-begins form least (drop at sheet) (rw length-drop (omega arith))
 
-    pub entry-headless : head.fine ≡ false → nowhere false head.long ≡ found_of form (entry_at form least (drop at sheet))
+    pub entry-headless :
+        {n : ℕ} → Err n ≡ head_of (lines_at (heading form) (drop at sheet)) → nowhere false n ≡ found_of form (entry_at form least (drop at sheet))
     unfolding with_head found_of
-    entry-headless e =
-        let f : (lines_at (heading form) (drop at sheet)).fine ≡ false = sym (ap (λ (x : Head). x.fine) reads) ∙ e in
-        let l : head.long ≡ (lines_at (heading form) (drop at sheet)).long = ap (λ (x : Head). x.long) reads in
-        rw (begins, f, l)
+    entry-headless reads = let r = read_none head_in (lines_at (heading form) (drop at sheet)) reads in rw (begins, r.1, r.0)
 
     pub entry-headed :
-        head.fine ≡ true
+        {head : Head} → Ok head ≡ head_of (lines_at (heading form) (drop at sheet))
         → found_of form (with_table least (drop at sheet) (lines_at (heading form) (drop at sheet)) (descriptors_of head.kind (drop head.long (drop at sheet))))
         ≡ found_of form (entry_at form least (drop at sheet))
     unfolding with_head
-    entry-headed e =
-        let f : (lines_at (heading form) (drop at sheet)).fine ≡ true = sym (ap (λ (x : Head). x.fine) reads) ∙ e in
-        let l : head.long ≡ (lines_at (heading form) (drop at sheet)).long = ap (λ (x : Head). x.long) reads in
-        let k : head.kind ≡ kind_in (lines_at (heading form) (drop at sheet)).items = ap (λ (x : Head). x.kind) reads in
-        rw (begins, f, l, k)
+    entry-headed {head} reads =
+        let r = read_all head_in (lines_at (heading form) (drop at sheet)) reads in
+        let l : head.long ≡ (lines_at (heading form) (drop at sheet)).long = ap (λ (x : Head). x.long) r.0 in
+        let k : head.kind ≡ kind_in (lines_at (heading form) (drop at sheet)).items = ap (λ (x : Head). x.kind) r.0 in
+        rw (begins, r.1, l, k)
 
 -- ---- what was found
 
-pub found_item :
-    (form : Form) (t : Step Entry) → (found_of form t).more ≡ true → (e : Entry) × (t ≡ item e (found_of form t).long) × ((found_of form t).key ≡ key_of e)
+pub found_item : (form : Form) (t : Step Entry) {f : Found} → Ok f ≡ found_of form t → (e : Entry) × (t ≡ item e f.long) × (f.key ≡ key_of e)
 unfolding found_of
-found_item form (item e n) h = (e, refl, refl)
-found_item form (stop b n) h = let z : ◌≡◌ {A = ℕ} 0 1 = cc in absurd (omega arith)
+found_item form (item e n) {f} q =
+    let r = ap (value_of f) q in
+    (e, ap (λ (x : Found). item e x.long) (sym r), ap (λ (x : Found). x.key) r)
+found_item form (stop b n) q = let z = ap came q in absurd (omega arith)
 
-pub found-stop : (form : Form) (t : Step Entry) → (found_of form t).more ≡ false → t ≡ stop (found_of form t).fine (found_of form t).long
+abbrev at_end : NoEntry → ℕ
+at_end End = 1
+at_end (Fault n) = 0
+
+abbrev fault_at : NoEntry → ℕ
+fault_at End = 0
+fault_at (Fault n) = n
+
+pub found-end : (form : Form) (t : Step Entry) → Err End ≡ found_of form t → (n : ℕ) × (t ≡ stop true n)
 unfolding found_of
-found-stop form (item e n) h = let z : ◌≡◌ {A = ℕ} 0 1 = cc in absurd (omega arith)
-found-stop form (stop b n) h = refl
+found-end form (item e n) q = let z = ap came q in absurd (omega arith)
+found-end form (stop true n) q = (n, refl)
+found-end form (stop false n) q = let z = ap (λ (r : Result Found NoEntry). at_end (error_of End r)) q in absurd (omega arith)
+
+pub found-fault : (form : Form) (t : Step Entry) {n : ℕ} → Err (Fault n) ≡ found_of form t → t ≡ stop false n
+unfolding found_of
+found-fault form (item e n) q = let z = ap came q in absurd (omega arith)
+found-fault form (stop true n) q = let z = ap (λ (r : Result Found NoEntry). at_end (error_of End r)) q in absurd (omega arith)
+found-fault form (stop false n) q = ap (stop false) (sym (ap (λ (r : Result Found NoEntry). fault_at (error_of End r)) q))
 
 -- keys are below 2 to the 25th
 pub key_small : (form : Form) (e : Entry) → written form e ≡ true → key_of e ≤ 33554431

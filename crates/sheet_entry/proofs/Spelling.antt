@@ -10,9 +10,9 @@ use lib.ListN.{length, get_or, take, drop, replicate, length-append, length-drop
 use lib.Seq.{sets, sets-eq, take_all, drop-drop}
 use borrow.Rule.Slice.PartMut.{mid_of, put_mid}
 use borrow.Author.Tests.{le-leb, lt-leb, leb-true, eq-eqb, eqb-true}
+use Rattle.std.specs.declared.result.Result.TheVariants.{Ok, Err}
 use Rattle.laws.proofs.Tests.{both-holds}
-use Rattle.answer.specs.declared.Answer.{Answer}
-use Rattle.answer.specs.declared.Answer.TheVariants.{Done, Refused}
+use Rattle.answer.specs.Answer.{Answer}
 use Rattle.answer.specs.declared.Refusal.{Refusal}
 use Rattle.answer.proofs.Steps.{goes_on, done-value, done_every, first_holds, others_hold}
 use Rattle.answer.proofs.Lent.{front-holds, back-holds, lent-accepted, lent-refused, lent-short, lent-done}
@@ -159,14 +159,14 @@ module _ (f out : List ℕ) (at : ℕ) (j : Judged f) (o : length out ≡ entry_
       let t = length-take (length out - at) (drop at out) in
       omega (arith, lines_most_lem f j)
 
-  listed-all : (answered (form_rules f) lines part ≡ Done (length lines)) × (left (form_rules f) lines part ≡ lines ++ drop (length lines) part)
+  listed-all : (answered (form_rules f) lines part ≡ Ok (length lines)) × (left (form_rules f) lines part ≡ lines ++ drop (length lines) part)
   listed-all = lent-accepted (form_rules f) lines part (judged_every f j) part_room
 
-  pub table-long : {r : Answer} {n : ℕ} → r ≡ answered (form_rules f) lines part → r ≡ Done n → n ≡ length lines
-  table-long {r} {n} e g = let h : Done n ≡ Done (length lines) = sym g ∙ e ∙ listed-all.0 in cc
+  pub table-long : {r : Answer} {n : ℕ} → r ≡ answered (form_rules f) lines part → r ≡ Ok n → n ≡ length lines
+  table-long {r} {n} e g = let h : Ok n ≡ Ok (length lines) = sym g ∙ e ∙ listed-all.0 in cc
 
   pub table-put :
-      {r : Answer} {n : ℕ} {exit : List ℕ} → r ≡ answered (form_rules f) lines part → r ≡ Done n → exit ≡ left (form_rules f) lines part
+      {r : Answer} {n : ℕ} {exit : List ℕ} → r ≡ answered (form_rules f) lines part → r ≡ Ok n → exit ≡ left (form_rules f) lines part
       → Put out at lines (put_mid at (length out - at) out exit) (at + n) × (at + n + 1 ≤ entry_room)
   table-put {r} {n} {exit} e g x =
       let l = table-long e g in
@@ -178,8 +178,8 @@ module _ (f out : List ℕ) (at : ℕ) (j : Judged f) (o : length out ≡ entry_
         omega arith,
       )
 
-  pub table_taken : {r : Answer} {w : Refusal} → r ≡ answered (form_rules f) lines part → r ≡ Refused w → ⊥
-  table_taken {r} {w} e g = let h : Refused w ≡ Done (length lines) = sym g ∙ e ∙ listed-all.0 in let z : ◌≡◌ {A = ℕ} 0 1 = cc in omega arith
+  pub table_taken : {r : Answer} {w : Refusal} → r ≡ answered (form_rules f) lines part → r ≡ Err w → ⊥
+  table_taken {r} {w} e g = let h : Err w ≡ Ok (length lines) = sym g ∙ e ∙ listed-all.0 in let z : ◌≡◌ {A = ℕ} 0 1 = cc in omega arith
 
 -- ---- the whole entry
 
@@ -201,10 +201,10 @@ module _ (xs old : List ℕ) {text : List ℕ} {n : ℕ} (put : Put (replicate e
   pub held-short : length old < n → (refused 1 0 ≡ answered [] xs old) × (old ≡ left [] xs old)
   held-short h = lent-short [] xs old 0 refl refl (omega (arith, held.1))
 
-  pub held-done : {out : List ℕ} → n ≤ length old → out ≡ sets old 0 (take n (drop 0 text)) → (Done n ≡ answered [] xs old) × (out ≡ left [] xs old)
+  pub held-done : {out : List ℕ} → n ≤ length old → out ≡ sets old 0 (take n (drop 0 text)) → (Ok n ≡ answered [] xs old) × (out ≡ left [] xs old)
   held-done h e =
       let d = lent-done [] xs old 0 refl refl (omega (arith, held.1)) in
-      (ap Done held.1 ∙ d.0, e ∙ ap (sets old 0) held.0 ∙ d.1)
+      (ap Ok held.1 ∙ d.0, e ∙ ap (sets old 0) held.0 ∙ d.1)
 
 -- ---- the rules
 
@@ -223,38 +223,38 @@ entry_every form mended f j h = go (form_rules f) (judged_every f j)
     go (r ∷ rs) (more p ps) = more p (go rs ps)
 
 -- the form holds, and the number is judged
-module _ (form : Form) (mended : ℕ) (f : List ℕ) (n : ℕ) {first : Answer} (judges : first ≡ judged refused (form_rules f) (Done n)) where
-  pub number-over : {m : ℕ} → first ≡ Done m → mended_most form < mended → refused 15 0 ≡ judged refused (entry_rules form mended f) (Done 0)
+module _ (form : Form) (mended : ℕ) (f : List ℕ) (n : ℕ) {first : Answer} (judges : first ≡ judged refused (form_rules f) (Ok n)) where
+  pub number-over : {m : ℕ} → first ≡ Ok m → mended_most form < mended → refused 15 0 ≡ judged refused (entry_rules form mended f) (Ok 0)
   number-over e h =
-      (rw (lt-leb mended (mended_most form) h) refl) ∙ goes_on (form_rules f) (rule (leb mended (mended_most form)) 15 0 ∷ []) n judges (Done 0) e
+      (rw (lt-leb mended (mended_most form) h) refl) ∙ goes_on (form_rules f) (rule (leb mended (mended_most form)) 15 0 ∷ []) n judges (Ok 0) e
 
-  pub number_fits : {m : ℕ} → first ≡ Done m → mended ≤ mended_most form → Done 0 ≡ judged refused (entry_rules form mended f) (Done 0)
+  pub number_fits : {m : ℕ} → first ≡ Ok m → mended ≤ mended_most form → Ok 0 ≡ judged refused (entry_rules form mended f) (Ok 0)
   number_fits e h =
-      (rw (le-leb mended (mended_most form) h) refl) ∙ goes_on (form_rules f) (rule (leb mended (mended_most form)) 15 0 ∷ []) n judges (Done 0) e
+      (rw (le-leb mended (mended_most form) h) refl) ∙ goes_on (form_rules f) (rule (leb mended (mended_most form)) 15 0 ∷ []) n judges (Ok 0) e
 
 -- the rules first, then the room
 pub rules-go_on :
-    (rules : List Rule) (xs old : List ℕ) (n : ℕ) {first : Answer} {m : ℕ} → first ≡ judged refused rules (Done n) → first ≡ Done m
+    (rules : List Rule) (xs old : List ℕ) (n : ℕ) {first : Answer} {m : ℕ} → first ≡ judged refused rules (Ok n) → first ≡ Ok m
     → (answered [] xs old ≡ answered rules xs old) × (left [] xs old ≡ left rules xs old)
 rules-go_on rules xs old n judges e =
-    let a = goes_on rules (room xs old ∷ []) n judges (Done (length xs)) e in
+    let a = goes_on rules (room xs old ∷ []) n judges (Ok (length xs)) e in
     (a, ap (λ (x : Answer). after x xs old) a)
 
 -- where there is room for the longest entry, the rules decide
 pub entry_answers :
     (form : Form) (stamp mended : ℕ) (f old : List ℕ) → stamp ≤ stamp_most → entry_most form ≤ length old
     → answered (entry_rules form mended f) (entry_text form (stamped stamp mended f)) old
-    ≡ judged refused (entry_rules form mended f) (Done (length (entry_text form (stamped stamp mended f))))
-entry_answers form stamp mended f old h o = go (judged refused (entry_rules form mended f) (Done (length xs))) refl
+    ≡ judged refused (entry_rules form mended f) (Ok (length (entry_text form (stamped stamp mended f))))
+entry_answers form stamp mended f old h o = go (judged refused (entry_rules form mended f) (Ok (length xs))) refl
   where
     xs : List ℕ
     xs = entry_text form (stamped stamp mended f)
 
-    go : (a : Answer) → judged refused (entry_rules form mended f) (Done (length xs)) ≡ a → answered (entry_rules form mended f) xs old ≡ a
-    go (Refused w) e = sym (lent-refused (entry_rules form mended f) xs old (length xs) (sym e) refl).0
-    go (Done m) e =
+    go : (a : Answer) → judged refused (entry_rules form mended f) (Ok (length xs)) ≡ a → answered (entry_rules form mended f) xs old ≡ a
+    go (Err w) e = sym (lent-refused (entry_rules form mended f) xs old (length xs) (sym e) refl).0
+    go (Ok m) e =
         let every = done_every (entry_rules form mended f) (length xs) m e in
         let j = entry-judged form mended f every in
         let l = entry_most_lem form stamp mended f h j.1 j.0 in
         (lent-accepted (entry_rules form mended f) xs old every (omega arith)).0
-        ∙ ap Done (sym (done-value (entry_rules form mended f) (length xs) m e))
+        ∙ ap Ok (sym (done-value (entry_rules form mended f) (length xs) m e))

@@ -1,5 +1,7 @@
 -- What only private calls cite; nothing here needs to be believed.
 use Rattle.std.specs.Prelude.{Bool, true, false, List, ◌≡◌, ℕ, ◌+◌, ◌*◌, leb, length, get_or}
+use Rattle.std.specs.declared.result.Result.{Result}
+use Rattle.std.specs.declared.result.Result.TheVariants.{Ok, Err}
 use Rattle.laws.specs.Pick.{pick, both}
 use Rattle.forms.specs.Tables.{numbered, per, fits}
 use Rattle.forms.specs.Form.{form, table_in}
@@ -17,20 +19,27 @@ counts_fit kind block t =
     both (numbered block)
     (both (leb t.count 63) (pick t.over false (leb (58 + 10 * t.count + 24 * (per kind * t.entries)) 8184)))
 
-abbrev pub named_of : Many ℕ → Named
-named_of m = record { kind = get_or m.items 0 0; network = get_or m.items 1 0; block = get_or m.items 2 0; fine = m.fine; long = m.long }
+-- a key's lines, where all are in form; else where the one stands that isn't
+abbrev pub named_in : Many ℕ → Named
+named_in m = record { kind = get_or m.items 0 0; network = get_or m.items 1 0; block = get_or m.items 2 0; long = m.long }
 
-abbrev pub head_of : Many ℕ → Head
-head_of m =
+abbrev pub named_of : Many ℕ → Result Named ℕ
+named_of m = pick m.fine (Ok (named_in m)) (Err m.long)
+
+-- the same of a head
+abbrev pub head_in : Many ℕ → Head
+head_in m =
     record {
       stamp = get_or m.items 0 0;
       mended = get_or m.items 1 0;
       kind = kind_in m.items;
       network = network_in m.items;
       block = block_in m.items;
-      fine = m.fine;
       long = m.long;
     }
+
+abbrev pub head_of : Many ℕ → Result Head ℕ
+head_of m = pick m.fine (Ok (head_in m)) (Err m.long)
 
 -- ---- the text of one entry
 

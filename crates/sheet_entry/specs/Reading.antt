@@ -6,7 +6,11 @@ use Rattle.forms.specs.Tables.{Descriptor, fits}
 use Rattle.listing_reader.specs.Many.{Step, item, stop, Many, none, behind}
 use Rattle.listing_reader.specs.Reading.{descriptors_of}
 use Rattle.sheet_entry.specs.declared.Form.{Form}
+use Rattle.std.specs.declared.result.Result.{Result}
+use Rattle.std.specs.declared.result.Result.TheVariants.{Ok, Err}
 use Rattle.sheet_entry.specs.declared.Found.{Found}
+use Rattle.sheet_entry.specs.declared.NoEntry.{NoEntry}
+use Rattle.sheet_entry.specs.declared.NoEntry.TheVariants.{End, Fault}
 use Rattle.sheet_entry.specs.Entries.{Entry, key_of, HeadLine, heading, head_lines, empty_line}
 
 -- lines that must all be there, one after the other: their values, or where the one stands that isn't in form
@@ -64,8 +68,8 @@ entry_at form least (b ∷ bytes) = with_head least (b ∷ bytes) (lines_at (hea
 abbrev pub above : ℕ → Entry → ℕ
 above least e = suc (key_of e)
 
--- what is told of it: how long it is, its key, its stamp, what was mended, and how long its head is
-unfoldable pub found_of : Form → Step Entry → Found
+-- what is told of it: how long it is, its key, its stamp, what was mended, and how long its head is; or why there is none
+unfoldable pub found_of : Form → Step Entry → Result Found NoEntry
 found_of form (item e n) =
-    record { more = true; fine = true; long = n; key = key_of e; stamp = e.stamp; mended = e.mended; head = length (head_lines form e) }
-found_of form (stop b n) = record { more = false; fine = b; long = n; key = 0; stamp = 0; mended = 0; head = 0 }
+    Ok (record { long = n; key = key_of e; stamp = e.stamp; mended = e.mended; head = length (head_lines form e) })
+found_of form (stop b n) = Err (pick b End (Fault n))

@@ -5,6 +5,7 @@
 pub mod writing;
 
 ghost use Rattle.std.specs.Prelude.{Bool, ◌≡◌, ◌≤◌, drop};
+ghost use Rattle.std.specs.declared.result.Result.TheVariants.{Ok};
 ghost use Rattle.listing_reader.specs.Reading.{descriptors_of};
 ghost use Rattle.listing_reader.specs.Internal.{Inside};
 ghost use Rattle.sheet_entry.specs.Entries.{key_in, key_lines, heading, mended_head};
@@ -32,17 +33,16 @@ const BITS: usize = 8184;
 
 const LINE_END: usize = 10;
 
-// The values of a key's lines as far as they are in form, whether all are, and where the line stands after them.
-#[derive(Drop)]
+// The values of a key's lines, and how long these are.
+#[derive(Clone, Copy)]
 pub struct Named {
     pub kind: usize,
     pub network: usize,
     pub block: usize,
-    pub fine: bool,
     pub long: usize,
 }
 
-// The values of an entry's head as far as its lines are in form, whether all are, and where the line stands after them.
+// The values of an entry's head, and how long it is.
 #[derive(Clone, Copy)]
 pub struct Head {
     pub stamp: usize,
@@ -50,15 +50,12 @@ pub struct Head {
     pub kind: usize,
     pub network: usize,
     pub block: usize,
-    pub fine: bool,
     pub long: usize,
 }
 
-// An entry: its length, its key, its stamp, what was mended, and the length of its head; or none, whether that is well, and where the line at fault stands.
+// An entry: its length, its key, its stamp, what was mended, and the length of its head.
 #[derive(Clone, Copy)]
 pub struct Found {
-    pub more: bool,
-    pub fine: bool,
     pub long: usize,
     pub key: usize,
     pub stamp: usize,
@@ -66,39 +63,35 @@ pub struct Found {
     pub head: usize,
 }
 
+// Why no entry stands there: the sheet ends, or a line is at fault, so far behind the place.
+#[derive(Clone, Copy)]
+pub enum NoEntry {
+    End,
+    Fault(usize),
+}
+
 // The entry at a place, whose key may not be below `least`.
-pub fn entry_at(form: Form, sheet: &[u8], at: usize, least: usize) -> Found
+pub fn entry_at(form: Form, sheet: &[u8], at: usize, least: usize) -> Result<Found, NoEntry>
     ensures { result ≡ found_of form (entry_at form least (drop at sheet.now)) }
 {
     if sheet.len() <= at {
-        return stopped(true, 0);
+        return Err(NoEntry::End);
     }
-    let head = head_at(form, sheet, at);
-    let fine = head.fine;
-    if !fine {
-        return stopped(false, head.long);
-    }
-    with_table(form, sheet, at, least, head)
-}
-
-// No entry.
-fn stopped(fine: bool, long: usize) -> Found
-    ensures { result ≡ record { more = Bool.false; fine = fine; long = long; key = 0; stamp = 0; mended = 0; head = 0 } }
-{
-    Found {
-        more: false,
-        fine,
-        long,
-        key: 0,
-        stamp: 0,
-        mended: 0,
-        head: 0,
+    match head_at(form, sheet, at) {
+        Err(long) => Err(NoEntry::Fault(long)),
+        Ok(head) => with_table(form, sheet, at, least, head),
     }
 }
 
 // The rest of an entry whose head was read.
-fn with_table(form: Form, sheet: &[u8], at: usize, least: usize, head: Head) -> Found
-    requires { Inside sheet.now at × (head ≡ head_of (lines_at (heading form) (drop at sheet.now))) × (head.fine ≡ Bool.true) }
+fn with_table(
+    form: Form,
+    sheet: &[u8],
+    at: usize,
+    least: usize,
+    head: Head,
+) -> Result<Found, NoEntry>
+    requires { Inside sheet.now at × (Ok head ≡ head_of (lines_at (heading form) (drop at sheet.now))) }
     ensures { result ≡ found_of form (with_table least (drop at sheet.now) (lines_at (heading form) (drop at sheet.now))
         (descriptors_of head.kind (drop head.long (drop at sheet.now)))) }
 {
@@ -106,29 +99,26 @@ fn with_table(form: Form, sheet: &[u8], at: usize, least: usize, head: Head) -> 
     let kind = head.kind;
     let table = listing_reader::table_at(sheet, at + long, kind);
     let end = long + table.long;
-    let fine = table.fine;
-    if !fine {
-        return stopped(false, end);
+    if !table.fine {
+        return Err(NoEntry::Fault(end));
     }
     if lent_bytes::byte_at(sheet, at + end) != LINE_END {
-        return stopped(false, end);
+        return Err(NoEntry::Fault(end));
     }
     if !counts_fit(kind, head.block, table) {
-        return stopped(false, end);
+        return Err(NoEntry::Fault(end));
     }
     let key = key_of(kind, head.network, head.block);
     if least <= key {
-        return Found {
-            more: true,
-            fine: true,
+        return Ok(Found {
             long: end + 1,
             key,
             stamp: head.stamp,
             mended: head.mended,
             head: long,
-        };
+        });
     }
-    stopped(false, end)
+    Err(NoEntry::Fault(end))
 }
 
 // Network, kind, block, as one number.
@@ -136,76 +126,47 @@ fn key_of(kind: usize, network: usize, block: usize) -> usize
     requires { (network ≤ 255) × (block ≤ 65535) }
     ensures { (result ≡ key_in network kind block) × (result ≤ 33554431) }
 {
-    if kind == forms::TI {
-        return (network * 2 + 1) * 65536 + block;
-    }
-    (network * 2) * 65536 + block
+    (network * 2 + usize::from(kind == forms::TI)) * 65536 + block
 }
 
 // Whether a table with this number and these counts can be written.
 fn counts_fit(kind: usize, block: usize, table: Summary) -> bool
     ensures { result ≡ counts_fit kind block table }
 {
-    let count = table.count;
-    let entries = table.entries;
-    let over = table.over;
-    if !forms::numbered(block) {
-        return false;
-    }
-    if DESCRIPTORS < count {
-        return false;
-    }
-    if over {
-        return false;
-    }
-    if BITS < entries {
-        return false;
-    }
-    if kind == forms::TI {
-        return forms::LOOPS + forms::HEADING * count + forms::WORD * (2 * entries) <= BITS;
-    }
-    forms::LOOPS + forms::HEADING * count + forms::WORD * (1 * entries) <= BITS
+    let words = if kind == forms::TI { 2 } else { 1 };
+    forms::numbered(block)
+        && table.count <= DESCRIPTORS
+        && !table.over
+        && table.entries <= BITS
+        && forms::LOOPS + forms::HEADING * table.count + forms::WORD * (words * table.entries)
+            <= BITS
 }
 
-// What opens an entry, its stamp and what was mended; then its key's lines.
-fn head_at(form: Form, sheet: &[u8], at: usize) -> Head
+// What opens an entry, its stamp and what was mended, then its key's lines; or where the line at fault stands.
+fn head_at(form: Form, sheet: &[u8], at: usize) -> Result<Head, usize>
     requires { Inside sheet.now at }
     ensures { result ≡ head_of (lines_at (heading form) (drop at sheet.now)) }
 {
     let stamp = listing_reader::number_at(sheet, at, b"stamp=", 4294967295);
     let a = stamp.long;
     if a == 0 {
-        return headless(0, 0);
+        return Err(0);
     }
     let mended = mended_at(form, sheet, at + a);
     let b = mended.long;
     if b < mended_least(form) {
-        return headless(stamp.value, a);
+        return Err(a);
     }
-    let key = key_at(sheet, at + a + b);
-    Head {
-        stamp: stamp.value,
-        mended: mended.value,
-        kind: key.kind,
-        network: key.network,
-        block: key.block,
-        fine: key.fine,
-        long: a + b + key.long,
-    }
-}
-
-// A head with a line at fault that opens it.
-fn headless(stamp: usize, long: usize) -> Head
-    ensures { result ≡ record { stamp = stamp; mended = 0; kind = 0; network = 0; block = 0; fine = Bool.false; long = long } }
-{
-    Head {
-        stamp,
-        mended: 0,
-        kind: 0,
-        network: 0,
-        block: 0,
-        fine: false,
-        long,
+    match key_at(sheet, at + a + b) {
+        Err(long) => Err(a + b + long),
+        Ok(key) => Ok(Head {
+            stamp: stamp.value,
+            mended: mended.value,
+            kind: key.kind,
+            network: key.network,
+            block: key.block,
+            long: a + b + key.long,
+        }),
     }
 }
 
@@ -229,44 +190,30 @@ fn mended_least(form: Form) -> usize
     }
 }
 
-// The lines of kind, network and block.
-fn key_at(sheet: &[u8], at: usize) -> Named
+// The lines of kind, network and block; or where the line at fault stands.
+fn key_at(sheet: &[u8], at: usize) -> Result<Named, usize>
     requires { Inside sheet.now at }
     ensures { result ≡ named_of (lines_at key_lines (drop at sheet.now)) }
 {
     let kind = listing_reader::kind_at(sheet, at);
     let a = kind.long;
     if a == 0 {
-        return unnamed(0, 0, 0);
+        return Err(0);
     }
     let network = listing_reader::number_at(sheet, at + a, b"network=", 255);
     let b = network.long;
     if b == 0 {
-        return unnamed(kind.value, 0, a);
+        return Err(a);
     }
     let block = listing_reader::number_at(sheet, at + a + b, b"block=", 65535);
     let c = block.long;
     if c == 0 {
-        return unnamed(kind.value, network.value, a + b);
+        return Err(a + b);
     }
-    Named {
+    Ok(Named {
         kind: kind.value,
         network: network.value,
         block: block.value,
-        fine: true,
         long: a + b + c,
-    }
-}
-
-// A key with a line at fault.
-fn unnamed(kind: usize, network: usize, long: usize) -> Named
-    ensures { result ≡ record { kind = kind; network = network; block = 0; fine = Bool.false; long = long } }
-{
-    Named {
-        kind,
-        network,
-        block: 0,
-        fine: false,
-        long,
-    }
+    })
 }

@@ -11,7 +11,7 @@ ghost use Rattle.sheet_entry.specs.Writing.{stamped, entry_rules};
 ghost use Rattle.sheet_entry.specs.Internal.{Judged, head_room, entry_room};
 
 use crate::{Form, MENDED};
-use answer::Answer;
+use answer::{Answer, Reason};
 
 // The longest entry, of both forms.
 pub const ENTRY: usize = 5936;
@@ -25,25 +25,19 @@ pub fn write_entry(form: Form, stamp: u32, mended: u16, table: &[u8], out: &mut 
         ≡ left (entry_rules form mended table.now) (entry_text form (stamped stamp mended table.now))
         out.old }
 {
-    match judge_entry(form, mended as usize, table) {
-        Answer::Refused(why) => Answer::Refused(why),
-        Answer::Done(_) => write_judged(form, stamp, mended as usize, table, out),
-    }
+    judge_entry(form, mended as usize, table)?;
+    write_judged(form, stamp, mended as usize, table, out)
 }
 
 // Which of the rules refuses, but for the room.
 fn judge_entry(form: Form, mended: usize, table: &[u8]) -> Answer
-    ensures { result ≡ judged refused (entry_rules form mended table.now) (Answer.Done 0) }
+    ensures { result ≡ judged refused (entry_rules form mended table.now) (Ok 0) }
 {
-    match forms::judge_form(table) {
-        Answer::Refused(why) => Answer::Refused(why),
-        Answer::Done(_) => {
-            if mended_most(form) < mended {
-                return answer::refuse(15, 0);
-            }
-            Answer::Done(0)
-        }
+    forms::judge_form(table)?;
+    if mended_most(form) < mended {
+        return Reason::Value.refuse(0);
     }
+    Ok(0)
 }
 
 // The greatest number that a form can say.
@@ -65,10 +59,10 @@ fn write_judged(form: Form, stamp: u32, mended: usize, table: &[u8], out: &mut [
     let mut text = [0u8; ENTRY];
     let n = put_entry(form, stamp, mended, table, &mut text);
     if out.len() < n {
-        return answer::refuse(1, 0);
+        return Reason::NoRoom.refuse(0);
     }
     lent_bytes::copy(&text, 0, n, out, 0);
-    Answer::Done(n)
+    Ok(n)
 }
 
 // Puts the text of an entry, and answers how long it is.
@@ -113,7 +107,7 @@ fn put_table(table: &[u8], out: &mut [u8], at: usize) -> usize
     ensures { Put out.old at (descriptor_lines_of (table_in table.now)) out.new result × (result + 1 ≤ entry_room) }
 {
     match listing::list_descriptors(table, &mut out[at..]) {
-        Answer::Done(n) => at + n,
-        Answer::Refused(_) => at,
+        Ok(n) => at + n,
+        Err(_) => at,
     }
 }

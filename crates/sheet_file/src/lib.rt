@@ -10,62 +10,45 @@ pub mod placing;
 pub mod says;
 
 use captures::{Got, Source};
-use modes::Opened;
 use std::fs::OpenFile;
-use std::io::{Error, ErrorKind, Read};
+use std::io::{Error, ErrorKind, Read, Result};
 use std::rt::Files;
-use told::{Console, failures};
+use told::Console;
 
-// What stands in the sheet's place: whether it could be read, whether there is a file, its mode, how many bytes were read of it, and where there
-// is none why it can't be opened.
+// What stands in the sheet's place: the mode of the file, or why there is none, and how many bytes were read of it.
 #[derive(Clone, Copy)]
 pub struct Stand {
-    pub sound: bool,
-    pub there: bool,
-    pub mode: u32,
+    pub mode: Result<u32>,
     pub length: usize,
-    pub why: Error,
 }
 
-// Reads what stands at the sheet's path. What can't be read, or is no plain file, is told.
-pub fn read(rt: &(impl Files + Console), path: &[u8], shown: &[u8], sheet: &mut [u8]) -> Stand {
+// Reads what stands at the sheet's path. What can't be read, or is no plain file, is told, and nothing answered.
+pub fn read(
+    rt: &(impl Files + Console),
+    path: &[u8],
+    shown: &[u8],
+    sheet: &mut [u8],
+) -> Option<Stand> {
     match modes::open_plain(rt, path) {
-        Opened::Plain(file) => fill(rt, file, shown, sheet),
-        Opened::NotPlain => {
+        Ok(Some(file)) => fill(rt, file, shown, sheet),
+        Ok(None) => {
             says::tell(rt, shown, b"it is no plain file, and stays as it was");
-            unread()
+            None
         }
-        Opened::Failed(why) => missing(rt, path, shown, why),
+        Err(why) if is_none(path, why) => Some(Stand {
+            mode: Err(why),
+            length: 0,
+        }),
+        Err(why) => {
+            says::fail(rt, shown, b"it can't be opened, and stays as it was", why);
+            None
+        }
     }
-}
-
-fn unread() -> Stand {
-    Stand {
-        sound: false,
-        there: false,
-        mode: 0,
-        length: 0,
-        why: failures::none(),
-    }
-}
-
-// What can't be opened: there is no such file, or it is told.
-fn missing(rt: &impl Console, path: &[u8], shown: &[u8], why: Error) -> Stand {
-    let mut stand = unread();
-    stand.sound = is_none(path, why);
-    stand.why = why;
-    if !stand.sound {
-        says::fail(rt, shown, b"it can't be opened, and stays as it was", why);
-    }
-    stand
 }
 
 // Whether an open failed because there is no such file. An empty name is none's.
 fn is_none(path: &[u8], why: Error) -> bool {
-    if path.len() == 0 {
-        return false;
-    }
-    why.kind() == ErrorKind::NotFound
+    !path.is_empty() && why.kind() == ErrorKind::NotFound
 }
 
 fn fill<F: Read + OpenFile + Drop>(
@@ -73,7 +56,7 @@ fn fill<F: Read + OpenFile + Drop>(
     file: F,
     shown: &[u8],
     sheet: &mut [u8],
-) -> Stand {
+) -> Option<Stand> {
     let mode = modes::of(&file);
     let mut source = Source::new(file);
     let got = captures::fill(&mut source, sheet);
@@ -84,13 +67,10 @@ fn fill<F: Read + OpenFile + Drop>(
             b"it can't be read, and stays as it was",
             source.why,
         );
-        return unread();
+        return None;
     };
-    Stand {
-        sound: true,
-        there: true,
-        mode,
+    Some(Stand {
+        mode: Ok(mode),
         length,
-        why: failures::none(),
-    }
+    })
 }

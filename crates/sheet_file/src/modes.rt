@@ -1,41 +1,24 @@
 // What a file is: plain or not, and who may do what with it.
 use std::fs;
 use std::fs::OpenFile;
-use std::io::{Error, Result};
+use std::io::Result;
 use std::os::unix::fs::MetadataExt;
 use std::rt::Files;
 
 // The most bytes of a path, with the 0 that ends it.
 pub(crate) const PATH: usize = 4096;
 
-// What an open gave: a plain file, none because the file is no plain one, or none and why.
-#[derive(Drop)]
-pub enum Opened<F> {
-    Plain(F),
-    NotPlain,
-    Failed(Error),
-}
-
-// Opens a plain file for reading. What it is is asked before, since to open a pipe waits for its other end, and of what was opened once more.
-pub fn open_plain<R: Files>(rt: &R, path: &[u8]) -> Opened<R::File> {
-    if path.len() < PATH {
-        match at(rt, path) {
-            Ok(mode) => {
-                if !is_plain(mode) {
-                    return Opened::NotPlain;
-                }
-            }
-            Err(e) => return Opened::Failed(e),
-        }
+// Opens a plain file for reading; none where the file is no plain one. What it is is asked before, since to open a pipe waits for its other end, and of
+// what was opened once more.
+pub fn open_plain<R: Files>(rt: &R, path: &[u8]) -> Result<Option<R::File>> {
+    if path.len() < PATH && !is_plain(at(rt, path)?) {
+        return Ok(None);
     }
-    match told::open(rt, path) {
-        Ok(file) => {
-            if is_plain(of(&file)) {
-                return Opened::Plain(file);
-            }
-            Opened::NotPlain
-        }
-        Err(e) => Opened::Failed(e),
+    let file = told::open(rt, path)?;
+    if is_plain(of(&file)) {
+        Ok(Some(file))
+    } else {
+        Ok(None)
     }
 }
 

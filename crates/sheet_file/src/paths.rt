@@ -4,7 +4,7 @@ ghost use Rattle.std.specs.Prelude.{◌≤◌, length};
 use crate::modes::PATH;
 use std::fs;
 use std::fs::{OpenFile, OpenOptions};
-use std::io::{Error, ErrorKind, Result};
+use std::io::{ErrorKind, Result};
 use std::random::RandomSource;
 use std::rt::Files;
 use told::failures;
@@ -21,122 +21,78 @@ const NAME: usize = 255;
 // How often a temporary file's name is tried that is taken.
 const TRIES: usize = 100;
 
-// Where a name leads to: how long the path is, whether it leads through a link, whether it leads to an end, and why a link on it can't be followed.
+// Where a name leads to: how long the path is, and whether it leads through a link.
 #[derive(Clone, Copy)]
 pub struct Way {
     pub length: usize,
     pub linked: bool,
-    pub ends: bool,
-    pub lost: Option<Error>,
 }
 
-// What a path is: no link, a link that leads on so far, or one that can't be followed: no memory is left, or what it says isn't UTF-8, and
-// std takes no such path.
-#[derive(Drop)]
-enum Link {
-    None,
-    To(usize),
-    Lost(Error),
-}
-
-// Puts the path that the first n bytes lead to in their place. Each link counts from its own folder.
-pub fn follow(rt: &(impl Files + Alloc), path: &mut [u8], n: usize) -> Way {
+// Puts the path that the first n bytes lead to in their place; none where it leads through too many links. Each link counts from its own folder.
+// One that can't be followed is the error: no memory is left, or what it says isn't UTF-8, and std takes no such path.
+pub fn follow(rt: &(impl Files + Alloc), path: &mut [u8], n: usize) -> Result<Option<Way>> {
     let mut way = Way {
         length: n,
         linked: false,
-        ends: false,
-        lost: None,
     };
-    let mut left = LINKS + 1;
-    while left > 0 {
-        left -= 1;
-        match go(rt, path, way.length) {
-            Link::None => {
-                way.ends = true;
-                return way;
-            }
-            Link::To(length) => {
-                way.length = length;
-                way.linked = true;
-            }
-            Link::Lost(why) => {
-                way.lost = Some(why);
-                return way;
-            }
-        }
+    for _ in 0..=LINKS {
+        let Some(length) = go(rt, path, way.length)? else {
+            return Ok(Some(way));
+        };
+        way = Way {
+            length,
+            linked: true,
+        };
     }
-    way
+    Ok(None)
 }
 
-// Puts what a link says in the place of its own name.
-fn go(rt: &(impl Files + Alloc), path: &mut [u8], n: usize) -> Link {
+// Puts what a link says in the place of its own name, and answers how long the path is then; none where the path is no link.
+fn go(rt: &(impl Files + Alloc), path: &mut [u8], n: usize) -> Result<Option<usize>> {
     if PATH <= n {
-        return Link::None;
+        return Ok(None);
     }
     let Ok(name) = told::path(told::front(path, n)) else {
-        return Link::None;
+        return Ok(None);
     };
     match fs::read_link(rt, name) {
-        Ok(target) => go_on(path, n, target.as_str().as_bytes()),
-        Err(e) => {
-            // what is no link, or can't be asked
-            if e.raw_os_error().is_some() {
-                return Link::None;
-            }
-            Link::Lost(e)
-        }
+        Ok(target) => Ok(go_on(path, n, target.as_str().as_bytes())),
+        // what is no link, or can't be asked
+        Err(e) if e.raw_os_error().is_some() => Ok(None),
+        Err(e) => Err(e),
     }
 }
 
-fn go_on(path: &mut [u8], n: usize, target: &[u8]) -> Link {
-    if target.len() == 0 {
-        return Link::None;
-    }
-    let at = begins_at(told::front(path, n), target);
+// What a link says begins behind the folder of the link, or at the root.
+fn go_on(path: &mut [u8], n: usize, target: &[u8]) -> Option<usize> {
+    let at = if *target.first()? == b'/' {
+        0
+    } else {
+        name_at(told::front(path, n))
+    };
     lent_bytes::copy(target, 0, target.len(), path, at);
-    Link::To(plus(at, target.len()))
-}
-
-// Where the words of a link begin: behind the folder of the link, or at the root.
-fn begins_at(path: &[u8], target: &[u8]) -> usize {
-    if target.len() == 0 {
-        return 0;
-    }
-    if target[0] == b'/' {
-        return 0;
-    }
-    name_at(path)
+    Some(at.saturating_add(target.len()))
 }
 
 // Where the last name of a path begins: behind its last stroke.
 fn name_at(path: &[u8]) -> usize
     ensures { result ≤ length path.now }
 {
-    let mut at = path.len();
-    while at > 0 {
-        if path[at - 1] == b'/' {
-            return at;
-        }
-        at -= 1;
+    match path.iter().rposition(|b| *b == b'/') {
+        Some(at) => at + 1,
+        None => 0,
     }
-    at
 }
 
 // Opens the folder of a path for reading.
 fn open_folder<R: Files>(rt: &R, path: &[u8]) -> Result<R::File> {
     let at = name_at(path);
-    if at == 0 {
-        return told::open(rt, b".");
-    }
-    told::open(rt, &path[0..at])
+    told::open(rt, if at == 0 { b"." } else { &path[..at] })
 }
 
 // Whether a temporary file's name beside the path is short enough.
 pub fn has_room(path: &[u8]) -> bool {
-    if PATH <= temp_length(path.len()) {
-        return false;
-    }
-    temp_length(path.len() - name_at(path)) <= NAME
+    temp_length(path.len()) < PATH && temp_length(path.len() - name_at(path)) <= NAME
 }
 
 // Makes a new file beside the path that stands in the first n bytes, under a name of our own, open for writing. Behind the path stands what
@@ -147,34 +103,21 @@ pub(crate) fn create_beside<R: Files + RandomSource>(
     n: usize,
 ) -> Result<R::File> {
     let mut why = failures::none();
-    let mut left = TRIES;
-    while left > 0 {
-        left -= 1;
+    for _ in 0..TRIES {
         match create(rt, temp, n) {
-            Ok(file) => return Ok(file),
-            Err(e) => {
-                why = e;
-                if e.kind() != ErrorKind::AlreadyExists {
-                    return Err(e);
-                }
-            }
+            Err(e) if e.kind() == ErrorKind::AlreadyExists => why = e,
+            made => return made,
         }
     }
     Err(why)
 }
 
 fn create<R: Files + RandomSource>(rt: &R, temp: &mut [u8], n: usize) -> Result<R::File> {
-    let mut more = [0u8; 6];
-    rt.fill_bytes(&mut more)?;
-    let name = [
-        b'.',
-        letter(more[0]),
-        letter(more[1]),
-        letter(more[2]),
-        letter(more[3]),
-        letter(more[4]),
-        letter(more[5]),
-    ];
+    let mut name = [b'.'; MORE];
+    rt.fill_bytes(&mut name[1..])?;
+    for b in name[1..].iter_mut() {
+        *b = letter(*b);
+    }
     lent_bytes::copy(&name, 0, MORE, temp, n);
     let path = told::path(told::front(temp, temp_length(n)))?;
     OpenOptions::new()
@@ -185,15 +128,7 @@ fn create<R: Files + RandomSource>(rt: &R, temp: &mut [u8], n: usize) -> Result<
 
 // How long a temporary file's path is.
 pub(crate) fn temp_length(n: usize) -> usize {
-    plus(n, MORE)
-}
-
-// The sum, or the greatest number where it is more.
-fn plus(a: usize, b: usize) -> usize {
-    if usize::MAX - a < b {
-        return usize::MAX;
-    }
-    a + b
+    n.saturating_add(MORE)
 }
 
 fn letter(b: u8) -> u8 {

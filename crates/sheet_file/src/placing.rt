@@ -9,13 +9,15 @@ use std::random::RandomSource;
 use std::rt::Files;
 use told::Console;
 
-// How it went: whether it is over, done or failed and told; whether the temporary file has taken the sheet's place; and what stood there
-// when the sheet was read once more. It isn't over where that is another than it was.
+// How it went.
 #[derive(Drop)]
-pub struct Placed {
-    pub over: bool,
-    pub renamed: bool,
-    pub stand: Stand,
+pub enum Placed {
+    // The temporary file has taken the sheet's place.
+    Renamed,
+    // It failed, and that is told.
+    Failed,
+    // Another sheet than it was stood there when it was read once more.
+    Changed(Stand),
 }
 
 // Puts the new sheet in the place of what was read at its path, which was the first bytes of `base`. What stands there now is left in `again`.
@@ -42,7 +44,7 @@ pub fn put(
                 b"no file can be made beside it, and it stays as it was",
                 e,
             );
-            failed(stand)
+            Placed::Failed
         }
     }
 }
@@ -60,10 +62,9 @@ fn put_by<R: Files + Console>(
     again: &mut [u8],
 ) -> Placed {
     let placed = put_in(rt, file, stand, path, shown, temp, base, sheet, again);
-    if placed.renamed {
-        return placed;
-    }
-    if let Err(e) = remove(rt, temp) {
+    if !matches!(placed, Placed::Renamed)
+        && let Err(e) = remove(rt, temp)
+    {
         says::fail(rt, shown, b"a temporary file is left beside it", e);
     }
     placed
@@ -71,14 +72,6 @@ fn put_by<R: Files + Console>(
 
 fn remove(rt: &impl Files, path: &[u8]) -> Result<()> {
     fs::remove_file(rt, told::path(path)?)
-}
-
-fn failed(stand: Stand) -> Placed {
-    Placed {
-        over: true,
-        renamed: false,
-        stand,
-    }
 }
 
 fn put_in<R: Files + Console>(
@@ -99,14 +92,13 @@ fn put_in<R: Files + Console>(
             b"the new sheet can't be written, and it stays as it was",
             e,
         );
-        return failed(stand);
+        return Placed::Failed;
     }
-    let now = crate::read(rt, path, shown, again);
-    if !now.sound {
-        return failed(stand);
-    }
+    let Some(now) = crate::read(rt, path, shown, again) else {
+        return Placed::Failed;
+    };
     if !is_as_it_was(stand, now, base, again) {
-        return changed(rt, now, stand.there, shown);
+        return changed(rt, stand, now, shown);
     }
     if let Err(e) = rename(rt, temp, path) {
         says::fail(
@@ -115,16 +107,12 @@ fn put_in<R: Files + Console>(
             b"the new sheet can't take its place, and it stays as it was",
             e,
         );
-        return failed(stand);
+        return Placed::Failed;
     }
     if let Err(e) = paths::sync_folder(rt, path) {
         says::note_unsynced(rt, shown, e);
     }
-    Placed {
-        over: true,
-        renamed: true,
-        stand,
-    }
+    Placed::Renamed
 }
 
 fn rename(rt: &impl Files, from: &[u8], to: &[u8]) -> Result<()> {
@@ -133,40 +121,23 @@ fn rename(rt: &impl Files, from: &[u8], to: &[u8]) -> Result<()> {
 
 // Whether what stands there now is what was read before.
 fn is_as_it_was(stand: Stand, now: Stand, base: &[u8], again: &[u8]) -> bool {
-    if stand.there {
-        if !now.there {
-            return false;
-        }
-    }
-    if now.there {
-        if !stand.there {
-            return false;
-        }
-    }
-    texts::same(
-        told::front(base, stand.length),
-        told::front(again, now.length),
-    )
+    stand.mode.is_ok() == now.mode.is_ok()
+        && told::front(base, stand.length) == told::front(again, now.length)
 }
 
 // Another sheet stands there now. One that went away is a failure.
-fn changed(rt: &impl Console, now: Stand, was_there: bool, shown: &[u8]) -> Placed {
-    let is_gone = was_there && !now.there;
-    if is_gone {
+fn changed(rt: &impl Console, stand: Stand, now: Stand, shown: &[u8]) -> Placed {
+    if stand.mode.is_ok() && now.mode.is_err() {
         says::tell(rt, shown, b"it went away meanwhile, and none is made");
+        return Placed::Failed;
     }
-    Placed {
-        over: is_gone,
-        renamed: false,
-        stand: now,
-    }
+    Placed::Changed(now)
 }
 
 // Writes the new sheet, syncs it and closes it. A sheet that stands keeps its mode, which is set before a byte of it is written.
-fn write<F: Write + OpenFile + Drop>(file: F, stand: Stand, sheet: &[u8]) -> Result<()> {
-    let mut file = file;
-    if stand.there {
-        file.set_permissions(Permissions::from_mode(modes::rights(stand.mode)))?;
+fn write<F: Write + OpenFile + Drop>(mut file: F, stand: Stand, sheet: &[u8]) -> Result<()> {
+    if let Ok(mode) = stand.mode {
+        file.set_permissions(Permissions::from_mode(modes::rights(mode)))?;
     }
     file.write_all(sheet)?;
     file.sync_all()

@@ -6,7 +6,7 @@ use Prim.Native.Nat.{ℕ, ◌≤◌}
 use native.Mathlib.Omega.{arith}
 use lib.ListN.{length, take, drop, replicate, length-replicate}
 use lib.Seq.{take-append_seam}
-use Rattle.answer.specs.declared.Answer.TheVariants.{Done}
+use Rattle.std.specs.declared.result.Result.TheVariants.{Ok}
 use Rattle.answer.specs.Rules.{Rule, Every}
 use Rattle.answer.specs.Writing.{answered, left}
 use Rattle.answer.proofs.Lent.{lent-accepted, lent-all, front-holds, back-holds}
@@ -28,7 +28,7 @@ same-front xs ys us vs e l =
 
 module _ (rules : List Rule) (bytes : List ℕ) where
   -- what an accepted call reports are its bytes
-  pub its_bytes : (old : List ℕ) (n : ℕ) → answered rules bytes old ≡ Done n → take n (left rules bytes old) ≡ bytes
+  pub its_bytes : (old : List ℕ) (n : ℕ) → answered rules bytes old ≡ Ok n → take n (left rules bytes old) ≡ bytes
   its_bytes old n e =
       let w = lent-all rules bytes old n e in
       ap (take n) (lent-accepted rules bytes old w.0 w.1).1
@@ -36,7 +36,7 @@ module _ (rules : List Rule) (bytes : List ℕ) where
       ∙ take-append_seam bytes (drop (length bytes) old)
 
   -- a sheet that it writes is its bytes
-  pub wrote : (old sheet : List ℕ) → answered rules bytes old ≡ Done (length sheet) → left rules bytes old ≡ sheet ++ drop (length sheet) old → Every rules × (sheet ≡ bytes)
+  pub wrote : (old sheet : List ℕ) → answered rules bytes old ≡ Ok (length sheet) → left rules bytes old ≡ sheet ++ drop (length sheet) old → Every rules × (sheet ≡ bytes)
   wrote old sheet a l =
       let w = lent-all rules bytes old (length sheet) a in
       let b = (lent-accepted rules bytes old w.0 w.1).1 in
@@ -70,7 +70,7 @@ module _ (form : Form) where
         (h.0, h.1, w.1)
 
     -- a call that was accepted with some output writes that sheet into every output as long as the limit
-    pub accepted-joins : (out : List ℕ) (n : ℕ) → join_answer form first second out ≡ Done n → Joins form first second (take n (join_left form first second out))
+    pub accepted-joins : (out : List ℕ) (n : ℕ) → join_answer form first second out ≡ Ok n → Joins form first second (take n (join_left form first second out))
     accepted-joins out n e =
         let bytes = sheet_text form (join_result form first second) in
         let w = lent-all (join_rules form first second) bytes out n e in
@@ -104,7 +104,7 @@ module _ (form : Form) where
         let h = add_holds w.0 in
         (h.0, h.1, w.1)
 
-    pub accepted-adds : (out : List ℕ) (n : ℕ) → answered rules bytes out ≡ Done n → Adds form sheet c (take n (left rules bytes out))
+    pub accepted-adds : (out : List ℕ) (n : ℕ) → answered rules bytes out ≡ Ok n → Adds form sheet c (take n (left rules bytes out))
     accepted-adds out n e =
         let w = lent-all rules bytes out n e in
         let l = (within-limit form (add_result form c.stamp c.mended sheet c.table) (add_holds w.0).2).1 in

@@ -6,8 +6,8 @@ use native.Mathlib.Omega.{arith}
 use lib.ListN.{length, take, drop, length-append}
 use lib.Seq.{take-append_seam}
 use borrow.Author.Tests.{le-leb}
-use Rattle.answer.specs.declared.Answer.{Answer}
-use Rattle.answer.specs.declared.Answer.TheVariants.{Done, Refused}
+use Rattle.std.specs.declared.result.Result.TheVariants.{Ok, Err}
+use Rattle.answer.specs.Answer.{Answer}
 use Rattle.answer.specs.declared.Refusal.{Refusal}
 use Rattle.answer.proofs.Steps.{ends, goes_on}
 use Rattle.answer.proofs.Lent.{lent-accepted, lent-all}
@@ -36,7 +36,7 @@ module _
     {text : List ℕ}
     (old : List ℕ)
     (answers : r ≡ answered (entry_rules form mended f) xs old)
-    (done : r ≡ Done n)
+    (done : r ≡ Ok n)
     (writes : text ≡ left (entry_rules form mended f) xs old)
   where
     pub all_held : (Judged f × (mended ≤ mended_most form)) × (take n text ≡ xs) × (n ≡ length (take n text)) × (n ≤ length text)
@@ -83,28 +83,28 @@ module _ (form : Form) (stamp mended : ℕ) (sheet f : List ℕ) where
 
   -- ---- the rules of the entry first
 
-  module _ (old : List ℕ) (n : ℕ) {first : Answer} (judges : first ≡ judged refused (entry_rules form mended f) (Done n)) where
+  module _ (old : List ℕ) (n : ℕ) {first : Answer} (judges : first ≡ judged refused (entry_rules form mended f) (Ok n)) where
     abbrev bytes : List ℕ
     bytes = sheet_text form (add_result form stamp mended sheet f)
 
     abbrev rest : List Rule
     rest = short form sheet ∷ formed form sheet ∷ limited form (add_result form stamp mended sheet f)
 
-    in-turn : judged refused (entry_rules form mended f ++ (rest ++ room bytes old ∷ [])) (Done (length bytes)) ≡ answered (add_rules form stamp mended sheet f) bytes old
+    in-turn : judged refused (entry_rules form mended f ++ (rest ++ room bytes old ∷ [])) (Ok (length bytes)) ≡ answered (add_rules form stamp mended sheet f) bytes old
     unfolding add_rules
-    in-turn = ap (λ (rs : List Rule). judged refused rs (Done (length bytes))) (sym (append_assoc (entry_rules form mended f) rest (room bytes old ∷ [])))
+    in-turn = ap (λ (rs : List Rule). judged refused rs (Ok (length bytes))) (sym (append_assoc (entry_rules form mended f) rest (room bytes old ∷ [])))
 
     pub add-refused :
-        {w : Refusal} → first ≡ Refused w
-        → (Refused w ≡ answered (add_rules form stamp mended sheet f) bytes old) × (old ≡ left (add_rules form stamp mended sheet f) bytes old)
+        {w : Refusal} → first ≡ Err w
+        → (Err w ≡ answered (add_rules form stamp mended sheet f) bytes old) × (old ≡ left (add_rules form stamp mended sheet f) bytes old)
     add-refused e =
-        let a = ends (entry_rules form mended f) (rest ++ room bytes old ∷ []) n judges (Done (length bytes)) e ∙ in-turn in
+        let a = ends (entry_rules form mended f) (rest ++ room bytes old ∷ []) n judges (Ok (length bytes)) e ∙ in-turn in
         (a, ap (λ (x : Answer). after x bytes old) a)
 
     pub add-goes-on :
-        {m : ℕ} → first ≡ Done m
+        {m : ℕ} → first ≡ Ok m
         → (answered rest bytes old ≡ answered (add_rules form stamp mended sheet f) bytes old)
         × (left rest bytes old ≡ left (add_rules form stamp mended sheet f) bytes old)
     add-goes-on e =
-        let a = goes_on (entry_rules form mended f) (rest ++ room bytes old ∷ []) n judges (Done (length bytes)) e ∙ in-turn in
+        let a = goes_on (entry_rules form mended f) (rest ++ room bytes old ∷ []) n judges (Ok (length bytes)) e ∙ in-turn in
         (a, ap (λ (x : Answer). after x bytes old) a)

@@ -8,6 +8,7 @@ use native.Mathlib.Omega.{arith}
 use lib.Dec.{leb}
 use lib.ListN.{length, drop, length-append}
 use borrow.Author.Tests.{leb-true, le-leb}
+use Rattle.std.specs.declared.result.Result.TheVariants.{Ok}
 use Rattle.laws.specs.Pick.{pick}
 use Rattle.laws.specs.Each.{Each, nil, and}
 use Rattle.laws.specs.Keyed.{rising_from, rising}
@@ -19,8 +20,7 @@ use Rattle.laws.proofs.Ordering.{ordered-numbers, ordered-on, ordered-before, or
 use Rattle.laws.proofs.Joined.{join-itself as itself}
 use Rattle.laws.proofs.Trees.{Good, good-join, either_order, any-tree, each-reordered, reordered_map}
 use Rattle.laws.proofs.Needs.{within-left, within-right, within-reordered, within-allowed}
-use Rattle.answer.specs.declared.Answer.{Answer}
-use Rattle.answer.specs.declared.Answer.TheVariants.{Done}
+use Rattle.answer.specs.Answer.{Answer}
 use Rattle.answer.specs.Rules.{Every, none as all_hold, more}
 use Rattle.answer.specs.Writing.{after}
 use Rattle.answer.proofs.Lent.{lent-accepted}
@@ -158,14 +158,14 @@ module _ (form : Form) where
       more (le-leb (length (sheet_text form xs)) (byte_limit form) (omega arith))
       (more (le-leb (length (sheet_text form ys)) (byte_limit form) (omega arith)) (more t.0 (more u.0 (subst (λ (es : List Entry). Every (limited form es)) (sym r) kept)))) in
       let done : (out : List ℕ) → byte_limit form ≤ length out
-      → (join_answer form (sheet_text form xs) (sheet_text form ys) out ≡ Done (length (sheet_text form (join_result form (sheet_text form xs) (sheet_text form ys)))))
+      → (join_answer form (sheet_text form xs) (sheet_text form ys) out ≡ Ok (length (sheet_text form (join_result form (sheet_text form xs) (sheet_text form ys)))))
       × (join_left form (sheet_text form xs) (sheet_text form ys) out
       ≡ sheet_text form (join_result form (sheet_text form xs) (sheet_text form ys)) ++ drop (length (sheet_text form (join_result form (sheet_text form xs) (sheet_text form ys)))) out) =
       λ out big.
       lent-accepted (join_rules form (sheet_text form xs) (sheet_text form ys)) (sheet_text form (join_result form (sheet_text form xs) (sheet_text form ys))) out every
       (rw r (omega arith)) in
       record {
-        answers = λ out big. (done out big).0 ∙ ap (λ (es : List Entry). Done (length (sheet_text form es))) r;
+        answers = λ out big. (done out big).0 ∙ ap (λ (es : List Entry). Ok (length (sheet_text form es))) r;
         writes = λ out big. (done out big).1 ∙ ap (λ (es : List Entry). sheet_text form es ++ drop (length (sheet_text form es)) out) r;
       }
 

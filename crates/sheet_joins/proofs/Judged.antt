@@ -6,8 +6,8 @@ use Prim.Native.Nat.{ℕ, ◌≤◌, ◌<◌}
 use lib.Dec.{leb}
 use lib.ListN.{length}
 use borrow.Author.Tests.{le-leb, lt-leb, leb-true}
-use Rattle.answer.specs.declared.Answer.{Answer}
-use Rattle.answer.specs.declared.Answer.TheVariants.{Done, Refused}
+use Rattle.std.specs.declared.result.Result.TheVariants.{Ok, Err}
+use Rattle.answer.specs.Answer.{Answer}
 use Rattle.answer.specs.declared.Refusal.{Refusal}
 use Rattle.answer.specs.Rules.{Rule, rule, judged}
 use Rattle.answer.specs.Values.{refused}
@@ -29,13 +29,13 @@ module _ (form : Form) where
     abbrev sized : List Rule
     sized = rule (leb n entry_limit) 21 0 ∷ rule (leb l (byte_limit form)) 21 0 ∷ []
 
-    pub sized-many : entry_limit < n → refused 21 0 ≡ judged refused sized (Done l)
+    pub sized-many : entry_limit < n → refused 21 0 ≡ judged refused sized (Ok l)
     sized-many h = rw (lt-leb n entry_limit h)
 
-    pub sized-long : n ≤ entry_limit → byte_limit form < l → refused 21 0 ≡ judged refused sized (Done l)
+    pub sized-long : n ≤ entry_limit → byte_limit form < l → refused 21 0 ≡ judged refused sized (Ok l)
     sized-long h k = rw (le-leb n entry_limit h, lt-leb l (byte_limit form) k)
 
-    pub sized-done : n ≤ entry_limit → l ≤ byte_limit form → Done l ≡ judged refused sized (Done l)
+    pub sized-done : n ≤ entry_limit → l ≤ byte_limit form → Ok l ≡ judged refused sized (Ok l)
     sized-done h k = rw (le-leb n entry_limit h, le-leb l (byte_limit form) k)
 
   -- ---- the rules before it
@@ -55,14 +55,14 @@ module _ (form : Form) where
 
     module _ (k : length second ≤ byte_limit form) where
       pub first-bad :
-          {r : Answer} → r ≡ judged refused (count_rules form first) (Done (length (entries_of form first))) → {w : Refusal} → r ≡ Refused w → Refused w ≡ all
+          {r : Answer} → r ≡ judged refused (count_rules form first) (Ok (length (entries_of form first))) → {w : Refusal} → r ≡ Err w → Err w ≡ all
       unfolding join_rules
       first-bad counts e =
           rw (le-leb (length second) (byte_limit form) k) (counted-bad form first counts e (formed form second ∷ limited form (join_result form first second)) a)
 
       pub second-bad :
-          length first ≤ byte_limit form → (sheet_of form first).fine ≡ true → {r : Answer} → r ≡ judged refused (count_rules form second) (Done (length (entries_of form second)))
-          → {w : Refusal} → r ≡ Refused w → Refused w ≡ all
+          length first ≤ byte_limit form → (sheet_of form first).fine ≡ true → {r : Answer} → r ≡ judged refused (count_rules form second) (Ok (length (entries_of form second)))
+          → {w : Refusal} → r ≡ Err w → Err w ≡ all
       unfolding join_rules
       second-bad h f counts e =
           rw (le-leb (length first) (byte_limit form) h, f) (counted-bad form second counts e (limited form (join_result form first second)) a)
@@ -71,14 +71,14 @@ module _ (form : Form) where
   pub size-decides :
       (first second : List ℕ) {n l : ℕ} → length first ≤ byte_limit form → length second ≤ byte_limit form → (sheet_of form first).fine ≡ true
       → (sheet_of form second).fine ≡ true → n ≡ length (join_result form first second) → l ≡ length (sheet_text form (join_result form first second))
-      → judged refused (sized n l) (Done l) ≡ judged refused (join_rules form first second) (Done (length (sheet_text form (join_result form first second))))
+      → judged refused (sized n l) (Ok l) ≡ judged refused (join_rules form first second) (Ok (length (sheet_text form (join_result form first second))))
   unfolding join_rules
   size-decides first second h k f g en el = rw (en, el, le-leb (length first) (byte_limit form) h, le-leb (length second) (byte_limit form) k, f, g)
 
   -- ---- what was judged can be walked
 
   pub judged-halves :
-      (first second : List ℕ) (n m : ℕ) → judged refused (join_rules form first second) (Done n) ≡ Done m → Halfway form first 0 × Halfway form second 0
+      (first second : List ℕ) (n m : ℕ) → judged refused (join_rules form first second) (Ok n) ≡ Ok m → Halfway form first 0 × Halfway form second 0
   unfolding join_rules
   judged-halves first second n m e =
       let a = done_every (join_rules form first second) n m e in

@@ -10,20 +10,20 @@ use native.Mathlib.Omega.{arith}
 use lib.ListN.{length, take, drop}
 use lib.Seq.{take-append-le}
 use borrow.Author.Tests.{leb-true}
+use Rattle.std.specs.declared.result.Result.TheVariants.{Ok, Err}
 use Rattle.laws.specs.Each.{Each, nil, and}
 use Rattle.laws.specs.Keyed.{lookup}
 use Rattle.laws.specs.Together.{together, totals}
 use Rattle.laws.proofs.Ordering.{in-turn}
 use Rattle.laws.proofs.Joined.{never-back-first, never-back-second, join_one}
 use Rattle.laws.proofs.Needs.{within-joined, within-sum, within-itself}
-use Rattle.answer.specs.declared.Answer.{Answer}
-use Rattle.answer.specs.declared.Answer.TheVariants.{Done, Refused}
+use Rattle.answer.specs.Answer.{Answer}
 use Rattle.answer.specs.Values.{written_of}
 use Rattle.answer.specs.Writing.{answered, after}
 use Rattle.answer.proofs.Lent.{lent-all}
 use Rattle.sheet_entry.specs.Entries.{Entry, key_of}
 use Rattle.day_sheet.specs.Entries.{sheet_text, entry_limit, byte_limit}
-use Rattle.sheet_joins.specs.Joining.{at_most, joined}
+use Rattle.sheet_joins.specs.Joining.{at_most}
 use Rattle.day_sheet.specs.Calls.{entries_of}
 use Rattle.sheet_joins.specs.Calls.{join_rules, join_result}
 use Rattle.sheet_joins.specs.AnyOrder.{join_answer, join_left, size_of, Room}
@@ -69,10 +69,10 @@ module _ (form : Form) where
 
   -- what a call reports as written are its bytes
   reported :
-      (a : Answer) (bytes old : List ℕ) → ((n : ℕ) → a ≡ Done n → n ≤ length bytes)
+      (a : Answer) (bytes old : List ℕ) → ((n : ℕ) → a ≡ Ok n → n ≤ length bytes)
       → take (written_of a) (after a bytes old) ≡ take (written_of a) bytes
-  reported (Done n) bytes old h = take-append-le n bytes (drop (length bytes) old) (h n refl)
-  reported (Refused r) bytes old h = refl
+  reported (Ok n) bytes old h = take-append-le n bytes (drop (length bytes) old) (h n refl)
+  reported (Err r) bytes old h = refl
 
   -- for any two sheets in form, and outputs of one length, the two orders answer the same and write the same bytes, 21 and 1 included
   pub either-order-outputs :
@@ -85,7 +85,7 @@ module _ (form : Form) where
       let bytes = sheet_text form (join_result form first second) in
       let a : join_answer form first second out ≡ join_answer form first second out' = rw l in
       let e = join-either-order form first second out' f g in
-      let p : (old : List ℕ) (n : ℕ) → answered rules bytes old ≡ Done n → n ≤ length bytes =
+      let p : (old : List ℕ) (n : ℕ) → answered rules bytes old ≡ Ok n → n ≤ length bytes =
       λ old n d. let w = lent-all rules bytes old n d in omega (arith, w.2) in (
         a ∙ e.0,
         reported (join_answer form first second out) bytes out (p out)

@@ -6,16 +6,15 @@ use Prim.Native.Nat.{ℕ, ◌≤◌}
 use native.Mathlib.Omega.{arith}
 use lib.ListN.{length, replicate, length-replicate}
 use borrow.Author.Tests.{leb-true}
+use Rattle.std.specs.declared.result.Result.TheVariants.{Ok}
 use Rattle.laws.specs.Each.{Each, nil, and}
 use Rattle.laws.specs.Together.{Reordered, keep, Tree, one, two, leaves}
 use Rattle.laws.proofs.Eaches.{each_map}
 use Rattle.laws.proofs.Trees.{each-reordered, reordered_map}
-use Rattle.answer.specs.declared.Answer.TheVariants.{Done}
 use Rattle.answer.specs.Values.{refused}
 use Rattle.answer.proofs.Judging.{passes}
 use Rattle.answer.proofs.Lent.{lent-all}
 use Rattle.answer.proofs.Steps.{first_holds, others_hold}
-use Rattle.forms.specs.Form.{form}
 use Rattle.day_sheet.specs.Entries.{sheet_text, byte_limit}
 use Rattle.sheet_entry.specs.Writing.{stamped}
 use Rattle.sheet_joins.specs.Calls.{join_rules, join_result}
@@ -41,7 +40,7 @@ module _ (form : Form) where
       let f = c.table in
       let g = entry-judged form c.mended f t.form_holds in
       let l = second_short sheet (sheet_of_one form c) result j in
-      let p = sym (passes refused (Done 0) t.form_holds) in
+      let p = sym (passes refused (Ok 0) t.form_holds) in
       record {
         answers =
             λ out big.

@@ -1,5 +1,5 @@
 -- One entry taken of two sheets in form that are joined: the smaller key's or the greater entry, as the walk along both says. Assumes nothing.
-use mathlib.Core.Path.{◌≡◌, ◌∙◌, refl, sym, ap}
+use mathlib.Core.Path.{◌≡◌, ◌∙◌, refl, sym, ap, ap₂}
 use mathlib.Core.Bool.{Bool, true, false}
 use mathlib.Core.List.{List, [], ◌++◌}
 use Prim.Native.Nat.{ℕ, suc, ◌+◌, ◌-◌, ◌≤◌, ◌<◌}
@@ -17,13 +17,22 @@ use Rattle.sheet_entry.specs.Entries.{Entry, entry_text}
 use Rattle.day_sheet.specs.Entries.{sheet_text}
 use Rattle.sheet_entry.specs.Reading.{entry_at, found_of}
 use Rattle.sheet_joins.specs.Along.{Stands}
-use Rattle.sheet_joins.specs.Turns.{absent, turn, turn_by, turn_of}
+use Rattle.std.specs.declared.option.Option.{Option}
+use Rattle.std.specs.declared.option.Option.TheVariants.{None, Some}
+use Rattle.std.specs.declared.result.Result.{Result}
+use Rattle.std.specs.declared.result.Result.TheVariants.{Ok, Err}
+use Rattle.sheet_entry.specs.declared.NoEntry.{NoEntry}
+use Rattle.day_sheet.specs.Reading.{InForm}
+use Rattle.sheet_joins.specs.declared.Turn.TheVariants.{First, Second, Both}
+use Rattle.sheet_entry.specs.declared.NoEntry.TheVariants.{End}
+use Rattle.sheet_joins.specs.declared.Next.{Next}
+use Rattle.sheet_joins.specs.Turns.{next, next_by, next_of, turn_by, turn_of, first_long, second_long}
 use Rattle.sheet_joins.specs.Joining.{at_most, staying, joined}
 use Rattle.sheet_joins.specs.Calls.{join_result}
 use Rattle.day_sheet.specs.Internal.{Halfway}
-use Rattle.sheet_joins.specs.Internal.{Lies, Met, found_lines, lines_stay, second_stays, second_put, turn_text}
+use Rattle.sheet_joins.specs.Internal.{Lies, Met, found_lines, lines_stay, second_stays, turn_text}
 use Rattle.day_sheet.proofs.Fronts.{found}
-use Rattle.sheet_joins.proofs.Meeting.{lines-found, Front, front-first, front-second, front-both, Turned, turned, along-out}
+use Rattle.sheet_joins.proofs.Meeting.{lines-found, Front, front-first, front-second, front-both, Spans, Turned, turned, turned-end}
 use Rattle.sheet_entry.specs.declared.Form.{Form}
 
 -- the second's entry stays exactly where the first's is at most it
@@ -49,7 +58,7 @@ module _ (form : Form) where
 
   -- what a turn puts is the entry that stays
   turn-stays : {a b : List ℕ} {t : Turn} {s : Stands} → Front form a b t s → turn_text t a b ≡ entry_text form (staying s)
-  unfolding turn_text second_put
+  unfolding turn_text
   turn-stays (front-first x rest v e) = rw e (take-append_seam (entry_text form x) rest)
   turn-stays (front-second y more w e) = rw e (take-append_seam (entry_text form y) more)
   turn-stays (front-both x y rest more v w k e d) = rw (e, d, stays-text x y rest more) (chosen (at_most x y))
@@ -62,59 +71,74 @@ module _ (form : Form) where
       chosen false = take-append_seam (entry_text form x) rest
 
   module _ {a b : List ℕ} {t : Turn} (u : Turned form a b t) where
-    text-on : sheet_text form (join_result form a b) ≡ turn_text t a b ++ sheet_text form (join_result form (drop t.first.long a) (drop t.second.long b))
+    text-on : sheet_text form (join_result form a b) ≡ turn_text t a b ++ sheet_text form (join_result form (drop (first_long t) a) (drop (second_long t) b))
     unfolding join_result joined sheet_text
     text-on = rw (u.on, turn-stays u.front)
 
-    count-on : length (join_result form a b) ≡ suc (length (join_result form (drop t.first.long a) (drop t.second.long b)))
+    count-on : length (join_result form a b) ≡ suc (length (join_result form (drop (first_long t) a) (drop (second_long t) b)))
     unfolding join_result joined
     count-on = rw u.on
 
-  -- where both are at their end nothing is left
-  turned-out : (a b : List ℕ) → length a + length b ≤ 0 → join_result form a b ≡ []
+  -- where neither has an entry nothing is left
+  turned-out : (a b : List ℕ) → InForm form a → InForm form b → None ≡ turn_of form a b → join_result form a b ≡ []
   unfolding join_result joined
-  turned-out a b h = rw (along-out form a b h)
+  turned-out a b f g e = rw (turned-end form a b f g e)
 
 -- ---- as the code goes
 
-module _ (f g : Found) where
-  pub by-second : f.more ≡ false → turn f g ≡ turn_by f g
-  unfolding turn_by
-  by-second h = rw h
+-- what has the next key
+module _ (form : Form) (a b : List ℕ) where
+  module _ {f : Found} (p : Ok f ≡ found_of form (entry_at form 0 a)) where
+    pub next-alone : {w : NoEntry} → Err w ≡ found_of form (entry_at form 0 b) → next (Ok f) (Err w) ≡ next_of form a b
+    unfolding next_of next_by
+    next-alone q = rw (sym p, sym q)
 
-  pub by_first : f.more ≡ true → g.more ≡ false → turn f g ≡ turn_by f g
-  unfolding turn_by
-  by_first h l = rw (h, l)
+    module _ {g : Found} (q : Ok g ≡ found_of form (entry_at form 0 b)) where
+      pub next-less : f.key < g.key → next (Ok f) (Err End) ≡ next_of form a b
+      unfolding next_of next_by
+      next-less k = rw (sym p, sym q, lt-ltb f.key g.key k)
 
-  pub by_less : f.more ≡ true → g.more ≡ true → f.key < g.key → turn f absent ≡ turn_by f g
-  unfolding turn_by
-  by_less h l k = rw (h, l, lt-ltb f.key g.key k)
+      pub next-more : g.key < f.key → next (Err End) (Ok g) ≡ next_of form a b
+      unfolding next_of next_by
+      next-more k = rw (sym p, sym q, le-ltb f.key g.key (omega arith), lt-ltb g.key f.key k)
 
-  pub by-more : f.more ≡ true → g.more ≡ true → g.key < f.key → turn absent g ≡ turn_by f g
-  unfolding turn_by
-  by-more h l k = rw (h, l, le-ltb f.key g.key (omega arith), lt-ltb g.key f.key k)
+      pub next-same : f.key ≡ g.key → next (Ok f) (Ok g) ≡ next_of form a b
+      unfolding next_of next_by
+      next-same k = rw (sym p, sym q, le-ltb f.key g.key (omega arith), le-ltb g.key f.key (omega arith))
 
-  pub by-same : f.more ≡ true → g.more ≡ true → f.key ≡ g.key → turn f g ≡ turn_by f g
-  unfolding turn_by
-  by-same h l k = rw (h, l, le-ltb f.key g.key (omega arith), le-ltb g.key f.key (omega arith))
+  pub next-other : {w : NoEntry} {y : Result Found NoEntry} → Err w ≡ found_of form (entry_at form 0 a) → y ≡ found_of form (entry_at form 0 b) → next (Err w) y ≡ next_of form a b
+  unfolding next_of next_by
+  next-other p q = rw (sym p, sym q)
 
-module _ (form : Form) where
-  pub turn-found : (a b : List ℕ) {f g : Found} → f ≡ found_of form (entry_at form 0 a) → g ≡ found_of form (entry_at form 0 b) → turn_by f g ≡ turn_of form a b
-  unfolding turn_of
-  turn-found a b p q = rw (p, q)
+-- the turn that it is
+abbrev pub turn_from : Result Found NoEntry → Result Found NoEntry → Option Turn
+turn_from (Ok f) (Ok g) = Some (Both f g)
+turn_from (Ok f) (Err w) = Some (First f)
+turn_from (Err w) (Ok g) = Some (Second g)
+turn_from (Err w) (Err x) = None
 
-module _ (t : Turn) (a b : List ℕ) where
-  pub put_first : t.second.more ≡ false → false ≡ second_put t a b
-  unfolding second_put
-  put_first h = rw h
+from_next : (x y : Result Found NoEntry) → turn_from (next_by x y).first (next_by x y).second ≡ turn_by x y
+unfolding next_by turn_by
+from_next (Ok f) (Ok g) = go (ltb f.key g.key) (ltb g.key f.key)
+  where
+    go :
+        (s t : Bool)
+        → (let n = pick s (next (Ok f) (Err End)) (pick t (next (Err End) (Ok g)) (next (Ok f) (Ok g))) in turn_from n.first n.second)
+        ≡ Some (pick s (First f) (pick t (Second g) (Both f g)))
+    go true t = refl
+    go false true = refl
+    go false false = refl
+from_next (Ok f) (Err w) = refl
+from_next (Err w) (Ok g) = refl
+from_next (Err w) (Err x) = refl
 
-  pub put_second : t.second.more ≡ true → t.first.more ≡ false → true ≡ second_put t a b
-  unfolding second_put
-  put_second h l = rw (h, l)
-
-  pub put_both : t.second.more ≡ true → t.first.more ≡ true → second_stays a t.first b t.second ≡ second_put t a b
-  unfolding second_put
-  put_both h l = rw (h, l)
+pub turn-next :
+    (form : Form) (a b : List ℕ) {n : Next} {x y : Result Found NoEntry} → n ≡ next_of form a b → n.first ≡ x → n.second ≡ y → turn_from x y ≡ turn_of form a b
+unfolding next_of turn_of
+turn-next form a b e p q =
+    ap₂ turn_from (sym p) (sym q)
+    ∙ ap (λ (m : Next). turn_from m.first m.second) e
+    ∙ from_next (found_of form (entry_at form 0 a)) (found_of form (entry_at form 0 b))
 
 module _ (a : List ℕ) (f : Found) (b : List ℕ) (g : Found) where
   pub stays-less : f.stamp < g.stamp → true ≡ second_stays a f b g
@@ -139,28 +163,36 @@ lines_part sheet at f l =
     let e : at + (f.long - 1) - (at + f.head) ≡ f.long - 1 - f.head = omega arith in
     rw (e, drop-drop f.head at sheet)
 
-pub lies_met : (sheet : List ℕ) (at : ℕ) (f : Found) → Met sheet at f → f.more ≡ true → Lies sheet at f
-lies_met sheet at f m h = record { head_first = m.span h; inside = m.inside; small = m.small }
+-- the text of a turn of both
+module _ (f g : Found) (a b : List ℕ) where
+  pub later_text : second_stays a f b g ≡ true → take g.long b ≡ turn_text (Both f g) a b
+  unfolding turn_text
+  later_text h = rw h
 
--- the text of a turn
-pub later_text : (t : Turn) (a b : List ℕ) → second_put t a b ≡ true → take t.second.long b ≡ turn_text t a b
-unfolding turn_text
-later_text t a b h = rw h
-
-pub first-text : (t : Turn) (a b : List ℕ) → second_put t a b ≡ false → take t.first.long a ≡ turn_text t a b
-unfolding turn_text
-first-text t a b h = rw h
+  pub first-text : second_stays a f b g ≡ false → take f.long a ≡ turn_text (Both f g) a b
+  unfolding turn_text
+  first-text h = rw h
 
 pub part_length : (n i : ℕ) (l : List ℕ) → i + n ≤ length l → length (take n (drop i l)) ≡ n
 part_length n i l h = length-take-le n (drop i l) (rw (length-drop i l) (omega arith))
 
-turn-length : (t : Turn) (a b : List ℕ) → length (turn_text t a b) ≤ t.first.long + t.second.long
+turn-length : (t : Turn) (a b : List ℕ) → length (turn_text t a b) ≤ first_long t + second_long t
 unfolding turn_text
-turn-length t a b = go (second_put t a b)
+turn-length (First f) a b = let e = length-take f.long a in omega arith
+turn-length (Second g) a b = let e = length-take g.long b in omega arith
+turn-length (Both f g) a b = go (second_stays a f b g)
   where
-    go : (l : Bool) → length (pick l (take t.second.long b) (take t.first.long a)) ≤ t.first.long + t.second.long
-    go true = let e = length-take t.second.long b in omega arith
-    go false = let e = length-take t.first.long a in omega arith
+    go : (l : Bool) → length (pick l (take g.long b) (take f.long a)) ≤ f.long + g.long
+    go true = let e = length-take g.long b in omega arith
+    go false = let e = length-take f.long a in omega arith
+
+-- each entry of a turn lies within its sheet
+pub met_of :
+    (first : List ℕ) (i : ℕ) (second : List ℕ) (j : ℕ) (t : Turn) → Spans t → i + first_long t ≤ length first → j + second_long t ≤ length second
+    → length first ≤ 65000 → length second ≤ 65000 → Met first i second j t
+met_of first i second j (First f) s x y m n = record { head_first = s; inside = x; small = m }
+met_of first i second j (Second g) s x y m n = record { head_first = s; inside = y; small = n }
+met_of first i second j (Both f g) s x y m n = (record { head_first = s.0; inside = x; small = m }, record { head_first = s.1; inside = y; small = n })
 
 -- ---- along both sheets
 
@@ -188,27 +220,21 @@ module _ (form : Form) where
         count_small = omega arith;
       }
 
-  module _ (first second out₀ out : List ℕ) (i j n q : ℕ) (v : Along first second out₀ out i j n q) where
-    pub along-turn :
-        i + j < length first + length second → {t : Turn} → t ≡ turn_of form (drop i first) (drop j second)
-        → Turned form (drop i first) (drop j second) t
-    along-turn h e =
-        let f = v.in_first.within.inside in
-        let g = v.in_second.within.inside in
-        let k = length-drop i first in
-        let l = length-drop j second in
-        rw e (turned form (drop i first) (drop j second) v.in_first.fine v.in_second.fine (omega arith))
+  module _ {first second out₀ out : List ℕ} {i j n q : ℕ} (v : Along first second out₀ out i j n q) where
+    along-turn : {t : Turn} → Some t ≡ turn_of form (drop i first) (drop j second) → Turned form (drop i first) (drop j second) t
+    along-turn e = turned form (drop i first) (drop j second) v.in_first.fine v.in_second.fine e
 
     pub along-on :
-        {t : Turn} {out' : List ℕ} {q' : ℕ} → Turned form (drop i first) (drop j second) t
+        {t : Turn} {out' : List ℕ} {q' : ℕ} → Some t ≡ turn_of form (drop i first) (drop j second)
         → out' ≡ sets out q (turn_text t (drop i first) (drop j second)) → q' ≡ q + length (turn_text t (drop i first) (drop j second))
-        → Along first second out₀ out' (i + t.first.long) (j + t.second.long) (n + 1) q'
-    along-on {t} {out'} {q'} u e k =
+        → Along first second out₀ out' (i + first_long t) (j + second_long t) (n + 1) q'
+    along-on {t} {out'} {q'} s e k =
+        let u = along-turn s in
         let a = drop i first in
         let b = drop j second in
-        let f = drop-drop t.first.long i first in
-        let g = drop-drop t.second.long j second in
-        let r : join_result form (drop (i + t.first.long) first) (drop (j + t.second.long) second) ≡ join_result form (drop t.first.long a) (drop t.second.long b) = rw (f, g) in
+        let f = drop-drop (first_long t) i first in
+        let g = drop-drop (second_long t) j second in
+        let r : join_result form (drop (i + first_long t) first) (drop (j + second_long t) second) ≡ join_result form (drop (first_long t) a) (drop (second_long t) b) = rw (f, g) in
         let x = u.first_in in
         let y = u.second_in in
         let z = u.goes_on in
@@ -216,14 +242,14 @@ module _ (form : Form) where
         let l = length-drop i first in
         let m = length-drop j second in
         let o = turn-length t a b in
-        let w = length-append (turn_text t a b) (sheet_text form (join_result form (drop t.first.long a) (drop t.second.long b))) in
-        let d : length (sheet_text form (join_result form a b)) ≡ length (turn_text t a b) + length (sheet_text form (join_result form (drop t.first.long a) (drop t.second.long b))) = ap length (text-on form u) ∙ w in
+        let w = length-append (turn_text t a b) (sheet_text form (join_result form (drop (first_long t) a) (drop (second_long t) b))) in
+        let d : length (sheet_text form (join_result form a b)) ≡ length (turn_text t a b) + length (sheet_text form (join_result form (drop (first_long t) a) (drop (second_long t) b))) = ap length (text-on form u) ∙ w in
         record {
           in_first = record { within = record { inside = let h = v.in_first.within.inside in omega arith; short = v.in_first.within.short }; fine = rw (sym f) u.first_fine };
           in_second = record { within = record { inside = let h = v.in_second.within.inside in omega arith; short = v.in_second.within.short }; fine = rw (sym g) u.second_fine };
           to_put =
               rw (r, e, k)
-              (sym (sets-append out q (turn_text t a b) (sheet_text form (join_result form (drop t.first.long a) (drop t.second.long b))))
+              (sym (sets-append out q (turn_text t a b) (sheet_text form (join_result form (drop (first_long t) a) (drop (second_long t) b))))
               ∙ ap (sets out q) (sym (text-on form u))
               ∙ v.to_put);
           to_go = rw r (let h = v.to_go in omega arith);
@@ -233,34 +259,31 @@ module _ (form : Form) where
         }
 
     pub along-end :
-        length first + length second ≤ i + j
+        None ≡ turn_of form (drop i first) (drop j second)
         → (out ≡ sets out₀ 0 (sheet_text form (join_result form first second))) × (n ≡ length (join_result form first second))
         × (q ≡ length (sheet_text form (join_result form first second)))
     unfolding sheet_text
     along-end h =
-        let k = length-drop i first in
-        let l = length-drop j second in
-        let f = v.in_first.within.inside in
-        let g = v.in_second.within.inside in
-        let r = turned-out form (drop i first) (drop j second) (omega arith) in
+        let r = turned-out form (drop i first) (drop j second) v.in_first.fine v.in_second.fine h in
         let a : sets out q (sheet_text form []) ≡ sets out₀ 0 (sheet_text form (join_result form first second)) = rw r at v.to_put in
         let b : n + 0 ≡ length (join_result form first second) = rw r at v.to_count in
         let c : q + 0 ≡ length (sheet_text form (join_result form first second)) = rw r at v.to_go in
         (a, omega arith, omega arith)
 
-    -- no place is far on, and what was met lies within the sheets
+    -- a turn goes on within the sheets, no place is far on, and what was met lies within them
     pub along-fits :
-        {t : Turn} → Turned form (drop i first) (drop j second) t
-        → Met first i t.first × Met second j t.second × (q + t.first.long + t.second.long ≤ 200000)
-    along-fits {t} u =
+        {t : Turn} → Some t ≡ turn_of form (drop i first) (drop j second)
+        → Met first i second j t × (q + first_long t + second_long t ≤ 200000) × (i + first_long t ≤ length first) × (j + second_long t ≤ length second)
+        × (0 < first_long t + second_long t)
+    along-fits {t} s =
+        let u = along-turn s in
         let x = u.first_in in
         let y = u.second_in in
         let l = length-drop i first in
         let m = length-drop j second in
         let f = v.in_first.within in
         let g = v.in_second.within in
-        let s = v.place_small in (
-          record { span = u.first_span; inside = omega arith; small = f.short },
-          record { span = u.second_span; inside = omega arith; small = g.short },
-          omega arith,
-        )
+        let k = v.place_small in
+        let a : i + first_long t ≤ length first = omega arith in
+        let b : j + second_long t ≤ length second = omega arith in
+        (met_of first i second j t u.span a b f.short g.short, omega arith, a, b, u.goes_on)

@@ -1,7 +1,7 @@
 -- Sheets joined in any order and any grouping (SCOPE 25): what a call of `join` gives, a tree of such calls, and the premise.
+use Rattle.std.specs.declared.result.Result.TheVariants.{Ok}
 use Rattle.std.specs.Prelude.{◌≡◌, List, [], ◌∷◌, map, ◌++◌, ℕ, ◌≤◌, length, drop}
-use Rattle.answer.specs.declared.Answer.{Answer}
-use Rattle.answer.specs.declared.Answer.TheVariants.{Done}
+use Rattle.answer.specs.Answer.{Answer}
 use Rattle.answer.specs.Rules.{Every}
 use Rattle.answer.specs.Writing.{answered, left}
 use Rattle.laws.specs.Together.{Tree, one, two, Within}
@@ -28,7 +28,7 @@ module _ (form : Form) where
 
   -- into every output that is as long as the limit, `join` writes this sheet
   pub record Joins (first second sheet : List ℕ) : Type 0 where
-    pub answers : (out : List ℕ) → byte_limit form ≤ length out → join_answer first second out ≡ Done (length sheet)
+    pub answers : (out : List ℕ) → byte_limit form ≤ length out → join_answer first second out ≡ Ok (length sheet)
     pub writes : (out : List ℕ) → byte_limit form ≤ length out → join_left first second out ≡ sheet ++ drop (length sheet) out
 
   -- the calls of a tree, each on what two others wrote, and the sheet that the last one writes
@@ -54,7 +54,7 @@ module _ (form : Form) where
   pub record Adds (sheet : List ℕ) (c : Captured) (result : List ℕ) : Type 0 where
     pub answers :
         (out : List ℕ) → byte_limit form ≤ length out
-        → answered (add_rules form c.stamp c.mended sheet c.table) (sheet_text form (add_result form c.stamp c.mended sheet c.table)) out ≡ Done (length result)
+        → answered (add_rules form c.stamp c.mended sheet c.table) (sheet_text form (add_result form c.stamp c.mended sheet c.table)) out ≡ Ok (length result)
     pub writes :
         (out : List ℕ) → byte_limit form ≤ length out
         → left (add_rules form c.stamp c.mended sheet c.table) (sheet_text form (add_result form c.stamp c.mended sheet c.table)) out

@@ -1,9 +1,10 @@
 -- What only private calls cite, of one entry taken of two sheets that are merged; nothing here needs to be believed.
-use Rattle.std.specs.Prelude.{Bool, true, false, List, ◌≡◌, ℕ, ◌+◌, ◌≤◌, ◌-◌, ltb, leb, length, take, drop}
+use Rattle.std.specs.Prelude.{Bool, true, false, List, ℕ, ◌+◌, ◌≤◌, ◌-◌, ltb, leb, length, take, drop}
 use Rattle.laws.specs.Pick.{pick}
 use Rattle.laws.specs.Orders.{before}
 use Rattle.sheet_entry.specs.declared.Found.{Found}
 use Rattle.sheet_joins.specs.declared.Turn.{Turn}
+use Rattle.sheet_joins.specs.declared.Turn.TheVariants.{First, Second, Both}
 
 -- the table lines of the entry that was found at the front: behind its head, before its empty line
 unfoldable pub found_lines : List ℕ → Found → List ℕ
@@ -20,13 +21,11 @@ second_stays a f b g =
     (pick (ltb g.stamp f.stamp) false
     (lines_stay (found_lines a f) f.mended (found_lines b g) g.mended))
 
--- whether it is the second's entry that stays
-unfoldable pub second_put : Turn → List ℕ → List ℕ → Bool
-second_put t a b = pick t.second.more (pick t.first.more (second_stays a t.first b t.second) true) false
-
 -- the text that stays
 unfoldable pub turn_text : Turn → List ℕ → List ℕ → List ℕ
-turn_text t a b = pick (second_put t a b) (take t.second.long b) (take t.first.long a)
+turn_text (First f) a b = take f.long a
+turn_text (Second g) a b = take g.long b
+turn_text (Both f g) a b = pick (second_stays a f b g) (take g.long b) (take f.long a)
 
 -- an entry that was found there lies within the sheet, with its head before its empty line
 pub record Lies (sheet : List ℕ) (at : ℕ) (f : Found) : Type 0 where
@@ -34,8 +33,8 @@ pub record Lies (sheet : List ℕ) (at : ℕ) (f : Found) : Type 0 where
   pub inside : at + f.long ≤ length sheet
   pub small : length sheet ≤ 65000
 
--- the same of what a turn has of a sheet, where it has an entry of it
-pub record Met (sheet : List ℕ) (at : ℕ) (f : Found) : Type 0 where
-  pub span : f.more ≡ true → f.head + 1 ≤ f.long
-  pub inside : at + f.long ≤ length sheet
-  pub small : length sheet ≤ 65000
+-- the same of each entry of a turn
+abbrev pub Met : List ℕ → ℕ → List ℕ → ℕ → Turn → Type 0
+Met first i second j (First f) = Lies first i f
+Met first i second j (Second g) = Lies second j g
+Met first i second j (Both f g) = Lies first i f × Lies second j g

@@ -25,8 +25,6 @@ pub fn add(
         (sheet_text form (add_result form stamp mended sheet.now table.now)) out.old }
 {
     let mut text = [0u8; ENTRY];
-    match sheet_entry::write_entry(form, stamp, mended, table, &mut text) {
-        Answer::Refused(why) => Answer::Refused(why),
-        Answer::Done(n) => crate::join(form, sheet, &text[..n], out),
-    }
+    let n = sheet_entry::write_entry(form, stamp, mended, table, &mut text)?;
+    crate::join(form, sheet, &text[..n], out)
 }

@@ -8,11 +8,11 @@ use lib.Dec.{eqb, leb}
 use lib.ListN.{length, take, drop, length-append, length-drop}
 use lib.Seq.{sets, take-append_seam, drop-append_seam, drop-append-add, drop-drop, length-take-le}
 use borrow.Author.Tests.{eqb-true, ne_eqb, eq-eqb, leb-true, le-leb, lt-leb}
+use Rattle.std.specs.declared.result.Result.TheVariants.{Ok, Err}
 use Rattle.laws.specs.Pick.{pick}
 use Rattle.laws.proofs.Tests.{both_true}
 use Rattle.answer.specs.declared.Refusal.{Refusal}
-use Rattle.answer.specs.declared.Answer.{Answer}
-use Rattle.answer.specs.declared.Answer.TheVariants.{Done, Refused}
+use Rattle.answer.specs.Answer.{Answer}
 use Rattle.answer.specs.Rules.{Rule, rule, judged}
 use Rattle.answer.specs.Values.{refused}
 use Rattle.answer.specs.Writing.{room, answered, after, left}
@@ -26,6 +26,8 @@ use Rattle.listing_reader.proofs.Spells.{number-back}
 use Rattle.sheet_entry.specs.declared.Form.{Form}
 use Rattle.sheet_entry.specs.declared.Form.TheVariants.{Old, New}
 use Rattle.sheet_entry.specs.declared.Found.{Found}
+use Rattle.sheet_entry.specs.declared.NoEntry.{NoEntry}
+use Rattle.sheet_entry.proofs.Heads.{value_of, came}
 use Rattle.sheet_entry.specs.Entries.{Entry, stamp_name, stamp_most, key_lines, spelled_by, head_lines, table_lines, empty_line, entry_text, written}
 use Rattle.sheet_entry.specs.Reading.{entry_at, found_of}
 use Rattle.sheet_entry.proofs.Entered.{written-parts}
@@ -175,17 +177,13 @@ pub record Ahead (form : Form) (sheet : List ℕ) (at : ℕ) (f : Found) : Type 
   pub on : Halfway form sheet (at + f.long)
 
 module _ (form : Form) (sheet : List ℕ) (at : ℕ) (h : Halfway form sheet at) where
-  pub ahead : at < length sheet → {f : Found} → f ≡ found_of form (entry_at form 0 (drop at sheet)) → Ahead form sheet at f
-  unfolding sheet_text
-  ahead less {f} reads = go (front form (drop at sheet) h.fine)
+  pub ahead : {f : Found} → Ok f ≡ found_of form (entry_at form 0 (drop at sheet)) → Ahead form sheet at f
+  ahead {f} reads = go (front form (drop at sheet) h.fine)
     where
       go : Front form (drop at sheet) → Ahead form sheet at f
-      go (empty e n) =
-          let z = ap length ((read-written form (drop at sheet) 0 h.fine).0 ∙ ap (sheet_text form) n) in
-          let d = length-drop at sheet in
-          absurd (omega arith)
+      go (empty e n) = let z = ap came (reads ∙ e) in absurd (omega arith)
       go (entry x e n r p q) =
-          let i = reads ∙ e in
+          let i = ap (value_of f) (reads ∙ e) in
           let l : f.long ≡ length (entry_text form x) = ap (λ (y : Found). y.long) i in
           let w = h.within.inside in
           let d = length-drop at sheet in
@@ -201,12 +199,12 @@ module _ (form : Form) (sheet : List ℕ) (at : ℕ) (h : Halfway form sheet at)
             on = record { within = record { inside = inside; short = h.within.short }; fine = rw (l, ← c) r };
           }
 
-  pub none_ahead : length sheet ≤ at → entries_of form (drop at sheet) ≡ []
-  none_ahead past = go (front form (drop at sheet) h.fine)
+  pub none_ahead : {w : NoEntry} → Err w ≡ found_of form (entry_at form 0 (drop at sheet)) → entries_of form (drop at sheet) ≡ []
+  none_ahead reads = go (front form (drop at sheet) h.fine)
     where
       go : Front form (drop at sheet) → entries_of form (drop at sheet) ≡ []
       go (empty e n) = n
-      go (entry x e n r p q) = let d = length-drop at sheet in absurd (omega arith)
+      go (entry x e n r p q) = let z = ap came (reads ∙ e) in absurd (omega arith)
 
 -- ---- the numbers
 
@@ -257,7 +255,7 @@ module _
 
     pub carried-many : entry_limit < count → (refused 21 0 ≡ answered (limited to es) bytes old) × (old ≡ left (limited to es) bytes old)
     carried-many m =
-        let e : refused 21 0 ≡ judged refused (limited to es) (Done 0) = rw (lt-leb (length es) entry_limit (omega arith)) in
+        let e : refused 21 0 ≡ judged refused (limited to es) (Ok 0) = rw (lt-leb (length es) entry_limit (omega arith)) in
         lent-refused (limited to es) bytes old 0 e refl
 
     module _ {less more : ℕ} (l : less ≡ marks_of from count) (m : more ≡ marks_of to count) where
@@ -276,12 +274,12 @@ module _
             → (refused 21 0 ≡ answered (limited to es) bytes old) × (old ≡ left (limited to es) bytes old)
         carried-long h =
             let z = carried-size in
-            let e : refused 21 0 ≡ judged refused (limited to es) (Done 0) =
+            let e : refused 21 0 ≡ judged refused (limited to es) (Ok 0) =
             rw (le-leb (length es) entry_limit (omega arith), lt-leb (length bytes) (byte_limit to) (omega arith)) in
             lent-refused (limited to es) bytes old 0 e refl
 
         module _ (short : length sheet - less + more ≤ byte_limit to) where
-          fit : Done 0 ≡ judged refused (limited to es) (Done 0)
+          fit : Ok 0 ≡ judged refused (limited to es) (Ok 0)
           fit =
               let z = carried-size in
               rw (le-leb (length es) entry_limit (omega arith), le-leb (length bytes) (byte_limit to) (omega arith))
@@ -293,11 +291,11 @@ module _
 
           pub carried-done :
               {out : List ℕ} {q : ℕ} → length sheet - less + more ≤ length old → Put old 0 bytes out q
-              → (Done (length sheet - less + more) ≡ answered (limited to es) bytes old) × (out ≡ left (limited to es) bytes old)
+              → (Ok (length sheet - less + more) ≡ answered (limited to es) bytes old) × (out ≡ left (limited to es) bytes old)
           carried-done h a =
               let z = carried-size in
               let d = lent-done (limited to es) bytes old 0 fit refl (omega arith) in
-              (ap Done (sym z.1) ∙ d.0, a.stored ∙ d.1)
+              (ap Ok (sym z.1) ∙ d.0, a.stored ∙ d.1)
 
 -- ---- the rules before it
 
@@ -308,14 +306,14 @@ module _ (from to : Form) (sheet old : List ℕ) where
   abbrev text : List ℕ
   text = sheet_text to (entries_of from sheet)
 
-  module _ {r : Answer} (counts : r ≡ judged refused (count_rules from sheet) (Done (length (entries_of from sheet)))) where
-    pub move-bad : {w : Refusal} → r ≡ Refused w → (Refused w ≡ answered all text old) × (old ≡ left all text old)
+  module _ {r : Answer} (counts : r ≡ judged refused (count_rules from sheet) (Ok (length (entries_of from sheet)))) where
+    pub move-bad : {w : Refusal} → r ≡ Err w → (Err w ≡ answered all text old) × (old ≡ left all text old)
     move-bad {w} e =
-        let a : Refused w ≡ judged refused all (Done 0) =
-        (unfold move_rules in counted-bad from sheet counts e (rule (unmended (entries_of from sheet)) 25 0 ∷ limited to (entries_of from sheet)) (Done 0)) in
+        let a : Err w ≡ judged refused all (Ok 0) =
+        (unfold move_rules in counted-bad from sheet counts e (rule (unmended (entries_of from sheet)) 25 0 ∷ limited to (entries_of from sheet)) (Ok 0)) in
         lent-refused all text old 0 a refl
 
-    module _ {m : ℕ} (done : r ≡ Done m) where
+    module _ {m : ℕ} (done : r ≡ Ok m) where
       short : length sheet ≤ byte_limit from
       short = counted-short from sheet counts done
 
@@ -324,7 +322,7 @@ module _ (from to : Form) (sheet old : List ℕ) where
 
       pub move-mended : false ≡ unmended (entries_of from sheet) → (refused 25 0 ≡ answered all text old) × (old ≡ left all text old)
       move-mended u =
-          let a : refused 25 0 ≡ judged refused all (Done 0) =
+          let a : refused 25 0 ≡ judged refused all (Ok 0) =
           (unfold move_rules in rw (le-leb (length sheet) (byte_limit from) short, fine, ← u)) in
           lent-refused all text old 0 a refl
 
@@ -378,7 +376,7 @@ up_same old a rest = go (leb (length old) (byte_limit Old)) refl (sheet_of Old o
 module _ (old out : List ℕ) where
   pub up-answers : answered (move_rules Old New old) (sheet_text New (entries_of Old old)) out ≡ answered (up_rules old) (up_text old) out
   unfolding up_text
-  up-answers = up_same old (Done (length (up_text old))) (room (up_text old) out ∷ [])
+  up-answers = up_same old (Ok (length (up_text old))) (room (up_text old) out ∷ [])
 
   pub up-leaves : left (move_rules Old New old) (sheet_text New (entries_of Old old)) out ≡ left (up_rules old) (up_text old) out
   unfolding up_text

@@ -11,7 +11,7 @@ ghost use Rattle.day_sheet.specs.Internal.{Halfway};
 ghost use Rattle.sheet_moves.specs.Moving.{unmended, up_rules, up_text, down_rules, down_text};
 ghost use Rattle.sheet_moves.specs.Internal.{move_rules, mark_text, marks_of, front_text, Plainly, Stood};
 
-use answer::Answer;
+use answer::{Answer, Reason};
 use day_sheet::ENTRIES;
 use sheet_entry::Form;
 
@@ -43,15 +43,11 @@ fn carry(from: Form, to: Form, sheet: &[u8], out: &mut [u8]) -> Answer
         ≡ left (move_rules from to sheet.now) (sheet_text to (entries_of from sheet.now))
         out.old }
 {
-    match day_sheet::count(from, sheet) {
-        Answer::Refused(why) => Answer::Refused(why),
-        Answer::Done(held) => {
-            if !none_mended(from, sheet) {
-                return answer::refuse(25, 0);
-            }
-            carry_counted(from, to, held, sheet, out)
-        }
+    let held = day_sheet::count(from, sheet)?;
+    if !none_mended(from, sheet) {
+        return Reason::MendedLost.refuse(0);
     }
+    carry_counted(from, to, held, sheet, out)
 }
 
 // Whether every entry of a sheet in form has the number 0.
@@ -60,8 +56,8 @@ fn none_mended(form: Form, sheet: &[u8]) -> bool
     ensures { result ≡ unmended (entries_of form sheet.now) }
 {
     let mut at = 0;
-    while at < sheet.len() {
-        let e = sheet_entry::entry_at(form, sheet, at, 0);
+    // Kept: no count of places: each step is as long as the entry that stands there.
+    while let Ok(e) = sheet_entry::entry_at(form, sheet, at, 0) {
         if e.mended != 0 {
             return false;
         }
@@ -81,19 +77,19 @@ fn carry_counted(from: Form, to: Form, count: usize, sheet: &[u8], out: &mut [u8
         out.old }
 {
     if ENTRIES < count {
-        return answer::refuse(21, 0);
+        return Reason::SheetSize.refuse(0);
     }
     let less = marks(from, count);
     let more = marks(to, count);
     let n = sheet.len() - less + more;
     if day_sheet::limit(to) < n {
-        return answer::refuse(21, 0);
+        return Reason::SheetSize.refuse(0);
     }
     if out.len() < n {
-        return answer::refuse(1, 0);
+        return Reason::NoRoom.refuse(0);
     }
     put_carried(from, to, sheet, out);
-    Answer::Done(n)
+    Ok(n)
 }
 
 // How many bytes the lines of what was mended take of so many entries.
@@ -114,11 +110,10 @@ fn put_carried(from: Form, to: Form, sheet: &[u8], out: &mut [u8]) -> usize
 {
     let mut at = 0;
     let mut q = 0;
-    while at < sheet.len() {
-        let e = sheet_entry::entry_at(from, sheet, at, 0);
-        let long = e.long;
-        q = put_entry(from, to, sheet, at, long, out, q);
-        at += long;
+    // Kept: no count of places, as above; what the two walks share is the step alone.
+    while let Ok(e) = sheet_entry::entry_at(from, sheet, at, 0) {
+        q = put_entry(from, to, sheet, at, e.long, out, q);
+        at += e.long;
     }
     q
 }

@@ -9,7 +9,7 @@ use borrow.Author.Tests.{eqb-true, eqb-false, leb-true, ltb-true, ltb-false}
 use lib.Dec.{eqb, ltb}
 use lib.ListN.{length, take, drop, replicate, length-append, length-drop, get_or-append}
 use lib.Seq.{sets, sets-eq, length-sets, take_at, drop_at, length-take-le}
-use Rattle.answer.specs.declared.Answer.TheVariants.{Done}
+use Rattle.std.specs.declared.result.Result.TheVariants.{Ok}
 use Rattle.answer.proofs.Steps.{first_holds, others_hold}
 use Rattle.answer.proofs.Lent.{lent-all}
 use Rattle.shelf.specs.Shelf.{three_of, number_in, row_of, head_of, standing, before, number_at, way_back, place_of, Named}
@@ -137,7 +137,7 @@ pub record Keeps (form : List ℕ) (used : ℕ) (heads shelf : List ℕ) (n : �
   pub within : used + n ≤ length (shelf_after form used heads shelf)
 
 pub keeps :
-    (form : List ℕ) (used : ℕ) (heads shelf : List ℕ) (n : ℕ) → Named heads used → put_answer form used heads shelf ≡ Done n
+    (form : List ℕ) (used : ℕ) (heads shelf : List ℕ) (n : ℕ) → Named heads used → put_answer form used heads shelf ≡ Ok n
     → Keeps form used heads shelf n
 unfolding put_answer put_rules three_of
 keeps form used heads shelf n named e =

@@ -8,11 +8,11 @@ use borrow.Author.Tests.{leb-true, eqb-true, le-leb, lt-leb}
 use lib.Dec.{eqb, leb}
 use lib.ListN.{length, take, drop, length-drop, take-append-drop}
 use lib.Seq.{sets, sets-eq, drop-drop, take-length}
+use Rattle.std.specs.declared.result.Result.TheVariants.{Ok}
 use Rattle.laws.specs.Pick.{both}
 use Rattle.laws.proofs.Stores.{sets_next}
 use Rattle.laws.proofs.Tests.{both_true}
-use Rattle.answer.specs.declared.Answer.{Answer}
-use Rattle.answer.specs.declared.Answer.TheVariants.{Done}
+use Rattle.answer.specs.Answer.{Answer}
 use Rattle.answer.specs.Rules.{none, more}
 use Rattle.answer.specs.Values.{refused}
 use Rattle.answer.specs.Writing.{after}
@@ -93,14 +93,14 @@ module _ (form : List ℕ) (used : ℕ) (heads shelf : List ℕ) where
 
   pub put-done :
       sized ≡ true → 4 ≤ length form → 3 + length form ≤ length shelf - used
-      → Comes (Done (3 + length form)) (sets heads (3 * row_in form) (three_of (used + 1))) (sets shelf used (entry_of form heads))
+      → Comes (Ok (3 + length form)) (sets heads (3 * row_in form) (three_of (used + 1))) (sets shelf used (entry_of form heads))
   unfolding put_answer put_rules heads_after shelf_after
   put-done e h k =
       let s = sized-true e in
       let n = entry_length in
       let l : length (entry_of form heads) ≤ length (drop used shelf) = omega (arith, length-drop used shelf) in
       let a = lent-accepted (put_rules form used heads shelf) (entry_of form heads) (drop used shelf) (more e (more (le-leb 4 (length form) h) none)) l in
-      let d = ap Done n in (
+      let d = ap Ok n in (
         sym (a.0 ∙ d),
         (
           sym (ap (λ (r : Answer). headed r form used heads) a.0),

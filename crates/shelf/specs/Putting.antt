@@ -1,9 +1,9 @@
 -- A form put on the shelf, behind the bytes in use, at the head of its row (SCOPE 23.9).
+use Rattle.std.specs.declared.result.Result.TheVariants.{Ok, Err}
 use Rattle.std.specs.Prelude.{List, [], ◌∷◌, ◌++◌, ℕ, ◌+◌, ◌*◌, eqb, leb, length, take, drop}
 use Rattle.std.proofs.lemmas.List.Edits.{sets}
 use Rattle.laws.specs.Pick.{both}
-use Rattle.answer.specs.declared.Answer.{Answer}
-use Rattle.answer.specs.declared.Answer.TheVariants.{Done, Refused}
+use Rattle.answer.specs.Answer.{Answer}
 use Rattle.answer.specs.Rules.{Rule, rule}
 use Rattle.answer.specs.Writing.{answered, left}
 use Rattle.shelf.specs.Shelf.{three_of, number_in, row_of, head_of}
@@ -40,8 +40,8 @@ shelf_after form used heads shelf = take used shelf ++ left (put_rules form used
 
 -- the heads afterwards: the form's row names the new entry
 abbrev pub headed : Answer → List ℕ → ℕ → List ℕ → List ℕ
-headed (Done n) form used heads = sets heads (3 * row_in form) (three_of (used + 1))
-headed (Refused r) form used heads = heads
+headed (Ok n) form used heads = sets heads (3 * row_in form) (three_of (used + 1))
+headed (Err r) form used heads = heads
 
 unfoldable pub heads_after : List ℕ → ℕ → List ℕ → List ℕ → List ℕ
 heads_after form used heads shelf = headed (put_answer form used heads shelf) form used heads

@@ -9,7 +9,7 @@ ghost use Rattle.laws.specs.Pick.{both};
 ghost use Rattle.shelf.specs.Shelf.{three as shelf_three, three_of, number_in, standing, place_of};
 ghost use Rattle.shelf.specs.Putting.{row_in, entry_of, put_answer, heads_after, shelf_after, heads_length, shelf_most};
 
-use answer::Answer;
+use answer::{Answer, Reason};
 
 // The rows, and the bytes of their heads.
 const ROWS: usize = 256;
@@ -26,12 +26,14 @@ pub const MOST: usize = 16777215;
 const NUMBERED: usize = 4;
 
 // The place of the form with a number in the shelf; 0 where there is none, which no form's place is. Any two lists of bytes are taken.
+// Kept: 0 and no Option: it is what `place_of` says, and no form stands there.
 pub fn find(number: u16, heads: &[u8], shelf: &[u8]) -> usize
     ensures place { result ≡ place_of number heads.now shelf.now }
     ensures within { result ≤ length shelf.now }
 {
     let wanted = number as usize;
     let mut p = three(heads, LINK * (wanted % ROWS));
+    // Kept: the step is no count: each entry names the one before it.
     while stands(p, shelf) {
         if number_at(shelf, p + 2) == wanted {
             return p + 2;
@@ -52,17 +54,17 @@ pub fn put(form: &[u8], used: usize, heads: &mut [u8], shelf: &mut [u8]) -> Answ
     ensures shelf { shelf.new ≡ shelf_after form.now used heads.old shelf.old }
 {
     if !is_sized(used, heads, shelf) {
-        return answer::refuse(16, 0);
+        return Reason::Range.refuse(0);
     }
     if form.len() < NUMBERED {
-        return answer::refuse(13, 0);
+        return Reason::Length.refuse(0);
     }
     let need = LINK + form.len();
     if shelf.len() - used < need {
-        return answer::refuse(1, 0);
+        return Reason::NoRoom.refuse(0);
     }
     put_entry(form, used, heads, shelf);
-    Answer::Done(need)
+    Ok(need)
 }
 
 // Writes the entry of a form, and names it at the head of its row.
@@ -84,13 +86,7 @@ fn is_sized(used: usize, heads: &[u8], shelf: &[u8]) -> bool
         ≡ both (eqb (length heads.now) heads_length)
         (both (leb used (length shelf.now)) (leb (length shelf.now) shelf_most)) }
 {
-    if heads.len() != HEADS {
-        return false;
-    }
-    if shelf.len() < used {
-        return false;
-    }
-    shelf.len() <= MOST
+    heads.len() == HEADS && used <= shelf.len() && shelf.len() <= MOST
 }
 
 // Whether the entry named p lies within the shelf.
@@ -98,10 +94,7 @@ fn stands(p: usize, shelf: &[u8]) -> bool
     requires { p ≤ shelf_most }
     ensures { result ≡ standing p shelf.now }
 {
-    if p == 0 {
-        return false;
-    }
-    p + 6 <= shelf.len()
+    1 <= p && p + 6 <= shelf.len()
 }
 
 // The number of the menu whose form begins at a place.
@@ -124,6 +117,7 @@ fn three(list: &[u8], at: usize) -> usize
 }
 
 // Writes a number as three bytes.
+// Kept: byte by byte: no integer has three.
 fn put_three(v: usize, list: &mut [u8], at: usize)
     requires { (v ≤ shelf_most) × (at + 3 ≤ length list.old) }
     ensures { list.new ≡ sets list.old at (three_of v) }

@@ -2,10 +2,11 @@
 use mathlib.Core.Path.{◌≡◌, ◌∙◌, refl, sym, ap}
 use mathlib.Core.Bool.{Bool, true, false}
 use mathlib.Core.List.{List, map}
-use Prim.Native.Nat.{ℕ, suc, ◌+◌, ◌-◌, ◌/◌, ◌≤◌, ◌<◌}
+use Prim.Native.Nat.{ℕ, suc, ◌+◌, ◌-◌, ◌*◌, ◌/◌, ◌≤◌, ◌<◌}
 use native.Mathlib.Omega.{arith}
 use lib.ListN.{length, take, drop}
 use lib.Seq.{drop-drop}
+use Rattle.std.specs.declared.option.Option.{Option}
 use Rattle.laws.proofs.Lists.{part_of}
 use Rattle.packet.specs.declared.two.Streams.{Streams}
 use Rattle.packet.specs.Packet.{packet_length}
@@ -19,31 +20,38 @@ use Rattle.told.specs.Fronts.{front_of}
 use Rattle.sight.specs.declared.Sight.{Sight}
 use Rattle.sight.specs.Sights.{seen_from, counted_all, noted_all, fit_from, is_looked, seen_on, left_of, noted_in, looked_sight, looked_at, noted_at}
 
-module _ (l : List ℕ) (at : ℕ) where
-  one_fewer : at + 42 ≤ length l → (length l - at) / packet_length ≡ suc ((length l - (at + 42)) / packet_length)
-  one_fewer h = omega (arith, h)
+-- after i packets of l
+module _ (l : List ℕ) (i : ℕ) where
+  one_fewer : i < length l / packet_length → length l / packet_length - i ≡ suc (length l / packet_length - (i + 1))
+  one_fewer h = omega arith
 
-  none_left : length l < at + 42 → (length l - at) / packet_length ≡ 0
-  none_left h = omega (arith, h)
+  none_left : length l / packet_length ≤ i → length l / packet_length - i ≡ 0
+  none_left h = omega arith
+
+  further : 42 * (i + 1) ≡ 42 * i + 42
+  further = omega arith
 
   pub count-on :
-      (g : Streams) (c : Counts) {after : Counts} → at + 42 ≤ length l → after ≡ counted c (see_either g (take (at + 42 - at) (drop at l)))
-      → counted_all g ((length l - (at + 42)) / packet_length) after (drop (at + 42) l)
-      ≡ counted_all g ((length l - at) / packet_length) c (drop at l)
+      (g : Streams) (c : Counts) {after : Counts} → i < length l / packet_length
+      → after ≡ counted c (see_either g (take (42 * i + 42 - 42 * i) (drop (42 * i) l)))
+      → counted_all g (length l / packet_length - (i + 1)) after (drop (42 * (i + 1)) l)
+      ≡ counted_all g (length l / packet_length - i) c (drop (42 * i) l)
   unfolding counted_all
-  count-on g c h e = rw (one_fewer h, e, part_of at 42 l, ← drop-drop 42 at l)
+  count-on g c h e = rw (one_fewer h, e, part_of (42 * i) 42 l, further, ← drop-drop 42 (42 * i) l)
 
   pub note-on :
-      (pages : List ℕ) {after : List ℕ} → at + 42 ≤ length l → after ≡ noted (code_of (take (at + 42 - at) (drop at l))) pages
-      → noted_all ((length l - (at + 42)) / packet_length) after (drop (at + 42) l) ≡ noted_all ((length l - at) / packet_length) pages (drop at l)
+      (pages : List ℕ) {after : List ℕ} → i < length l / packet_length
+      → after ≡ noted (code_of (take (42 * i + 42 - 42 * i) (drop (42 * i) l))) pages
+      → noted_all (length l / packet_length - (i + 1)) after (drop (42 * (i + 1)) l)
+      ≡ noted_all (length l / packet_length - i) pages (drop (42 * i) l)
   unfolding noted_all
-  note-on pages h e = rw (one_fewer h, e, part_of at 42 l, ← drop-drop 42 at l)
+  note-on pages h e = rw (one_fewer h, e, part_of (42 * i) 42 l, further, ← drop-drop 42 (42 * i) l)
 
-  pub count-out : (g : Streams) (c : Counts) → length l < at + 42 → c ≡ counted_all g ((length l - at) / packet_length) c (drop at l)
+  pub count-out : (g : Streams) (c : Counts) → length l / packet_length ≤ i → c ≡ counted_all g (length l / packet_length - i) c (drop (42 * i) l)
   unfolding counted_all
   count-out g c h = rw (none_left h)
 
-  pub note-out : (pages : List ℕ) → length l < at + 42 → pages ≡ noted_all ((length l - at) / packet_length) pages (drop at l)
+  pub note-out : (pages : List ℕ) → length l / packet_length ≤ i → pages ≡ noted_all (length l / packet_length - i) pages (drop (42 * i) l)
   unfolding noted_all
   note-out pages h = rw (none_left h)
 
@@ -61,7 +69,7 @@ module _
     looked-came t = let t' = rw (d, b, c, a) at t in (rw (d, b, c, a, t'), rw t')
 
     pub looked-lacking :
-        {bytes turns new : List ℕ} {x y : ℕ} → counts.came ≡ false → bytes ≡ front_of n piece
+        {bytes turns new : List ℕ} {x y : Option ℕ} → counts.came ≡ false → bytes ≡ front_of n piece
         → x ≡ fit_from begun.plain (first_in g bytes 0) → new ≡ map turned piece → turns ≡ front_of n new
         → y ≡ fit_from begun.turned (first_in g turns 0)
         → (record { counts = counts; any = begun.any; pes = begun.pes; plain = x; turned = y } ≡ seen_on g s n piece) × (new ≡ left_of g s n piece)

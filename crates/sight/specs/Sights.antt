@@ -1,6 +1,8 @@
 -- What is seen of a capture besides its tables (SCOPE 13.9, 13.10, 27.8).
-use Rattle.std.specs.Prelude.{Bool, true, false, List, ◌∷◌, map, ℕ, zero, suc, ◌+◌, ◌*◌, ◌/◌, ◌%◌, eqb, ltb, length, take, drop, replicate}
-use Rattle.laws.specs.Pick.{pick, both}
+use Rattle.std.specs.Prelude.{Bool, true, false, List, ◌∷◌, map, ℕ, zero, suc, ◌+◌, ◌*◌, ◌/◌, ◌%◌, eqb, length, take, drop, replicate}
+use Rattle.std.specs.declared.option.Option.{Option}
+use Rattle.std.specs.declared.option.Option.TheVariants.{None, Some}
+use Rattle.laws.specs.Pick.{pick}
 use Rattle.octet.specs.Turning.{turned as turning_turned}
 use Rattle.packet.specs.declared.Setting.{Setting}
 use Rattle.packet.specs.declared.two.Streams.{Streams}
@@ -8,8 +10,6 @@ use Rattle.packet.specs.Two.{first_of, second_of}
 use Rattle.packet.specs.Packet.{packet_length}
 use Rattle.pes.specs.Header.{starts_right}
 use Rattle.survey.specs.declared.Counts.{Counts}
-use Rattle.survey.specs.declared.Place.{Place}
-use Rattle.survey.specs.declared.Place.TheVariants.{At, Nowhere}
 use Rattle.survey.specs.Counting.{counted}
 use Rattle.survey.specs.Either.{see_either}
 use Rattle.survey.specs.Fitting.{first_in}
@@ -25,8 +25,8 @@ no_sight =
       counts = record { packets = 0; ours = 0; unreadable = 0; came = false; most = 0 };
       any = false;
       pes = false;
-      plain = packet_length;
-      turned = packet_length;
+      plain = None;
+      turned = None;
     }
 
 -- bytes came, and no packet 0 of our page (SCOPE 13.9)
@@ -59,14 +59,15 @@ unfoldable pub noted_all : ℕ → List ℕ → List ℕ → List ℕ
 noted_all zero pages l = pages
 noted_all (suc n) pages l = noted_all n (noted (code_of (take packet_length l)) pages) (drop packet_length l)
 
--- from which byte of 42 on packets fit; 42 where they don't
-abbrev pub offset_of : Place → ℕ
-offset_of (At at) = at % packet_length
-offset_of Nowhere = packet_length
+-- from which byte of 42 on packets fit, if they do
+abbrev pub offset_of : Option ℕ → Option ℕ
+offset_of (Some at) = Some (at % packet_length)
+offset_of None = None
 
 -- the first that was found stays
-abbrev pub fit_from : ℕ → Place → ℕ
-fit_from known place = pick (ltb known packet_length) known (offset_of place)
+abbrev pub fit_from : Option ℕ → Option ℕ → Option ℕ
+fit_from (Some known) place = Some known
+fit_from None place = offset_of place
 
 -- whether a piece of n bytes is looked at: once a packet 0 of our page has come, only where the counts are asked for
 abbrev pub is_looked : Bool → Sight → ℕ → Bool

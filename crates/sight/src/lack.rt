@@ -3,7 +3,6 @@ ghost use Rattle.std.specs.Prelude.{◌≡◌};
 ghost use Rattle.sight.specs.Sights.{is_lacking};
 
 use crate::Sight;
-use packet::PACKET;
 use packet::two::Streams;
 use survey::seen::NO_PAGE;
 use told::Console;
@@ -12,10 +11,7 @@ use told::Console;
 pub fn is_lacking(sight: Sight) -> bool
     ensures { result ≡ is_lacking sight }
 {
-    if sight.counts.came {
-        return false;
-    }
-    sight.any
+    sight.any && !sight.counts.came
 }
 
 // Goes on behind a name in a line on standard error: what didn't come, and what the bytes may be.
@@ -40,14 +36,14 @@ fn guess(rt: &impl Console, sight: Sight, pages: &[u16], is_short: bool) {
         );
         return;
     }
-    if sight.plain < PACKET {
+    if let Some(place) = sight.plain {
         told::say(rt, b"; its packets may be out of step: they fit");
-        say_place(rt, sight.plain);
+        say_place(rt, place);
         return;
     }
-    if sight.turned < PACKET {
+    if let Some(place) = sight.turned {
         told::say(rt, b"; its bits may be turned about: turned bytes fit");
-        say_place(rt, sight.turned);
+        say_place(rt, place);
         return;
     }
     guess_pages(rt, pages);
@@ -72,25 +68,16 @@ const OTHERS: usize = 2;
 
 // The pages that came, behind our own.
 fn guess_pages(rt: &impl Console, pages: &[u16]) {
-    if is_none(pages) {
+    if pages.len() <= OTHERS || pages[OTHERS] == NO_PAGE {
         told::say(rt, b"; nor did one of another page");
         return;
     }
     told::say(rt, b"; it may be another magazine, page or stream: seen");
-    let mut i = OTHERS;
-    while i < pages.len() {
-        if pages[i] != NO_PAGE {
-            say_page(rt, pages[i]);
+    for code in &pages[OTHERS..] {
+        if *code != NO_PAGE {
+            say_page(rt, *code);
         }
-        i += 1;
     }
-}
-
-fn is_none(pages: &[u16]) -> bool {
-    if pages.len() <= OTHERS {
-        return true;
-    }
-    pages[OTHERS] == NO_PAGE
 }
 
 // A page that came, as survey::note has it: magazine, page and stream, as in 1df/2.
@@ -102,8 +89,5 @@ fn say_page(rt: &impl Console, code: u16) {
 
 // Magazine 8 is sent as 0.
 fn magazine(number: u16) -> u16 {
-    if number == 0 {
-        return 8;
-    }
-    number
+    if number == 0 { 8 } else { number }
 }

@@ -10,21 +10,21 @@ ghost use Rattle.sight.specs.Sights.{no_sight, own_page, start_pages, seen_from,
 
 use packet::two::Streams;
 use packet::{PACKET, Setting};
+use survey::Counts;
 use survey::seen::NO_PAGE;
-use survey::{Counts, Place};
 
 // Our own page in the first stream and in the second, and ten others that are told where neither came.
 pub const PAGES: usize = 12;
 
-// So far: the counts, whether bytes came and began as a PES packet does, and from which byte of 42 on packets would fit, as they are and
-// with each byte turned: 42 where they don't.
+// So far: the counts, whether bytes came and began as a PES packet does, and from which byte of 42 on packets would fit, if they do, as
+// they are and with each byte turned.
 #[derive(Clone, Copy)]
 pub struct Sight {
     pub counts: Counts,
     pub any: bool,
     pub pes: bool,
-    pub plain: usize,
-    pub turned: usize,
+    pub plain: Option<usize>,
+    pub turned: Option<usize>,
 }
 
 // The list of pages with our own in front, so that none of its packets 0 is taken for another's, whatever else of it can't be read.
@@ -58,8 +58,8 @@ pub fn none() -> Sight
         },
         any: false,
         pes: false,
-        plain: PACKET,
-        turned: PACKET,
+        plain: None,
+        turned: None,
     }
 }
 
@@ -86,13 +86,7 @@ pub fn look(
 fn is_looked(verbose: bool, sight: Sight, n: usize) -> bool
     ensures { result ≡ is_looked verbose sight n }
 {
-    if n == 0 {
-        return false;
-    }
-    if sight.counts.came {
-        return verbose;
-    }
-    true
+    n > 0 && (verbose || !sight.counts.came)
 }
 
 fn look_on(setting: Streams, sight: Sight, piece: &mut [u8], n: usize, pages: &mut [u16]) -> Sight
@@ -118,10 +112,11 @@ fn begin(sight: Sight, bytes: &[u8]) -> Sight
     if sight.any {
         return sight;
     }
-    let mut sight = sight;
-    sight.any = true;
-    sight.pes = pes::has_code(bytes);
-    sight
+    Sight {
+        any: true,
+        pes: pes::has_code(bytes),
+        ..sight
+    }
 }
 
 // Counts the whole packets, and notes the pages of those that are packets 0.
@@ -130,25 +125,17 @@ fn count_all(setting: Streams, counts: Counts, bytes: &[u8], pages: &mut [u16]) 
     ensures pages_after { pages.new ≡ noted_all (length bytes.now / packet_length) pages.old bytes.now }
 {
     let mut counts = counts;
-    let mut at = 0;
-    while PACKET <= bytes.len() - at {
-        let next = at + PACKET;
-        counts = survey::count(setting, counts, &bytes[at..next]);
-        survey::note(pages, &bytes[at..next]);
-        at = next;
+    for i in 0..bytes.len() / PACKET {
+        let packet = &bytes[PACKET * i..PACKET * i + PACKET];
+        counts = survey::count(setting, counts, packet);
+        survey::note(pages, packet);
     }
     counts
 }
 
 // From which byte of 42 on packets fit, by the first place that was found.
-fn fit_from(known: usize, place: Place) -> usize
+fn fit_from(known: Option<usize>, place: Option<usize>) -> Option<usize>
     ensures { result ≡ fit_from known place }
 {
-    if known < PACKET {
-        return known;
-    }
-    match place {
-        Place::At(at) => at % PACKET,
-        Place::Nowhere => PACKET,
-    }
+    known.or(place.map(|at| at % PACKET))
 }

@@ -12,16 +12,7 @@ use pages::Verdict;
 pub fn spans(v: Verdict, runs: bool, joined: bool) -> bool
     ensures { result ≡ spans_by v runs joined }
 {
-    if v.drops {
-        return false;
-    }
-    if !v.opens {
-        return joined;
-    }
-    if runs {
-        return true;
-    }
-    joined
+    !v.drops && (joined || (v.opens && runs))
 }
 
 // Whether the block that runs after a packet was read, if one does, spans pages: only where the packet's pointer says that no block
@@ -29,11 +20,5 @@ pub fn spans(v: Verdict, runs: bool, joined: bool) -> bool
 pub fn goes_on(joined: bool, pointer: u8, runs: bool) -> bool
     ensures { result ≡ spans_still joined (nib pointer) runs }
 {
-    if !joined {
-        return false;
-    }
-    if octet::quick::decode(pointer) != 13 {
-        return false;
-    }
-    runs
+    joined && octet::quick::decode(pointer) == 13 && runs
 }

@@ -6,8 +6,9 @@ pub mod joined;
 pub mod two;
 
 ghost use Rattle.std.specs.Prelude.{◌≡◌, true, drop};
+ghost use Rattle.laws.specs.Pick.{both};
 ghost use Rattle.walk.specs.declared.Run.TheVariants.{Head};
-ghost use Rattle.state.specs.State.{zeros, page_in_range, run_in_range, reader_in_range, reader_of, fresh_state, Sixteen};
+ghost use Rattle.state.specs.State.{zeros, page_in_range, run_in_range, joined_in_range, held_by, reader_in_range, reader_of, fresh_state, Sixteen};
 
 use pages::Page;
 use walk::Run;
@@ -43,37 +44,24 @@ pub fn fresh() -> Reader
 }
 
 // Whether a state is in range, its store so long as it is lent.
+#[tactic(auto, unfolding(crate::specs::State::reader_in_range))]
 pub fn in_range(page: Page, index: u8, run: Run, joined: bool, store: &[u8]) -> bool
     ensures value { result ≡ reader_in_range (record { page = page; index = index; run = run; joined = joined; store = store.now }) }
     ensures sixteen { result ≡ true → Sixteen run }
 {
-    if !is_page(page) {
-        return false;
-    }
-    if index > 15 {
-        return false;
-    }
+    is_page(page) && index <= 15 && is_run(run, joined, store)
+}
+
+// Whether the running block is in range, and the store clear past its bytes.
+fn is_run(run: Run, joined: bool, store: &[u8]) -> bool
+    ensures value { result ≡ both (run_in_range run) (both (joined_in_range joined run) (zeros (drop (held_by run) store.now))) }
+    ensures sixteen { result ≡ true → Sixteen run }
+{
     match run {
-        Run::Idle => {
-            if joined {
-                return false;
-            }
-            is_clear(store, 0)
-        }
-        Run::Head { got, bits, part } => {
-            if !is_head(got, bits, part) {
-                return false;
-            }
-            is_clear(store, 0)
-        }
+        Run::Idle => !joined && is_clear(store, 0),
+        Run::Head { got, bits, part } => is_head(got, bits, part) && is_clear(store, 0),
         Run::Body { head, part, held } => {
-            if part > LEAD {
-                return false;
-            }
-            if held > (head / 32) as usize {
-                return false;
-            }
-            is_clear(store, held)
+            part <= LEAD && held <= (head / 32) as usize && is_clear(store, held)
         }
     }
 }
@@ -84,12 +72,7 @@ fn is_page(page: Page) -> bool
 {
     match page {
         Page::Shut => true,
-        Page::Open { n, last } => {
-            if n > 25 {
-                return false;
-            }
-            last <= n
-        }
+        Page::Open { n, last } => n <= 25 && last <= n,
     }
 }
 
@@ -98,22 +81,14 @@ fn is_page(page: Page) -> bool
 fn is_head(got: u8, bits: u16, part: u8) -> bool
     ensures { result ≡ run_in_range (Head got bits part) }
 {
-    if got > 3 {
-        return false;
-    }
-    if part > got + 1 {
-        return false;
-    }
-    if got == 3 {
-        return bits % 16 == 0;
-    }
-    if got == 2 {
-        return bits % 256 == 0;
-    }
-    if got == 1 {
-        return bits % 4096 == 0;
-    }
-    bits == 0
+    got <= 3
+        && part <= got + 1
+        && match got {
+            3 => bits % 16 == 0,
+            2 => bits % 256 == 0,
+            1 => bits % 4096 == 0,
+            _ => bits == 0,
+        }
 }
 
 // Whether every byte of the store from `from` on is zero: all of them or-ed are, so that no byte ends the loop.
@@ -121,10 +96,8 @@ fn is_clear(store: &[u8], from: usize) -> bool
     ensures { result ≡ zeros (drop from store.now) }
 {
     let mut mix: u8 = 0;
-    let mut i = from;
-    while i < store.len() {
-        mix = mix | store[i];
-        i += 1;
+    for i in from..store.len() {
+        mix |= store[i];
     }
     mix == 0
 }

@@ -48,14 +48,12 @@ pub fn fresh() -> Readers
 
 // Whether a state of two is in range, its stores so long as they are lent: for each stream it is what a reader of that
 // stream alone may keep.
+#[tactic(auto, unfolding(crate::specs::Two::readers_in_range))]
 pub fn in_range(page: SharedPage, first: Half, second: Half, store1: &[u8], store2: &[u8]) -> bool
     ensures value { result ≡ readers_in_range (record { page = page; first = first; second = second; store1 = store1.now; store2 = store2.now }) }
     ensures sixteen { result ≡ true → Sixteen first.run × Sixteen second.run }
 {
-    if !is_fit(page, Whose::First, first, store1) {
-        return false;
-    }
-    is_fit(page, Whose::Second, second, store2)
+    is_fit(page, Whose::First, first, store1) && is_fit(page, Whose::Second, second, store2)
 }
 
 // Whether one stream's part is what a reader of that stream alone may keep.

@@ -9,10 +9,10 @@ use native.Mathlib.Omega.{arith}
 use lib.ListN.{length, take, drop, length-append, length-map, length-take, length-drop}
 use lib.Seq.{sets, take-length}
 use borrow.Author.Tests.{le-leb, lt-leb}
+use Rattle.std.specs.declared.result.Result.TheVariants.{Ok, Err}
 use Rattle.laws.specs.Pick.{pick}
 use Rattle.laws.proofs.Lists.{sets-front}
 use Rattle.answer.specs.declared.Refusal.{Refusal}
-use Rattle.answer.specs.declared.Answer.TheVariants.{Done, Refused}
 use Rattle.answer.specs.Rules.{Rule, judged, Every, First}
 use Rattle.answer.specs.Values.{refusal, refused}
 use Rattle.answer.proofs.Judging.{passes, refuses, decided}
@@ -85,15 +85,15 @@ module _ (pes packets : List ℕ) where
     pub blank : goes_out pes ≡ unreadable
     pub is_lost : judges ≡ Lost r
 
-  pub reading-refuses : (r : Refusal) → judged refused (read_rules pes) (Done (length (records_of pes))) ≡ Refused r → Refuses r
+  pub reading-refuses : (r : Refusal) → judged refused (read_rules pes) (Ok (length (records_of pes))) ≡ Err r → Refuses r
   reading-refuses r e =
       ⊎_elim
       (λ (every : Every (read_rules pes)).
-      let d = passes refused (Done (length (records_of pes))) every in
+      let d = passes refused (Ok (length (records_of pes))) every in
       let z : ◌≡◌ {A = ℕ} 0 1 = cc in
       absurd (omega arith))
       (λ (w : (q : Rule) × First q (read_rules pes)).
-      let f = refuses refused (Done (length (records_of pes))) w.1 in
+      let f = refuses refused (Ok (length (records_of pes))) w.1 in
       let s : refusal w.0.number w.0.offset ≡ r = cc in
       record { blank = refuses (λ n o. unreadable) (packets_of pes) w.1; is_lost = refuses (λ n o. Lost (refusal n o)) _ w.1 ∙ ap Lost s })
       (decided (read_rules pes))
@@ -105,7 +105,7 @@ module _ (pes packets : List ℕ) where
     pub need : n / 44 * 42 ≡ length (packets_of pes)
     pub is_whole : judges ≡ Packets (length (packets_of pes))
 
-  pub reading-takes : (n : ℕ) → judged refused (read_rules pes) (Done (length (records_of pes))) ≡ Done n → Takes n
+  pub reading-takes : (n : ℕ) → judged refused (read_rules pes) (Ok (length (records_of pes))) ≡ Ok n → Takes n
   unfolding read_rules units_rules records_of packets_of
   reading-takes n e =
       let every = done_every (read_rules pes) _ n e in
@@ -124,9 +124,9 @@ module _ (pes packets : List ℕ) where
   unfolding answer_of
   goes a h e = sym (rw (le-leb (length (goes_out pes)) (length packets) h) e)
 
-  pub short : length packets < length (goes_out pes) → Stripped-as-Refused (refusal 1 0) ≡ answer_of pes packets
+  pub short : {no : ℕ} → no ≡ 1 → length packets < length (goes_out pes) → Stripped-as-Refused (refusal no 0) ≡ answer_of pes packets
   unfolding answer_of
-  short h = rw (lt-leb (length (goes_out pes)) (length packets) h)
+  short e h = rw (e, lt-leb (length (goes_out pes)) (length packets) h)
 
   -- the output after an answer
   pub after :

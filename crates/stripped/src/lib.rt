@@ -13,13 +13,14 @@ ghost use Rattle.answer.specs.Rules.{Every};
 ghost use Rattle.pes.specs.Reading.{units_rules};
 ghost use Rattle.stripped.specs.Stripped.{packets_of, values_of, answer_of, packets_after};
 
-use answer::{Answer, Refusal};
+use answer::{Reason, Refusal};
 use loss::PACKET;
 pub use loss::blank;
 use pes::{FIRST, RECORD};
 use units::DataUnit;
 
 // What went out for a PES packet.
+// Kept: an enum of three cases, of which two hold a refusal: a loss goes out, and is no refusal of the call.
 #[derive(Drop)]
 pub enum Stripped {
     // So many bytes: the packets that it carries.
@@ -38,17 +39,23 @@ pub fn strip(pes: &[u8], packets: &mut [u8]) -> Stripped
     ensures within { (values_of result).bytes ≤ length packets.new }
 {
     match pes::judge(pes) {
-        Answer::Refused(r) => {
+        Err(r) => {
             if packets.len() < PACKET {
-                return Stripped::Refused(Refusal { no: 1, at: 0 });
+                return Stripped::Refused(Refusal {
+                    no: u8::from(Reason::NoRoom),
+                    at: 0,
+                });
             }
             blank(packets);
             Stripped::Lost(r)
         }
-        Answer::Done(records) => {
+        Ok(records) => {
             let need = records / RECORD * PACKET;
             if packets.len() < need {
-                return Stripped::Refused(Refusal { no: 1, at: 0 });
+                return Stripped::Refused(Refusal {
+                    no: u8::from(Reason::NoRoom),
+                    at: 0,
+                });
             }
             put_packets(pes, packets);
             Stripped::Packets(need)
@@ -63,8 +70,10 @@ fn put_packets(pes: &[u8], packets: &mut [u8])
 {
     let mut at = FIRST;
     let mut to = 0;
-    loop {
-        match units::unit_at(pes, at) {
+    // Kept: a `while`, since a turn goes on to the next unit and not to the next place; the walk of `pes` writes
+    // other bytes, and one walk for both would be a public call that takes what writes.
+    while let Ok(unit) = units::unit_at(pes, at) {
+        match unit {
             DataUnit::End => return,
             DataUnit::Text(next) => {
                 pes::turn_run(pes, at + 4, packets, to);
@@ -74,7 +83,6 @@ fn put_packets(pes: &[u8], packets: &mut [u8])
             DataUnit::Stuffing(next) => {
                 at = next;
             }
-            DataUnit::Refused(_) => return,
         }
     }
 }

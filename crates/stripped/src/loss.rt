@@ -9,12 +9,7 @@ pub const PACKET: usize = 42;
 pub fn blank(packets: &mut [u8])
     ensures { packets.new ≡ blanked packets.old }
 {
-    if packets.len() < PACKET {
-        return;
-    }
-    let mut i = 0;
-    while i < PACKET {
-        packets[i] = 0x16;
-        i += 1;
+    if PACKET <= packets.len() {
+        packets[..PACKET].fill(0x16);
     }
 }

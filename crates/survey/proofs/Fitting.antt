@@ -8,9 +8,9 @@ use native.Mathlib.Omega.{arith}
 use lib.ListN.{length, drop, drop_of_length-le}
 use lib.Seq.{drop-cons, take_all}
 use borrow.Author.Tests.{ne_eqb}
+use Rattle.std.specs.declared.option.Option.TheVariants.{None, Some}
 use Rattle.packet.specs.declared.two.Streams.{Streams}
 use Rattle.packet.specs.Packet.{packet_length}
-use Rattle.survey.specs.declared.Place.{Place}
 use Rattle.pages.specs.Seen.{seen_as}
 use Rattle.pages.specs.Two.{see_by_two, seen_by_two_as}
 use Rattle.survey.specs.Either.{see_either}
@@ -24,7 +24,7 @@ fits-short s l h =
     rw (take_all packet_length l k, ne_eqb _ _ n)
 
 module _ (s : Streams) (l : List ℕ) (at : ℕ) where
-  pub first-here : at < length l → fits s (drop at l) ≡ true → first_in s (drop at l) at ≡ Place.At at
+  pub first-here : at < length l → fits s (drop at l) ≡ true → first_in s (drop at l) at ≡ Some at
   unfolding first_in
   first-here h e = let d = drop-cons l at 0 h in rw d (rw (rw d at e))
 
@@ -32,6 +32,6 @@ module _ (s : Streams) (l : List ℕ) (at : ℕ) where
   unfolding first_in
   first-later h e = let d = drop-cons l at 0 h in rw (add-one, d) (rw (rw d at e))
 
-  pub first-none : length l ≤ at → first_in s (drop at l) at ≡ Place.Nowhere
+  pub first-none : length l ≤ at → first_in s (drop at l) at ≡ None
   unfolding first_in
   first-none h = rw (drop_of_length-le l h)

@@ -32,13 +32,6 @@ pub struct Counts {
     pub most: u8,
 }
 
-// Where a packet 0 of our page stands.
-#[derive(Drop)]
-pub enum Place {
-    At(usize),
-    Nowhere,
-}
-
 // One more packet is counted. One that isn't 42 bytes long can't be read.
 pub fn count(setting: Streams, counts: Counts, packet: &[u8]) -> Counts
     ensures { result ≡ counted counts (see_either setting packet.now) }
@@ -47,27 +40,23 @@ pub fn count(setting: Streams, counts: Counts, packet: &[u8]) -> Counts
 }
 
 // The first place of the bytes where a packet 0 of our page and stream stands, all 42 bytes of it.
-pub fn find(setting: Streams, bytes: &[u8]) -> Place
+pub fn find(setting: Streams, bytes: &[u8]) -> Option<usize>
     ensures { result ≡ first_in setting bytes.now 0 }
 {
-    let mut at = 0;
-    while at < bytes.len() {
+    for at in 0..bytes.len() {
         if stands(setting, &bytes[at..]) {
-            return Place::At(at);
+            return Some(at);
         }
-        at += 1;
     }
-    Place::Nowhere
+    None
 }
 
 // Every byte is turned.
 pub fn turn_all(bytes: &mut [u8])
     ensures { bytes.new ≡ map turned bytes.old }
 {
-    let mut i = 0;
-    while i < bytes.len() {
-        bytes[i] = octet::turn(bytes[i]);
-        i += 1;
+    for byte in bytes.iter_mut() {
+        *byte = octet::turn(*byte);
     }
 }
 
@@ -75,11 +64,7 @@ pub fn turn_all(bytes: &mut [u8])
 fn stands(setting: Streams, bytes: &[u8]) -> bool
     ensures { result ≡ fits setting bytes.now }
 {
-    if bytes.len() < PACKET {
-        return false;
-    }
-    let verdict = ask(setting, 0, &bytes[0..PACKET]);
-    verdict.index != NO_INDEX
+    PACKET <= bytes.len() && ask(setting, 0, &bytes[..PACKET]).index != NO_INDEX
 }
 
 // What the reader's rules say of a packet where a page of so many packets is complete and our last index is none. So a verdict tells what
@@ -95,10 +80,7 @@ fn ask(setting: Streams, most: u8, packet: &[u8]) -> Verdict
     let address = packet::address(packet);
     let one = packet::two::first(setting);
     let verdict = pages::judge(one, page, NO_INDEX, address, packet);
-    if verdict.index != NO_INDEX {
-        return verdict;
-    }
-    if setting.first == setting.second {
+    if verdict.index != NO_INDEX || setting.first == setting.second {
         return verdict;
     }
     let two = packet::two::second(setting);
@@ -108,31 +90,27 @@ fn ask(setting: Streams, most: u8, packet: &[u8]) -> Verdict
 fn heed(counts: Counts, verdict: Verdict) -> Counts
     ensures { result ≡ heeded counts verdict }
 {
-    let page = verdict.page;
     let packets = one_more(counts.packets);
     if verdict.index != NO_INDEX {
         return Counts {
             packets,
             ours: one_more(counts.ours),
-            unreadable: counts.unreadable,
             came: true,
-            most: most_of(page),
+            most: most_of(verdict.page),
+            ..counts
         };
     }
-    match page {
+    match verdict.page {
         Page::Shut => Counts {
             packets,
-            ours: counts.ours,
             unreadable: more_if(verdict.drops, counts.unreadable),
-            came: counts.came,
             most: 0,
+            ..counts
         },
-        Page::Open { n: _, last: _ } => Counts {
+        Page::Open { .. } => Counts {
             packets,
             ours: more_if(verdict.reads, counts.ours),
-            unreadable: counts.unreadable,
-            came: counts.came,
-            most: counts.most,
+            ..counts
         },
     }
 }
@@ -143,24 +121,18 @@ fn most_of(page: Page) -> u8
 {
     match page {
         Page::Shut => 0,
-        Page::Open { n, last: _ } => n,
+        Page::Open { n, .. } => n,
     }
 }
 
 fn more_if(holds: bool, count: u64) -> u64
     ensures { result ≡ more_if holds count }
 {
-    if holds {
-        return one_more(count);
-    }
-    count
+    if holds { one_more(count) } else { count }
 }
 
 fn one_more(count: u64) -> u64
     ensures { result ≡ more count }
 {
-    if count < u64::MAX {
-        return count + 1;
-    }
-    count
+    count.saturating_add(1)
 }

@@ -14,13 +14,11 @@ pub fn note(pages: &mut [u16], packet: &[u8])
     ensures { pages.new ≡ noted (code_of packet.now) pages.old }
 {
     let code = code(packet);
-    let mut i = 0;
-    while i < pages.len() {
-        if is_place(pages[i], code) {
-            pages[i] = code;
+    for place in pages.iter_mut() {
+        if is_place(*place, code) {
+            *place = code;
             return;
         }
-        i += 1;
     }
 }
 
@@ -28,10 +26,7 @@ pub fn note(pages: &mut [u16], packet: &[u8])
 fn is_place(there: u16, code: u16) -> bool
     ensures { result ≡ stands_at code there }
 {
-    if there == code {
-        return true;
-    }
-    there == NO_PAGE
+    there == code || there == NO_PAGE
 }
 
 // The page of a packet 0 as one number: its stream, its units and tens, and its magazine, where 8 is 0, four bits each.
@@ -57,11 +52,5 @@ fn code(packet: &[u8]) -> u16
 fn are_nibbles(a: u8, b: u8, c: u8) -> bool
     ensures { result ≡ both (ltb a 16) (both (ltb b 16) (ltb c 16)) }
 {
-    if a > 15 {
-        return false;
-    }
-    if b > 15 {
-        return false;
-    }
-    c < 16
+    a < 16 && b < 16 && c < 16
 }

@@ -12,13 +12,7 @@ pub const LEAD: usize = 5;
 pub fn first(before: usize, starts: bool, i: usize) -> usize
     ensures { result ≡ first_of before starts i }
 {
-    if !starts {
-        return before;
-    }
-    if i < before {
-        return i;
-    }
-    before
+    if starts { before.min(i) } else { before }
 }
 
 // How many cells a block of so many raw bytes takes. The size is divided first, so that no sum can

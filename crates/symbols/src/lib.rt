@@ -86,16 +86,12 @@ fn nibble(head: u16, i: usize) -> u8
     requires { i < 4 }
     ensures { result ≡ nibble_of i head }
 {
-    if i == 0 {
-        return (head % 16) as u8;
+    match i {
+        0 => (head % 16) as u8,
+        1 => (head / 16 % 16) as u8,
+        2 => (head / 16 / 16 % 16) as u8,
+        _ => (head / 16 / 16 / 16 % 16) as u8,
     }
-    if i == 1 {
-        return (head / 16 % 16) as u8;
-    }
-    if i == 2 {
-        return (head / 16 / 16 % 16) as u8;
-    }
-    (head / 16 / 16 / 16 % 16) as u8
 }
 
 // The pen behind one more symbol of a block of so many raw bytes, whose next record is at next.
@@ -104,10 +100,11 @@ fn moved(pen: Pen, size: usize, next: usize) -> Pen
     ensures { result ≡ moved_of pen size next }
 {
     if pen.sent < cells::cells_of(size) * CELL - 1 {
-        return Pen {
+        Pen {
             at: pen.at,
             sent: pen.sent + 1,
-        };
+        }
+    } else {
+        Pen { at: next, sent: 0 }
     }
-    Pen { at: next, sent: 0 }
 }

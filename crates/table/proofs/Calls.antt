@@ -4,11 +4,12 @@ use mathlib.Core.Path.{◌≡◌}
 use mathlib.Core.List.{List, ◌++◌}
 use Prim.Native.Nat.{ℕ, ◌≤◌}
 use lib.ListN.{length, drop}
+use Rattle.std.specs.declared.result.Result.TheVariants.{Ok}
 use Rattle.answer.specs.Writing.{answered, left}
 use Rattle.blocks.specs.Block.{nibbles_of}
 use Rattle.blocks.specs.Parts.{mended_in}
-use Rattle.blocks.specs.declared.Read.{Read}
-use Rattle.blocks.specs.declared.Read.TheVariants.{Taken}
+use Rattle.blocks.specs.Taking.{Read}
+use Rattle.blocks.specs.Taking.{taken}
 use Rattle.blocks.specs.Values.{counted}
 use Rattle.kinds.specs.Reading.{sent_in, mended_of}
 use Rattle.kinds.proofs.Calls as Kinds
@@ -28,14 +29,14 @@ module _ (application : ℕ) (r : List ℕ) (old : List ℕ) where
   -- a record that says t, with room: t's form stands at the front of the output, and the count is its own
   pub call-takes :
       (t : Table) → Says application r t → length (form t) ≤ length old
-      → (call_reads ≡ Taken (length (form t)) (mended_in r))
+      → (call_reads ≡ Ok (taken (length (form t)) (mended_in r)))
       × (left (read_rules application r) (form (table_read r)) old ≡ form t ++ drop (length (form t)) old)
   unfolding sent_in table_of nibbles_of mended_in mended_of
   call-takes = Kinds.call-takes tables owed table_sent form application r old
 
   -- a record that the call accepts says the table whose form it hands out, and the count is its own
   pub call_says :
-      (n m : ℕ) → call_reads ≡ Taken n m
+      (n m : ℕ) → call_reads ≡ Ok (taken n m)
       → Says application r (table_read r)
       × (n ≡ length (form (table_read r)))
       × (m ≡ mended_in r)

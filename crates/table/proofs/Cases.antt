@@ -3,9 +3,9 @@ use mathlib.Core.Path.{◌≡◌, refl}
 use mathlib.Core.List.{[], ◌∷◌}
 use Prim.Native.Nat.{ℕ}
 use lib.ListN.{replicate}
+use Rattle.std.specs.declared.result.Result.TheVariants.{Ok}
 use Rattle.answer.specs.Rules.{judged}
 use Rattle.answer.specs.Values.{refused}
-use Rattle.answer.specs.declared.Answer.TheVariants.{Done}
 use Rattle.fields.specs.Fields.{alike, width, laid, fitting, whole}
 use Rattle.kinds.specs.Kind.{sevens, fits as kind_fits}
 use Rattle.forms.specs.Tables.{Table, TI, per, loops, fields, bits, fill, size, entire, fits}
@@ -52,7 +52,7 @@ case_H = (refl, refl, refl)
 pub case_I :
     (bits (I 11) ≡ 8088)
     × (size (I 11) ≡ 2022)
-    × (judged refused (write_rules 1 (form (I 11))) (Done 0) ≡ Done 0)
-    × (judged refused (write_rules 1 (form (I 12))) (Done 0) ≡ refused 15 0)
+    × (judged refused (write_rules 1 (form (I 11))) (Ok 0) ≡ Ok 0)
+    × (judged refused (write_rules 1 (form (I 12))) (Ok 0) ≡ refused 15 0)
 unfolding alike width laid fields loops per fits entire fitting form opening_of listed spelled table_in descriptors_in words_in whole form_rules kind_fits sevens
 case_I = (refl, refl, refl, refl)

@@ -7,7 +7,7 @@ use lib.Dec.{eqb}
 use borrow.Author.Tests.{eq-eqb, ne_eqb}
 use Rattle.laws.specs.Pick.{both}
 use Rattle.answer.specs.Rules.{rule, judged}
-use Rattle.answer.specs.declared.Answer.{Answer}
+use Rattle.answer.specs.Answer.{Answer}
 use Rattle.answer.specs.Values.{refused}
 use Rattle.fields.specs.declared.Opening.{Opening}
 use Rattle.kinds.specs.Kind.{Sent, content_of}

@@ -2,7 +2,7 @@
 -- nothing.
 use mathlib.Core.Path.{◌≡◌, ◌∙◌, sym, ap, subst}
 use mathlib.Core.List.{List}
-use Prim.Native.Nat.{ℕ, suc, ◌+◌, ◌-◌, ◌*◌, ◌/◌, ◌^◌, ◌≤◌, ◌<◌}
+use Prim.Native.Nat.{ℕ, suc, ◌+◌, ◌-◌, ◌*◌, ◌/◌, ◌^◌, ◌≤◌}
 use native.Mathlib.Nat.{add-zero}
 use native.Mathlib.Omega.{arith}
 use lib.ListN.{length}
@@ -28,14 +28,13 @@ walk_step kind each k n at = rw (descriptors_on, width-loops, length-parts, fiel
 
 -- the same as the loop has it: what is passed and what is left make the whole
 pub walk-on :
-    (kind left n at c words whole : ℕ) → 0 < left → c ≡ field (at + 6) 4 n → words ≡ per kind * c
+    (kind left others n at c words whole : ℕ) → left ≡ suc others → c ≡ field (at + 6) 4 n → words ≡ per kind * c
     → at + width (loops kind (descriptors_of (per kind) left (n / 2 ^ at))) ≡ whole
-    → at + (10 + 24 * words) + width (loops kind (descriptors_of (per kind) (left - 1) (n / 2 ^ (at + (10 + 24 * words))))) ≡ whole
-walk-on kind left n at c words whole h e₁ e₂ inv =
-    let e : left ≡ suc (left - 1) = omega arith in
+    → at + (10 + 24 * words) + width (loops kind (descriptors_of (per kind) others (n / 2 ^ (at + (10 + 24 * words))))) ≡ whole
+walk-on kind left others n at c words whole h e₁ e₂ inv =
     let one =
-    subst (λ (k : ℕ). at + width (loops kind (descriptors_of (per kind) k (n / 2 ^ at))) ≡ whole) e inv in
-    let two = walk_step kind (per kind) (left - 1) n at in
+    subst (λ (k : ℕ). at + width (loops kind (descriptors_of (per kind) k (n / 2 ^ at))) ≡ whole) h inv in
+    let two = walk_step kind (per kind) others n at in
     rw (e₂ ∙ ap (λ (x : ℕ). per kind * x) e₁) (omega (arith, one, two))
 
 pub walk_end :

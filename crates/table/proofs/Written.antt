@@ -2,7 +2,7 @@
 -- stored from the start. Assumes nothing.
 use mathlib.Core.Path.{◌≡◌, ◌∙◌, sym, ap, ap₂, subst}
 use mathlib.Core.List.{List, [], ◌∷◌, ◌++◌}
-use Prim.Native.Nat.{ℕ, suc, ◌+◌, ◌-◌, ◌*◌, ◌/◌, ◌%◌, ◌^◌, ◌≤◌, ◌<◌}
+use Prim.Native.Nat.{ℕ, suc, ◌+◌, ◌*◌, ◌/◌, ◌%◌, ◌^◌, ◌≤◌}
 use native.Mathlib.Nat.{add-zero, mul-div_cancel_left}
 use native.Mathlib.Omega.{arith}
 use lib.ListN.{length, set}
@@ -29,15 +29,14 @@ stored l l' l'' i j a vs n e f = f ∙ ap₂ (λ (x : List ℕ) (k : ℕ). sets 
 -- ---- words
 
 pub word_on :
-    (left n at p w : ℕ) (out out' whole : List ℕ) → 0 < left → w ≡ field at 24 n → out' ≡ sets out p (spelled (w ∷ []))
+    (left others n at p w : ℕ) (out out' whole : List ℕ) → left ≡ suc others → w ≡ field at 24 n → out' ≡ sets out p (spelled (w ∷ []))
     → sets out p (spelled (parts 24 left (n / 2 ^ at))) ≡ whole
-    → sets out' (p + 3) (spelled (parts 24 (left - 1) (n / 2 ^ (at + 24)))) ≡ whole
+    → sets out' (p + 3) (spelled (parts 24 others (n / 2 ^ (at + 24)))) ≡ whole
 unfolding parts spelled field
-word_on left n at p w out out' whole h e₁ e₂ inv =
-    let e : left ≡ suc (left - 1) = omega arith in
-    let rest = parts 24 (left - 1) (n / 2 ^ at / 2 ^ 24) in
+word_on left others n at p w out out' whole h e₁ e₂ inv =
+    let rest = parts 24 others (n / 2 ^ at / 2 ^ 24) in
     let one =
-    subst (λ (k : ℕ). sets out p (spelled (parts 24 k (n / 2 ^ at))) ≡ whole) e inv in
+    subst (λ (k : ℕ). sets out p (spelled (parts 24 k (n / 2 ^ at))) ≡ whole) h inv in
     rw (e₂, e₁, ← shr-shr) (sym (sets-append out p (spelled (n / 2 ^ at % 2 ^ 24 ∷ [])) (spelled rest)) ∙ one)
 
 pub words_end :
@@ -59,17 +58,16 @@ unfolding listed
 listed-first kind left n at words e =
     rw (descriptors_on (per kind) left (n / 2 ^ at), e, field_past 0 6 at n, field_past 6 4 at n, add-zero at, shr-shr n at 10, shr-shr n at _, length-parts, mul-div_cancel_left, per_pos kind)
 
-module _ (kind left n at words : ℕ) (h : 0 < left) (e : words ≡ per kind * field (at + 6) 4 n) where
+module _ (kind left others n at words : ℕ) (h : left ≡ suc others) (e : words ≡ per kind * field (at + 6) 4 n) where
   first : List ℕ
   first = field at 6 n ∷ field (at + 6) 4 n ∷ spelled (parts 24 words (n / 2 ^ (at + 10)))
 
   split-first :
       listed kind (descriptors_of (per kind) left (n / 2 ^ at))
-      ≡ first ++ listed kind (descriptors_of (per kind) (left - 1) (n / 2 ^ (at + (10 + 24 * words))))
+      ≡ first ++ listed kind (descriptors_of (per kind) others (n / 2 ^ (at + (10 + 24 * words))))
   unfolding first
   split-first =
-      let e' : left ≡ suc (left - 1) = omega arith in
-      ap (λ (k : ℕ). listed kind (descriptors_of (per kind) k (n / 2 ^ at))) e' ∙ listed-first kind (left - 1) n at words e
+      ap (λ (k : ℕ). listed kind (descriptors_of (per kind) k (n / 2 ^ at))) h ∙ listed-first kind others n at words e
 
   length-first : length first ≡ 2 + 3 * words
   unfolding first
@@ -79,7 +77,7 @@ module _ (kind left n at words : ℕ) (h : 0 < left) (e : words ≡ per kind * f
       (q : ℕ) (out out' whole : List ℕ)
       → out' ≡ sets out q (field at 6 n ∷ field (at + 6) 4 n ∷ spelled (parts 24 words (n / 2 ^ (at + 10))))
       → sets out q (listed kind (descriptors_of (per kind) left (n / 2 ^ at))) ≡ whole
-      → sets out' (q + (2 + 3 * words)) (listed kind (descriptors_of (per kind) (left - 1) (n / 2 ^ (at + (10 + 24 * words)))))
+      → sets out' (q + (2 + 3 * words)) (listed kind (descriptors_of (per kind) others (n / 2 ^ (at + (10 + 24 * words)))))
       ≡ whole
   unfolding first
   descriptor-on q out out' whole e₂ inv =

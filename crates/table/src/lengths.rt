@@ -3,7 +3,7 @@
 ghost use Rattle.std.specs.Prelude.{◌≡◌, ◌+◌, ◌/◌, ◌^◌, ◌<◌, ◌≤◌, length};
 ghost use Rattle.answer.specs.Rules.{judged};
 ghost use Rattle.answer.specs.Values.{refused};
-ghost use Rattle.answer.specs.declared.Answer.TheVariants.{Done};
+ghost use Rattle.std.specs.declared.result.Result.TheVariants.{Ok};
 ghost use Rattle.forms.specs.Tables.{block_numbered, per, sent_in, loops};
 ghost use Rattle.forms.specs.Form.{form};
 ghost use Rattle.fields.specs.Fields.{width};
@@ -12,7 +12,7 @@ ghost use Rattle.table.specs.Control.{table_of, descriptors_of};
 ghost use Rattle.table.specs.Lengths.{length_rules};
 ghost use Rattle.table.specs.Internal.{opening_by, table_bits};
 
-use answer::Answer;
+use answer::{Answer, Reason};
 use fields::Opening;
 use forms::{HEADING, LOOPS, OPENING, WORD};
 
@@ -22,31 +22,25 @@ pub(crate) fn judge_lengths(size: usize, opening: Opening, body: &[u8]) -> Answe
     requires { opening ≡ opening_by (sent_in (compound body.now)) }
     ensures { result
         ≡ judged refused (length_rules size (sent_in (compound body.now)))
-        (Done (length (form (table_of (compound body.now))))) }
+        (Ok (length (form (table_of (compound body.now))))) }
 {
     if !is_numbered(size, opening.block as usize) {
-        return answer::refuse(22, 0);
+        return Reason::Edition.refuse(0);
     }
     let count = opening.count as usize;
     let bits = measure(opening.kind as usize, count, body);
     let control = (bits + 7) / 8;
-    if opening.control as usize != control {
-        return answer::refuse(14, 0);
+    if opening.control as usize != control || size != 2 * control {
+        return Reason::Parts.refuse(0);
     }
-    if size != 2 * control {
-        return answer::refuse(14, 0);
-    }
-    Answer::Done(OPENING + (bits - LOOPS + 6 * count) / 8)
+    Ok(OPENING + (bits - LOOPS + 6 * count) / 8)
 }
 
 // Whether a block of this size has a block number of this edition, or is too short to have one.
 fn is_numbered(size: usize, block: usize) -> bool
     ensures { result ≡ block_numbered size block }
 {
-    if size < 12 {
-        return true;
-    }
-    forms::numbered(block)
+    size < 12 || forms::numbered(block)
 }
 
 // The bits of a table with so many descriptors of a kind, by the counts in its loops as they stand.
@@ -55,12 +49,10 @@ fn measure(kind: usize, count: usize, body: &[u8]) -> usize
     ensures { (result ≡ 58 + width (loops kind (descriptors_of (per kind) count (compound body.now / 2 ^ 58))))
         × (result ≤ table_bits) }
 {
-    let mut left = count;
     let mut at = LOOPS;
-    while 0 < left {
+    for _ in 0..count {
         let words = forms::words_of(kind, fields::field_of(body, at + 6, 4));
         at += HEADING + WORD * words;
-        left -= 1;
     }
     at
 }

@@ -9,7 +9,7 @@ ghost use Rattle.std.specs.Prelude.{◌≡◌, map, ◌<◌, ◌≤◌, length};
 ghost use Rattle.answer.specs.Rules.{judged};
 ghost use Rattle.answer.specs.Values.{refused};
 ghost use Rattle.answer.specs.Writing.{answered, left};
-ghost use Rattle.answer.specs.declared.Answer.TheVariants.{Done};
+ghost use Rattle.std.specs.declared.result.Result.TheVariants.{Ok};
 ghost use Rattle.octet.specs.Decoding.{nib};
 ghost use Rattle.forms.specs.Form.{form};
 ghost use Rattle.forms.specs.Tables.{sent_in};
@@ -20,8 +20,8 @@ ghost use Rattle.table.specs.Reading.{read_rules, table_read};
 ghost use Rattle.table.specs.Control.{table_of};
 ghost use Rattle.table.specs.Internal.{opening_by, front_rules, whole_rules, body_rules};
 
-use answer::Answer;
-use blocks::{Frame, HEAD, Read};
+use answer::{Answer, Reason};
+use blocks::{HEAD, Read, Taken};
 use fields::Opening;
 
 // The table of a block of this application: its form is written to the front of `out`. Each protected
@@ -34,13 +34,9 @@ pub fn read_block(application: u8, rec: &[u8], out: &mut [u8]) -> Read
     ensures output { out.new
         ≡ left (read_rules application rec.now) (form (table_read rec.now)) out.old }
 {
-    match read_form(application, rec, out) {
-        Answer::Refused(why) => Read::Refused(why),
-        Answer::Done(written) => {
-            let mended = blocks::sums::mended_in(rec) as u16;
-            Read::Taken { written, mended }
-        }
-    }
+    let written = read_form(application, rec, out)?;
+    let mended = blocks::sums::mended_in(rec) as u16;
+    Ok(Taken { written, mended })
 }
 
 // The same but for the count.
@@ -49,10 +45,8 @@ fn read_form(application: u8, rec: &[u8], out: &mut [u8]) -> Answer
     ensures output { out.new
         ≡ left (read_rules application rec.now) (form (table_read rec.now)) out.old }
 {
-    match blocks::frames::judge(application, rec) {
-        Frame::Refused(why) => Answer::Refused(why),
-        Frame::Head(head) => read_body(head, &rec[HEAD..], out),
-    }
+    let head = blocks::frames::judge(application, rec)?;
+    read_body(head, &rec[HEAD..], out)
 }
 
 // What follows the frame, with the fields that the block opens with taken once.
@@ -66,16 +60,12 @@ fn read_body(head: usize, body: &[u8], out: &mut [u8]) -> Answer
         out.old }
 {
     let opening = fields::opening_of(body);
-    match judge_body(head, opening, body) {
-        Answer::Refused(why) => Answer::Refused(why),
-        Answer::Done(need) => {
-            if out.len() < need {
-                return answer::refuse(1, 0);
-            }
-            spelling::write_form(opening, body, out);
-            Answer::Done(need)
-        }
+    let need = judge_body(head, opening, body)?;
+    if out.len() < need {
+        return Reason::NoRoom.refuse(0);
     }
+    spelling::write_form(opening, body, out);
+    Ok(need)
 }
 
 // All rules after those of the frame but the room; where they hold, the bytes of the table's form.
@@ -83,49 +73,43 @@ fn judge_body(head: usize, opening: Opening, body: &[u8]) -> Answer
     requires { (8 ≤ length body.now) × (opening ≡ opening_by (sent_in (compound body.now))) }
     ensures { result
         ≡ judged refused (body_rules head (map nib body.now))
-        (Done (length (form (table_of (compound body.now))))) }
+        (Ok (length (form (table_of (compound body.now))))) }
 {
-    match judge_front(head / 32, opening, body) {
-        Answer::Refused(why) => Answer::Refused(why),
-        Answer::Done(_) => match judge_whole(head, opening, body) {
-            Answer::Refused(why) => Answer::Refused(why),
-            Answer::Done(_) => lengths::judge_lengths(head / 32, opening, body),
-        },
-    }
+    judge_front(head / 32, opening, body)?;
+    judge_whole(head, opening, body)?;
+    lengths::judge_lengths(head / 32, opening, body)
 }
 
 // 10 in its first eight bytes, 12, 13: what can be said of a block before it is read whole.
+// Kept: `Ok(0)`, here and below: `judged refused` is said of answers, which count bytes.
 fn judge_front(size: usize, opening: Opening, body: &[u8]) -> Answer
     requires { (8 ≤ length body.now) × (opening ≡ opening_by (sent_in (compound body.now))) }
-    ensures { result ≡ judged refused (front_rules size (map nib body.now) (sent_in (compound body.now))) (Done 0) }
+    ensures { result ≡ judged refused (front_rules size (map nib body.now) (sent_in (compound body.now))) (Ok 0) }
 {
     let good = blocks::sums::sound(&body[..8]);
     if good != 8 {
-        return answer::refuse(10, HEAD + good);
+        return Reason::Undecodable.refuse(HEAD + good);
     }
-    if !forms::known(opening.kind as usize) {
-        return answer::refuse(12, 0);
-    }
-    if opening.access != 0 {
-        return answer::refuse(12, 0);
+    if !forms::known(opening.kind as usize) || opening.access != 0 {
+        return Reason::OtherBlock.refuse(0);
     }
     if size % 2 != 0 {
-        return answer::refuse(13, 0);
+        return Reason::Length.refuse(0);
     }
-    Answer::Done(0)
+    Ok(0)
 }
 
 // 10 in any other byte, 11.
 fn judge_whole(head: usize, opening: Opening, body: &[u8]) -> Answer
     requires { opening ≡ opening_by (sent_in (compound body.now)) }
-    ensures { result ≡ judged refused (whole_rules head (map nib body.now) (sent_in (compound body.now))) (Done 0) }
+    ensures { result ≡ judged refused (whole_rules head (map nib body.now) (sent_in (compound body.now))) (Ok 0) }
 {
     let sum = blocks::sums::sum_of(head, body);
     if 255 < sum {
-        return answer::refuse(10, HEAD + blocks::sums::sound(body));
+        return Reason::Undecodable.refuse(HEAD + blocks::sums::sound(body));
     }
     if opening.checksum as usize != sum {
-        return answer::refuse(11, 0);
+        return Reason::Checksum.refuse(0);
     }
-    Answer::Done(0)
+    Ok(0)
 }

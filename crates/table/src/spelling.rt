@@ -33,14 +33,15 @@ fn write_opening(opening: Opening, out: &mut [u8])
         ∷ opening.count
         ∷ []) }
 {
-    let low = (opening.block % 256) as u8;
-    let high = (opening.block / 256) as u8;
-    lent_bytes::put(opening.kind, out, 0);
-    lent_bytes::put(opening.copyright, out, 1);
-    lent_bytes::put(low, out, 2);
-    lent_bytes::put(high, out, 3);
-    lent_bytes::put(opening.network, out, 4);
-    lent_bytes::put(opening.count, out, 5);
+    let bytes = [
+        opening.kind,
+        opening.copyright,
+        (opening.block % 256) as u8,
+        (opening.block / 256) as u8,
+        opening.network,
+        opening.count,
+    ];
+    lent_bytes::copy(&bytes, 0, OPENING, out, 0);
 }
 
 // So many descriptors of a kind, behind the opening.
@@ -50,14 +51,12 @@ fn write_descriptors(kind: usize, count: usize, body: &[u8], out: &mut [u8])
         ≡ sets out.old 6
         (listed kind (descriptors_of (per kind) count (compound body.now / 2 ^ 58))) }
 {
-    let mut left = count;
     let mut at = LOOPS;
     let mut q = OPENING;
-    while 0 < left {
+    for _ in 0..count {
         let words = write_descriptor(body, kind, at, out, q);
         at += HEADING + WORD * words;
         q += 2 + 3 * words;
-        left -= 1;
     }
 }
 
@@ -88,13 +87,11 @@ fn write_words(body: &[u8], from: usize, k: usize, out: &mut [u8], q: usize)
 {
     let mut at = from;
     let mut p = q;
-    let mut left = k;
-    while 0 < left {
+    for _ in 0..k {
         let w = fields::field_of(body, at, WORD);
         write_word(w, out, p);
         at += WORD;
         p += 3;
-        left -= 1;
     }
 }
 

@@ -2,25 +2,41 @@
 use mathlib.Core.Path.{◌≡◌, ◌∙◌, refl, sym, ap, ap₂}
 use mathlib.Core.Bool.{true}
 use mathlib.Core.List.{List, [], ◌∷◌, ◌++◌}
-use Prim.Native.Nat.{ℕ, ◌+◌, ◌-◌, ◌*◌, ◌≤◌, ◌<◌}
+use Prim.Native.Nat.{ℕ, suc, ◌+◌, ◌*◌, ◌%◌, ◌≤◌, ◌<◌}
 use lib.ListN.{length, get_or, drop}
 use Rattle.fields.specs.Fields.{Field, alike, width, laid, fitting}
 use Rattle.fields.specs.Pens.{last, inked, moved, Fine}
 use Rattle.fields.specs.declared.pen.Pen.{Pen}
 use Rattle.fields.proofs.Inking.{length-inked, on-moved, on-inked, on_fine, pressed_moved, pressed_inked}
 use Rattle.forms.specs.Tables.{per, loops}
+use Rattle.forms.proofs.Measures.{words_counted}
 use Rattle.forms.specs.Form.{words_in, descriptors_in}
 use Rattle.table_writer.proofs.Looped.{heading, heading-laid, heading-width, loops-on, fits_now}
 
 -- a descriptor is left, its id, its number of entries and their words are read, and what is left fits
-pub record Ahead (kind left i id c words : ℕ) (f : List ℕ) : Type 0 where
-  pub some : 0 < left
+pub record Ahead (kind left others i id c words : ℕ) (f : List ℕ) : Type 0 where
+  pub some : left ≡ suc others
   pub its_id : id ≡ get_or f i 0
   pub its_entries : c ≡ get_or f (i + 1) 0
   pub its_words : words ≡ per kind * c
   pub fit : fitting (loops kind (descriptors_in (per kind) left (drop i f))) ≡ true
 
-module _ {kind left i id c words : ℕ} {f : List ℕ} (a : Ahead kind left i id c words f) where
+-- so it is where the bytes at the place were read and their words counted
+pub read_ahead :
+    {kind left others i id c words : ℕ} {f : List ℕ} → left ≡ suc others → id ≡ get_or f i 0 → (c ≡ get_or f (i + 1) 0) × (c < 256)
+    → words ≡ per kind * (c % 256)
+    → fitting (loops kind (descriptors_in (per kind) left (drop i f))) ≡ true
+    → Ahead kind left others i id c words f
+read_ahead some id entries words fit =
+    record {
+      some = some;
+      its_id = id;
+      its_entries = entries.0;
+      its_words = words_counted _ _ _ _ words entries.1 refl;
+      fit = fit;
+    }
+
+module _ {kind left others i id c words : ℕ} {f : List ℕ} (a : Ahead kind left others i id c words f) where
   all : List Field
   all = loops kind (descriptors_in (per kind) left (drop i f))
 
@@ -28,20 +44,20 @@ module _ {kind left i id c words : ℕ} {f : List ℕ} (a : Ahead kind left i id
   words-laid = alike 24 (words_in words (drop (i + 2) f))
 
   rest : List Field
-  rest = loops kind (descriptors_in (per kind) (left - 1) (drop (i + (2 + 3 * words)) f))
+  rest = loops kind (descriptors_in (per kind) others (drop (i + (2 + 3 * words)) f))
 
   split : all ≡ heading id c ++ (words-laid ++ rest)
   unfolding all words-laid rest
-  split = loops-on kind left i id c words f a.some a.its_id a.its_entries a.its_words
+  split = loops-on kind left others i id c words f a.some a.its_id a.its_entries a.its_words
 
   small : (id < 64) × (c < 16) × (fitting rest ≡ true)
   unfolding rest
-  small = fits_now kind left i id c words f a.some a.its_id a.its_entries a.its_words a.fit
+  small = fits_now kind left others i id c words f a.some a.its_id a.its_entries a.its_words a.fit
 
   pub few_words : c < 16
   few_words = small.1
 
-  pub fit_on : fitting (loops kind (descriptors_in (per kind) (left - 1) (drop (i + (2 + 3 * words)) f))) ≡ true
+  pub fit_on : fitting (loops kind (descriptors_in (per kind) others (drop (i + (2 + 3 * words)) f))) ≡ true
   unfolding rest
   fit_on = small.2
 
@@ -62,7 +78,7 @@ module _ {kind left i id c words : ℕ} {f : List ℕ} (a : Ahead kind left i id
       fine-descriptor = on_fine q words-laid rest (words-laid ++ rest) refl m'
 
       pub on-descriptor :
-          moved r (loops kind (descriptors_in (per kind) (left - 1) (drop (i + (2 + 3 * words)) f)))
+          moved r (loops kind (descriptors_in (per kind) others (drop (i + (2 + 3 * words)) f)))
           ≡ moved p (loops kind (descriptors_in (per kind) left (drop i f)))
       unfolding words-laid rest all
       on-descriptor =
@@ -71,7 +87,7 @@ module _ {kind left i id c words : ℕ} {f : List ℕ} (a : Ahead kind left i id
       pub inked-descriptor :
           (out : List ℕ) {out₁ out₂ : List ℕ} → length out ≤ last → out₁ ≡ inked p ((10, c * 64 + id) ∷ []) out
           → out₂ ≡ inked q (alike 24 (words_in words (drop (i + 2) f))) out₁
-          → inked r (loops kind (descriptors_in (per kind) (left - 1) (drop (i + (2 + 3 * words)) f))) out₂
+          → inked r (loops kind (descriptors_in (per kind) others (drop (i + (2 + 3 * words)) f))) out₂
           ≡ inked p (loops kind (descriptors_in (per kind) left (drop i f))) out
       unfolding words-laid rest all
       inked-descriptor out {out₁} {out₂} l k k' =

@@ -7,10 +7,11 @@ use native.Mathlib.Omega.{arith}
 use borrow.Author.Tests.{ltb-true}
 use lib.ListN.{length, drop, length-map}
 use lib.Seq.{sets}
+use Rattle.std.specs.declared.result.Result.TheVariants.{Ok}
 use Rattle.answer.specs.Rules.{judged}
+use Rattle.answer.specs.Answer.{Answer}
 use Rattle.answer.specs.Values.{refused}
-use Rattle.answer.specs.declared.Answer.TheVariants.{Done}
-use Rattle.answer.proofs.Steps.{done_every, first_holds, others_hold}
+use Rattle.answer.proofs.Steps.{done_every, done-value, first_holds, others_hold}
 use Rattle.octet.specs.Image.{image}
 use Rattle.fields.specs.Fields.{Field, width, laid, parts}
 use Rattle.fields.proofs.Laid.{length-parts}
@@ -18,7 +19,7 @@ use Rattle.parity.specs.Parity.{letter}
 use Rattle.kinds.specs.Kind.{strings}
 use Rattle.kinds.specs.Block.{nibbles as kind_nibbles, checksum_of as kind_checksum_of, block_with as kind_block_with}
 use Rattle.kinds.proofs.Laying.{behind_sum, nibbles-again}
-use Rattle.forms.specs.Tables.{Table, tables, content, fields, control, size, fits}
+use Rattle.forms.specs.Tables.{Table, bits, tables, content, fields, control, size, fits}
 use Rattle.blocks.specs.Block.{header}
 use Rattle.forms.specs.Block.{nibbles, checksum_of, record_of}
 use Rattle.blocks.specs.Sums.{checksum}
@@ -26,6 +27,7 @@ use Rattle.blocks.specs.Sealing.{head_bytes, sealed}
 use Rattle.forms.specs.Writing.{form_rules, write_rules}
 use Rattle.forms.specs.Form.{table_in}
 use Rattle.forms.proofs.Measures.{bits_of}
+use Rattle.forms.proofs.Sendable.{sendable}
 use Rattle.forms.proofs.Formats.{no_strings}
 use Rattle.forms.proofs.Blocks.{head-any, nibbles-any, raw-any}
 use Rattle.blocks.proofs.Sealing.{record-sealed}
@@ -80,7 +82,7 @@ pub length_record : (application : ℕ) (t : Table) → length (record_of applic
 length_record application t = omega (arith, ap length (raw-any 0 t application 0), length-nibbles (checksum_of application 0 0 t) 0 0 t)
 
 pub writable :
-    (application : ℕ) (f : List ℕ) (n m : ℕ) → judged refused (write_rules application f) (Done n) ≡ Done m
+    (application : ℕ) (f : List ℕ) (n m : ℕ) → judged refused (write_rules application f) (Ok n) ≡ Ok m
     → (application < 32) × (fits (table_in f) ≡ true)
 unfolding form_rules
 writable application f n m e =
@@ -88,3 +90,12 @@ writable application f n m e =
       ltb-true application 32 (first_holds all),
       first_holds (others_hold (others_hold (others_hold (others_hold (others_hold all))))),
     )
+
+-- where `judge` accepts, with the bits that it answers
+pub accepted :
+    (application : ℕ) (f : List ℕ) {first : Answer} {m : ℕ} → first ≡ judged refused (write_rules application f) (Ok (bits (table_in f))) → first ≡ Ok m
+    → (application < 32) × (fits (table_in f) ≡ true) × (m ≡ bits (table_in f)) × (m ≤ 8184)
+accepted application f judges e =
+    let w = writable application f _ _ (sym judges ∙ e) in
+    let v = done-value (write_rules application f) _ _ (sym judges ∙ e) in
+    (w.0, w.1, v, omega (arith, v, (sendable (table_in f) w.1).control_fits))

@@ -14,10 +14,10 @@ ghost use Rattle.table_writer.specs.Internal.{first_fields, second_fields};
 ghost use Rattle.answer.specs.Rules.{judged};
 ghost use Rattle.answer.specs.Values.{refused};
 ghost use Rattle.answer.specs.Writing.{answered, left};
-ghost use Rattle.answer.specs.declared.Answer.TheVariants.{Done};
+ghost use Rattle.std.specs.declared.result.Result.TheVariants.{Ok};
 ghost use Rattle.forms.specs.Writing.{write_rules};
 
-use answer::{Answer, Refusal};
+use answer::{Answer, Reason};
 use blocks::HEAD;
 use fields::pen;
 use fields::pen::Pen;
@@ -33,25 +33,21 @@ pub fn write_block(application: u8, table: &[u8], out: &mut [u8]) -> Answer
         ≡ left (write_rules application table.now) (record_of application (table_in table.now))
         out.old }
 {
-    match judge(application, table) {
-        Answer::Refused(why) => Answer::Refused(why),
-        Answer::Done(bits) => {
-            let need = HEAD + 2 * ((bits + 7) / 8);
-            if out.len() < need {
-                return Answer::Refused(Refusal { no: 1, at: 0 });
-            }
-            write_record(application, table, bits, out);
-            Answer::Done(need)
-        }
+    let bits = judge(application, table)?;
+    let need = HEAD + 2 * ((bits + 7) / 8);
+    if out.len() < need {
+        return Reason::NoRoom.refuse(0);
     }
+    write_record(application, table, bits, out);
+    Ok(need)
 }
 
 // 16, then the form's own rules; where all hold, the bits of the table.
 fn judge(application: u8, table: &[u8]) -> Answer
-    ensures { result ≡ judged refused (write_rules application table.now) (Done (tables_bits (table_in table.now))) }
+    ensures { result ≡ judged refused (write_rules application table.now) (Ok (tables_bits (table_in table.now))) }
 {
     if 32 <= application {
-        return Answer::Refused(Refusal { no: 16, at: 0 });
+        return Reason::Range.refuse(0);
     }
     forms::judge_form(table)
 }
@@ -79,16 +75,12 @@ fn write_fields(table: &[u8], bits: usize, out: &mut [u8])
     let control = (bits + 7) / 8;
     let first = first_fields(table, control);
     let second = second_fields(table);
-    let a = pen::lay(
-        Pen {
-            at: HEAD,
-            held: 0,
-            bits: 0,
-        },
-        28,
-        first,
-        out,
-    );
+    let start = Pen {
+        at: HEAD,
+        held: 0,
+        bits: 0,
+    };
+    let a = pen::lay(start, 28, first, out);
     let b = pen::lay(a, 30, second, out);
     let c = put_descriptors(table, b, out);
     pen::lay(c, 8 * control - bits, 0, out);
@@ -124,17 +116,15 @@ fn put_descriptors(table: &[u8], pen: Pen, out: &mut [u8]) -> Pen
         ≡ inked pen (loops (table_in table.now).kind (table_in table.now).descriptors) out.old) }
 {
     let kind = lent_bytes::byte_at(table, 0);
-    let mut left = lent_bytes::byte_at(table, 5);
     let mut p = pen;
     let mut i = OPENING;
-    while 0 < left {
+    for _ in 0..lent_bytes::byte_at(table, 5) {
         let id = lent_bytes::byte_at(table, i);
         let entries = lent_bytes::byte_at(table, i + 1);
         let words = forms::words_of(kind, entries);
         let q = pen::lay(p, HEADING, entries * 64 + id, out);
         p = put_words(table, i + 2, words, q, out);
         i += 2 + 3 * words;
-        left -= 1;
     }
     p
 }
@@ -148,11 +138,9 @@ fn put_words(table: &[u8], from: usize, k: usize, pen: Pen, out: &mut [u8]) -> P
 {
     let mut p = pen;
     let mut i = from;
-    let mut left = k;
-    while 0 < left {
+    for _ in 0..k {
         p = pen::lay(p, WORD, forms::word_at(table, i), out);
         i += 3;
-        left -= 1;
     }
     p
 }

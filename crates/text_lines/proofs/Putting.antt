@@ -1,12 +1,15 @@
 -- Puts one after the other are one. Assumes nothing.
 use mathlib.Core.Path.{◌≡◌, ◌∙◌, refl, sym, ap}
 use mathlib.Core.List.{List, [], ◌∷◌, ◌++◌}
-use Prim.Native.Nat.{ℕ, suc, ◌+◌, ◌≤◌, ◌<◌}
+use Prim.Native.Nat.{ℕ, ◌+◌, ◌≤◌, ◌<◌}
 use native.Mathlib.Nat.{add-zero}
 use native.Mathlib.Numerals.{add-one}
 use native.Mathlib.Omega.{arith}
-use lib.ListN.{length, get_or, set, drop, length-append, drop_of_length-le}
-use lib.Seq.{sets, drop-cons, set_out}
+use lib.ListN.{length, get_or, take, drop, length-append, drop_of_length-le}
+use lib.Seq.{sets, drop-cons, set_out, take-length}
+use borrow.Rule.Slice.PartMut.{put_mid}
+use Rattle.std.proofs.lemmas.Slice.{put_mid-paste}
+use Rattle.std.proofs.lemmas.List.Edits.{sets-eq}
 use Rattle.laws.proofs.Lists.{sets-append}
 use borrow.Author.Tests.{le-leb, lt-leb}
 use Rattle.text_lines.specs.Put.{Put, last, placed}
@@ -64,16 +67,9 @@ pub text-end : (text : List ℕ) (i : ℕ) → length text ≤ i → drop i text
 text-end text i h = drop_of_length-le text h
 
 -- the same where there is room for it
-pub store-start : (out : List ℕ) (q : ℕ) (text : List ℕ) → sets out (q + 0) text ≡ sets out q text
-store-start out q text = ap (λ (x : ℕ). sets out x text) (add-zero q)
-
-pub store-on :
-    (out : List ℕ) (q : ℕ) (text : List ℕ) (i : ℕ) → i < length text
-    → sets (set out (q + i) (get_or text i 0)) (q + (i + 1)) (drop (i + 1) text) ≡ sets out (q + i) (drop i text)
-store-on out q text i h = let e : q + (i + 1) ≡ suc (q + i) = omega arith in rw (e, add-one, drop-cons text i 0)
-
-pub store-end : (out : List ℕ) (q : ℕ) (text : List ℕ) (i : ℕ) → length text ≤ i → sets out q (drop i text) ≡ out
-store-end out q text i h = rw drop_of_length-le
+pub stored : (d : List ℕ) {ys xs : List ℕ} (q : ℕ) {k : ℕ} → q + length xs ≤ length d → k ≡ length xs → ys ≡ xs → put_mid q k d ys ≡ sets d q xs
+stored d {ys} {xs} q fits size is =
+    put_mid-paste q _ d ys xs (length xs) is (omega arith) refl ∙ ap (λ (l : List ℕ). take q d ++ l ++ drop (q + length xs) d) (take-length xs) ∙ sym (sets-eq xs d q fits)
 
 -- a byte for which there is no room
 pub put_out : (out : List ℕ) (q b : ℕ) → length out ≤ q → Put out q (b ∷ []) out (q + 1)

@@ -1,7 +1,6 @@
 -- Whether a word's bytes are letters, byte by byte. Assumes nothing.
 use mathlib.Core.Path.{◌≡◌}
 use mathlib.Core.Bool.{true, false}
-use mathlib.Core.List.{[], ◌∷◌}
 use Prim.Native.Nat.{ℕ, ◌/◌, ◌%◌}
 use Rattle.laws.proofs.Tests.{both_right}
 use Rattle.text_lines.specs.Lines.{letter, letters, word_bytes}

@@ -117,9 +117,10 @@ fn digit(n: usize) -> u8
     ensures { result ≡ lines_digit n }
 {
     if n < 10 {
-        return (48 + n) as u8;
+        (48 + n) as u8
+    } else {
+        (87 + n) as u8
     }
-    (87 + n) as u8
 }
 
 // A number in decimal, and the end of the line.
@@ -139,6 +140,7 @@ fn set_digits(n: usize, line: &mut [u8]) -> usize
 {
     let mut at = DIGITS;
     let mut m = n;
+    // Kept: a turn a digit, from the last on; how many there are isn't known before, so a count is no plainer.
     while 10 <= m {
         at -= 1;
         line[at] = (48 + m % 10) as u8;

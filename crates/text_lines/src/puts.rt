@@ -28,11 +28,7 @@ fn store(text: &[u8], out: &mut [u8], q: usize)
     requires { q + length text.now ≤ length out.old }
     ensures { out.new ≡ sets out.old q text.now }
 {
-    let mut k = 0;
-    while k < text.len() {
-        out[q + k] = text[k];
-        k += 1;
-    }
+    out[q..q + text.len()].copy_from_slice(text);
 }
 
 // A text for which there may not be room.
@@ -41,10 +37,8 @@ fn put_cut(text: &[u8], out: &mut [u8], q: usize) -> usize
     ensures { Put out.old q text.now out.new result × (result ≤ q + length text.now) }
 {
     let mut p = q;
-    let mut i = 0;
-    while i < text.len() {
-        p = put_byte(text[i], out, p);
-        i += 1;
+    for b in text {
+        p = put_byte(*b, out, p);
     }
     p
 }
@@ -54,9 +48,8 @@ fn put_byte(b: u8, out: &mut [u8], q: usize) -> usize
     requires { q + 1 < 2 ^ 64 }
     ensures { Put out.old q (b ∷ []) out.new result × (result ≤ q + 1) }
 {
-    if out.len() <= q {
-        return q + 1;
+    if q < out.len() {
+        out[q] = b;
     }
-    out[q] = b;
     q + 1
 }

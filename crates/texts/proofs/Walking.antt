@@ -1,65 +1,92 @@
 -- Texts gone along byte by byte. Assumes nothing.
-use mathlib.Core.Path.{◌≡◌, refl, ◌∙◌, ap, sym}
-use mathlib.Core.Bool.{Bool, true, false}
+use mathlib.Core.Path.{◌≡◌, refl, ap, sym}
+use mathlib.Core.Bool.{Bool, true, false, ◌&&◌}
 use mathlib.Core.List.{List, [], ◌∷◌}
-use Prim.Native.Nat.{ℕ, suc, ◌+◌, ◌-◌, ◌≤◌, ◌<◌}
+use Prim.Native.Nat.{ℕ, suc, ◌+◌, ◌≤◌, ◌<◌}
 use native.Mathlib.Omega.{arith}
 use native.Mathlib.Numerals.{add-one}
-use borrow.Author.Tests.{eq-eqb, ne_eqb}
+use borrow.Author.Tests.{ne_eqb}
 use lib.Dec.{eqb}
+use Rattle.std.specs.Cmp.Lexicographic.{pointwise}
 use lib.ListN.{length, drop, take, get_or, drop_of_length-le}
 use lib.Seq.{drop-cons}
-use Rattle.laws.specs.Pick.{pick, both}
-use Rattle.laws.proofs.Lists.{part-rest}
-use Rattle.texts.specs.Texts.{begins_with, stands_in, empty_from}
+use Rattle.std.proofs.lemmas.Bool.Decides.{nat_tests}
+use Rattle.laws.specs.Pick.{pick, both, either}
+use Rattle.laws.proofs.Tests.{both_false}
+use Rattle.texts.specs.Texts.{begins_with, same_text, stands_in, empty_from}
 
--- ---- one text at the front of another
+-- ---- one text at the front of another, or the same
 
-module _ (p t : List ℕ) (i : ℕ) (within : i < length p) where
-  pub text-short : length t ≤ i → begins_with (drop i p) (drop i t) ≡ false
-  unfolding begins_with
-  text-short short = rw (drop-cons p i 0, drop_of_length-le t short)
+eqb_comm : (a b : ℕ) → eqb a b ≡ eqb b a
+eqb_comm a b = grind (arith, nat_tests)
 
-  pub byte-same : i < length t → get_or t i 0 ≡ get_or p i 0 → begins_with (drop (i + 1) p) (drop (i + 1) t) ≡ begins_with (drop i p) (drop i t)
-  unfolding begins_with
-  byte-same there e = rw (add-one, drop-cons p i 0, drop-cons t i 0, eq-eqb _ _ e)
+eqb-suc : (a b : ℕ) → eqb (suc a) (suc b) ≡ eqb a b
+eqb-suc a b = grind (arith, nat_tests)
 
-  pub byte-differs : i < length t → (get_or t i 0 ≡ get_or p i 0 → ⊥) → begins_with (drop i p) (drop i t) ≡ false
-  unfolding begins_with
-  byte-differs there ne = rw (drop-cons p i 0, drop-cons t i 0, ne_eqb _ _ ne)
+and_is : (a b : Bool) → (a && b) ≡ both a b
+and_is true b = refl
+and_is false b = refl
 
-pub part-ends : (p t : List ℕ) (i : ℕ) → length p ≤ i → begins_with (drop i p) (drop i t) ≡ true
+pub begins_is : (p t : List ℕ) → pointwise eqb p (take (length p) t) ≡ begins_with p t
 unfolding begins_with
-part-ends p t i past = rw (drop_of_length-le p past)
+begins_is [] t = refl
+begins_is (x ∷ p) [] = refl
+begins_is (x ∷ p) (y ∷ t) = rw (begins_is p t, eqb_comm x y) (and_is (eqb y x) (begins_with p t))
+
+pub same_is : (t o : List ℕ) → pointwise eqb t o ≡ same_text t o
+unfolding begins_with
+same_is [] [] = refl
+same_is [] (y ∷ o) = sym (ap (λ b. both b false) (ne_eqb 0 (length (y ∷ o)) (omega arith)))
+same_is (x ∷ t) [] = sym (ap (λ b. both b true) (ne_eqb (length (x ∷ t)) 0 (omega arith)))
+same_is (x ∷ t) (y ∷ o) = rw (same_is t o, eqb-suc (length t) (length o)) (go (eqb x y) (eqb (length t) (length o)))
+  where
+    go : (a c : Bool) → (a && both c (begins_with o t)) ≡ both c (both a (begins_with o t))
+    go true c = refl
+    go false true = refl
+    go false false = refl
 
 -- ---- one text within another
 
-module _ (p t : List ℕ) (i : ℕ) {b : Bool} (within : i < length t) (asked : b ≡ begins_with p (take (length t - i) (drop i t))) where
-  -- whether the part begins at the place, as the lent text from there on says
-  front : b ≡ begins_with p (get_or t i 0 ∷ drop (suc i) t)
-  front = asked ∙ ap (begins_with p) (part-rest i t ∙ drop-cons t i 0 within)
+window_is : (p t : List ℕ) → length p ≤ length t → pointwise eqb (take (length p) t) p ≡ begins_with p t
+unfolding begins_with
+window_is [] t h = refl
+window_is (x ∷ p) [] h = absurd (omega arith)
+window_is (x ∷ p) (y ∷ t) h = rw (window_is p t (omega arith)) (and_is (eqb y x) (begins_with p t))
 
-  pub stands_here : b ≡ true → true ≡ stands_in p (drop i t)
-  unfolding stands_in
-  stands_here here = rw (drop-cons t i 0, ← front, here)
+window_on : (p t : List ℕ) → length p ≤ length t → 0 < length p → stands_in p t ≡ either (pointwise eqb (take (length p) t) p) (stands_in p (drop 1 t))
+unfolding stands_in
+window_on p [] fits some = absurd (omega arith)
+window_on p (y ∷ t) fits some = sym (ap (λ b. either b (stands_in p t)) (window_is p (y ∷ t) fits))
 
-  pub stands-further : b ≡ false → stands_in p (drop (i + 1) t) ≡ stands_in p (drop i t)
-  unfolding stands_in
-  stands-further not = rw (add-one, drop-cons t i 0, ← front, not)
+-- at a window w of the text, of which k bytes are asked for: the part is it, or stands in what is left behind the window's first byte
+pub stands_on :
+    (p t : List ℕ) {k : ℕ} {w rest : List ℕ} {b : Bool} → 0 < length p → k ≡ length p → k ≤ length t → w ≡ take k t → rest ≡ drop 1 t → b ≡ pointwise eqb w p
+    → stands_in p t ≡ either b (stands_in p rest)
+stands_on p t some size fits is on e =
+    rw (e, is, on, size) (window_on p t (omega arith) some)
 
-pub stands_at-end : (p t : List ℕ) (i : ℕ) → length t ≤ i → stands_in p (drop i t) ≡ eqb (length p) 0
+begins-not : (p t : List ℕ) → length t < length p → begins_with p t ≡ false
+unfolding begins_with
+begins-not [] t h = absurd (omega arith)
+begins-not (x ∷ p) [] h = refl
+begins-not (x ∷ p) (y ∷ t) h = rw (begins-not p t (omega arith)) (both_false (eqb y x))
+
+pub stands-not : (p t : List ℕ) → length t < length p → stands_in p t ≡ false
+unfolding stands_in
+stands-not p [] h = begins-not p [] h
+stands-not p (y ∷ t) h = rw (begins-not p (y ∷ t) h) (stands-not p t (omega arith))
+
+pub stands_none : (p t : List ℕ) → length p ≡ 0 → true ≡ stands_in p t
 unfolding stands_in begins_with
-stands_at-end p t i past = rw (drop_of_length-le t past) (go p)
-  where
-    go : (p : List ℕ) → begins_with p [] ≡ eqb (length p) 0
-    go [] = refl
-    go (x ∷ p) = sym (ne_eqb (length (x ∷ p)) 0 (omega arith))
+stands_none [] [] h = refl
+stands_none [] (y ∷ t) h = refl
+stands_none (x ∷ p) t h = absurd (omega arith)
 
 -- ---- empty lines
 
 pub line_on :
-    (t : List ℕ) (i count : ℕ) (ended : Bool) → i < length t → {n : ℕ} → n ≡ pick (both (eqb (get_or t i 0) 10) ended) 1 0
-    → count + n + empty_from (drop (i + 1) t) (eqb (get_or t i 0) 10) ≡ count + empty_from (drop i t) ended
+    (t : List ℕ) (i count : ℕ) (ended : Bool) → i < length t → {n : ℕ} → n ≡ count + pick (both (eqb (get_or t i 0) 10) ended) 1 0
+    → n + empty_from (drop (i + 1) t) (eqb (get_or t i 0) 10) ≡ count + empty_from (drop i t) ended
 unfolding empty_from
 line_on t i count ended within {n} e = rw (add-one, drop-cons t i 0, e) (omega arith)
 

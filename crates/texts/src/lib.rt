@@ -11,24 +11,22 @@ const LINE_END: u8 = 10;
 pub fn same(text: &[u8], other: &[u8]) -> bool
     ensures { result ≡ same_text text.now other.now }
 {
-    if text.len() != other.len() {
-        return false;
-    }
-    begins(text, other)
+    text == other
 }
 
 // Whether the part stands somewhere in the text.
 pub fn holds(text: &[u8], part: &[u8]) -> bool
     ensures { result ≡ stands_in part.now text.now }
 {
-    let mut i = 0;
-    while i < text.len() {
-        if begins(&text[i..], part) {
+    if part.is_empty() {
+        return true;
+    }
+    for window in text.windows(part.len()) {
+        if window == part {
             return true;
         }
-        i += 1;
     }
-    part.len() == 0
+    false
 }
 
 // How many empty lines the text has behind its first line: in a sheet, how many entries.
@@ -37,38 +35,19 @@ pub fn entries(text: &[u8]) -> usize
 {
     let mut count = 0;
     let mut is_end = false;
-    let mut i = 0;
-    while i < text.len() {
-        let ends = text[i] == LINE_END;
-        count += one_if(ends, is_end);
+    for b in text {
+        let ends = *b == LINE_END;
+        if ends && is_end {
+            count += 1;
+        }
         is_end = ends;
-        i += 1;
     }
     count
-}
-
-fn one_if(ends: bool, after: bool) -> usize
-    ensures { (result ≡ pick (both ends after) 1 0) × (result ≤ 1) }
-{
-    if !ends {
-        return 0;
-    }
-    if after { 1 } else { 0 }
 }
 
 // Whether the text begins with the part.
 pub fn begins(text: &[u8], part: &[u8]) -> bool
     ensures { result ≡ begins_with part.now text.now }
 {
-    let mut i = 0;
-    while i < part.len() {
-        if text.len() <= i {
-            return false;
-        }
-        if text[i] != part[i] {
-            return false;
-        }
-        i += 1;
-    }
-    true
+    text.starts_with(part)
 }

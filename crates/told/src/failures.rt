@@ -3,38 +3,10 @@ ghost use Rattle.std.specs.Prelude.{pos, ◌≡◌, ◌≤◌, length};
 ghost use Rattle.std.specs.IoError.{raw_os_error};
 ghost use Rattle.io.specs.Counts.{IsPrefixLen};
 
-use std::fmt;
-use std::fmt::Formatter;
-use std::io::Error;
+use std::io::{Error, Write};
 
 // More than the longest text of an error, with the number that std puts behind it.
 pub(crate) const LONGEST: usize = 256;
-
-// Where std puts the text of an error. What doesn't fit is left out.
-#[derive(Drop)]
-struct Text {
-    bytes: [u8; LONGEST],
-    length: usize,
-}
-
-impl fmt::Write for Text {
-    fn write_str(&mut self, s: &str) -> fmt::Result {
-        for b in s.as_bytes() {
-            self.put(*b);
-        }
-        Ok(())
-    }
-}
-
-impl Text {
-    fn put(&mut self, b: u8) {
-        let at = self.length;
-        if at < LONGEST {
-            self.bytes[at] = b;
-            self.length = at + 1;
-        }
-    }
-}
 
 // What an error is where no call of the system failed, as a write that took nothing.
 pub fn none() -> Error
@@ -61,17 +33,14 @@ const ENAMETOOLONG: i32 = 36;
 
 const EILSEQ: i32 = 84;
 
-// Puts the text of an error at the start of the bytes, and answers how long it is.
+// Puts the text of an error at the start of the bytes, and answers how long it is. What doesn't fit is left out.
 pub(crate) fn put(error: Error, text: &mut [u8; LONGEST]) -> usize
     ensures { IsPrefixLen result text.new }
 {
-    let bytes = [0; LONGEST];
-    let mut f = Formatter::new(Text { bytes, length: 0 });
-    let _ = f.write(error);
-    let written = f.into_inner();
-    let bytes = written.bytes;
-    *text = bytes;
-    words(text, written.length, error.raw_os_error().is_some())
+    let mut rest = &mut text[..];
+    let _ = write!(rest, "{error}");
+    let written = LONGEST.saturating_sub(rest.len());
+    words(text, written, error.raw_os_error().is_some())
 }
 
 // How long the words of an error are among so many bytes: std puts ` (os error N)` behind those of the system.
@@ -84,12 +53,8 @@ fn words(text: &[u8], n: usize, is_of_system: bool) -> usize
     if !is_of_system {
         return n;
     }
-    let mut i = n;
-    while i > 1 {
-        i -= 1;
-        if text[i] == b'(' {
-            return i - 1;
-        }
+    match text[..n].iter().rposition(|b| *b == b'(') {
+        Some(at) if at > 0 => at - 1,
+        _ => n,
     }
-    n
 }

@@ -24,10 +24,7 @@ pub const VERSION: [u8; 5] = *b"0.9.0";
 pub fn front(s: &[u8], n: usize) -> &[u8]
     ensures { result.now ≡ front_of n s.now }
 {
-    if s.len() < n {
-        return &s[0..0];
-    }
-    &s[0..n]
+    s.get(..n).unwrap_or(&[])
 }
 
 // Puts an argument of the command line at the start of a buffer, and answers how long it is. One that is too long for the buffer is its
@@ -44,14 +41,12 @@ pub fn argument(rt: &impl Env, i: usize, word: &mut [u8]) -> usize
 
 // How many arguments the program was started with, its own name among them.
 pub fn argument_count(rt: &impl Env) -> usize {
-    let mut i = 0;
-    while i < usize::MAX {
+    for i in 0..usize::MAX {
         if let Err(FillError::NotPresent) = rt.arg(i, &mut []) {
             return i;
         }
-        i += 1;
     }
-    i
+    usize::MAX
 }
 
 // Tells of a call that failed on what is named: a line on standard error with the program's name in front and the error's text behind.
@@ -85,12 +80,12 @@ pub fn begin(rt: &impl Console, program: &[u8]) {
 
 // Says a part of a line on standard error, and answers whether it was taken. Where it wasn't, there is nobody to tell.
 pub fn say(rt: &impl Console, text: &[u8]) -> bool {
-    let mut done = 0;
-    while done < text.len() {
-        match rt.tell_some(&text[done..]) {
-            Ok(0) => return false,
-            Ok(n) => done += n,
-            Err(_) => return false,
+    let mut rest = text;
+    // Kept: each turn goes on by what was taken, which is no count.
+    while !rest.is_empty() {
+        match rt.tell_some(rest) {
+            Ok(0) | Err(_) => return false,
+            Ok(n) => rest = &rest[n..],
         }
     }
     true
@@ -111,21 +106,19 @@ pub fn say_hex(rt: &impl Console, number: u64, digits: usize) -> bool {
 
 // Says a number after its name. A part that isn't taken ends it.
 pub fn say_count(rt: &impl Console, name: &[u8], count: u64) -> bool {
-    if !say(rt, name) {
-        return false;
-    }
-    say_number(rt, count)
+    say(rt, name) && say_number(rt, count)
 }
 
 // Writes all to standard output, or stops at the first write that takes nothing or fails.
 pub fn write(rt: &impl Print, bytes: &[u8]) -> Result<()> {
-    let mut done = 0;
-    while done < bytes.len() {
-        match rt.write_some(&bytes[done..]) {
-            Ok(0) => return Err(failures::none()),
-            Ok(n) => done += n,
-            Err(e) => return Err(e),
+    let mut rest = bytes;
+    // Kept: each turn goes on by what was taken, which is no count.
+    while !rest.is_empty() {
+        let n = rt.write_some(rest)?;
+        if n == 0 {
+            return Err(failures::none());
         }
+        rest = &rest[n..];
     }
     Ok(())
 }
@@ -153,25 +146,13 @@ pub fn put_count(rt: &impl Console, program: &[u8], name: &[u8], count: u64) -> 
 
 // The line above what is written of a file.
 pub fn put_title(rt: &impl Console, program: &[u8], name: &[u8]) -> bool {
-    if !put(rt, program, b"file=") {
-        return false;
-    }
-    if !put(rt, program, name) {
-        return false;
-    }
-    put(rt, program, b"\n")
+    put(rt, program, b"file=") && put(rt, program, name) && put(rt, program, b"\n")
 }
 
 // The line that `--version` asks for.
 pub fn put_version(rt: &impl Console, program: &[u8]) -> bool {
-    if !put(rt, program, program) {
-        return false;
-    }
-    if !put(rt, program, b" ") {
-        return false;
-    }
-    if !put(rt, program, &VERSION) {
-        return false;
-    }
-    put(rt, program, b"\n")
+    put(rt, program, program)
+        && put(rt, program, b" ")
+        && put(rt, program, &VERSION)
+        && put(rt, program, b"\n")
 }

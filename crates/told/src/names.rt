@@ -6,21 +6,13 @@ ghost use Rattle.told.specs.Names.{printed};
 pub fn plain(name: &mut [u8])
     ensures { name.new ≡ map printed name.old }
 {
-    let mut i = 0;
-    while i < name.len() {
-        name[i] = glyph(name[i]);
-        i += 1;
+    for b in name.iter_mut() {
+        *b = glyph(*b);
     }
 }
 
 fn glyph(b: u8) -> u8
     ensures { result ≡ printed b }
 {
-    if b < 0x20 {
-        return b'?';
-    }
-    if b == 0x7F {
-        return b'?';
-    }
-    b
+    if b.is_ascii_control() { b'?' } else { b }
 }

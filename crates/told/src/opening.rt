@@ -16,10 +16,7 @@ pub fn path(name: &[u8]) -> Result<&str>
     if name.len() >= PATH {
         return Err(failures::too_long());
     }
-    match std::str::from_utf8(name) {
-        Ok(text) => Ok(text),
-        Err(_) => Err(failures::not_text()),
-    }
+    std::str::from_utf8(name).map_err(|_| failures::not_text())
 }
 
 // Opens the file of a name for reading.

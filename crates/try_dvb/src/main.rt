@@ -2,26 +2,19 @@
 #![tactic(auto)]
 
 use std::io::Print;
-use vectors::{Case, Line, MOST, NextCase, SPACE};
+use vectors::{Case, Line, MOST, SPACE};
 
 fn main(rt: HostRuntime) {
     let mut space = [0u8; SPACE];
     let mut out = [0u8; MOST];
     let mut text = [0u8; SPACE];
     let mut input = vectors::start();
-    let mut turns = u64::MAX;
-    while turns > 0 {
-        turns -= 1;
-        let found = vectors::turn(&rt, input, &mut space, &mut text);
-        match found {
-            NextCase::Whole(case) => {
-                run(&rt, case, &space, &mut out, &mut text);
-                input = case.rest;
-            }
-            NextCase::Ended(_) => {
-                return;
-            }
-        }
+    for _ in 0..u64::MAX {
+        let Ok(case) = vectors::turn(&rt, input, &mut space, &mut text) else {
+            return;
+        };
+        run(&rt, case, &space, &mut out, &mut text);
+        input = case.rest;
     }
 }
 
@@ -37,11 +30,11 @@ fn run(rt: &impl Print, case: Case, space: &[u8; SPACE], out: &mut [u8], text: &
 fn call(op: u8, payload: &[u8], out: &mut [u8]) -> Line {
     match op {
         70 => Line::Answered {
-            op: op,
+            op,
             answer: dvb_descriptor::write_descriptor(payload, out),
         },
         71 => Line::Answered {
-            op: op,
+            op,
             answer: dvb_descriptor::read_descriptor(payload, out),
         },
         _ => Line::Unknown(op),

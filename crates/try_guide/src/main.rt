@@ -3,13 +3,13 @@
 // a fresh reader of two, op 25 feeds it one packet.
 #![tactic(auto)]
 
-use answer::Answer;
+use answer::Reason;
 use packet::Setting;
 use packet::two::Streams;
 use reader::two::Readers;
 use reader::{Heard, Reader};
 use std::io::Print;
-use vectors::{Case, Line, MOST, NextCase, SPACE};
+use vectors::{Case, Line, MOST, SPACE};
 
 // What op 20 leaves for the ops 21 that follow, and op 24 for the ops 25.
 #[derive(Drop)]
@@ -26,19 +26,12 @@ fn main(rt: HostRuntime) {
     let mut text = [0u8; SPACE];
     let mut input = vectors::start();
     let mut kept = none();
-    let mut turns = u64::MAX;
-    while turns > 0 {
-        turns -= 1;
-        let found = vectors::turn(&rt, input, &mut space, &mut text);
-        match found {
-            NextCase::Whole(case) => {
-                kept = run(&rt, case, kept, &space, &mut out, &mut text);
-                input = case.rest;
-            }
-            NextCase::Ended(_) => {
-                return;
-            }
-        }
+    for _ in 0..u64::MAX {
+        let Ok(case) = vectors::turn(&rt, input, &mut space, &mut text) else {
+            return;
+        };
+        run(&rt, case, &mut kept, &space, &mut out, &mut text);
+        input = case.rest;
     }
 }
 
@@ -63,165 +56,113 @@ fn none() -> Kept {
     }
 }
 
-// A case: the call is lent as much output as it has room.
+// A case: the call is lent as much output as it has room. Op 23 is lent none: what it answers is a part of the payload.
 fn run(
     rt: &impl Print,
     case: Case,
-    kept: Kept,
+    kept: &mut Kept,
     space: &[u8; SPACE],
     out: &mut [u8],
     text: &mut [u8; SPACE],
-) -> Kept {
-    let op = case.op;
+) {
     let payload = vectors::payload(case, space);
     let n = vectors::lend(out, case.room);
     let lent = &mut out[..n];
+    if case.op == 23 {
+        choose(rt, payload, text);
+        return;
+    }
+    let line = call(case.op, payload, kept, lent);
+    vectors::tell(rt, line, lent, text);
+}
+
+// The call that op names, and what is told of it.
+fn call(op: u8, payload: &[u8], kept: &mut Kept, out: &mut [u8]) -> Line {
     match op {
-        20 => begin(rt, op, payload, kept, lent, text),
-        21 => feed(rt, op, payload, kept, lent, text),
-        22 => {
-            let line = cut(op, payload, lent);
-            vectors::tell(rt, line, lent, text);
-            kept
-        }
-        23 => {
-            choose(rt, op, payload, text);
-            kept
-        }
-        24 => begin_two(rt, op, payload, kept, lent, text),
-        25 => feed_two(rt, op, payload, kept, lent, text),
-        _ => {
-            vectors::tell(rt, Line::Unknown(op), lent, text);
-            kept
-        }
+        20 => begin(payload, kept),
+        21 => feed(payload, kept, out),
+        22 => cut(payload, out),
+        24 => begin_two(payload, kept),
+        25 => feed_two(payload, kept, out),
+        _ => Line::Unknown(op),
     }
 }
 
-// Op 23: two packets, the first half of the payload and the rest. No output is lent; an empty part is number 16.
-fn choose(rt: &impl Print, op: u8, payload: &[u8], text: &mut [u8]) {
+// Op 23: two packets, the first half of the payload and the rest. An empty part is number 16.
+fn choose(rt: &impl Print, payload: &[u8], text: &mut [u8]) {
     let half = payload.len() / 2;
-    let part = aerials::better(&payload[0..half], &payload[half..]);
-    let n = part.len();
-    let answer = if n == 0 {
-        answer::refuse(16, 0)
+    let part = aerials::better(&payload[..half], &payload[half..]);
+    let answer = if part.is_empty() {
+        Reason::Range.refuse(0)
     } else {
-        Answer::Done(n)
+        Ok(part.len())
     };
-    let line = Line::Answered {
-        op: op,
-        answer: answer,
-    };
-    vectors::tell(rt, line, part, text);
+    vectors::tell(rt, Line::Answered { op: 23, answer }, part, text);
 }
 
 // Op 20: magazine, page, stream, application.
-fn begin(rt: &impl Print, op: u8, payload: &[u8], kept: Kept, out: &[u8], text: &mut [u8]) -> Kept {
+fn begin(payload: &[u8], kept: &mut Kept) -> Line {
     if payload.len() < 4 {
-        vectors::tell(rt, Line::Unknown(op), out, text);
-        return kept;
+        return Line::Unknown(20);
     }
-    let line = Line::Answered {
-        op: op,
-        answer: Answer::Done(0),
-    };
-    vectors::tell(rt, line, out, text);
-    let setting = Setting {
+    kept.setting = Setting {
         magazine: payload[0],
         page: payload[1],
         stream: payload[2],
         application: payload[3],
     };
-    let reader = reader::fresh();
-    let mut kept = kept;
-    kept.setting = setting;
-    kept.reader = reader;
-    kept
+    kept.reader = reader::fresh();
+    Line::Answered {
+        op: 20,
+        answer: Ok(0),
+    }
 }
 
 // Op 21: the bytes of one packet.
-fn feed(
-    rt: &impl Print,
-    op: u8,
-    payload: &[u8],
-    kept: Kept,
-    out: &mut [u8],
-    text: &mut [u8],
-) -> Kept {
+fn feed(payload: &[u8], kept: &mut Kept, out: &mut [u8]) -> Line {
     let fed = reader::feed(kept.setting, kept.reader, payload, out);
-    let heard = fed.heard;
-    vectors::tell(rt, told(op, heard), out, text);
-    let reader = fed.reader;
-    let mut kept = kept;
-    kept.reader = reader;
-    kept
+    kept.reader = fed.reader;
+    told(21, fed.heard)
 }
 
 // Op 24: magazine, page, the two streams, application.
-fn begin_two(
-    rt: &impl Print,
-    op: u8,
-    payload: &[u8],
-    kept: Kept,
-    out: &[u8],
-    text: &mut [u8],
-) -> Kept {
+fn begin_two(payload: &[u8], kept: &mut Kept) -> Line {
     if payload.len() < 5 {
-        vectors::tell(rt, Line::Unknown(op), out, text);
-        return kept;
+        return Line::Unknown(24);
     }
-    let line = Line::Answered {
-        op: op,
-        answer: Answer::Done(0),
-    };
-    vectors::tell(rt, line, out, text);
-    let streams = Streams {
+    kept.streams = Streams {
         magazine: payload[0],
         page: payload[1],
         first: payload[2],
         second: payload[3],
         application: payload[4],
     };
-    let readers = reader::two::fresh();
-    let mut kept = kept;
-    kept.streams = streams;
-    kept.readers = readers;
-    kept
+    kept.readers = reader::two::fresh();
+    Line::Answered {
+        op: 24,
+        answer: Ok(0),
+    }
 }
 
 // Op 25: the bytes of one packet.
-fn feed_two(
-    rt: &impl Print,
-    op: u8,
-    payload: &[u8],
-    kept: Kept,
-    out: &mut [u8],
-    text: &mut [u8],
-) -> Kept {
+fn feed_two(payload: &[u8], kept: &mut Kept, out: &mut [u8]) -> Line {
     let fed = reader::two::feed(kept.streams, kept.readers, payload, out);
-    let heard = fed.heard;
-    vectors::tell(rt, told(op, heard), out, text);
-    let readers = fed.readers;
-    let mut kept = kept;
-    kept.readers = readers;
-    kept
+    kept.readers = fed.reader;
+    told(25, fed.heard)
 }
 
 // What is told of a packet that was fed.
 fn told(op: u8, heard: Heard) -> Line {
     match heard {
-        Heard::Took {
-            blocks,
-            written,
-            dropped,
-        } => Line::Fed {
-            op: op,
-            answer: Answer::Done(written),
-            blocks: blocks,
-            dropped: dropped,
+        Ok(t) => Line::Fed {
+            op,
+            answer: Ok(t.written),
+            blocks: t.blocks,
+            dropped: t.dropped,
         },
-        Heard::Refused(r) => Line::Fed {
-            op: op,
-            answer: Answer::Refused(r),
+        Err(r) => Line::Fed {
+            op,
+            answer: Err(r),
             blocks: 0,
             dropped: false,
         },
@@ -229,9 +170,9 @@ fn told(op: u8, heard: Heard) -> Line {
 }
 
 // Op 22: magazine, page, stream, first index, packets a page (0: none named), then records.
-fn cut(op: u8, payload: &[u8], out: &mut [u8]) -> Line {
+fn cut(payload: &[u8], out: &mut [u8]) -> Line {
     if payload.len() < 5 {
-        return Line::Unknown(op);
+        return Line::Unknown(22);
     }
     let s = Setting {
         magazine: payload[0],
@@ -240,15 +181,10 @@ fn cut(op: u8, payload: &[u8], out: &mut [u8]) -> Line {
         application: 0,
     };
     let index = payload[3];
-    let k = payload[4];
-    if k == 0 {
-        return Line::Answered {
-            op: op,
-            answer: writer::cut(s, index, &payload[5..], out),
-        };
-    }
-    Line::Answered {
-        op: op,
-        answer: writer::cut_pages(s, index, k, &payload[5..], out),
-    }
+    let records = &payload[5..];
+    let answer = match payload[4] {
+        0 => writer::cut(s, index, records, out),
+        k => writer::cut_pages(s, index, k, records, out),
+    };
+    Line::Answered { op: 22, answer }
 }

@@ -3,28 +3,21 @@
 #![tactic(auto)]
 
 use answer::Answer;
-use blocks::Read;
+use blocks::Taken;
 use std::io::Print;
-use vectors::{Case, Line, MOST, NextCase, SPACE};
+use vectors::{Case, Line, MOST, SPACE};
 
 fn main(rt: HostRuntime) {
     let mut space = [0u8; SPACE];
     let mut out = [0u8; MOST];
     let mut text = [0u8; SPACE];
     let mut input = vectors::start();
-    let mut turns = u64::MAX;
-    while turns > 0 {
-        turns -= 1;
-        let found = vectors::turn(&rt, input, &mut space, &mut text);
-        match found {
-            NextCase::Whole(case) => {
-                run(&rt, case, &space, &mut out, &mut text);
-                input = case.rest;
-            }
-            NextCase::Ended(_) => {
-                return;
-            }
-        }
+    for _ in 0..u64::MAX {
+        let Ok(case) = vectors::turn(&rt, input, &mut space, &mut text) else {
+            return;
+        };
+        run(&rt, case, &space, &mut out, &mut text);
+        input = case.rest;
     }
 }
 
@@ -47,19 +40,19 @@ fn call(op: u8, payload: &[u8], out: &mut [u8]) -> Line {
 }
 
 fn read(op: u8, payload: &[u8], out: &mut [u8]) -> Line {
-    if payload.len() < 1 {
+    let [application, record @ ..] = payload else {
         return Line::Unknown(op);
-    }
-    match information::read_information(payload[0], &payload[1..], out) {
-        Read::Taken { written, mended } => Line::Counted {
-            op: op,
-            answer: Answer::Done(written),
-            mended: mended,
-            joined: blocks::second_of(&payload[1..]),
+    };
+    match information::read_information(*application, record, out) {
+        Ok(Taken { written, mended }) => Line::Counted {
+            op,
+            answer: Ok(written),
+            mended,
+            joined: blocks::second_of(record),
         },
-        Read::Refused(why) => Line::Counted {
-            op: op,
-            answer: Answer::Refused(why),
+        Err(why) => Line::Counted {
+            op,
+            answer: Err(why),
             mended: 0,
             joined: 0,
         },
@@ -67,21 +60,21 @@ fn read(op: u8, payload: &[u8], out: &mut [u8]) -> Line {
 }
 
 fn write(op: u8, payload: &[u8], out: &mut [u8]) -> Line {
-    if payload.len() < 1 {
+    let [application, form @ ..] = payload else {
         return Line::Unknown(op);
-    }
+    };
     Line::Answered {
-        op: op,
-        answer: information_writer::write_information(payload[0], &payload[1..], out),
+        op,
+        answer: information_writer::write_information(*application, form, out),
     }
 }
 
 fn judge(op: u8, payload: &[u8], out: &mut [u8]) -> Line {
-    if payload.len() < 1 {
+    let [application, records @ ..] = payload else {
         return Line::Unknown(op);
-    }
+    };
     Line::Answered {
-        op: op,
-        answer: broadcast::lawful(payload[0], &payload[1..], out),
+        op,
+        answer: broadcast::lawful(*application, records, out),
     }
 }

@@ -3,26 +3,19 @@
 #![tactic(auto)]
 
 use std::io::Print;
-use vectors::{Case, Line, MOST, NextCase, SPACE};
+use vectors::{Case, Line, MOST, SPACE};
 
 fn main(rt: HostRuntime) {
     let mut space = [0u8; SPACE];
     let mut out = [0u8; MOST];
     let mut text = [0u8; SPACE];
     let mut input = vectors::start();
-    let mut turns = u64::MAX;
-    while turns > 0 {
-        turns -= 1;
-        let found = vectors::turn(&rt, input, &mut space, &mut text);
-        match found {
-            NextCase::Whole(case) => {
-                run(&rt, case, &space, &mut out, &mut text);
-                input = case.rest;
-            }
-            NextCase::Ended(_) => {
-                return;
-            }
-        }
+    for _ in 0..u64::MAX {
+        let Ok(case) = vectors::turn(&rt, input, &mut space, &mut text) else {
+            return;
+        };
+        run(&rt, case, &space, &mut out, &mut text);
+        input = case.rest;
     }
 }
 
@@ -43,16 +36,12 @@ fn call(op: u8, payload: &[u8], out: &mut [u8]) -> Line {
 }
 
 fn list(op: u8, payload: &[u8], out: &mut [u8]) -> Line {
-    if payload.len() < 3 {
+    let [low, high, second, form @ ..] = payload else {
         return Line::Unknown(op);
-    }
-    let mended = word(payload[0], payload[1]);
+    };
+    let mended = u16::from_le_bytes([*low, *high]);
     Line::Answered {
-        op: op,
-        answer: listing::list_table(&payload[3..], mended, payload[2], out),
+        op,
+        answer: listing::list_table(form, mended, *second, out),
     }
-}
-
-fn word(low: u8, high: u8) -> u16 {
-    (low as u16) + 256 * (high as u16)
 }

@@ -2,26 +2,19 @@
 #![tactic(auto)]
 
 use std::io::Print;
-use vectors::{Case, Line, MOST, NextCase, SPACE};
+use vectors::{Case, Line, MOST, SPACE};
 
 fn main(rt: HostRuntime) {
     let mut space = [0u8; SPACE];
     let mut out = [0u8; MOST];
     let mut text = [0u8; SPACE];
     let mut input = vectors::start();
-    let mut turns = u64::MAX;
-    while turns > 0 {
-        turns -= 1;
-        let found = vectors::turn(&rt, input, &mut space, &mut text);
-        match found {
-            NextCase::Whole(case) => {
-                run(&rt, case, &space, &mut out, &mut text);
-                input = case.rest;
-            }
-            NextCase::Ended(_) => {
-                return;
-            }
-        }
+    for _ in 0..u64::MAX {
+        let Ok(case) = vectors::turn(&rt, input, &mut space, &mut text) else {
+            return;
+        };
+        run(&rt, case, &space, &mut out, &mut text);
+        input = case.rest;
     }
 }
 
@@ -37,7 +30,7 @@ fn run(rt: &impl Print, case: Case, space: &[u8; SPACE], out: &mut [u8], text: &
 fn call(op: u8, payload: &[u8], out: &mut [u8]) -> Line {
     match op {
         10 => Line::Answered {
-            op: op,
+            op,
             answer: pes::read(payload, out),
         },
         11 => write(op, payload, out),
@@ -50,7 +43,7 @@ fn write(op: u8, payload: &[u8], out: &mut [u8]) -> Line {
         return Line::Unknown(op);
     }
     Line::Answered {
-        op: op,
+        op,
         answer: pes_writer::write(payload[0], &payload[1..], out),
     }
 }

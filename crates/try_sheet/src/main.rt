@@ -2,30 +2,23 @@
 // entry, each of the old form; ops 60 to 63 and 66 do the same in the new one. Op 54 moves one of the old form to the new one, op 55 back.
 #![tactic(auto)]
 
-ghost use Rattle.std.specs.Prelude.{◌≤◌, ◌<◌};
+ghost use Rattle.std.specs.Prelude.{◌≤◌, ◌<◌, length, IfSome};
 
 use sheet_entry::Form;
 use std::io::Print;
-use vectors::{Case, Line, MOST, NextCase, SPACE};
+use vectors::{Case, Line, MOST, SPACE};
 
 fn main(rt: HostRuntime) {
     let mut space = [0u8; SPACE];
     let mut out = [0u8; MOST];
     let mut text = [0u8; SPACE];
     let mut input = vectors::start();
-    let mut turns = u64::MAX;
-    while turns > 0 {
-        turns -= 1;
-        let found = vectors::turn(&rt, input, &mut space, &mut text);
-        match found {
-            NextCase::Whole(case) => {
-                run(&rt, case, &space, &mut out, &mut text);
-                input = case.rest;
-            }
-            NextCase::Ended(_) => {
-                return;
-            }
-        }
+    for _ in 0..u64::MAX {
+        let Ok(case) = vectors::turn(&rt, input, &mut space, &mut text) else {
+            return;
+        };
+        run(&rt, case, &space, &mut out, &mut text);
+        input = case.rest;
     }
 }
 
@@ -58,102 +51,89 @@ fn call(op: u8, payload: &[u8], out: &mut [u8]) -> Line {
 
 fn rewrite(op: u8, form: Form, payload: &[u8], out: &mut [u8]) -> Line {
     Line::Answered {
-        op: op,
+        op,
         answer: day_sheet::rewrite(form, payload, out),
     }
 }
 
 fn up(op: u8, payload: &[u8], out: &mut [u8]) -> Line {
     Line::Answered {
-        op: op,
+        op,
         answer: sheet_moves::up(payload, out),
     }
 }
 
 fn down(op: u8, payload: &[u8], out: &mut [u8]) -> Line {
     Line::Answered {
-        op: op,
+        op,
         answer: sheet_moves::down(payload, out),
     }
 }
 
 // A stamp, the length of a sheet, the sheet, and a table form.
 fn add(op: u8, payload: &[u8], out: &mut [u8]) -> Line {
-    if payload.len() < 8 {
+    let Some((sheet, table)) = parted(payload, 4, 0) else {
         return Line::Unknown(op);
-    }
-    let long = number_at(payload, 4);
-    if payload.len() - 8 < long {
-        return Line::Unknown(op);
-    }
-    let end = 8 + long;
+    };
     let stamp = number_at(payload, 0) as u32;
     Line::Answered {
-        op: op,
-        answer: sheet_joins::add(Form::Old, stamp, 0, &payload[8..end], &payload[end..], out),
+        op,
+        answer: sheet_joins::add(Form::Old, stamp, 0, sheet, table, out),
     }
 }
 
 // The same, with the table's count before its form.
 fn add_counted(op: u8, payload: &[u8], out: &mut [u8]) -> Line {
-    if payload.len() < 10 {
+    let Some((sheet, rest)) = parted(payload, 4, 2) else {
         return Line::Unknown(op);
-    }
-    let long = number_at(payload, 4);
-    if payload.len() - 10 < long {
-        return Line::Unknown(op);
-    }
-    let end = 8 + long;
-    let table = end + 2;
+    };
     let stamp = number_at(payload, 0) as u32;
-    let count = (lent_bytes::byte_at(payload, end)
-        + 256 * lent_bytes::byte_at(payload, end + 1)) as u16;
+    let count = (lent_bytes::byte_at(rest, 0) + 256 * lent_bytes::byte_at(rest, 1)) as u16;
     Line::Answered {
-        op: op,
-        answer: sheet_joins::add(
-            Form::New,
-            stamp,
-            count,
-            &payload[8..end],
-            &payload[table..],
-            out,
-        ),
+        op,
+        answer: sheet_joins::add(Form::New, stamp, count, sheet, &rest[2..], out),
     }
 }
 
 // The length of the first sheet, it, and the second.
 fn join(op: u8, form: Form, payload: &[u8], out: &mut [u8]) -> Line {
-    if payload.len() < 4 {
+    let Some((first, second)) = parted(payload, 0, 0) else {
         return Line::Unknown(op);
-    }
-    let long = number_at(payload, 0);
-    if payload.len() - 4 < long {
-        return Line::Unknown(op);
-    }
-    let end = 4 + long;
+    };
     Line::Answered {
-        op: op,
-        answer: sheet_joins::join(form, &payload[4..end], &payload[end..], out),
+        op,
+        answer: sheet_joins::join(form, first, second, out),
     }
 }
 
 // The same; the sheet at fault is told, too.
 fn compare(op: u8, form: Form, payload: &[u8], out: &mut [u8]) -> Line {
-    if payload.len() < 4 {
+    let Some((first, second)) = parted(payload, 0, 0) else {
         return Line::Unknown(op);
-    }
-    let long = number_at(payload, 0);
-    if payload.len() - 4 < long {
-        return Line::Unknown(op);
-    }
-    let end = 4 + long;
-    let found = changes::compare(form, &payload[4..end], &payload[end..], out);
-    let answer = found.answer;
+    };
+    let found = changes::compare(form, first, second, out);
     Line::Compared {
-        op: op,
-        answer: answer,
+        op,
+        answer: found.answer,
         sheet: found.sheet,
     }
+}
+
+// What stands behind a number at a place, as many bytes as it says, and what stands behind these, which is at least so long; where there is so much.
+fn parted(payload: &[u8], at: usize, least: usize) -> Option<(&[u8], &[u8])>
+    requires { (at ≤ 4) × (least ≤ 2) }
+    ensures { IfSome result (λ p. least ≤ length (p.1).now) }
+{
+    let begin = at + 4;
+    if payload.len() < begin + least {
+        return None;
+    }
+    let long = number_at(payload, at);
+    if payload.len() - begin - least < long {
+        return None;
+    }
+    let end = begin + long;
+    Some((&payload[begin..end], &payload[end..]))
 }
 
 // A network, a kind, the number of a block, and a sheet.
@@ -165,7 +145,7 @@ fn drop(op: u8, form: Form, payload: &[u8], out: &mut [u8]) -> Line {
     let kind = payload[1];
     let block = (lent_bytes::byte_at(payload, 2) + 256 * lent_bytes::byte_at(payload, 3)) as u16;
     Line::Answered {
-        op: op,
+        op,
         answer: day_sheet::drop(form, network, kind, block, &payload[4..], out),
     }
 }

@@ -8,8 +8,11 @@ use native.Mathlib.Omega.{arith}
 use lib.Dec.{T, ltb}
 use lib.ListN.{length}
 use borrow.Author.Tests.{le-leb, leb-true, ltb-true, ltb-false, eq-eqb, ne_eqb, eqb-true}
+use Rattle.std.specs.declared.result.Result.{Result}
+use Rattle.std.specs.declared.result.Result.TheVariants.{Ok, Err}
 use Rattle.laws.specs.Pick.{pick}
 use Rattle.laws.proofs.Tests.{either_first}
+use Rattle.answer.specs.declared.Refusal.{Refusal}
 use Rattle.answer.specs.Rules.{Rule, judged, Every, none, more, First}
 use Rattle.answer.specs.Values.{refusal}
 use Rattle.answer.proofs.Judging.{passes, refuses, decided, every_append}
@@ -54,11 +57,11 @@ pub record Whole (pes : List ℕ) (at next : ℕ) (stuffed : Bool) : Type 0 wher
   pub every : Every (rules_at pes at)
   pub after : next ≡ next_unit pes at
 
-abbrev pub Met : List ℕ → ℕ → DataUnit → Type 0
-Met pes at DataUnit.End = length pes ≤ at
-Met pes at (DataUnit.Text next) = Whole pes at next false
-Met pes at (DataUnit.Stuffing next) = Whole pes at next true
-Met pes at (DataUnit.Refused r) =
+abbrev pub Met : List ℕ → ℕ → Result DataUnit Refusal → Type 0
+Met pes at (Ok DataUnit.End) = length pes ≤ at
+Met pes at (Ok (DataUnit.Text next)) = Whole pes at next false
+Met pes at (Ok (DataUnit.Stuffing next)) = Whole pes at next true
+Met pes at (Err r) =
     (at < length pes) × ((q : Rule) × First q (rules_at pes at) × (r ≡ refusal q.number q.offset))
 
 pub met : (pes : List ℕ) (at : ℕ) → Met pes at (unit_at pes at)
@@ -66,7 +69,7 @@ unfolding unit_at
 met pes at = go (ltb at (length pes)) refl (stuffing_id (byte_at pes at)) refl
   where
     found :
-        at < length pes → (u : DataUnit) → (Every (rules_at pes at) → Met pes at u)
+        at < length pes → (u : Result DataUnit Refusal) → (Every (rules_at pes at) → Met pes at u)
         → Met pes at (judged bad_unit (rules_at pes at) u)
     found w u f =
         ⊎_elim (λ (every : Every (rules_at pes at)). subst (Met pes at) (sym (passes bad_unit u every)) (f every))
@@ -76,13 +79,13 @@ met pes at = go (ltb at (length pes)) refl (stuffing_id (byte_at pes at)) refl
 
     go :
         (w : Bool) → ltb at (length pes) ≡ w → (s : Bool) → stuffing_id (byte_at pes at) ≡ s
-        → Met pes at (pick w (judged bad_unit (rules_at pes at) (pick s (DataUnit.Stuffing (next_unit pes at)) (DataUnit.Text (next_unit pes at)))) DataUnit.End)
+        → Met pes at (pick w (judged bad_unit (rules_at pes at) (Ok (pick s (DataUnit.Stuffing (next_unit pes at)) (DataUnit.Text (next_unit pes at))))) (Ok DataUnit.End))
     go false e s k = ltb-false _ _ e
-    go true e true k = found (ltb-true _ _ e) (DataUnit.Stuffing (next_unit pes at)) (λ every. record { within = ltb-true _ _ e; kind = k; every = every; after = refl })
-    go true e false k = found (ltb-true _ _ e) (DataUnit.Text (next_unit pes at)) (λ every. record { within = ltb-true _ _ e; kind = k; every = every; after = refl })
+    go true e true k = found (ltb-true _ _ e) (Ok (DataUnit.Stuffing (next_unit pes at))) (λ every. record { within = ltb-true _ _ e; kind = k; every = every; after = refl })
+    go true e false k = found (ltb-true _ _ e) (Ok (DataUnit.Text (next_unit pes at))) (λ every. record { within = ltb-true _ _ e; kind = k; every = every; after = refl })
 
 -- what the walk's answer r tells, where it is u
-pub met_by : (pes : List ℕ) (at : ℕ) {r u : DataUnit} → r ≡ unit_at pes at → r ≡ u → Met pes at u
+pub met_by : (pes : List ℕ) (at : ℕ) {r u : Result DataUnit Refusal} → r ≡ unit_at pes at → r ≡ u → Met pes at u
 met_by pes at e f = subst (Met pes at) (sym e ∙ f) (met pes at)
 
 -- where the walk goes on: within the packet, past the unit

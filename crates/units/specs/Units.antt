@@ -1,6 +1,9 @@
 -- A data unit: its id, its length and so many bytes (SCOPE 6.4); and those of a text unit (SCOPE 6.5): EN 300 472, tables 1, 2, 4 and 5.
 use Rattle.std.specs.Prelude.{Bool, List, [], ◌∷◌, ◌++◌, ℕ, ◌+◌, eqb, leb, ltb, length, get_or}
+use Rattle.std.specs.declared.result.Result.{Result}
+use Rattle.std.specs.declared.result.Result.TheVariants.{Ok, Err}
 use Rattle.laws.specs.Pick.{pick, either}
+use Rattle.answer.specs.declared.Refusal.{Refusal}
 use Rattle.answer.specs.Rules.{Rule, rule, judged}
 use Rattle.answer.specs.Values.{refusal}
 pub use Rattle.units.specs.Marks.{text_id, line_fits}
@@ -46,11 +49,11 @@ text_rules pes at =
 abbrev pub rules_at : List ℕ → ℕ → List Rule
 rules_at pes at = unit_rules pes at ++ pick (stuffing_id (byte_at pes at)) [] (text_rules pes at)
 
-abbrev pub bad_unit : ℕ → ℕ → DataUnit
-bad_unit n o = DataUnit.Refused (refusal n o)
+abbrev pub bad_unit : ℕ → ℕ → Result DataUnit Refusal
+bad_unit n o = Err (refusal n o)
 
 -- what stands at a place: no byte, or the unit that begins there with the place after it, or its refusal
-unfoldable pub unit_at : List ℕ → ℕ → DataUnit
+unfoldable pub unit_at : List ℕ → ℕ → Result DataUnit Refusal
 unit_at pes at =
     let found = pick (stuffing_id (byte_at pes at)) (DataUnit.Stuffing (next_unit pes at)) (DataUnit.Text (next_unit pes at)) in
-    pick (ltb at (length pes)) (judged bad_unit (rules_at pes at) found) DataUnit.End
+    pick (ltb at (length pes)) (judged bad_unit (rules_at pes at) (Ok found)) (Ok DataUnit.End)

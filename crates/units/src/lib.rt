@@ -8,16 +8,17 @@
 pub mod marks;
 
 ghost use Rattle.std.specs.Prelude.{◌≡◌, ◌≤◌, length};
+ghost use Rattle.std.specs.declared.result.Result.TheVariants.{Ok};
 ghost use Rattle.laws.specs.Pick.{either};
 ghost use Rattle.answer.specs.Rules.{judged};
 ghost use Rattle.units.specs.Units.{text_id, stuffing_id, next_unit, text_rules, bad_unit, unit_at};
 
-use answer::Refusal;
+use answer::{Reason, Refusal};
 pub use marks::{is_text, line_fits};
 
-// What the unit walk finds at a place of a packet. Offsets and places count from the packet's first
-// byte.
-#[derive(Drop)]
+// What the unit walk finds at a place of a packet, where it refuses nothing. Offsets and places count
+// from the packet's first byte.
+#[derive(Clone, Copy)]
 pub enum DataUnit {
     // No byte is left.
     End,
@@ -25,60 +26,58 @@ pub enum DataUnit {
     Text(usize),
     // A stuffing unit, the same.
     Stuffing(usize),
-    // The unit is refused.
-    Refused(Refusal),
 }
 
-// One step of the unit walk: the unit that begins at `at`. Total over any bytes and any place.
-pub fn unit_at(pes: &[u8], at: usize) -> DataUnit
+// One step of the unit walk: the unit that begins at `at`, or its refusal. Total over any bytes and any
+// place.
+#[tactic(auto, unfolding(crate::specs::Units::unit_at, crate::specs::Units::unit_rules))]
+pub fn unit_at(pes: &[u8], at: usize) -> Result<DataUnit, Refusal>
     ensures { result ≡ unit_at pes.now at }
 {
     if pes.len() <= at {
-        return DataUnit::End;
+        return Ok(DataUnit::End);
     }
     if pes.len() - at < 2 {
-        return DataUnit::Refused(Refusal { no: 6, at });
+        return Reason::UnitCut.refuse(at);
     }
     let id = pes[at];
     let next = at + 2 + (pes[at + 1] as usize);
     if !is_unit(id) {
-        return DataUnit::Refused(Refusal { no: 7, at });
+        return Reason::UnitId.refuse(at);
     }
     if pes.len() < next {
-        return DataUnit::Refused(Refusal { no: 6, at });
+        return Reason::UnitCut.refuse(at);
     }
     if id == 0xFF {
-        return DataUnit::Stuffing(next);
+        return Ok(DataUnit::Stuffing(next));
     }
     text_at(pes, at)
 }
 
 // The text unit at `at`, which doesn't run past the end.
-fn text_at(pes: &[u8], at: usize) -> DataUnit
+#[tactic(auto, unfolding(crate::specs::Units::text_rules))]
+fn text_at(pes: &[u8], at: usize) -> Result<DataUnit, Refusal>
     requires { next_unit pes.now at ≤ length pes.now }
-    ensures { result ≡ judged bad_unit (text_rules pes.now at) (DataUnit.Text (next_unit pes.now at)) }
+    ensures { result ≡ judged bad_unit (text_rules pes.now at) (Ok (DataUnit.Text (next_unit pes.now at))) }
 {
     let size = pes[at + 1];
     if size != 0x2C {
-        return DataUnit::Refused(Refusal { no: 8, at });
+        return Reason::UnitLength.refuse(at);
     }
     let line = at + 2;
     if !marks::line_fits(pes[line]) {
-        return DataUnit::Refused(Refusal { no: 9, at: line });
+        return Reason::UnitLine.refuse(line);
     }
     let framing = at + 3;
     if pes[framing] != 0xE4 {
-        return DataUnit::Refused(Refusal { no: 9, at: framing });
+        return Reason::UnitLine.refuse(framing);
     }
-    DataUnit::Text(at + 46)
+    Ok(DataUnit::Text(at + 46))
 }
 
 // Whether an id is a text unit's or that of stuffing.
 fn is_unit(id: u8) -> bool
     ensures { result ≡ either (text_id id) (stuffing_id id) }
 {
-    if marks::is_text(id) {
-        return true;
-    }
-    id == 0xFF
+    marks::is_text(id) || id == 0xFF
 }

@@ -6,22 +6,12 @@ ghost use Rattle.units.specs.Marks.{text_id, line_fits};
 pub fn is_text(id: u8) -> bool
     ensures { result ≡ text_id id }
 {
-    if id == 0x02 {
-        return true;
-    }
-    id == 0x03
+    matches!(id, 0x02 | 0x03)
 }
 
 // Whether the line offset of a line byte is 0 or from 07 to 16 hex.
 pub fn line_fits(b: u8) -> bool
     ensures { result ≡ line_fits b }
 {
-    let offset = b % 32;
-    if offset == 0 {
-        return true;
-    }
-    if offset < 0x07 {
-        return false;
-    }
-    offset <= 0x16
+    matches!(b % 32, 0 | 0x07..=0x16)
 }

@@ -1,11 +1,9 @@
 // One capture: its bytes are read in large pieces, and what its PES packets carry goes out. Counts and places that a
 // room hands back are held against the space that they count in, so that no proof here has to know the room's
 // definitions; one that doesn't fit never comes.
-ghost use Rattle.std.specs.Prelude.{◌≡◌, ◌≤◌, ◌<◌};
-
 use crate::help::PROGRAM;
 use packet::PACKET;
-use pes::{HEAD, Start};
+use pes::HEAD;
 use std::io::{Error, Read};
 use stripped::Stripped;
 use told::Console;
@@ -45,11 +43,11 @@ struct Turn {
     on: bool,
 }
 
-// What was read: the place up to which bytes now stand.
+// What was read: the place up to which bytes now stand, and why no more came where a read failed.
 #[derive(Clone, Copy)]
-enum Got {
-    Upto(usize),
-    Failed(usize, Error),
+struct Got {
+    upto: usize,
+    failed: Option<Error>,
 }
 
 pub fn none() -> Tally {
@@ -68,7 +66,7 @@ pub fn unpack<F: Read>(
     from: &mut F,
     name: &[u8],
     tally: Tally,
-    seen: &mut [u8; 17],
+    seen: &mut [bool; 17],
 ) -> Tally {
     let mut space = [0u8; SPACE];
     let mut packets = [0u8; LONGEST];
@@ -82,9 +80,7 @@ pub fn unpack<F: Read>(
         more: true,
         passing: false,
     };
-    let mut turns = u64::MAX;
-    while turns > 0 {
-        turns -= 1;
+    for _ in 0..u64::MAX {
         held = refill(rt, from, name, held, &mut space);
         let turn = step(rt, held, tally, &space, &mut packets, seen);
         held = turn.held;
@@ -102,11 +98,8 @@ fn begin(rt: &impl Console, tally: Tally, packets: &mut [u8; LONGEST]) -> Tally 
         return lose(rt, tally, packets);
     }
     Tally {
-        read: tally.read,
-        refused: tally.refused,
-        left: tally.left,
         begun: true,
-        sound: tally.sound,
+        ..tally
     }
 }
 
@@ -119,69 +112,51 @@ fn refill<F: Read>(
     held: Held,
     space: &mut [u8; SPACE],
 ) -> Held {
-    if !held.more {
-        return held;
-    }
-    if LONGEST <= rest(held) {
+    if !held.more || LONGEST <= held.end.saturating_sub(held.at) {
         return held;
     }
     let kept = shift(space, held.at, held.end);
     let got = fill(from, space, kept);
-    match got {
-        Got::Upto(end) => Held {
-            at: 0,
-            end,
-            more: end == SPACE,
-            passing: held.passing,
-        },
-        Got::Failed(end, why) => {
-            told::tell(rt, &PROGRAM, name, why);
-            Held {
-                at: 0,
-                end,
-                more: false,
-                passing: held.passing,
-            }
-        }
+    if let Some(why) = got.failed {
+        told::tell(rt, &PROGRAM, name, why);
     }
-}
-
-// How many bytes are held.
-fn rest(held: Held) -> usize {
-    if held.end < held.at {
-        return 0;
+    Held {
+        at: 0,
+        end: got.upto,
+        more: got.failed.is_none() && got.upto == SPACE,
+        ..held
     }
-    held.end - held.at
 }
 
 // Moves the bytes from `at` up to `end` to the front, and answers how many there are.
 fn shift(space: &mut [u8], at: usize, end: usize) -> usize {
-    if space.len() < end {
+    if space.len() < end || end < at {
         return 0;
     }
-    if end < at {
-        return 0;
-    }
-    let n = end - at;
-    let mut i = 0;
-    while i < n {
-        space[i] = space[at + i];
-        i += 1;
-    }
-    n
+    space.copy_within(at..end, 0);
+    end - at
 }
 
 // Reads into the slice from a place on, until it is full, the input ends or a read fails.
 fn fill<F: Read>(from: &mut F, slice: &mut [u8], at: usize) -> Got {
     let mut n = at;
+    // Kept: a `while`, since a turn goes on by as many bytes as a read gave.
     while n < slice.len() {
         match from.read(&mut slice[n..]) {
-            Ok(0) => return Got::Upto(n),
+            Ok(0) => break,
             Ok(more) => n += more,
-            Err(e) => return Got::Failed(n, e),
+            Err(why) => {
+                return Got {
+                    upto: n,
+                    failed: Some(why),
+                };
+            }
         }
     }
-    Got::Upto(n)
+    Got {
+        upto: n,
+        failed: None,
+    }
 }
 
 // One turn: the PES packet that begins at the front of what is held, or the bytes up to where one begins.
@@ -191,28 +166,20 @@ fn step(
     tally: Tally,
     space: &[u8; SPACE],
     packets: &mut [u8; LONGEST],
-    seen: &mut [u8; 17],
+    seen: &mut [bool; 17],
 ) -> Turn {
     let bytes = part(space, held.at, held.end);
-    let found = pes::find(bytes, 0);
-    match found {
-        Start::At(place) => {
-            if place == 0 {
-                return packet(rt, held, tally, bytes, packets, seen);
-            }
-            pass(rt, held, tally, place, packets)
-        }
-        Start::Nowhere => nowhere(rt, held, tally, bytes.len(), packets),
+    match pes::find(bytes, 0) {
+        Some(0) => packet(rt, held, tally, bytes, packets, seen),
+        Some(place) => pass(rt, held, tally, place, packets),
+        None => nowhere(rt, held, tally, bytes.len(), packets),
     }
 }
 
 // The bytes from `at` up to `end`; nothing where they don't lie within.
 fn part(s: &[u8], at: usize, end: usize) -> &[u8] {
-    if s.len() < end {
-        return &s[0..0];
-    }
-    if end < at {
-        return &s[0..0];
+    if s.len() < end || end < at {
+        return &s[..0];
     }
     &s[at..end]
 }
@@ -224,7 +191,7 @@ fn packet(
     tally: Tally,
     bytes: &[u8],
     packets: &mut [u8; LONGEST],
-    seen: &mut [u8; 17],
+    seen: &mut [bool; 17],
 ) -> Turn {
     let size = size_of(bytes);
     if bytes.len() < size {
@@ -244,13 +211,7 @@ fn size_of(bytes: &[u8]) -> usize {
     if bytes.len() < HEAD {
         return HEAD;
     }
-    HEAD + wide(bytes[4]) * 256 + wide(bytes[5])
-}
-
-fn wide(b: u8) -> usize
-    ensures { (result ≡ b) × (result ≤ 255) }
-{
-    b as usize
+    HEAD + usize::from(bytes[4]) * 256 + usize::from(bytes[5])
 }
 
 // What a PES packet carries goes out, or the packet that stands for it.
@@ -259,19 +220,16 @@ fn strip_on(
     tally: Tally,
     pes: &[u8],
     packets: &mut [u8; LONGEST],
-    seen: &mut [u8; 17],
+    seen: &mut [bool; 17],
 ) -> Tally {
-    let carried = stripped::strip(pes, packets);
-    match carried {
+    match stripped::strip(pes, packets) {
         Stripped::Packets(n) => Tally {
-            read: plus(tally.read, 1),
-            refused: tally.refused,
-            left: tally.left,
+            read: tally.read.saturating_add(1),
             begun: true,
             sound: send(rt, tally.sound, told::front(packets, n)),
+            ..tally
         },
-        Stripped::Lost(r) => refuse(rt, tally, r.no, packets, seen),
-        Stripped::Refused(r) => refuse(rt, tally, r.no, packets, seen),
+        Stripped::Lost(r) | Stripped::Refused(r) => refuse(rt, tally, r.no, packets, seen),
     }
 }
 
@@ -281,23 +239,15 @@ fn refuse(
     tally: Tally,
     no: u8,
     packets: &mut [u8; LONGEST],
-    seen: &mut [u8; 17],
+    seen: &mut [bool; 17],
 ) -> Tally {
-    mark(no, seen);
+    if let Some(mark) = seen.get_mut(usize::from(no)) {
+        *mark = true;
+    }
     let tally = lose(rt, tally, packets);
     Tally {
-        read: tally.read,
-        refused: plus(tally.refused, 1),
-        left: tally.left,
-        begun: tally.begun,
-        sound: tally.sound,
-    }
-}
-
-fn mark(no: u8, seen: &mut [u8]) {
-    let i = no as usize;
-    if i < seen.len() {
-        seen[i] = 1;
+        refused: tally.refused.saturating_add(1),
+        ..tally
     }
 }
 
@@ -328,10 +278,8 @@ fn nowhere(
     if n == 0 {
         return end(held, tally);
     }
-    if held.more {
-        if HEAD <= n {
-            return pass(rt, held, tally, n - (HEAD - 1), packets);
-        }
+    if held.more && HEAD <= n {
+        return pass(rt, held, tally, n - (HEAD - 1), packets);
     }
     let tally = note(rt, held, tally, packets);
     end(held, left(tally, n))
@@ -356,95 +304,55 @@ fn end(held: Held, tally: Tally) -> Turn {
 // What is held from n bytes further on.
 fn onward(held: Held, n: usize, is_passing: bool) -> Held {
     Held {
-        at: further(held.at, n, held.end),
-        end: held.end,
-        more: held.more,
+        at: held.at.saturating_add(n).min(held.end),
         passing: is_passing,
+        ..held
     }
-}
-
-// The place n bytes further on, or the end where that is nearer.
-fn further(at: usize, n: usize, end: usize) -> usize {
-    if end < at {
-        return end;
-    }
-    if end - at < n {
-        return end;
-    }
-    at + n
 }
 
 // One packet that can't be decoded goes out.
 fn lose(rt: &impl Console, tally: Tally, packets: &mut [u8; LONGEST]) -> Tally {
     stripped::blank(packets);
     Tally {
-        read: tally.read,
-        refused: tally.refused,
-        left: tally.left,
         begun: true,
         sound: send(rt, tally.sound, told::front(packets, PACKET)),
+        ..tally
     }
 }
 
 fn left(tally: Tally, n: usize) -> Tally {
     Tally {
-        read: tally.read,
-        refused: tally.refused,
-        left: plus(tally.left, n as u64),
-        begun: tally.begun,
-        sound: tally.sound,
+        left: tally.left.saturating_add(n as u64),
+        ..tally
     }
-}
-
-// The sum, or the greatest number where it is more.
-fn plus(a: u64, b: u64) -> u64 {
-    if u64::MAX - a < b {
-        return u64::MAX;
-    }
-    a + b
 }
 
 // Writes to standard output where it took all so far, and answers whether it still did. A failure is told, and nothing
 // goes out after it, though a later write might succeed: what is missing between the two is what nobody could see.
 fn send(rt: &impl Console, is_sound: bool, bytes: &[u8]) -> bool {
-    if !is_sound {
-        return false;
-    }
-    told::put(rt, &PROGRAM, bytes)
+    is_sound && told::put(rt, &PROGRAM, bytes)
 }
 
 // Says the last line. A part that isn't taken ends it.
-pub fn sum_up(rt: &impl Console, tally: Tally, seen: &[u8; 17]) -> bool {
-    if !told::say_count(rt, b"read=", tally.read) {
-        return false;
-    }
-    if !told::say_count(rt, b" refused=", tally.refused) {
-        return false;
-    }
-    if !told::say(rt, b" numbers=") {
-        return false;
-    }
-    if !say_numbers(rt, seen) {
-        return false;
-    }
-    if !told::say_count(rt, b" left=", tally.left) {
-        return false;
-    }
-    told::say(rt, b"\n")
+pub fn sum_up(rt: &impl Console, tally: Tally, seen: &[bool; 17]) -> bool {
+    told::say_count(rt, b"read=", tally.read)
+        && told::say_count(rt, b" refused=", tally.refused)
+        && told::say(rt, b" numbers=")
+        && say_numbers(rt, seen)
+        && told::say_count(rt, b" left=", tally.left)
+        && told::say(rt, b"\n")
 }
 
 // The numbers that are marked, with commas between.
-fn say_numbers(rt: &impl Console, seen: &[u8]) -> bool {
-    let mut i = 0;
+fn say_numbers(rt: &impl Console, seen: &[bool]) -> bool {
     let mut is_first = true;
-    while i < seen.len() {
-        if seen[i] != 0 {
-            if !say_number(rt, i as u64, is_first) {
+    for (number, mark) in seen.iter().enumerate() {
+        if *mark {
+            if !say_number(rt, number as u64, is_first) {
                 return false;
             }
             is_first = false;
         }
-        i += 1;
     }
     true
 }

@@ -46,7 +46,7 @@ fn main(rt: HostRuntime) {
         told::say(&rt, &help::USAGE);
         return;
     }
-    let mut seen = [0u8; 17];
+    let mut seen = [false; 17];
     let tally = unpack_all(&rt, &mut seen);
     if tally.sound {
         capture::sum_up(&rt, tally, &seen);
@@ -54,17 +54,15 @@ fn main(rt: HostRuntime) {
 }
 
 // Goes through each file that is named, or standard input where none is.
-fn unpack_all(rt: &(impl Env + Files + Input + Console), seen: &mut [u8; 17]) -> Tally {
+fn unpack_all(rt: &(impl Env + Files + Input + Console), seen: &mut [bool; 17]) -> Tally {
     let count = told::argument_count(rt);
     let mut unpacked = Unpacked {
         said: words::start(&ROWS),
         named: false,
         tally: capture::none(),
     };
-    let mut i = 1;
-    while i < count {
+    for i in 1..count {
         unpacked = visit(rt, unpacked, i, seen);
-        i += 1;
     }
     let tally = unpacked.tally;
     if unpacked.named {
@@ -78,7 +76,7 @@ fn visit(
     rt: &(impl Env + Files + Console),
     unpacked: Unpacked,
     i: usize,
-    seen: &mut [u8; 17],
+    seen: &mut [bool; 17],
 ) -> Unpacked {
     let mut word = io::buffer();
     let tally = unpacked.tally;
@@ -105,7 +103,7 @@ fn unpack_file(
     word: &mut [u8; 4096],
     n: usize,
     tally: Tally,
-    seen: &mut [u8; 17],
+    seen: &mut [bool; 17],
 ) -> Tally {
     if !tally.sound {
         return tally;
@@ -113,10 +111,7 @@ fn unpack_file(
     let opened = told::open(rt, told::front(word, n));
     told::plain(word);
     match opened {
-        Ok(file) => {
-            let mut file = file;
-            capture::unpack(rt, &mut file, told::front(word, n), tally, seen)
-        }
+        Ok(mut file) => capture::unpack(rt, &mut file, told::front(word, n), tally, seen),
         Err(e) => {
             told::tell(rt, &help::PROGRAM, told::front(word, n), e);
             tally

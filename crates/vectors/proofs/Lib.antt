@@ -1,3 +1,2 @@
 -- The laws behind the functions proofs.
-pub mod Filled
 mod Ending

@@ -4,8 +4,8 @@ use Rattle.std.specs.Prelude.{◌≡◌, Bool, List, [], ℕ, ◌+◌, ◌*◌, 
 use Rattle.laws.specs.Pick.{pick, both}
 use Rattle.vectors.specs.declared.cases.Input.{Input}
 use Rattle.vectors.specs.declared.cases.Case.{Case}
-use Rattle.vectors.specs.declared.cases.NextCase.{NextCase}
-use Rattle.vectors.specs.declared.cases.NextCase.TheVariants.{Whole, Ended}
+use Rattle.std.specs.declared.result.Result.{Result}
+use Rattle.std.specs.declared.result.Result.TheVariants.{Ok, Err}
 
 -- the most bytes of a payload, and of a lent output
 abbrev pub most : ℕ
@@ -49,11 +49,11 @@ whole s i =
     both (leb (i.from + head) i.to) (both (leb i.to (length s)) (leb (end_of s i.from) i.to))
 
 -- that case, or how many bytes are left over where there is none
-unfoldable pub next_in : List ℕ → Input → NextCase
-next_in s i = pick (whole s i) (Whole (case_in s i)) (Ended (unread i))
+unfoldable pub next_in : List ℕ → Input → Result Case ℕ
+next_in s i = pick (whole s i) (Ok (case_in s i)) (Err (unread i))
 
 -- what a turn finds: the next case of unread bytes that lie in the space s
-pub record Turned (s : List ℕ) (r : NextCase) : Type 0 where
+pub record Turned (s : List ℕ) (r : Result Case ℕ) : Type 0 where
   pub read : Input
   pub inside : Within read s
   pub found : r ≡ next_in s read

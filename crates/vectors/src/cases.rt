@@ -1,7 +1,7 @@
 // A case that a program try_NAME runs, as the bytes that it has read hold it: op (1 byte), room (4 bytes, low byte
 // first: how long the lent output is), length (4 bytes, low byte first) and so many bytes, the payload. A room or
 // a length over 65,536 is taken as 65,536.
-ghost use Rattle.std.specs.Prelude.{◌≡◌, ◌+◌, ◌*◌, ◌≤◌, length};
+ghost use Rattle.std.specs.Prelude.{◌≡◌, ◌+◌, ◌≤◌, length};
 ghost use Rattle.vectors.specs.Cases.{next_in, part};
 ghost use Rattle.vectors.specs.Cases.{capped as cases_capped};
 
@@ -31,46 +31,31 @@ pub struct Case {
     pub rest: Input,
 }
 
-#[derive(Clone, Copy)]
-pub enum NextCase {
-    Whole(Case),
-    // No whole case is left, but so many bytes.
-    Ended(usize),
-}
-
-// The case that the unread bytes begin with.
-pub(crate) fn next(input: Input, space: &[u8]) -> NextCase
+// The case that the unread bytes begin with; where no whole one is left, how many bytes are.
+pub(crate) fn next(input: Input, space: &[u8]) -> Result<Case, usize>
     ensures { result ≡ next_in space.now input }
 {
-    let from = input.from;
-    let to = input.to;
-    if to < from {
-        return NextCase::Ended(0);
+    let Input { from, to, ended } = input;
+    let left = to.saturating_sub(from);
+    if left < HEAD || space.len() < to {
+        return Err(left);
     }
-    let left = to - from;
-    if left < HEAD {
-        return NextCase::Ended(left);
-    }
-    if space.len() < to {
-        return NextCase::Ended(left);
-    }
-    let begin = from + HEAD;
     let size = capped(space, from + 5);
     if left - HEAD < size {
-        return NextCase::Ended(left);
+        return Err(left);
     }
+    let begin = from + HEAD;
     let end = begin + size;
-    let rest = Input {
-        from: end,
-        to,
-        ended: input.ended,
-    };
-    NextCase::Whole(Case {
+    Ok(Case {
         op: space[from],
         room: capped(space, from + 1),
         from: begin,
         to: end,
-        rest,
+        rest: Input {
+            from: end,
+            to,
+            ended,
+        },
     })
 }
 
@@ -78,15 +63,12 @@ pub(crate) fn next(input: Input, space: &[u8]) -> NextCase
 pub fn payload(case: Case, space: &[u8]) -> &[u8]
     ensures { result.now ≡ part space.now case.from case.to }
 {
-    let from = case.from;
-    let to = case.to;
-    if to < from {
-        return &space[0..0];
+    let Case { from, to, .. } = case;
+    if from <= to && to <= space.len() {
+        &space[from..to]
+    } else {
+        &[]
     }
-    if space.len() < to {
-        return &space[0..0];
-    }
-    &space[from..to]
 }
 
 // The number in four bytes, low byte first, or 65,536 where it is more.
@@ -94,12 +76,5 @@ fn capped(s: &[u8], at: usize) -> usize
     requires { at + 4 ≤ length s.now }
     ensures { result ≡ cases_capped s.now at }
 {
-    let n = word(s[at], s[at + 1], s[at + 2], s[at + 3]);
-    if n < MOST { n } else { MOST }
-}
-
-fn word(a: u8, b: u8, c: u8, d: u8) -> usize
-    ensures { result ≡ a + 256 * (b + 256 * (c + 256 * d)) }
-{
-    (a as usize) + 256 * ((b as usize) + 256 * ((c as usize) + 256 * (d as usize)))
+    (u32::from_le_bytes([s[at], s[at + 1], s[at + 2], s[at + 3]]) as usize).min(MOST)
 }

@@ -1,8 +1,8 @@
 // The output that a program try_NAME lends to a call: filled before, so that what the call leaves can be told.
-ghost use Rattle.std.specs.Prelude.{◌≡◌, min, length, replicate, take};
+ghost use Rattle.std.specs.Prelude.{◌≡◌, ◌↔◌, IsTrue, min, length, replicate, take};
 ghost use Rattle.std.proofs.lemmas.List.Edits.{sets};
 ghost use Rattle.vectors.specs.Lent.{filler};
-ghost use Rattle.vectors.specs.Internal.{kept_from};
+ghost use Rattle.vectors.specs.Internal.{KeptFrom};
 
 // What the lent output is filled with before a call.
 const FILLER: u8 = 0xA5;
@@ -14,30 +14,13 @@ pub fn lend(out: &mut [u8], room: usize) -> usize
     ensures filled { out.new ≡ sets out.old 0 (replicate room filler) }
 {
     lent_bytes::fill(out, room, FILLER);
-    least(room, out.len())
+    room.min(out.len())
 }
 
 // Whether every byte of the lent output past those written is as it was filled; false where more
 // bytes are said to be written than were lent.
 pub(crate) fn kept(out: &[u8], written: usize) -> bool
-    ensures { result ≡ kept_from out.now written }
+    ensures { IsTrue result ↔ KeptFrom out.now written }
 {
-    if out.len() < written {
-        return false;
-    }
-    let mut i = written;
-    while i < out.len() {
-        if out[i] != FILLER {
-            return false;
-        }
-        i += 1;
-    }
-    true
-}
-
-// The smaller of two numbers.
-fn least(a: usize, b: usize) -> usize
-    ensures { result ≡ min a b }
-{
-    if a < b { a } else { b }
+    written <= out.len() && out[written..].iter().all(|b| *b == FILLER)
 }

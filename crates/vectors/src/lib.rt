@@ -16,7 +16,7 @@ ghost use Rattle.io.specs.Counts.{IsPrefixLen};
 ghost use Rattle.vectors.specs.Cases.{Within, Turned};
 
 use cases::HEAD;
-pub use cases::{Case, Input, MOST, NextCase, payload};
+pub use cases::{Case, Input, MOST, payload};
 pub use lent::lend;
 pub use lines::{Line, tell};
 use std::io::{Print, Read};
@@ -35,31 +35,23 @@ pub fn start() -> Input
     }
 }
 
-// One turn: the next case, read where it isn't there yet; or its end, and what is left over is told.
+// One turn: the next case, read where it isn't there yet; or how many bytes are left over at the end, which are told.
 pub fn turn<R: std::io::Input + Print>(
     rt: &R,
     input: Input,
     space: &mut [u8; SPACE],
     text: &mut [u8; SPACE],
-) -> NextCase
+) -> Result<Case, usize>
     ensures { Turned space.new result }
 {
     let read = fill(rt, input, space);
     let found = cases::next(read, space);
-    tell_left(rt, found, text);
-    found
-}
-
-// Tells of bytes that are left over where there is no case.
-fn tell_left(rt: &impl Print, found: NextCase, text: &mut [u8]) {
-    match found {
-        NextCase::Whole(_) => {}
-        NextCase::Ended(left) => {
-            if left > 0 {
-                lines::tell(rt, Line::Short(left), &[], text);
-            }
-        }
+    if let Err(left) = found
+        && left > 0
+    {
+        lines::tell(rt, Line::Short(left), &[], text);
     }
+    found
 }
 
 // Reads on where a case might not stand whole in the space: the unread bytes go to its front, and
@@ -67,22 +59,15 @@ fn tell_left(rt: &impl Print, found: NextCase, text: &mut [u8]) {
 fn fill<R: std::io::Input>(rt: &R, input: Input, space: &mut [u8]) -> Input
     ensures { Within result space.new }
 {
-    let from = input.from;
-    let to = input.to;
-    if to < from {
-        return start();
-    }
-    if space.len() < to {
+    let Input { from, to, ended } = input;
+    if to < from || space.len() < to {
         return start();
     }
     let held = to - from;
-    if input.ended {
+    if ended || HEAD + MOST <= held {
         return input;
     }
-    if HEAD + MOST <= held {
-        return input;
-    }
-    move_down(space, from, held);
+    space.copy_within(from..to, 0);
     let got = read_full(&mut rt.reader(), &mut space[held..]);
     Input {
         from: 0,
@@ -96,6 +81,7 @@ fn read_full(from: &mut impl Read, buf: &mut [u8]) -> usize
     ensures { IsPrefixLen result buf.new }
 {
     let mut done = 0;
+    // Kept: each turn goes on by what was read, which is no count.
     while done < buf.len() {
         match from.read(&mut buf[done..]) {
             Ok(0) => return done,
@@ -104,15 +90,4 @@ fn read_full(from: &mut impl Read, buf: &mut [u8]) -> usize
         }
     }
     done
-}
-
-// Moves n bytes from `from` on to the front.
-fn move_down(s: &mut [u8], from: usize, n: usize)
-    requires { from + n ≤ length s.old }
-{
-    let mut i = 0;
-    while i < n {
-        s[i] = s[from + i];
-        i += 1;
-    }
 }

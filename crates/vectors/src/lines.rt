@@ -8,6 +8,7 @@
 ghost use Rattle.io.specs.Counts.{IsPrefixLen};
 ghost use Rattle.vectors.specs.Ending.{EndsLine};
 
+use crate::{lent, words};
 use answer::Answer;
 use std::io::Print;
 
@@ -70,8 +71,8 @@ fn put_line(line: Line, out: &[u8], text: &mut [u8]) -> usize
             dropped,
         } => {
             let n = put_answer(op, answer, out, text);
-            let n = crate::words::put_number(text, n, b" blocks=", blocks as u64);
-            crate::words::put_yes(text, n, b" dropped=", dropped)
+            let n = words::put_number(text, n, b" blocks=", blocks as u64);
+            words::put_yes(text, n, b" dropped=", dropped)
         }
         Line::Counted {
             op,
@@ -80,18 +81,18 @@ fn put_line(line: Line, out: &[u8], text: &mut [u8]) -> usize
             joined,
         } => {
             let n = put_answer(op, answer, out, text);
-            let n = crate::words::put_number(text, n, b" mended=", mended as u64);
-            crate::words::put_number(text, n, b" joined=", joined as u64)
+            let n = words::put_number(text, n, b" mended=", mended as u64);
+            words::put_number(text, n, b" joined=", joined as u64)
         }
         Line::Compared { op, answer, sheet } => {
             let n = put_answer(op, answer, out, text);
             put_sheet(sheet, text, n)
         }
         Line::Unknown(op) => {
-            let n = crate::words::put_number(text, 0, b"op=", op as u64);
-            crate::words::put(text, n, b" unknown")
+            let n = words::put_number(text, 0, b"op=", op as u64);
+            words::put(text, n, b" unknown")
         }
-        Line::Short(left) => crate::words::put_number(text, 0, b"short=", left as u64),
+        Line::Short(left) => words::put_number(text, 0, b"short=", left as u64),
     }
 }
 
@@ -103,7 +104,7 @@ fn put_sheet(sheet: usize, text: &mut [u8], n: usize) -> usize
     if sheet == 0 {
         return n;
     }
-    crate::words::put_number(text, n, b" sheet=", sheet as u64)
+    words::put_number(text, n, b" sheet=", sheet as u64)
 }
 
 // Puts a call's answer, up to `kept=yes`.
@@ -111,20 +112,20 @@ fn put_answer(op: u8, answer: Answer, out: &[u8], text: &mut [u8]) -> usize
     ensures { IsPrefixLen result text.new }
 {
     match answer {
-        Answer::Done(written) => put_call(op, 0, 0, out, written, text),
-        Answer::Refused(r) => put_call(op, r.no, r.at, out, 0, text),
+        Ok(written) => put_call(op, 0, 0, out, written, text),
+        Err(r) => put_call(op, r.no, r.at, out, 0, text),
     }
 }
 
 fn put_call(op: u8, no: u8, at: usize, out: &[u8], written: usize, text: &mut [u8]) -> usize
     ensures { IsPrefixLen result text.new }
 {
-    let n = crate::words::put_number(text, 0, b"op=", op as u64);
-    let n = crate::words::put_number(text, n, b" no=", no as u64);
-    let n = crate::words::put_number(text, n, b" at=", at as u64);
-    let n = crate::words::put(text, n, b" out=");
-    let n = crate::words::put_hex(text, n, out, written);
-    crate::words::put_yes(text, n, b" kept=", crate::lent::kept(out, written))
+    let n = words::put_number(text, 0, b"op=", op as u64);
+    let n = words::put_number(text, n, b" no=", no as u64);
+    let n = words::put_number(text, n, b" at=", at as u64);
+    let n = words::put(text, n, b" out=");
+    let n = words::put_hex(text, n, out, written);
+    words::put_yes(text, n, b" kept=", lent::kept(out, written))
 }
 
 // Ends the line that is put up to a place, over its last byte where the text is full.
@@ -132,14 +133,10 @@ fn end(text: &mut [u8], at: usize) -> usize
     ensures prefix_len { IsPrefixLen result text.new }
     ensures ends_line { EndsLine result text.new }
 {
-    let long = text.len();
-    if long == 0 {
+    if text.is_empty() {
         return 0;
     }
-    if at < long {
-        text[at] = 10;
-        return at + 1;
-    }
-    text[long - 1] = 10;
-    long
+    let last = at.min(text.len() - 1);
+    text[last] = b'\n';
+    last + 1
 }

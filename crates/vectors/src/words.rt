@@ -28,48 +28,32 @@ pub(crate) fn put_number(text: &mut [u8], at: usize, name: &[u8], number: u64) -
 pub(crate) fn put(text: &mut [u8], at: usize, word: &[u8]) -> usize
     ensures { IsPrefixLen result text.new }
 {
-    if text.len() < at {
-        return text.len();
-    }
-    let mut to = at;
-    let mut i = 0;
-    while i < word.len() {
-        if text.len() <= to {
-            return to;
-        }
-        text[to] = word[i];
-        to += 1;
-        i += 1;
-    }
-    to
+    let at = at.min(text.len());
+    let n = word.len().min(text.len() - at);
+    text[at..at + n].copy_from_slice(&word[..n]);
+    at + n
 }
 
 // Puts the first n bytes in hex, lower case, two digits a byte.
 pub(crate) fn put_hex(text: &mut [u8], at: usize, bytes: &[u8], n: usize) -> usize
     ensures { IsPrefixLen result text.new }
 {
-    if text.len() < at {
-        return text.len();
-    }
-    let mut to = at;
-    let mut i = 0;
-    while i < bytes.len() {
-        if n <= i {
-            return to;
-        }
+    let mut to = at.min(text.len());
+    for b in bytes.iter().take(n) {
         if text.len() - to < 2 {
             return to;
         }
-        let b = bytes[i];
         text[to] = digit(b / 16);
         text[to + 1] = digit(b % 16);
         to += 2;
-        i += 1;
     }
     to
 }
 
+// A digit in hex, lower case.
 fn digit(d: u8) -> u8 {
-    let n = d % 16;
-    if n < 10 { 48 + n } else { 87 + n }
+    match d % 16 {
+        n @ 0..=9 => b'0' + n,
+        n => b'a' - 10 + n,
+    }
 }

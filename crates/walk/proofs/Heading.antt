@@ -9,8 +9,13 @@ use lib.Seq.{drop-cons}
 use borrow.Author.Tests.{eq-eqb, ne_eqb}
 use Rattle.octet.specs.Decoding.{nib}
 use Rattle.octet.specs.Hearing.{mark}
-use Rattle.octet.proofs.Hearing.{mark-nib, mark-harm}
+use Rattle.octet.proofs.Laws.{nib_le}
+use Rattle.octet.proofs.Hearing.{harm_le, mark-nib, mark-harm}
 use Rattle.walk.specs.Places.{broken, cut, whole, heads}
+
+-- a mark is a nibble, or 16, and one bit more
+pub marked : (m b : ℕ) → m ≡ mark b → (m % 32 ≤ 16) × (m / 32 ≤ 1)
+marked m b q = (omega (arith, mark-nib m b q, nib_le b), omega (arith, mark-harm m b q, harm_le b))
 
 -- g nibbles of it have come, and the mark m of one more
 pub head_on :

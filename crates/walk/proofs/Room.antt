@@ -12,7 +12,7 @@ use Rattle.laws.specs.Pick.{pick}
 use Rattle.octet.specs.Decoding.{nib, undecodable}
 use Rattle.octet.specs.Hearing.{harm}
 use Rattle.blocks.specs.Block.{Block, head_length, records_of}
-use Rattle.walk.specs.Mode.{Mode, off, scan, heading, body, filler, shifted, full, block_with, step, emitted, gives, continues, finished, Good}
+use Rattle.walk.specs.Mode.{Mode, off, scan, heading, body, filler, shifted, full, block_with, step, emitted, gives, continues, Good}
 use Rattle.walk.specs.Store.{store_length}
 use Rattle.walk.specs.Reading.{room, pointed, spanning, ended, read_blocks}
 use Rattle.walk.proofs.Adding.{records_of-append}

@@ -1,15 +1,14 @@
 -- Filler passed by, one byte after the other, and what stands ahead then. Assumes nothing.
 use mathlib.Core.Path.{◌≡◌, ◌∙◌, refl}
-use mathlib.Core.Bool.{Bool, true, false, not}
+use mathlib.Core.Bool.{Bool, true, false}
 use mathlib.Core.List.{List, [], ◌∷◌}
-use Prim.Native.Nat.{ℕ, suc, ◌+◌, ◌-◌, ◌≤◌, ◌<◌}
+use Prim.Native.Nat.{ℕ, suc, ◌+◌, ◌≤◌, ◌<◌}
 use native.Mathlib.Numerals.{add-one}
 use native.Mathlib.Omega.{arith}
-use native.Mathlib.Decide.{dec_lt}
 use lib.ListN.{length, get_or, drop, drop_of_length-le, length-drop}
 use lib.Seq.{drop-cons, drop-drop, get_or-drop}
-use lib.Dec.{eqb, ltb, leb}
-use borrow.Author.Tests.{eq-eqb, ne_eqb, eqb-false, lt-ltb, le-ltb, lt-leb, le-leb}
+use lib.Dec.{eqb}
+use borrow.Author.Tests.{eq-eqb, ne_eqb, eqb-false}
 use Rattle.laws.specs.Pick.{pick}
 use Rattle.octet.specs.Decoding.{nib}
 use Rattle.octet.specs.Hearing.{harm}
@@ -95,15 +94,3 @@ module _ (s : List ℕ) (from at : ℕ) (p : at ≡ from + fillers (drop from s)
   pub not-filler : from ≤ length s → at < length s → nib (get_or s at 0) ≡ 3 → ⊥
   not-filler f h e =
       past-filler (drop from s) (simp length-drop (omega arith)) (rw (get_or-drop, ← p) e)
-
-  -- filler reaches the end, or it stops before
-  pub past_end : ltb at (length s) ≡ not (leb (length (drop from s)) (fillers (drop from s)))
-  past_end =
-      let d : length (drop from s) ≡ length s - from = length-drop from s in
-      elim (dec_lt at (length s)) [
-        | yes h ↦ let x : fillers (drop from s) < length (drop from s) = omega arith in rw (lt-ltb _ _ h, lt-leb _ _ x)
-        | no h ↦
-            let x : length (drop from s) ≤ fillers (drop from s) = omega arith in
-            let y : length s ≤ at = omega arith in
-            rw (le-ltb _ _ y, le-leb _ _ x)
-      ]

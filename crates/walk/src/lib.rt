@@ -55,14 +55,11 @@ pub enum Ahead {
 pub fn pointed(b: u8) -> usize
     ensures { result ≡ pointed_by (nib b) }
 {
-    let p = octet::quick::decode(b) as usize;
-    if p <= 12 {
-        return 3 * p;
+    match octet::quick::decode(b) {
+        p @ 0..=12 => 3 * (p as usize),
+        13 => 39,
+        _ => 40,
     }
-    if p == 13 {
-        return 39;
-    }
-    40
 }
 
 // A header from `from` on, of which `got` nibbles are in `bits` already, and `part` counts their harmed
@@ -73,30 +70,24 @@ pub fn head_on(s: &[u8], from: usize, got: u8, bits: u16, part: u8) -> Ahead
     ensures result_in_bounds { from ≤ length s.now → next_of result 0 ≤ length s.now }
 {
     let mut i = from;
-    let mut g = got;
-    let mut v = bits;
-    let mut p = part as u16;
-    while g < 4 {
+    let mut bits = bits;
+    let mut part = part as u16;
+    for g in got..4 {
         if i >= s.len() {
-            return Ahead::Cut {
-                got: g,
-                bits: v,
-                part: p,
-            };
+            return Ahead::Cut { got: g, bits, part };
         }
         let mark = octet::quick::mark(s[i]);
         let n = mark % 32;
         if n == 16 {
             return Ahead::Broken;
         }
-        v = v / 16 + (n as u16) * 4096;
-        p += (mark / 32) as u16;
-        g += 1;
+        bits = bits / 16 + (n as u16) * 4096;
+        part += (mark / 32) as u16;
         i += 1;
     }
     Ahead::Whole {
-        head: v,
-        part: p,
+        head: bits,
+        part,
         next: i,
     }
 }

@@ -31,22 +31,8 @@ pub fn falls(run: Run, s: &[u8], next: usize) -> bool
     ensures { result ≡ not (stands run (drop next s.now)) }
 {
     match run {
-        Run::Idle => true,
-        Run::Head {
-            got: _,
-            bits: _,
-            part: _,
-        } => true,
-        Run::Body {
-            head,
-            part: _,
-            held,
-        } => {
-            if held < (head / 32) as usize {
-                return true;
-            }
-            skip(s, next) < s.len()
-        }
+        Run::Idle | Run::Head { .. } => true,
+        Run::Body { head, held, .. } => held < (head / 32) as usize || skip(s, next) < s.len(),
     }
 }
 
@@ -54,14 +40,10 @@ pub fn falls(run: Run, s: &[u8], next: usize) -> bool
 fn skip(s: &[u8], from: usize) -> usize
     ensures { result ≡ from + fillers (drop from s.now) }
 {
-    let mut i = from;
-    loop {
-        if i >= s.len() {
-            break i;
-        }
+    for i in from..s.len() {
         if octet::quick::decode(s[i]) != 3 {
-            break i;
+            return i;
         }
-        i += 1;
     }
+    from.max(s.len())
 }

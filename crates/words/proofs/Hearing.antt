@@ -1,11 +1,12 @@
 -- How a word is heard. Assumes nothing.
 use mathlib.Core.Path.{◌≡◌, refl}
-use mathlib.Core.Bool.{Bool, true, false}
+use mathlib.Core.Bool.{Bool, true, false, not}
 use mathlib.Core.List.{List, [], ◌∷◌}
 use Prim.Native.Nat.{ℕ, ◌≤◌, ◌<◌}
 use native.Mathlib.Omega.{arith}
 use borrow.Author.Tests.{lt-ltb, le-ltb, eq-eqb, ne_eqb}
 use lib.ListN.{length, get_or}
+use Rattle.laws.specs.Pick.{pick}
 use Rattle.texts.specs.Texts.{same_text, stands_in}
 use Rattle.words.specs.declared.Said.{Said}
 use Rattle.words.specs.declared.places.Spot.{Spot}
@@ -14,7 +15,7 @@ use Rattle.words.specs.declared.Stage.TheVariants.{Options, Value, Names, AllNam
 use Rattle.words.specs.Rows.{letters_at, places_at, row_of}
 use Rattle.words.specs.Places.{letter_at, after, fits}
 use Rattle.words.specs.Options.{option_of, form_of, flag, to_stage, bad, put_one}
-use Rattle.words.specs.Words.{dash, is_name, chosen, named, heard_last, heard_letter, heard_option, heard, place_of, is_good}
+use Rattle.words.specs.Words.{dash, is_name, chosen, named, heard_last, heard_letter, heard_option, heard}
 
 pub empty_name : (w : List ℕ) → length w ≡ 0 → true ≡ is_name w
 unfolding is_name
@@ -101,8 +102,7 @@ module _ (t : List ℕ) (s : Said) (w : List ℕ) {n m : Stage} (here : n ≡ m)
   pub heard-at : (o : List ℕ) {r : Said} → r ≡ heard o t s w m → r ≡ heard o t s w n
   heard-at o next = rw (here, next)
 
-  pub place_at : {c : ℕ} → c ≡ place_of t s w m → c ≡ place_of t s w n
-  place_at next = rw (here, next)
-
-  pub good-at : {b : Bool} → b ≡ is_good t s m → b ≡ is_good t s n
-  good-at next = rw (here, next)
+-- a test the other way round, as a choice
+pub not_is : (b : Bool) → not b ≡ pick b false true
+not_is true = refl
+not_is false = refl

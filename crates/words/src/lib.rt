@@ -58,19 +58,15 @@ const DASH: u8 = b'-';
 pub fn start(tasks: &[u8]) -> Said
     ensures { result ≡ start_said tasks.now }
 {
-    let spot = Spot { at: 0, group: 0 };
-    if places::byte_at(tasks, 0) == b' ' {
-        return Said {
-            stage: Stage::Options,
-            row: 0,
-            spot,
-            values: [options::NO_VALUE; 16],
-        };
-    }
+    let stage = if places::byte_at(tasks, 0) == b' ' {
+        Stage::Options
+    } else {
+        Stage::Task
+    };
     Said {
-        stage: Stage::Task,
+        stage,
         row: 0,
-        spot,
+        spot: Spot { at: 0, group: 0 },
         values: [options::NO_VALUE; 16],
     }
 }
@@ -96,12 +92,9 @@ pub fn place(tasks: &[u8], said: Said, word: &[u8]) -> u8
 {
     let stage = said.stage;
     match stage {
-        Stage::Task => 0,
-        Stage::Options => place_of_name(tasks, said, word),
-        Stage::Value(_) => 0,
-        Stage::Names => place_of_name(tasks, said, word),
+        Stage::Options | Stage::Names => place_of_name(tasks, said, word),
         Stage::AllNames => letter(tasks, said),
-        Stage::Bad => 0,
+        Stage::Task | Stage::Value(_) | Stage::Bad => 0,
     }
 }
 
@@ -111,12 +104,8 @@ pub fn is_good(tasks: &[u8], said: Said) -> bool
 {
     let stage = said.stage;
     match stage {
-        Stage::Task => false,
-        Stage::Options => is_whole(tasks, said),
-        Stage::Value(_) => false,
-        Stage::Names => is_whole(tasks, said),
-        Stage::AllNames => is_whole(tasks, said),
-        Stage::Bad => false,
+        Stage::Options | Stage::Names | Stage::AllNames => is_whole(tasks, said),
+        Stage::Task | Stage::Value(_) | Stage::Bad => false,
     }
 }
 
@@ -161,13 +150,10 @@ fn choose(tasks: &[u8], said: Said, word: &[u8]) -> Said
     if row >= tasks.len() {
         return options::bad(said);
     }
-    let spot = said.spot;
-    let values = said.values;
     Said {
         stage: Stage::Options,
         row,
-        spot,
-        values,
+        ..said
     }
 }
 
@@ -222,18 +208,15 @@ fn name(tasks: &[u8], said: Said, stage: Stage, word: &[u8]) -> Said
     ensures { result ≡ named tasks.now said stage word.now }
 {
     let spot = said.spot;
-    let row = said.row;
-    let places = rows::places(tasks, row);
+    let places = rows::places(tasks, said.row);
     if !places::fits(places::letter_at(places, spot), word) {
         return options::bad(said);
     }
     let spot = places::after(places, spot);
-    let values = said.values;
     Said {
         stage,
-        row,
         spot,
-        values,
+        ..said
     }
 }
 
@@ -241,9 +224,10 @@ fn place_of_name(tasks: &[u8], said: Said, word: &[u8]) -> u8
     ensures { result ≡ pick (is_name word.now) (letter_now tasks.now said) 0 }
 {
     if looks_like_name(word) {
-        return letter(tasks, said);
+        letter(tasks, said)
+    } else {
+        0
     }
-    0
 }
 
 fn letter(tasks: &[u8], said: Said) -> u8
@@ -262,11 +246,5 @@ fn is_whole(tasks: &[u8], said: Said) -> bool
 fn looks_like_name(word: &[u8]) -> bool
     ensures { result ≡ is_name word.now }
 {
-    if word.len() == 0 {
-        return true;
-    }
-    if word[0] == DASH {
-        return false;
-    }
-    true
+    word.is_empty() || word[0] != DASH
 }

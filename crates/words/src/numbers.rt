@@ -6,6 +6,7 @@ ghost use Rattle.words.specs.Numbers.{digit_of, decimal_of, hex_pair_of, number_
 pub const MOST: u64 = 4294967295;
 
 // No number: more than the greatest.
+// Kept: it is the number of the definitions `number_of` and `decimal_of`, not a None.
 pub const NO_NUMBER: u64 = 4294967296;
 
 const NO_DIGIT: u8 = 16;
@@ -44,9 +45,8 @@ pub(crate) fn decimal(word: &[u8]) -> u64
         return NO_NUMBER;
     }
     let mut number: u64 = 0;
-    let mut i = 0;
-    while i < word.len() {
-        let d = digit(word[i]);
+    for b in word {
+        let d = digit(*b);
         if d >= 10 {
             return NO_NUMBER;
         }
@@ -55,7 +55,6 @@ pub(crate) fn decimal(word: &[u8]) -> u64
             return NO_NUMBER;
         }
         number = more;
-        i += 1;
     }
     number
 }
@@ -82,23 +81,10 @@ pub(crate) fn hex_pair(word: &[u8]) -> u64
 fn digit(b: u8) -> u8
     ensures { result ≡ digit_of b }
 {
-    if b < 48 {
-        return NO_DIGIT;
+    match b {
+        b'0'..=b'9' => b - b'0',
+        b'A'..=b'F' => b - b'A' + 10,
+        b'a'..=b'f' => b - b'a' + 10,
+        _ => NO_DIGIT,
     }
-    if b <= 57 {
-        return b - 48;
-    }
-    if b < 65 {
-        return NO_DIGIT;
-    }
-    if b <= 70 {
-        return b - 55;
-    }
-    if b < 97 {
-        return NO_DIGIT;
-    }
-    if b <= 102 {
-        return b - 87;
-    }
-    NO_DIGIT
 }

@@ -17,20 +17,20 @@ const PAIR: u32 = 3;
 const COMMA: u8 = b',';
 
 // No value was said.
+// Kept: it is the number of the definition `value_at`, and the values stand in one array of fixed length (no heap).
 pub const NO_VALUE: u32 = 4294967295;
 
 // The number of the option with a letter, OPTIONS where there is none.
+// Kept: OPTIONS is what the definition `option_of` answers, not a None.
 pub(crate) fn option_of(options: &[u32], letter: u8) -> usize
     ensures { result ≡ option_of options.now letter }
 {
-    let mut k = 0;
-    while k < OPTIONS {
+    for k in 0..OPTIONS {
         if entry(options, 5 * k) == letter as u32 {
             return k;
         }
-        k += 1;
     }
-    k
+    OPTIONS
 }
 
 // The form of an option.
@@ -93,8 +93,6 @@ fn keep(said: Said, k: usize, first: u32, second: u32) -> Said
     requires { k ≤ 7 }
     ensures { result ≡ kept said k first second }
 {
-    let row = said.row;
-    let spot = said.spot;
     let mut values = said.values;
     let i = 2 * k;
     let j = i + 1;
@@ -102,9 +100,8 @@ fn keep(said: Said, k: usize, first: u32, second: u32) -> Said
     values[j] = second;
     Said {
         stage: Stage::Options,
-        row,
-        spot,
         values,
+        ..said
     }
 }
 
@@ -134,15 +131,7 @@ pub(crate) fn bad(said: Said) -> Said
 pub(crate) fn to_stage(said: Said, stage: Stage) -> Said
     ensures { result ≡ to_stage stage said }
 {
-    let row = said.row;
-    let spot = said.spot;
-    let values = said.values;
-    Said {
-        stage,
-        row,
-        spot,
-        values,
-    }
+    Said { stage, ..said }
 }
 
 fn wide(n: u32) -> u64
@@ -155,8 +144,5 @@ fn wide(n: u32) -> u64
 pub(crate) fn entry(options: &[u32], i: usize) -> u32
     ensures { result ≡ get_or options.now i 0 }
 {
-    if options.len() <= i {
-        return 0;
-    }
-    options[i]
+    if i < options.len() { options[i] } else { 0 }
 }

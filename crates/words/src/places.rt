@@ -89,10 +89,7 @@ pub(crate) fn fits(letter: u8, word: &[u8]) -> bool
 fn is_kind(word: &[u8]) -> bool
     ensures { result ≡ is_kind word.now }
 {
-    if numbers::kind_of(word) == 0 {
-        return false;
-    }
-    true
+    numbers::kind_of(word) != 0
 }
 
 // The place behind a mark that stands here; the other where none does.
@@ -111,18 +108,12 @@ fn passed(places: &[u8], at: usize, other: usize) -> usize
 fn is_mark(b: u8) -> bool
     ensures { result ≡ is_mark b }
 {
-    if b == ONCE_OR_MORE {
-        return true;
-    }
-    b == ANY_NUMBER
+    b == ONCE_OR_MORE || b == ANY_NUMBER
 }
 
 // The byte at a place of a text; 0 past its end.
 pub(crate) fn byte_at(text: &[u8], i: usize) -> u8
     ensures { result ≡ get_or text.now i 0 }
 {
-    if text.len() <= i {
-        return 0;
-    }
-    text[i]
+    if i < text.len() { text[i] } else { 0 }
 }

@@ -13,25 +13,20 @@ pub(crate) fn row_of(tasks: &[u8], word: &[u8]) -> usize
     ensures { result ≡ row_of tasks.now word.now }
 {
     let mut begins = true;
-    let mut i = 0;
-    while i < tasks.len() {
+    for (i, b) in tasks.iter().enumerate() {
         if is_row(tasks, i, begins, word) {
             return i;
         }
-        begins = tasks[i] == LINE_END;
-        i += 1;
+        begins = *b == LINE_END;
     }
-    i
+    tasks.len()
 }
 
 // Whether a row begins here, and has that word.
 fn is_row(tasks: &[u8], i: usize, begins: bool, word: &[u8]) -> bool
     ensures { result ≡ both begins (same_text word.now (word_at tasks.now i)) }
 {
-    if !begins {
-        return false;
-    }
-    has_word(tasks, i, word)
+    begins && has_word(tasks, i, word)
 }
 
 // Whether the row that begins here has that word.
@@ -90,12 +85,10 @@ pub(crate) fn behind(text: &[u8], b: u8) -> &[u8]
 pub(crate) fn before(text: &[u8], b: u8) -> usize
     ensures { (result ≡ before b text.now) × (result ≤ length text.now) }
 {
-    let mut i = 0;
-    while i < text.len() {
-        if text[i] == b {
+    for (i, x) in text.iter().enumerate() {
+        if *x == b {
             return i;
         }
-        i += 1;
     }
-    i
+    text.len()
 }

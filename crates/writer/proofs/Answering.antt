@@ -1,5 +1,6 @@
 -- What a cut answers and leaves, by the tests that tell: what is taken, whether the records are whole, and the room. The room is
 -- judged by dividing, so that no product can wrap. Assumes nothing.
+use Rattle.std.proofs.Common.{Some, None}
 use mathlib.Core.Path.{◌≡◌, ◌∙◌, refl}
 use mathlib.Core.Bool.{Bool, true, false}
 use mathlib.Core.List.{List, []}
@@ -10,15 +11,14 @@ use lib.Dec.{leb}
 use lib.ListN.{length}
 use lib.Seq.{sets}
 use borrow.Author.Tests.{leb-true}
+use Rattle.std.specs.declared.result.Result.TheVariants.{Ok}
 use Rattle.laws.specs.Pick.{both}
-use Rattle.answer.specs.declared.Answer.{Answer}
-use Rattle.answer.specs.declared.Answer.TheVariants.{Done}
+use Rattle.answer.specs.Answer.{Answer}
 use Rattle.answer.specs.Values.{refused}
 use Rattle.answer.proofs.Lent.{lent-short, lent-done}
 use Rattle.answer.specs.Writing.{answered, left}
 use Rattle.blocks.specs.Block.{whole, blocks}
 use Rattle.packet.specs.declared.Setting.{Setting}
-use Rattle.writer.specs.declared.Measured.TheVariants.{Cells, Broken}
 use Rattle.packet.specs.Setting.{in_range}
 use Rattle.symbols.specs.Stream.{cell, stream_of}
 use Rattle.writer.specs.Cutting.{pages_for, packets, cut_bytes, cut_rules, takes_of}
@@ -30,28 +30,28 @@ pub short-of-room :
     (bytes old : List ℕ) (count size : ℕ) → length bytes ≡ count * size → 0 < size → length old / size < count
     → (refused 1 0 ≡ answered [] bytes old) × (old ≡ left [] bytes old)
 short-of-room bytes old count size n p h =
-    lent-short [] bytes old (length bytes) {first = Done (length bytes)} refl refl (omega (arith, (div-lt_iff_lt-mul p).0 h))
+    lent-short [] bytes old (length bytes) {first = Ok (length bytes)} refl refl (omega (arith, (div-lt_iff_lt-mul p).0 h))
 
 pub fits-room : (n count size : ℕ) → 0 < size → count ≤ n / size → count * size ≤ n
 fits-room n count size p h = (le-div_iff_mul-le p).0 h
 
 pub room-enough :
     (bytes old out : List ℕ) (count size : ℕ) → length bytes ≡ count * size → 0 < size → count ≤ length old / size
-    → out ≡ sets old 0 bytes → (Done (count * size) ≡ answered [] bytes old) × (out ≡ left [] bytes old)
+    → out ≡ sets old 0 bytes → (Ok (count * size) ≡ answered [] bytes old) × (out ≡ left [] bytes old)
 room-enough bytes old out count size n p h e =
-    let d = lent-done [] bytes old (length bytes) {first = Done (length bytes)} refl refl (omega (arith, fits-room (length old) count size p h)) in
+    let d = lent-done [] bytes old (length bytes) {first = Ok (length bytes)} refl refl (omega (arith, fits-room (length old) count size p h)) in
     (rw (← n) d.0, e ∙ d.1)
 
 -- ---- the records
 
-pub measured-broken : (l : List ℕ) → measure_of l ≡ Broken → whole l ≡ false
+pub measured-broken : (l : List ℕ) → measure_of l ≡ None → whole l ≡ false
 measured-broken l e = go (whole l) refl
   where
     go : (t : Bool) → whole l ≡ t → whole l ≡ false
     go true h = let z : ◌≡◌ {A = ℕ} 0 1 = cc in absurd (omega arith)
     go false h = h
 
-pub measured_cells : (l : List ℕ) (n : ℕ) → measure_of l ≡ Cells n → (whole l ≡ true) × (n ≡ length (stream_of (blocks l)) / cell)
+pub measured_cells : (l : List ℕ) (n : ℕ) → measure_of l ≡ Some n → (whole l ≡ true) × (n ≡ length (stream_of (blocks l)) / cell)
 measured_cells l n e = go (whole l) refl
   where
     go : (t : Bool) → whole l ≡ t → (whole l ≡ true) × (n ≡ length (stream_of (blocks l)) / cell)

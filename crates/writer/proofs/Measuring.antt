@@ -1,4 +1,5 @@
 -- How many cells a list of records takes, walked from record to record: no more than it has bytes. Assumes nothing.
+use Rattle.std.proofs.Common.{Option, Some, None}
 use mathlib.Core.Path.{◌≡◌, ◌∙◌, refl, ap}
 use mathlib.Core.Bool.{Bool, true, false}
 use mathlib.Core.List.{List, [], ◌∷◌}
@@ -10,9 +11,7 @@ use lib.Seq.{length-take-le}
 use Rattle.laws.specs.Pick.{pick}
 use Rattle.blocks.specs.Block.{Block, head_length, size_of, head_of, record_length, begins, block_of, whole, blocks, whole_within, blocks_within}
 use Rattle.blocks.proofs.Walking.{Standing, whole_not, whole-at, blocks_at, begins-fits}
-use Rattle.writer.specs.declared.Measured.{Measured}
-use Rattle.writer.specs.declared.Measured.TheVariants.{Cells, Broken}
-use Rattle.symbols.specs.Stream.{raw, cell, cells_of, stream_of}
+use Rattle.symbols.specs.Stream.{cell, cells_of, stream_of}
 use Rattle.symbols.proofs.Sending.{cells_length, raw_length}
 use Rattle.writer.specs.Internal.{measure_of}
 
@@ -21,8 +20,8 @@ unfolding stream_of
 stream-length b bs = omega (arith, length-append (cells_of b) (stream_of bs), cells_length b)
 
 -- the measure of what is left, with so many cells before it
-abbrev pub measure_from : ℕ → List ℕ → Measured
-measure_from cells l = pick (whole l) (Cells (cells + length (stream_of (blocks l)) / cell)) Broken
+abbrev pub measure_from : ℕ → List ℕ → Option ℕ
+measure_from cells l = pick (whole l) (Some (cells + length (stream_of (blocks l)) / cell)) None
 
 pub measure-start : (l : List ℕ) → measure_from 0 l ≡ measure_of l
 measure-start l = rw zero-add
@@ -36,13 +35,13 @@ measure-step {l} {p} {next = next} s cells more e =
     ∙ stream-length (block_of (drop p l)) (blocks (drop next l)) ∙ omega (arith, raw_length s) in
     rw (whole-at s, n, add_assoc)
 
-pub measure-end : (l : List ℕ) (p cells : ℕ) → p ≡ length l → Cells cells ≡ measure_from cells (drop p l)
+pub measure-end : (l : List ℕ) (p cells : ℕ) → p ≡ length l → Some cells ≡ measure_from cells (drop p l)
 unfolding whole_within blocks_within stream_of
 measure-end l p cells e = let h : length l ≤ p = omega arith in rw (drop_of_length-le l h, add-zero)
 
 pub measure-broken :
     (l : List ℕ) (p cells : ℕ) → p ≤ length l → (p ≡ length l → ⊥) × (begins (drop p l) ≡ false)
-    → Broken ≡ measure_from cells (drop p l)
+    → None ≡ measure_from cells (drop p l)
 measure-broken l p cells h b =
     let n : length (drop p l) ≡ 0 → ⊥ = λ e. b.0 (omega (arith, length-drop p l)) in
     rw (whole_not (drop p l) n b.1)

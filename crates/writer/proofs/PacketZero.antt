@@ -1,12 +1,15 @@
 -- Stores in the order of a packet's bytes: images one by one, and what is stored behind them. Assumes nothing.
-use mathlib.Core.Path.{◌≡◌, ◌∙◌, refl}
+use borrow.Rule.Slice.PartMut.{put_mid}
+use Rattle.std.proofs.lemmas.Slice.{put_mid-paste}
+use Rattle.std.proofs.lemmas.List.Edits.{sets-eq}
+use mathlib.Core.Path.{◌≡◌, ◌∙◌, refl, sym, ap}
 use mathlib.Core.List.{List, [], ◌∷◌, ◌++◌, map}
 use Prim.Native.Nat.{ℕ, suc, ◌+◌, ◌-◌, ◌*◌, ◌/◌, ◌%◌, ◌<◌, ◌≤◌}
 use native.Mathlib.Numerals.{add-one}
 use native.Mathlib.Omega.{arith}
 use lib.Dec.{leb}
-use lib.ListN.{length, set, get_or, drop, replicate, drop_of_length-le}
-use lib.Seq.{sets, drop-cons}
+use lib.ListN.{length, set, get_or, take, drop, replicate, drop_of_length-le, length-replicate}
+use lib.Seq.{sets, drop-cons, take-length}
 use borrow.Author.Tests.{le-leb, lt-leb}
 use Rattle.laws.specs.Pick.{pick}
 use Rattle.laws.proofs.Stores.{sets_next}
@@ -53,3 +56,11 @@ zero_laid s index n entry m out q em e =
     let z : s.magazine % 8 + 8 * (0 % 2) ≡ s.magazine % 8 = omega arith in
     let w : packet_zero s index n ≡ map image (nibbles_of s index n) ++ replicate 32 0x20 = rw z in
     e ∙ sets_next entry m q 10 (map image (nibbles_of s index n)) (replicate 32 0x20) (packet_zero s index n) w refl em
+
+-- a part of a slice that was filled holds what is stored in a row
+pub filled :
+    (d ys : List ℕ) (q n b : ℕ) {k : ℕ} → q + n ≤ length d → k ≡ n → ys ≡ replicate n b → put_mid q k d ys ≡ sets d q (replicate n b)
+filled d ys q n b fits size is =
+    let long : length ys ≡ n = ap length is ∙ length-replicate n b in
+    put_mid-paste q _ d ys ys (length ys) refl (omega arith) refl ∙ ap (λ (l : List ℕ). take q d ++ l ++ drop (q + length ys) d) (take-length ys)
+    ∙ sym (sets-eq ys d q (omega arith)) ∙ ap (sets d q) is

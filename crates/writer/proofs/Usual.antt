@@ -3,7 +3,7 @@
 use mathlib.Core.Path.{◌≡◌}
 use mathlib.Core.List.{List}
 use Prim.Native.Nat.{ℕ}
-use Rattle.answer.specs.declared.Answer.{Answer}
+use Rattle.answer.specs.Answer.{Answer}
 use Rattle.answer.specs.Writing.{answered, left}
 use Rattle.packet.specs.declared.Setting.{Setting}
 use Rattle.writer.specs.Cutting.{cut_bytes, cut_rules}

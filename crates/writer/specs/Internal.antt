@@ -1,17 +1,15 @@
 -- What only private calls cite; nothing here needs to be believed. What is measured and what is written, page by page.
-use Rattle.std.specs.Prelude.{List, ◌∷◌, ℕ, ◌+◌, ◌*◌, ◌/◌, length}
+use Rattle.std.specs.Prelude.{Option, Some, None, List, ◌∷◌, ℕ, ◌+◌, ◌*◌, ◌/◌, length}
 use Rattle.laws.specs.Pick.{pick}
 use Rattle.blocks.specs.Block.{whole, blocks}
-use Rattle.writer.specs.declared.Measured.{Measured}
-use Rattle.writer.specs.declared.Measured.TheVariants.{Cells, Broken}
 use Rattle.packet.specs.declared.Setting.{Setting}
 use Rattle.packet.specs.Packet.{packet_length, packet_zero}
 use Rattle.symbols.specs.Stream.{Symbol, cell, stream_of}
 use Rattle.writer.specs.Cutting.{data_packets, pages, joined}
 
--- a list of whole records in cells; or that it isn't one
-abbrev pub measure_of : List ℕ → Measured
-measure_of l = pick (whole l) (Cells (length (stream_of (blocks l)) / cell)) Broken
+-- a list of whole records in cells; none where it isn't one
+abbrev pub measure_of : List ℕ → Option ℕ
+measure_of l = pick (whole l) (Some (length (stream_of (blocks l)) / cell)) None
 
 -- a page of k packets and its packet 0
 abbrev pub page_of : Setting → ℕ → ℕ → List Symbol → List (List ℕ)

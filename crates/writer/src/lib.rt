@@ -17,7 +17,7 @@ ghost use Rattle.symbols.specs.Internal.{rest_of, Within, Goes};
 ghost use Rattle.writer.specs.Cutting.{data_packet, pages, pages_for, joined, cut_bytes, usual_page, cut_rules, takes_of};
 ghost use Rattle.writer.specs.Internal.{measure_of, page_length, page_of, pages_bytes};
 
-use answer::{Answer, Refusal};
+use answer::{Answer, Reason};
 use blocks::Found;
 use packet::{PACKET, Setting};
 use symbols::{CELL, Pen};
@@ -40,13 +40,6 @@ struct Row {
     pen: Pen,
 }
 
-// A list of records, measured.
-#[derive(Clone, Copy)]
-enum Measured {
-    Cells(usize),
-    Broken,
-}
-
 // Cuts a list of records into packets, one after the other at the front of `out`: pages of 20
 // packets and a packet 0, the first page with the given index; for an empty list none at all.
 // Refused are 16 a setting or an index out of range, 13 a list that isn't whole records, 1 an output
@@ -64,11 +57,11 @@ pub fn cut_pages(s: Setting, index: u8, k: u8, records: &[u8], out: &mut [u8]) -
     ensures bytes { out.new ≡ left (cut_rules s index k records.now) (cut_bytes s index k records.now) out.old }
 {
     if !takes(s, index, k) {
-        return Answer::Refused(Refusal { no: 16, at: 0 });
+        return Reason::Range.refuse(0);
     }
     match measure(records) {
-        Measured::Broken => Answer::Refused(Refusal { no: 13, at: 0 }),
-        Measured::Cells(cells) => write_all(s, index, k, pages_for(cells, k), records, out),
+        None => Reason::Length.refuse(0),
+        Some(cells) => write_all(s, index, k, pages_for(cells, k), records, out),
     }
 }
 
@@ -88,17 +81,18 @@ fn takes(s: Setting, index: u8, k: u8) -> bool
     k <= MOST
 }
 
-// How many cells the blocks of a list of records take: never more than the list has bytes.
-fn measure(records: &[u8]) -> Measured
+// How many cells the blocks of a list of records take, never more than the list has bytes; none where it isn't whole records.
+fn measure(records: &[u8]) -> Option<usize>
     ensures { result ≡ measure_of records.now }
 {
     let mut at = 0;
     let mut cells = 0;
+    // Kept: each turn goes to the next record, which is no count.
     loop {
         match blocks::record_at(records, at) {
-            Found::End => return Measured::Cells(cells),
-            Found::Broken => return Measured::Broken,
-            Found::Record { head: _, raw, next } => {
+            Found::End => return Some(cells),
+            Found::Broken => return None,
+            Found::Record { raw, next, .. } => {
                 cells += symbols::cells_of(next - raw);
                 at = next;
             }
@@ -125,10 +119,10 @@ fn write_all(s: Setting, index: u8, k: u8, count: usize, records: &[u8], out: &m
 {
     let size = PACKET * (k as usize + 1);
     if out.len() / size < count {
-        return Answer::Refused(Refusal { no: 1, at: 0 });
+        return Reason::NoRoom.refuse(0);
     }
     write_pages(s, index, k, count, records, out);
-    Answer::Done(count * size)
+    Ok(count * size)
 }
 
 // Writes so many pages of k packets at the front, from the first record on.
@@ -140,12 +134,10 @@ fn write_pages(s: Setting, index: u8, k: u8, count: usize, records: &[u8], out: 
     let mut at = Pen { at: 0, sent: 0 };
     let mut next = index;
     let mut to = 0;
-    let mut left = count;
-    while left > 0 {
+    for _page in 0..count {
         at = write_page(s, next, k, records, at, out, to);
         next = (next + 1) % 16;
         to += size;
-        left -= 1;
     }
 }
 
@@ -166,11 +158,9 @@ fn write_page(
     zero::write_zero(s, index, k, out, q);
     let mut at = pen;
     let mut to = q + PACKET;
-    let mut y = 1;
-    while y <= k {
+    for y in 1..=k {
         at = write_packet(s, y, records, at, out, to);
         to += PACKET;
-        y += 1;
     }
     at
 }
@@ -196,13 +186,11 @@ fn write_symbols(records: &[u8], pen: Pen, out: &mut [u8], q: usize) -> Row
 {
     let mut at = pen;
     let mut before = PER_PACKET;
-    let mut i = 0;
-    while i < PER_PACKET {
+    for i in 0..PER_PACKET {
         let sent = symbols::step(records, at);
         out[q + i] = sent.byte;
         before = symbols::first(before, sent.starts, i);
         at = sent.pen;
-        i += 1;
     }
     Row { before, pen: at }
 }

@@ -62,10 +62,8 @@ fn write_images(nibbles: &[u8], out: &mut [u8], q: usize)
     requires { q + length nibbles.now ≤ length out.old }
     ensures { out.new ≡ sets out.old q (map image nibbles.now) }
 {
-    let mut i = 0;
-    while i < nibbles.len() {
-        out[q + i] = octet::image(nibbles[i]);
-        i += 1;
+    for (i, n) in nibbles.iter().enumerate() {
+        out[q + i] = octet::image(*n);
     }
 }
 
@@ -74,9 +72,5 @@ fn write_blanks(out: &mut [u8], q: usize)
     requires { q + 32 ≤ length out.old }
     ensures { out.new ≡ sets out.old q (replicate 32 0x20) }
 {
-    let mut i = 0;
-    while i < CHARACTERS {
-        out[q + i] = BLANK;
-        i += 1;
-    }
+    out[q..q + CHARACTERS].fill(BLANK);
 }

@@ -3,13 +3,9 @@
 use mathlib.Core.Path.{◌≡◌}
 use Prim.Native.Nat.{◌+◌, ◌-◌, ◌≤◌}
 use lib.ListN.{drop}
-use Rattle.packet.specs.Packet.{packet_length}
 use Rattle.aerials.specs.Better.{judged_bytes, broken_in}
 use Rattle.aerials.proofs.broken.Given as goal
 
 abbrev pub invariant-loop-i : goal.invariant-loop-i
 invariant-loop-i l =
     (l.i ≤ judged_bytes) × (l.n ≤ l.i) × (l.n + broken_in (judged_bytes - l.i) (drop l.i l.packet) ≡ broken_in judged_bytes l.packet)
-
-abbrev pub decreases-loop-i : goal.decreases-loop-i
-decreases-loop-i l = packet_length - l.i

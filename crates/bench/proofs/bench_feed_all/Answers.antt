@@ -7,7 +7,7 @@ use Rattle.bench.proofs.bench_feed_all.Goals as goal
 
 pub returns : goal.returns
 returns c =
-    let f = c.feed_all-fed in
+    let f = c.feed_all-heard in
     let a = c.args in
     let it = all_fed (λ (r : Reader). feed_all_heard desk r a.packets.now a.out.now) (λ (r : Reader). feed_all_out desk r a.packets.now a.out.now)
     c.fresh-state.ensures f.ensures.heard_value f.ensures.out_after c.handed_out.ensures in

@@ -7,7 +7,7 @@ use Rattle.bench.proofs.bench_feed_both.Goals as goal
 
 pub returns : goal.returns
 returns c =
-    let f = c.feed_all-fed in
+    let f = c.feed_all-heard in
     let a = c.args in
     let it = all_fed (λ (r : Readers). feed_all_heard_of_two desks r a.packets.now a.out.now) (λ (r : Readers). feed_all_out_of_two desks r a.packets.now a.out.now)
     c.fresh-state.ensures f.ensures.heard_value f.ensures.out_after c.handed_out.ensures in

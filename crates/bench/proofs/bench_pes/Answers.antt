@@ -3,18 +3,18 @@ use mathlib.Core.Path.{◌∙◌, ap, sym}
 use Rattle.answer.specs.Values.{written_of}
 use Rattle.bench.proofs.bench_pes.Goals as goal
 
-pub returns-in-Done : goal.returns-in-Done
-returns-in-Done c =
+pub returns-in-Ok : goal.returns-in-Ok
+returns-in-Ok c =
     let e = c.read.ensures in
     record {
-      count = ap written_of (sym c.in-Done.is ∙ e.answer);
+      count = ap written_of (sym c.in-Ok.is ∙ e.answer);
       bytes = e.bytes;
     }
 
-pub returns-in-Refused : goal.returns-in-Refused
-returns-in-Refused c =
+pub returns-in-Err : goal.returns-in-Err
+returns-in-Err c =
     let e = c.read.ensures in
     record {
-      count = ap written_of (sym c.in-Refused.is ∙ e.answer);
+      count = ap written_of (sym c.in-Err.is ∙ e.answer);
       bytes = e.bytes;
     }

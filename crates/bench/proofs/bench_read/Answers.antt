@@ -3,18 +3,18 @@ use mathlib.Core.Path.{◌∙◌, ap, sym}
 use Rattle.blocks.specs.Values.{written_of}
 use Rattle.bench.proofs.bench_read.Goals as goal
 
-pub returns-in-Taken : goal.returns-in-Taken
-returns-in-Taken c =
+pub returns-in-Ok : goal.returns-in-Ok
+returns-in-Ok c =
     let e = c.read_block.ensures in
     record {
-      count = ap written_of (sym c.in-Taken.is ∙ e.answer);
+      count = ap written_of (sym c.in-Ok.is ∙ e.answer);
       bytes = e.output;
     }
 
-pub returns-in-Refused : goal.returns-in-Refused
-returns-in-Refused c =
+pub returns-in-Err : goal.returns-in-Err
+returns-in-Err c =
     let e = c.read_block.ensures in
     record {
-      count = ap written_of (sym c.in-Refused.is ∙ e.answer);
+      count = ap written_of (sym c.in-Err.is ∙ e.answer);
       bytes = e.output;
     }

@@ -6,13 +6,13 @@ use Rattle.octet.specs.Turning.{turned}
 use Rattle.bench.proofs.Mixing.{mix_step, mix_end}
 use Rattle.bench.proofs.bench_turn.Goals as goal
 
-pub loop-i-preserved : goal.loop-i-preserved
-loop-i-preserved c =
-    let l = c.loop-i in
+pub loop-b-preserved : goal.loop-b-preserved
+loop-b-preserved c =
+    let l = c.loop-b in
     let a = c.args in
-    mix_step turned a.s.now l.i l.mix c.turn-mix.result (search rules) c.turn-mix.ensures ∙ l.invariant
+    mix_step turned a.s.now l.b-index l.mix c.turn-mix.result (search rules) c.turn-mix.ensures ∙ l.invariant
 
 pub returns : goal.returns
 returns c =
-    let l = c.loop-i in
-    sym (mix_end turned c.args.s.now l.i l.mix (search rules)) ∙ l.invariant
+    let l = c.loop-b in
+    sym (mix_end turned c.args.s.now l.b-index l.mix (search rules)) ∙ l.invariant

@@ -4,6 +4,7 @@ use mathlib.Core.Path.{◌∙◌, refl, sym, ap}
 use Prim.Native.Nat.{ℕ}
 use native.Mathlib.Omega.{arith}
 use lib.ListN.{drop}
+use Rattle.std.specs.Prelude.{Some}
 use Rattle.laws.specs.Bytes.{Bytes}
 use Rattle.blocks.proofs.Walking.{Standing, standing, ended, broken, whole-at}
 use Rattle.broadcast.specs.Lawful.{channel_from}
@@ -12,10 +13,7 @@ use Rattle.broadcast.proofs.Records.{whole-ended, whole-broken, seen-ended, seen
 use Rattle.broadcast.proofs.walk.Goals as goal
 
 pub loop-next-init : goal.loop-next-init
-loop-next-init c = (search rules, refl, refl, refl, refl)
-
-pub shape_of-tally-in-End : goal.shape_of-tally-in-End
-shape_of-tally-in-End c = c.loop-next.invariant.1
+loop-next-init c = (search rules, refl, refl, refl)
 
 pub returns-in-End : goal.returns-in-End
 unfolding channel_from tallied
@@ -24,12 +22,9 @@ returns-in-End c =
     let s = c.args in
     let e = ended _ _ (sym c.record_at.ensures ∙ c.in-End.is) in
     let n = sym (seen-ended s.application s.records.now c.loop-next.at e) in record {
-      answer = (whole-ended _ _ e ∙ i.2, ap (channel_from c.loop-next.channel) n ∙ i.3);
-      output = ap (tallied c.loop-next.tally) n ∙ i.4;
+      answer = rw (sym (whole-ended _ _ e ∙ i.1)) (ap (λ (x : ℕ). Some x) (ap (channel_from c.loop-next.channel) n ∙ i.2));
+      output = ap (tallied c.loop-next.tally) n ∙ i.3;
     }
-
-pub shape_of-tally-in-Broken : goal.shape_of-tally-in-Broken
-shape_of-tally-in-Broken c = c.loop-next.invariant.1
 
 pub returns-in-Broken : goal.returns-in-Broken
 unfolding channel_from tallied
@@ -38,8 +33,8 @@ returns-in-Broken c =
     let s = c.args in
     let e = broken _ _ (sym c.record_at.ensures ∙ c.in-Broken.is) in
     let n = sym (seen-broken s.application (drop c.loop-next.at s.records.now) e.1) in record {
-      answer = (whole-broken _ _ i.0 e ∙ i.2, ap (channel_from c.loop-next.channel) n ∙ i.3);
-      output = ap (tallied c.loop-next.tally) n ∙ i.4;
+      answer = rw (sym (whole-broken _ _ i.0 e ∙ i.1));
+      output = ap (tallied c.loop-next.tally) n ∙ i.3;
     }
 
 pub slice_bounds-see-count : goal.slice_bounds-see-count
@@ -65,7 +60,7 @@ loop-next-preserved c =
     let see = c.see-seen.ensures in
     let channel = channel-on s.application small t see l.channel c.channel_after-channel.ensures in
     let tally = tally-on s.application small t see l.tally c.count.ensures in
-    (t.within, c.count.auto.tally ∙ l.invariant.1, sym (whole-at t) ∙ l.invariant.2, channel ∙ l.invariant.3, tally ∙ l.invariant.4)
+    (t.within, sym (whole-at t) ∙ l.invariant.1, channel ∙ l.invariant.2, tally ∙ l.invariant.3)
 
 pub slice_bounds-see-start : goal.slice_bounds-see-start
 slice_bounds-see-start c =

@@ -12,7 +12,6 @@ use Rattle.broadcast.proofs.walk.Given as goal
 abbrev pub invariant-loop-next : goal.invariant-loop-next
 invariant-loop-next l =
     (l.at ≤ length l.records)
-    × (length l.tally ≡ length l.initial.tally)
     × (whole (drop l.at l.records) ≡ whole l.records)
     × (channel_from l.channel (all_seen l.application (blocks (drop l.at l.records))) ≡ channel_from 0 (all_seen l.application (blocks l.records)))
     × (tallied l.tally (all_seen l.application (blocks (drop l.at l.records))) ≡ tallied l.initial.tally (all_seen l.application (blocks l.records)))

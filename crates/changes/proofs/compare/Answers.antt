@@ -9,42 +9,42 @@ pub write-answer-requires : goal.write-answer-requires
 write-answer-requires c =
     let f : List ℕ = c.args.first.now in
     let g : List ℕ = c.args.second.now in (
-      sheet-halfway c.args.form f (sound c.args.form f c.judge.ensures c.in-Done.is),
-      sheet-halfway c.args.form g (sound c.args.form g c.judge-in-Done.ensures c.in-Done-judge.is),
+      sheet-halfway c.args.form f (sound c.args.form f c.judge.ensures c.in-Ok.is),
+      sheet-halfway c.args.form g (sound c.args.form g c.judge-in-Ok.ensures c.in-Ok-judge.is),
     )
 
-pub returns-in-Refused : goal.returns-in-Refused
-returns-in-Refused c =
+pub returns-in-Err : goal.returns-in-Err
+returns-in-Err c =
     let a = c.args in
-    let p = first-fault c.args.form a.first.now a.second.now a.out.now (sym c.judge.ensures ∙ c.in-Refused.is) in
+    let p = first-fault c.args.form a.first.now a.second.now a.out.now (sym c.judge.ensures ∙ c.in-Err.is) in
     record {
       answer = p.0;
       sheet = p.1;
       output = p.2;
     }
 
-pub returns-in-Refused-judge : goal.returns-in-Refused-judge
-returns-in-Refused-judge c =
+pub returns-in-Err-judge : goal.returns-in-Err-judge
+returns-in-Err-judge c =
     let a = c.args in
     let f : List ℕ = a.first.now in
     let p =
-    second-fault c.args.form f a.second.now a.out.now (sound c.args.form f c.judge.ensures c.in-Done.is)
-    (sym c.judge-in-Done.ensures ∙ c.in-Refused-judge.is) in
+    second-fault c.args.form f a.second.now a.out.now (sound c.args.form f c.judge.ensures c.in-Ok.is)
+    (sym c.judge-in-Ok.ensures ∙ c.in-Err-judge.is) in
     record {
       answer = p.0;
       sheet = p.1;
       output = p.2;
     }
 
-pub returns-in-Done-judge : goal.returns-in-Done-judge
-returns-in-Done-judge c =
+pub returns-in-Ok-judge : goal.returns-in-Ok-judge
+returns-in-Ok-judge c =
     let a = c.args in
     let f : List ℕ = a.first.now in
     let g : List ℕ = a.second.now in
     let w = c.write-answer.ensures in
     let p =
-    neither c.args.form f g a.out.now (sound c.args.form f c.judge.ensures c.in-Done.is)
-    (sound c.args.form g c.judge-in-Done.ensures c.in-Done-judge.is) w.answer w.output in
+    neither c.args.form f g a.out.now (sound c.args.form f c.judge.ensures c.in-Ok.is)
+    (sound c.args.form g c.judge-in-Ok.ensures c.in-Ok-judge.is) w.answer w.output in
     record {
       answer = p.0;
       sheet = p.1;

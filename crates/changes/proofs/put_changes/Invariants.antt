@@ -6,8 +6,8 @@ use lib.ListN.{length}
 use Rattle.changes.proofs.Putting.{Walk}
 use Rattle.changes.proofs.put_changes.Given as goal
 
-abbrev pub invariant-loop-i : goal.invariant-loop-i
-invariant-loop-i l = Walk l.form l.first l.second l.initial.out l.out l.i l.j l.q × (length l.out ≡ length l.initial.out)
+abbrev pub invariant-loop-t : goal.invariant-loop-t
+invariant-loop-t l = Walk l.form l.first l.second l.initial.out l.out l.i l.j l.q × (length l.out ≡ length l.initial.out)
 
-abbrev pub decreases-loop-i : goal.decreases-loop-i
-decreases-loop-i l = length l.first + length l.second - (l.i + l.j)
+abbrev pub decreases-loop-t : goal.decreases-loop-t
+decreases-loop-t l = length l.first + length l.second - (l.i + l.j)

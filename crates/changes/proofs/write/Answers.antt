@@ -3,7 +3,7 @@ use mathlib.Core.Path.{◌∙◌, refl, ap}
 use mathlib.Core.List.{List, []}
 use Prim.Native.Nat.{ℕ}
 use native.Mathlib.Omega.{arith}
-use Rattle.answer.specs.declared.Answer.TheVariants.{Done}
+use Rattle.std.specs.declared.result.Result.TheVariants.{Ok}
 use Rattle.answer.proofs.Lent.{lent-short, lent-done}
 use Rattle.changes.specs.Calls.{compare_text}
 use Rattle.changes.proofs.write.Goals as goal
@@ -24,6 +24,6 @@ returns c =
     let m = c.measure-n.ensures in
     let p = lent-done [] text c.args.out.now 0 refl refl (omega (arith, m, c.if-out-n.false)) in
     record {
-      answer = ap Done m ∙ p.0;
+      answer = ap Ok m ∙ p.0;
       output = c.put_changes.ensures.stored ∙ p.1;
     }

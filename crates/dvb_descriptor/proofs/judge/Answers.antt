@@ -5,9 +5,10 @@ use Prim.Native.Nat.{ℕ}
 use native.Mathlib.Omega.{arith}
 use borrow.Author.Tests.{le-leb, lt-leb}
 use lib.ListN.{length}
-use Rattle.answer.specs.declared.Answer.TheVariants.{Done}
+use Rattle.std.specs.declared.result.Result.TheVariants.{Ok}
 use Rattle.answer.specs.Rules.{judged}
 use Rattle.answer.specs.Values.{refused}
+use Rattle.answer.proofs.Handing.{handed}
 use Rattle.answer.proofs.Steps.{refused-then, done-then, done_every}
 use Rattle.forms.specs.Form.{table_in}
 use Rattle.forms.specs.Writing.{form_rules}
@@ -25,7 +26,7 @@ count-n-requires c =
     let f : List ℕ = c.args.table.now in
     let j = c.judge_form.ensures in
     let other = sym c.is_other.ensures ∙ c.if-is_other.false in
-    let t = taken f (Done 0) other (done_every (form_rules f) _ _ (sym j ∙ c.in-Done.is)) in
+    let t = taken f (Ok 0) other (done_every (form_rules f) _ _ (sym j ∙ c.in_ok-judge_form.was)) in
     (t.0, t.1)
 
 pub returns-then-n-gt-MOST : goal.returns-then-n-gt-MOST
@@ -33,23 +34,23 @@ returns-then-n-gt-MOST c =
     let f : List ℕ = c.args.table.now in
     let j = c.judge_form.ensures in
     let other = sym c.is_other.ensures ∙ c.if-is_other.false in
-    let d = done-then (form_rules f) _ _ (judged refused (few_rule f ∷ []) _) (sym j ∙ c.in-Done.is) in
+    let d = done-then (form_rules f) _ _ (judged refused (few_rule f ∷ []) _) (sym j ∙ c.in_ok-judge_form.was) in
     let n = c.count-n.ensures in
     c.refuse-then-n-gt-MOST.ensures
     ∙ sym (write-form f _ other ∙ d ∙ (rw (lt-leb (length (subtitles_of (table_in f))) 51 (omega (arith, n, c.if-n-gt-MOST.true))) refl))
 
-pub returns-in-Refused : goal.returns-in-Refused
-returns-in-Refused c =
+pub returns-in_err-judge_form : goal.returns-in_err-judge_form
+returns-in_err-judge_form c =
     let f : List ℕ = c.args.table.now in
     let j = c.judge_form.ensures in
     let other = sym c.is_other.ensures ∙ c.if-is_other.false in
-    sym (write-form f _ other ∙ refused-then (form_rules f) _ _ _ (sym j ∙ c.in-Refused.is))
+    handed c.from_residual.ensures ∙ sym (write-form f _ other ∙ refused-then (form_rules f) _ _ _ (sym j ∙ c.in_err-judge_form.was))
 
-pub returns-else-n-gt-MOST : goal.returns-else-n-gt-MOST
-returns-else-n-gt-MOST c =
+pub returns : goal.returns
+returns c =
     let f : List ℕ = c.args.table.now in
     let j = c.judge_form.ensures in
     let other = sym c.is_other.ensures ∙ c.if-is_other.false in
-    let d = done-then (form_rules f) _ _ (judged refused (few_rule f ∷ []) _) (sym j ∙ c.in-Done.is) in
+    let d = done-then (form_rules f) _ _ (judged refused (few_rule f ∷ []) _) (sym j ∙ c.in_ok-judge_form.was) in
     let n = c.count-n.ensures in
-    ap Done n ∙ sym (write-form f _ other ∙ d ∙ (rw (le-leb (length (subtitles_of (table_in f))) 51 (omega (arith, n, c.if-n-gt-MOST.false))) refl))
+    ap Ok n ∙ sym (write-form f _ other ∙ d ∙ (rw (le-leb (length (subtitles_of (table_in f))) 51 (omega (arith, n, c.if-n-gt-MOST.false))) refl))

@@ -1,5 +1,4 @@
--- `dvb_descriptor::put_descriptors` meets its contract: the subtitles left from here make those that were to be put. The measure is the
--- descriptors left. Assumes nothing.
+-- `dvb_descriptor::put_descriptors` meets its contract: the subtitles left from here make those that were to be put. Assumes nothing.
 use mathlib.Core.Path.{◌≡◌}
 use Prim.Native.Nat.{◌+◌, ◌-◌, ◌*◌, ◌≤◌}
 use lib.ListN.{length, drop}
@@ -10,10 +9,7 @@ use Rattle.dvb_descriptor.specs.Subtitles.{subtitles_in, subtitles_of}
 use Rattle.dvb_descriptor.specs.Entries.{fives}
 use Rattle.dvb_descriptor.proofs.put_descriptors.Given as goal
 
-abbrev pub invariant-loop-left : goal.invariant-loop-left
-invariant-loop-left l =
-    (length l.out ≡ length l.initial.out) × (l.i + descriptor_most * l.left ≤ form_most) × (l.to + descriptor_most * l.left ≤ form_most)
-    × (sets l.out l.to (fives 2 (subtitles_in (descriptors_in 2 l.left (drop l.i l.table)))) ≡ sets l.initial.out 2 (fives 2 (subtitles_of (table_in l.table))))
-
-abbrev pub decreases-loop-left : goal.decreases-loop-left
-decreases-loop-left l = l.left
+abbrev pub invariant-loop : goal.invariant-loop
+invariant-loop l =
+    (length l.out ≡ length l.initial.out) × (l.i + descriptor_most * (l.end - l.counter) ≤ form_most) × (l.to + descriptor_most * (l.end - l.counter) ≤ form_most)
+    × (sets l.out l.to (fives 2 (subtitles_in (descriptors_in 2 (l.end - l.counter) (drop l.i l.table)))) ≡ sets l.initial.out 2 (fives 2 (subtitles_of (table_in l.table))))

@@ -1,5 +1,4 @@
--- `dvb_descriptor::put_entries` meets its contract: the entries left from here make those that were to be put. The measure is the entries
--- left. Assumes nothing.
+-- `dvb_descriptor::put_entries` meets its contract: the entries left from here make those that were to be put. Assumes nothing.
 use mathlib.Core.Path.{◌≡◌}
 use Prim.Native.Nat.{◌+◌, ◌-◌, ◌*◌, ◌≤◌}
 use lib.ListN.{length, drop}
@@ -9,10 +8,7 @@ use Rattle.dvb_descriptor.specs.Subtitles.{paired}
 use Rattle.dvb_descriptor.specs.Entries.{fives}
 use Rattle.dvb_descriptor.proofs.put_entries.Given as goal
 
-abbrev pub invariant-loop-left : goal.invariant-loop-left
-invariant-loop-left l =
-    (length l.out ≡ length l.initial.out) × (l.i + 6 * l.left ≤ l.from + 6 * l.k) × (l.q + 5 * l.left ≤ l.to + 5 * l.k)
-    × (sets l.out l.q (fives 2 (paired (words_in (2 * l.left) (drop l.i l.table)))) ≡ sets l.initial.out l.to (fives 2 (paired (words_in (2 * l.k) (drop l.from l.table)))))
-
-abbrev pub decreases-loop-left : goal.decreases-loop-left
-decreases-loop-left l = l.left
+abbrev pub invariant-loop : goal.invariant-loop
+invariant-loop l =
+    (length l.out ≡ length l.initial.out) × (l.i + 6 * (l.k - l.counter) ≤ l.from + 6 * l.k) × (l.q + 5 * (l.k - l.counter) ≤ l.to + 5 * l.k)
+    × (sets l.out l.q (fives 2 (paired (words_in (2 * (l.k - l.counter)) (drop l.i l.table)))) ≡ sets l.initial.out l.to (fives 2 (paired (words_in (2 * l.k) (drop l.from l.table)))))

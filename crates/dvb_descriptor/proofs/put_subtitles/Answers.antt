@@ -1,6 +1,6 @@
 -- The answers that `dvb_descriptor::put_subtitles` wants beside its invariants. Assumes nothing.
 use borrow.Author.Rules.{rules}
-use mathlib.Core.Path.{◌≡◌, ◌∙◌, refl, sym, ap}
+use mathlib.Core.Path.{◌≡◌, ◌∙◌, sym, ap}
 use mathlib.Core.List.{List, ◌++◌}
 use Prim.Native.Nat.{ℕ, ◌+◌, ◌-◌, ◌*◌}
 use native.Mathlib.Omega.{arith}
@@ -14,20 +14,17 @@ use Rattle.dvb_descriptor.proofs.Packing.{length-fives, fives-append}
 use Rattle.dvb_descriptor.proofs.Walking.{kept_on}
 use Rattle.dvb_descriptor.proofs.put_subtitles.Goals as goal
 
-pub loop-left-init : goal.loop-left-init
-loop-left-init c = (refl, search rules, search rules, refl, refl)
-
-pub loop-left-preserved : goal.loop-left-preserved
-loop-left-preserved c =
-    let l = c.loop-left in
+pub loop-preserved : goal.loop-preserved
+loop-preserved c =
+    let l = c.loop in
     let a = c.args in
     let b : List ℕ = a.bytes.now in
     let p = c.put_subtitle-to in
     let new : List ℕ = p.new.out in
     let one : List Subtitle = kept_in 1 (drop l.i b) in
-    let rest : List Subtitle = kept_in (l.left - 1) (drop (l.i + 5) b) in
-    let all : List Subtitle = kept_in l.left (drop l.i b) in
-    let on : all ≡ one ++ rest = kept_on l.left l.i b (search rules) in
+    let rest : List Subtitle = kept_in (a.k - (l.counter + 1)) (drop (l.i + 5) b) in
+    let all : List Subtitle = kept_in (a.k - l.counter) (drop l.i b) in
+    let on : all ≡ one ++ rest = kept_on (a.k - l.counter) (a.k - (l.counter + 1)) l.i b (omega arith) in
     let long : length all ≡ length one + length rest = ap length on ∙ length-append one rest in (
       p.auto.out ∙ l.invariant.0,
       omega (arith, l.invariant.1),
@@ -42,7 +39,7 @@ loop-left-preserved c =
 pub returns : goal.returns
 unfolding fives kept_in
 returns c =
-    let l = c.loop-left in
+    let l = c.loop in
     let b : List ℕ = c.args.bytes.now in
-    let e = at_none (λ (n : ℕ). kept_in n (drop l.i b)) l.left (search rules) in
+    let e = at_none (λ (n : ℕ). kept_in n (drop l.i b)) (c.args.k - l.counter) (search rules) in
     (omega (arith, l.invariant.3, ap length e), sym (ap (λ (ss : List Subtitle). sets l.out l.to (fives 0 ss)) e) ∙ l.invariant.4)

@@ -1,5 +1,4 @@
--- `dvb_descriptor::put_subtitles` meets its contract: the subtitles left from here make those that were to be put. The measure is the entries
--- left. Assumes nothing.
+-- `dvb_descriptor::put_subtitles` meets its contract: the subtitles left from here make those that were to be put. Assumes nothing.
 use mathlib.Core.Path.{◌≡◌}
 use Prim.Native.Nat.{◌+◌, ◌-◌, ◌*◌, ◌≤◌}
 use lib.ListN.{length, drop}
@@ -7,11 +6,8 @@ use lib.Seq.{sets}
 use Rattle.dvb_descriptor.specs.Entries.{fives, kept_in}
 use Rattle.dvb_descriptor.proofs.put_subtitles.Given as goal
 
-abbrev pub invariant-loop-left : goal.invariant-loop-left
-invariant-loop-left l =
-    (length l.out ≡ length l.initial.out) × (l.i + 5 * l.left ≤ 2 + 5 * l.k) × (l.to + 5 * l.left ≤ 2 + 5 * l.k)
-    × (l.to + 5 * length (kept_in l.left (drop l.i l.bytes)) ≡ 2 + 5 * length (kept_in l.k (drop 2 l.bytes)))
-    × (sets l.out l.to (fives 0 (kept_in l.left (drop l.i l.bytes))) ≡ sets l.initial.out 2 (fives 0 (kept_in l.k (drop 2 l.bytes))))
-
-abbrev pub decreases-loop-left : goal.decreases-loop-left
-decreases-loop-left l = l.left
+abbrev pub invariant-loop : goal.invariant-loop
+invariant-loop l =
+    (length l.out ≡ length l.initial.out) × (l.i + 5 * (l.k - l.counter) ≤ 2 + 5 * l.k) × (l.to + 5 * (l.k - l.counter) ≤ 2 + 5 * l.k)
+    × (l.to + 5 * length (kept_in (l.k - l.counter) (drop l.i l.bytes)) ≡ 2 + 5 * length (kept_in l.k (drop 2 l.bytes)))
+    × (sets l.out l.to (fives 0 (kept_in (l.k - l.counter) (drop l.i l.bytes))) ≡ sets l.initial.out 2 (fives 0 (kept_in l.k (drop 2 l.bytes))))

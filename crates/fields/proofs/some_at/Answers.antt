@@ -35,14 +35,14 @@ loop-i-preserved c =
 
 pub nonzero_rem-result-2 : goal.nonzero_rem-result-2
 nonzero_rem-result-2 c =
-    let h : c.taken-wide.result ≤ 24 = omega arith in
+    let h : c.min-wide.result ≤ 24 = omega arith in
     rw power (pow_pos _)
 
 pub returns : goal.returns
 returns c =
     let l = c.loop-i in
     let a = c.args in
-    let w = c.taken-wide.result in
+    let w = c.min-wide.result in
     let e : l.n / 2 ^ (a.at % 4) % (1 * 2 ^ w % 2 ^ 64) ≡ field a.at w (compound a.s.now) =
     cut_out a.at w _ l.i (compound a.s.now) l.n (omega arith) (omega arith) (omega arith) l.invariant.3 in
-    rw (← c.taken-wide.ensures) (e, rw e (field_lt a.at w (compound a.s.now)))
+    rw (← c.min-wide.ensures) (e, rw e (field_lt a.at w (compound a.s.now)))

@@ -9,6 +9,3 @@ use Rattle.fields.proofs.some_at.Given as goal
 abbrev pub invariant-loop-i : goal.invariant-loop-i
 invariant-loop-i l =
     (l.first ≤ l.i) × (l.i ≤ l.end) × (l.end ≤ l.first + 7) × (l.n ≡ field (l.i * 4) ((l.end - l.i) * 4) (compound l.s))
-
-abbrev pub decreases-loop-i : goal.decreases-loop-i
-decreases-loop-i l = l.i

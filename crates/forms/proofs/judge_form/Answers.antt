@@ -4,10 +4,8 @@ use borrow.Author.Rules.{rules}
 use mathlib.Core.Path.{◌∙◌, sym, ap}
 use mathlib.Core.List.{List}
 use Prim.Native.Nat.{ℕ}
-use native.Mathlib.Omega.{arith}
-use Rattle.answer.specs.declared.Answer.TheVariants.{Done}
 use Rattle.forms.specs.Tables.{known}
-use Rattle.forms.proofs.Judging.{form-22, form-13, form-15, form-edition, form-13', form-values}
+use Rattle.forms.proofs.Judging.{form-22, form-13, form-15, form-13', form-values}
 use Rattle.forms.proofs.judge_form.Goals as goal
 
 pub returns-then-not-is_numbered : goal.returns-then-not-is_numbered
@@ -34,17 +32,6 @@ returns-then-table-form_size c =
     let kind = ap known (sym c.byte_at.ensures.0) in
     let k = kind ∙ sym c.known.ensures ∙ c.if-not-known.false in
     c.refuse-then-table-form_size.ensures ∙ sym (form-13' f _ n (search rules) k (rw c.form_size.ensures.0 at c.if-table-form_size.true))
-
-pub judge_values-requires : goal.judge_values-requires
-judge_values-requires c =
-    let f : List ℕ = c.args.table.now in
-    let n = sym c.is_numbered.ensures ∙ c.if-not-is_numbered.false in (
-      ap known (sym c.byte_at.ensures.0) ∙ sym c.known.ensures
-          ∙ c.if-not-known.false,
-      c.if-table-form_size.false ∙ c.form_size.ensures.0,
-      omega (arith, c.form_size.ensures.1),
-      form-edition f (Done 0) n (search rules),
-    )
 
 pub returns : goal.returns
 returns c =

@@ -6,40 +6,29 @@ use mathlib.Core.List.{List}
 use Prim.Native.Nat.{ℕ, ◌+◌, ◌-◌, ◌*◌}
 use native.Mathlib.Omega.{arith}
 use lib.ListN.{length}
-use Rattle.answer.specs.declared.Answer.TheVariants.{Done}
+use Rattle.std.specs.declared.result.Result.TheVariants.{Ok}
 use Rattle.forms.specs.Tables.{bits, fits}
 use Rattle.forms.specs.Form.{table_in}
 use Rattle.forms.proofs.Measures.{length-form}
 use Rattle.forms.proofs.Forms.{in-sendable, out_copyright, out_count, out_loops, out_bits, bits_in, count_room}
 use Rattle.forms.proofs.judge_values.Goals as goal
+use Rattle.forms.proofs.judge_values.Goals.{then-byte_at-gt1-via-then-byte_at-gt1, then-byte_at-gt1-via-else-byte_at-gt1+then-count-gt63, then-byte_at-gt1-via-else-byte_at-gt1+else-count-gt63+then-not-loops_fit}
 
 pub returns-then-byte_at-gt1 : goal.returns-then-byte_at-gt1
 returns-then-byte_at-gt1 c =
     let f : List ℕ = c.args.table.now in
-    let e : fits (table_in f) ≡ false = out_copyright f (omega (arith, c.byte_at.ensures.0)) in
+    let e : fits (table_in f) ≡ false =
+    elim c.then-byte_at-gt1.branch [
+      | then-byte_at-gt1-via-then-byte_at-gt1 w ↦ out_copyright f (omega (arith, c.byte_at.ensures.0, w.if-byte_at-gt1.true))
+      | then-byte_at-gt1-via-else-byte_at-gt1+then-count-gt63 w ↦ out_count f (omega (arith, c.byte_at-count.ensures.0, w.if-count-gt63.true))
+      | then-byte_at-gt1-via-else-byte_at-gt1+else-count-gt63+then-not-loops_fit w ↦
+          out_loops f (sym w.loops_fit.ensures ∙ w.if-not-loops_fit.true)
+    ] in
     rw e c.refuse.ensures
-
-pub returns-then-count-gt63 : goal.returns-then-count-gt63
-returns-then-count-gt63 c =
-    let f : List ℕ = c.args.table.now in
-    let e : fits (table_in f) ≡ false = out_count f (omega (arith, c.byte_at-count.ensures.0)) in
-    rw e c.refuse-then-count-gt63.ensures
-
-pub returns-then-not-loops_fit : goal.returns-then-not-loops_fit
-returns-then-not-loops_fit c =
-    let f : List ℕ = c.args.table.now in
-    let e : fits (table_in f) ≡ false = out_loops f (sym c.loops_fit.ensures ∙ c.if-not-loops_fit.true) in
-    rw e c.refuse-then-not-loops_fit.ensures
 
 pub overflow_sub-bits : goal.overflow_sub-bits
 overflow_sub-bits c =
     omega (arith, c.requires, length-form (table_in c.args.table.now))
-
-pub overflow_mul-bits : goal.overflow_mul-bits
-overflow_mul-bits c = omega (arith, c.requires)
-
-pub overflow_add-bits : goal.overflow_add-bits
-overflow_add-bits c = omega (arith, c.requires)
 
 pub overflow_sub-bits-2 : goal.overflow_sub-bits-2
 overflow_sub-bits-2 c =
@@ -62,4 +51,4 @@ returns c =
     in-sendable f (λ i. (c.type_inv.table i).fits) c.requires.0 c.requires.3
     (omega (arith, c.byte_at.ensures.0)) (omega (arith, n))
     (sym c.loops_fit.ensures ∙ c.if-not-loops_fit.false) (omega (arith, b)) in
-    rw e (ap Done b)
+    rw e (ap Ok b)

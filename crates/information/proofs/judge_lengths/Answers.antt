@@ -1,7 +1,7 @@
 -- `information::judge_lengths` meets its contract: each `return` is the rule with one of its parts that doesn't hold, and the last is both.
 -- Assumes nothing.
 use mathlib.Core.Path.{◌∙◌, sym, ap}
-use Rattle.answer.specs.declared.Answer.TheVariants.{Done}
+use Rattle.std.specs.declared.result.Result.TheVariants.{Ok}
 use Rattle.information.proofs.Lengths.{control_said, control-held, size-held, form-held, lengths-control, lengths-size, lengths-done}
 use Rattle.information.proofs.judge_lengths.Goals as goal
 
@@ -30,5 +30,5 @@ returns c =
     let x = c.field_of-networks in
     let y = c.field_of in
     let same = control_said a.control.now a.strings.now ∙ sym y.ensures.0 ∙ c.if-field_of-size.false ∙ sym (control-held a.control.now a.strings.now x.result x.ensures.0) in
-    ap Done (form-held a.control.now a.strings.now x.result x.ensures.0 s.result s.ensures.0)
+    ap Ok (form-held a.control.now a.strings.now x.result x.ensures.0 s.result s.ensures.0)
     ∙ sym (lengths-done _ _ _ same (c.if-control-strings.false ∙ sym (size-held a.control.now a.strings.now x.result x.ensures.0 s.result s.ensures.0)))

@@ -5,7 +5,7 @@ use mathlib.Core.Path.{◌∙◌, sym, ap}
 use mathlib.Core.List.{List}
 use Prim.Native.Nat.{ℕ, ◌+◌}
 use lib.ListN.{length}
-use Rattle.answer.specs.declared.Answer.TheVariants.{Done}
+use Rattle.std.specs.declared.result.Result.TheVariants.{Ok}
 use Rattle.information_forms.specs.Form.{information_in}
 use Rattle.information_forms.specs.Kind.{record_of}
 use Rattle.information_writer.proofs.Fits.{form-counted, size-counted, fits-counted, over-values, over-size, record_long}
@@ -67,6 +67,6 @@ returns c =
     let kind = sym c.byte_at.ensures.0 ∙ c.if-byte_at-ne-AI.false in
     let long = c.if-form-networks.false ∙ form-counted f a.whole w n.result n.ensures.0 n.ensures.1 in
     let size = ap (λ (x : ℕ). 4 + x) (size-counted f a.whole w n.result n.ensures.0 n.ensures.1) ∙ sym (record_long a.application (information_in f)) in
-    ap Done size
-    ∙ sym (by-none a.application f (Done (length (record_of a.application (information_in f)))) (search rules) (search rules) kind long
+    ap Ok size
+    ∙ sym (by-none a.application f (Ok (length (record_of a.application (information_in f)))) (search rules) (search rules) kind long
     (fits-counted f a.whole w n.result n.ensures.0 n.ensures.1 (not-false _ c.if-not-whole.false) c.if-size-ge-LIMIT.false))

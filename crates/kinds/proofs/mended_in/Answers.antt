@@ -9,16 +9,15 @@ use Rattle.laws.proofs.Lists.{part-rest}
 use Rattle.kinds.specs.Reading.{control_part}
 use Rattle.kinds.proofs.Mending.{mended-silent, mended-short, mended-part}
 use Rattle.kinds.proofs.mended_in.Goals as goal
+use Rattle.kinds.proofs.mended_in.Goals.{then-not-spoken-via-then-not-spoken, then-not-spoken-via-else-not-spoken+then-rec}
 
 pub returns-then-not-spoken : goal.returns-then-not-spoken
 returns-then-not-spoken c =
     let a = c.args in
-    c.mended_in.ensures ∙ mended-silent a.spoken a.rec.now c.if-not-spoken.true
-
-pub returns-then-rec : goal.returns-then-rec
-returns-then-rec c =
-    let a = c.args in
-    c.mended_in-then-rec.ensures ∙ mended-short a.spoken a.rec.now c.if-not-spoken.false c.if-rec.true
+    elim c.then-not-spoken.branch [
+      | then-not-spoken-via-then-not-spoken w ↦ c.mended_in.ensures ∙ mended-silent a.spoken a.rec.now w.if-not-spoken.true
+      | then-not-spoken-via-else-not-spoken+then-rec w ↦ c.mended_in.ensures ∙ mended-short a.spoken a.rec.now w.if-not-spoken.false w.if-rec.true
+    ]
 
 pub slice_bounds-mended_in-end : goal.slice_bounds-mended_in-end
 slice_bounds-mended_in-end c =

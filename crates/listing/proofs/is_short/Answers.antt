@@ -1,7 +1,6 @@
 -- `listing::is_short` meets its contract: nine bytes for each of the form are enough, and else the lines are measured. Assumes nothing.
-use borrow.Author.Rules.{rules}
 use borrow.Author.Tests.{le-ltb}
-use mathlib.Core.Path.{sym, ap}
+use mathlib.Core.Path.{◌∙◌, sym, ap}
 use mathlib.Core.List.{List}
 use Prim.Native.Nat.{ℕ, ◌≤◌}
 use native.Mathlib.Omega.{arith}
@@ -13,18 +12,18 @@ use Rattle.listing.specs.Internal.{lines_from}
 use Rattle.listing.proofs.Room.{lines_room}
 use Rattle.listing.proofs.is_short.Goals as goal
 
-pub returns-then-table-room : goal.returns-then-table-room
-returns-then-table-room c =
+pub returns-else-room-table : goal.returns-else-room-table
+returns-else-room-table c =
     let a = c.args in
     let f : List ℕ = a.table.now in
-    let h : length (lines_from a.head a.mended a.second (table_in f)) ≤ a.room =
+    let h : length (lines_from a.head (table_in f)) ≤ a.room =
     omega (
       arith,
-      lines_room a.head a.mended a.second (table_in f) (search rules) (sendable (table_in f) c.requires.1),
+      lines_room a.head (table_in f) c.requires.2 (sendable (table_in f) c.requires.1),
       c.requires.0,
-      c.if-table-room.true,
+      c.if-room-table.false,
     ) in
-    sym (le-ltb _ _ h)
+    le-ltb _ _ c.if-room-table.false ∙ sym (le-ltb _ _ h)
 
-pub returns : goal.returns
-returns c = ap (λ (x : ℕ). ltb c.args.room x) c.measure.ensures
+pub returns-then-room-table : goal.returns-then-room-table
+returns-then-room-table c = ap (λ (x : ℕ). ltb c.args.room x) c.measure.ensures

@@ -20,7 +20,7 @@ returns c =
     let w = c.put_number-d in
     let v = c.put_joined in
     let whole =
-    head_of f k.result a.result b.result n.result c.args.mended c.args.second k.ensures.0 a.ensures.0 b.ensures.0 n.ensures.0
+    head_of f k.result a.result b.result n.result c.args.head.mended c.args.head.second k.ensures.0 a.ensures.0 b.ensures.0 n.ensures.0
     a.ensures.1 b.ensures.1 in
     let two = then (put-there (search rules) x.ensures.0) (put-there (search rules) y.ensures.0) in (
       put_as whole

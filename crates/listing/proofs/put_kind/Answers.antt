@@ -15,8 +15,8 @@ returns-then-kind-eq-TI c =
     let p = c.put.ensures in
     (put-within (search rules) (put_as {xs = kind_ti} (simp (eq-eqb _ _ c.if-kind-eq-TI.true)) (put-at (search rules) p.0)), p.1)
 
-pub returns : goal.returns
+pub returns-else-kind-eq-TI : goal.returns-else-kind-eq-TI
 unfolding kind_line
-returns c =
-    let p = c.put-2.ensures in
+returns-else-kind-eq-TI c =
+    let p = c.put-else-kind-eq-TI.ensures in
     (put-within (search rules) (put_as {xs = kind_li} (simp (ne_eqb _ _ c.if-kind-eq-TI.false)) (put-at (search rules) p.0)), p.1)

@@ -7,10 +7,10 @@ use Rattle.listing_reader.specs.Reading.{words_of}
 use Rattle.listing_reader.proofs.Walks.{row_after}
 use Rattle.listing_reader.proofs.row_at.Given as goal
 
-abbrev pub invariant-loop-piece : goal.invariant-loop-piece
-invariant-loop-piece l =
+abbrev pub invariant-loop-long : goal.invariant-loop-long
+invariant-loop-long l =
     (l.at ≤ l.p) × (l.p ≤ length l.sheet) × (l.count ≤ l.p - l.at)
     × (row_after l.count (l.p - l.at) (words_of l.kind (drop l.p l.sheet)) ≡ row_of (words_of l.kind (drop l.at l.sheet)))
 
-abbrev pub decreases-loop-piece : goal.decreases-loop-piece
-decreases-loop-piece l = length l.sheet - l.p
+abbrev pub decreases-loop-long : goal.decreases-loop-long
+decreases-loop-long l = length l.sheet - l.p

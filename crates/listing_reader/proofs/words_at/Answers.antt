@@ -1,6 +1,5 @@
 -- `listing_reader::words_at` meets its contract: a law for each way. Assumes nothing.
 use borrow.Author.Rules.{rules}
-use mathlib.Core.Path.{◌∙◌}
 use native.Mathlib.Omega.{arith}
 use lib.ListN.{length-drop}
 use Rattle.listing_reader.proofs.Walks.{within_on, language_room, page-room, words-stop, words-language, words-unpaged, words-subtitle}
@@ -9,12 +8,12 @@ use Rattle.listing_reader.proofs.words_at.Goals as goal
 pub returns-then-long-eq0 : goal.returns-then-long-eq0
 returns-then-long-eq0 c =
     let a = c.args in
-    c.met.ensures ∙ words-stop a.sheet.now a.at a.kind _ c.language_at-language.ensures c.if-long-eq0.true
+    words-stop a.sheet.now a.at a.kind _ c.language_at-language.ensures c.if-long-eq0.true
 
 pub returns-then-kind-ne-TI : goal.returns-then-kind-ne-TI
 returns-then-kind-ne-TI c =
     let a = c.args in
-    c.met-then-kind-ne-TI.ensures ∙ words-language a.sheet.now a.at a.kind _ c.language_at-language.ensures c.if-long-eq0.false (λ e. omega arith)
+    words-language a.sheet.now a.at a.kind _ c.language_at-language.ensures c.if-long-eq0.false (λ e. omega arith)
 
 pub overflow_add-at : goal.overflow_add-at
 overflow_add-at c =
@@ -34,11 +33,10 @@ returns-then-more-eq0 c =
     let if1 = c.if-long-eq0 in
     let page_at_lem = c.page_at-page in
     let a = c.args in
-    c.met-then-more-eq0.ensures
-    ∙ words-unpaged a.sheet.now a.at a.kind _ language-at.ensures if1.false (search rules) _ page_at_lem.ensures c.if-more-eq0.true
+    words-unpaged a.sheet.now a.at a.kind _ language-at.ensures if1.false (search rules) _ page_at_lem.ensures c.if-more-eq0.true
 
-pub overflow_add-long : goal.overflow_add-long
-overflow_add-long c =
+pub overflow_add-result : goal.overflow_add-result
+overflow_add-result c =
     let language-at = c.language_at-language in
     let if1 = c.if-long-eq0 in
     let a = c.args in
@@ -53,5 +51,4 @@ returns c =
     let if1 = c.if-long-eq0 in
     let page_at_lem = c.page_at-page in
     let a = c.args in
-    c.met-2.ensures
-    ∙ words-subtitle a.sheet.now a.at a.kind _ language-at.ensures if1.false (search rules) _ page_at_lem.ensures c.if-more-eq0.false
+    words-subtitle a.sheet.now a.at a.kind _ language-at.ensures if1.false (search rules) _ page_at_lem.ensures c.if-more-eq0.false

@@ -1,6 +1,7 @@
 -- The answers that the cycle of calls {walk_event, walk_menu} wants beside its invariants. Assumes nothing.
 use mathlib.Core.List.{List}
-use Prim.Native.Nat.{ℕ, ◌-◌}
+use mathlib.Core.Path.{◌≡◌}
+use Prim.Native.Nat.{ℕ, ◌+◌, ◌-◌, ◌<◌}
 use native.Mathlib.Omega.{arith}
 use Rattle.text_lines.proofs.Printed.{put_as, put-none}
 use Rattle.menu_listing.specs.Listing.{lines_of}
@@ -53,9 +54,9 @@ walk_menu-returns-then-not-find_form t c =
 
 pub walk_menu-returns-then-room-p : goal.walk_menu-returns-then-room-p
 walk_menu-returns-then-room-p t c =
-    let l = c.loop-left in
+    let l = c.loop in
     let i = c.events_place-i in
-    let n = c.byte_at-left in
+    let n = c.byte_at-events in
     let s = c.args in
     let menus = menus_from s.source s.list.now s.heads.now in
     let e =
@@ -63,30 +64,33 @@ walk_menu-returns-then-room-p t c =
     c.if-not-find_form.false in
     (penned_as e (pen_on (penned c.put_head-p.ensures.0) (l.invariant.rest _ _ (stopped _ _ c.if-room-p.true))), l.invariant.in_reach)
 
-pub walk_menu-loop-left-preserved : goal.walk_menu-loop-left-preserved
-walk_menu-loop-left-preserved t c =
+pub walk_menu-loop-preserved : goal.walk_menu-loop-preserved
+walk_menu-loop-preserved t c =
     let q = c.walk_event-p in
     let n = c.next_event-i.ensures in
-    let l = c.loop-left in
+    let l = c.loop in
     let s = c.args in
     let follow = lines_of (menus_from s.source s.list.now s.heads.now) s.levels s.below in
-    let e = events-on follow (s.levels - s.below) l.left l.i _ _ (omega arith) n.0 in
-    record {
-      in_form = omega (arith, l.invariant.in_form, n.1, c.loop-left-test.true);
+    let left = c.byte_at-events.result - l.counter in
+    let some : 0 < left = omega arith in
+    let fewer : c.byte_at-events.result - (l.counter + 1) ≡ left - 1 = omega arith in
+    let e = events-on follow (s.levels - s.below) left l.i _ _ some n.0 in
+    rw fewer record {
+      in_form = omega (arith, l.invariant.in_form, n.1, some);
       in_reach = q.ensures.1;
       rest = λ (out' : List ℕ) (q' : ℕ) w. l.invariant.rest out' q' (penned_as e (pen_on q.ensures.0 w));
     }
 
 pub walk_menu-returns : goal.walk_menu-returns
 walk_menu-returns t c =
-    let l = c.loop-left in
+    let l = c.loop in
     let i = c.events_place-i in
-    let n = c.byte_at-left in
+    let n = c.byte_at-events in
     let s = c.args in
     let menus = menus_from s.source s.list.now s.heads.now in
     let e =
     held-lines menus s.levels s.below s.number _ c.find_form.ensures n.result i.result n.ensures.0 i.ensures.0
     c.if-not-find_form.false in
-    let over = events-end (lines_of menus s.levels s.below) (s.levels - s.below) l.left l.i _ (omega arith) in
+    let over = events-end (lines_of menus s.levels s.below) (s.levels - s.below) (n.result - l.counter) l.i _ (omega arith) in
     let rest = l.invariant.rest _ _ (penned (put_as over (put-none _ _))) in
     (penned_as e (pen_on (penned c.put_head-p.ensures.0) rest), l.invariant.in_reach)

@@ -13,15 +13,13 @@ decreases-walk_event l = 2 * l.below
 abbrev pub decreases-walk_menu : goal.decreases-walk_menu
 decreases-walk_menu l = 2 * l.below + 1
 
-abbrev pub invariant-walk_menu-loop-left : goal.invariant-walk_menu-loop-left
-invariant-walk_menu-loop-left l =
+abbrev pub invariant-walk_menu-loop : goal.invariant-walk_menu-loop
+invariant-walk_menu-loop l =
+    let follow = lines_of (menus_from l.source l.list l.heads) l.levels l.below in
+    let level = l.levels - l.below in
     record {
-      in_form : l.i + event_most * l.left ≤ place_most;
+      in_form : l.i + event_most * (l.events - l.counter) ≤ place_most;
       in_reach : l.p ≤ l.room + beyond;
-      rest : Rest l.room l.out l.p (events_lines_at (lines_of (menus_from l.source l.list l.heads) l.levels l.below) (l.levels - l.below) l.left (drop l.i l.form))
-          l.initial.out l.initial.p
-          (events_lines_at (lines_of (menus_from l.source l.list l.heads) l.levels l.below) (l.levels - l.below) l.initial.left (drop l.initial.i l.form));
+      rest : Rest l.room l.out l.p (events_lines_at follow level (l.events - l.counter) (drop l.i l.form))
+          l.initial.out l.initial.p (events_lines_at follow level l.events (drop l.initial.i l.form));
     }
-
-abbrev pub decreases-walk_menu-loop-left : goal.decreases-walk_menu-loop-left
-decreases-walk_menu-loop-left l = l.left

@@ -4,8 +4,8 @@ use mathlib.Core.Path.{◌∙◌, refl, ap}
 use Prim.Native.Nat.{ℕ}
 use native.Mathlib.Nat.{zero-add}
 use native.Mathlib.Omega.{arith}
+use Rattle.std.specs.declared.result.Result.TheVariants.{Ok}
 use Rattle.answer.proofs.Lent.{lent-short, lent-done}
-use Rattle.answer.specs.declared.Answer.TheVariants.{Done}
 use Rattle.menu_listing.specs.Listing.{lines_of}
 use Rattle.menu_listing.specs.Internal.{menus_from}
 use Rattle.menu_listing.proofs.Pens.{penned_as, too_long, fits_in, put_whole}
@@ -36,6 +36,6 @@ returns c =
     let d = put_whole (penned_as e c.walk_menu-written.ensures.0) fits in
     let p = lent-done [] text s.out.now 0 refl refl fits in
     record {
-      answer = ap Done (d.moved ∙ zero-add _) ∙ p.0;
+      answer = ap Ok (d.moved ∙ zero-add _) ∙ p.0;
       output = d.stored ∙ p.1;
     }

@@ -4,7 +4,7 @@ use mathlib.Core.Path.{◌∙◌, sym, ap, subst}
 use mathlib.Core.List.{List, map}
 use Prim.Native.Nat.{ℕ, ◌<◌}
 use native.Mathlib.Omega.{arith}
-use Rattle.answer.specs.declared.Answer.TheVariants.{Done}
+use Rattle.std.specs.declared.result.Result.TheVariants.{Ok}
 use Rattle.octet.specs.Decoding.{nib}
 use Rattle.menu_reader.specs.Control.{sent_of, menu_of}
 use Rattle.kinds.specs.Reading.{code_of}
@@ -56,4 +56,4 @@ returns c =
     let lines = c.field_of.ensures.0 ∙ header_read ns cs in
     let few : (menu_of ns cs).header_size < 3 = subst (λ (x : ℕ). x < 3) lines (omega (arith, c.if-field_of-gt2.false)) in
     let said = control-at ns cs ∙ sym c.field_of-2.ensures.0 ∙ c.if-field_of-s.false ∙ control-spelled s in
-    ap Done s.fills ∙ sym (lengths-done _ (sent_of ns cs) _ few said (c.if-size-s.false ∙ size-spelled s))
+    ap Ok s.fills ∙ sym (lengths-done _ (sent_of ns cs) _ few said (c.if-size-s.false ∙ size-spelled s))

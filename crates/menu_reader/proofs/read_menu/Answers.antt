@@ -4,8 +4,10 @@ use mathlib.Core.List.{List}
 use Prim.Native.Nat.{ℕ}
 use native.Mathlib.Omega.{arith}
 use lib.ListN.{drop}
+use Rattle.answer.proofs.Handing.{handed}
+use Rattle.std.specs.declared.result.Result.TheVariants.{Ok}
 use Rattle.answer.proofs.Lent.{lent-all}
-use Rattle.blocks.specs.declared.Read.TheVariants.{Taken}
+use Rattle.blocks.specs.Taking.{taken}
 use Rattle.blocks.specs.Values.{counted}
 use Rattle.menu_forms.specs.Form.{form}
 use Rattle.menu_reader.specs.Reading.{read_rules, menu_read, mended_control}
@@ -16,21 +18,22 @@ pub overflow_cast-mended : goal.overflow_cast-mended
 overflow_cast-mended c =
     let a = c.args in
     let r : List ℕ = a.rec.now in
-    let d = sym c.read_form.ensures.answer ∙ c.in-Done.is in
+    let d = sym c.read_form.ensures.answer ∙ c.in_ok-written.was in
     let all = lent-all (read_rules a.application r) (form (menu_read (drop 4 r))) a.out.now _ d in
     omega (arith, c.mended_in-mended.ensures, mended_most_lem a.application r all.0)
 
-pub returns-in-Refused : goal.returns-in-Refused
-returns-in-Refused c =
+pub returns-in_err-written : goal.returns-in_err-written
+returns-in_err-written c =
     record {
-      answer = sym (ap (counted (mended_control _)) (sym c.read_form.ensures.answer ∙ c.in-Refused.is));
+      answer = handed c.from_residual.ensures
+          ∙ sym (ap (counted (mended_control _)) (sym c.read_form.ensures.answer ∙ c.in_err-written.was));
       output = c.read_form.ensures.output;
     }
 
-pub returns-in-Done : goal.returns-in-Done
-returns-in-Done c =
+pub returns : goal.returns
+returns c =
     record {
-      answer = ap (Taken c.in-Done.written) c.mended_in-mended.ensures
-          ∙ sym (ap (counted (mended_control _)) (sym c.read_form.ensures.answer ∙ c.in-Done.is));
+      answer = ap (λ (x : ℕ). Ok (taken c.in_ok-written.written x)) c.mended_in-mended.ensures
+          ∙ sym (ap (counted (mended_control _)) (sym c.read_form.ensures.answer ∙ c.in_ok-written.was));
       output = c.read_form.ensures.output;
     }

@@ -4,7 +4,7 @@ use mathlib.Core.Path.{◌∙◌, sym, ap}
 use mathlib.Core.List.{List}
 use Prim.Native.Nat.{ℕ}
 use lib.ListN.{length}
-use Rattle.answer.specs.declared.Answer.TheVariants.{Done}
+use Rattle.std.specs.declared.result.Result.TheVariants.{Ok}
 use Rattle.menu_forms.specs.Form.{menu_in}
 use Rattle.menu_forms.specs.Block.{record_of}
 use Rattle.menu_writer.proofs.Records.{by-16, by-13, by-15, by-13', by-15', by-none, fits-is, long-is}
@@ -32,16 +32,16 @@ returns-then-form-whole c =
     c.refuse-then-form-whole.ensures
     ∙ sym (by-13' a.application a.form.now _ (search rules) (search rules) (sym b ∙ c.if-byte_at-ne-NI.false) (λ e. c.if-form-whole.true (e ∙ sym w.ends)))
 
-pub returns-then-not-both : goal.returns-then-not-both
-returns-then-not-both c =
+pub returns-then-not-whole : goal.returns-then-not-whole
+returns-then-not-whole c =
     let a = c.args in
     let f : List ℕ = a.form.now in
     let b = c.byte_at.ensures.0 in
     let w = c.requires.0 in
-    c.refuse-then-not-both.ensures
+    c.refuse-then-not-whole.ensures
     ∙ sym
     (by-15' a.application f _ (search rules) (search rules) (sym b ∙ c.if-byte_at-ne-NI.false) (c.if-form-whole.false ∙ w.ends)
-    (sym (fits-is a.whole f w) ∙ sym c.both.ensures ∙ c.if-not-both.true))
+    (sym (fits-is a.whole f w) ∙ search rules))
 
 pub returns : goal.returns
 returns c =
@@ -49,7 +49,7 @@ returns c =
     let f : List ℕ = a.form.now in
     let b = c.byte_at.ensures.0 in
     let w = c.requires.0 in
-    ap Done (long-is a.whole f w a.application)
+    ap Ok (long-is a.whole f w a.application)
     ∙ sym
-    (by-none a.application f (Done (length (record_of a.application (menu_in f)))) (search rules) (search rules) (sym b ∙ c.if-byte_at-ne-NI.false) (c.if-form-whole.false ∙ w.ends)
-    (sym (fits-is a.whole f w) ∙ sym c.both.ensures ∙ c.if-not-both.false))
+    (by-none a.application f (Ok (length (record_of a.application (menu_in f)))) (search rules) (search rules) (sym b ∙ c.if-byte_at-ne-NI.false) (c.if-form-whole.false ∙ w.ends)
+    (sym (fits-is a.whole f w) ∙ search rules))

@@ -9,6 +9,6 @@ returns-then-n-eq16 c = heard_neither _ _ c.decode-n.ensures c.if-n-eq16.true
 pub returns-then-b-image : goal.returns-then-b-image
 returns-then-b-image c = heard-image _ _ c.decode-n.ensures c.if-n-eq16.false (c.if-b-image.true ∙ c.image.ensures)
 
-pub returns : goal.returns
-returns c =
+pub returns-else-b-image : goal.returns-else-b-image
+returns-else-b-image c =
     heard-mended _ _ c.decode-n.ensures c.if-n-eq16.false (λ h. c.if-b-image.false (h ∙ sym c.image.ensures))

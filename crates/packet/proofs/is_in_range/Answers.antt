@@ -17,10 +17,6 @@ pub returns-then-s-gt15 : goal.returns-then-s-gt15
 unfolding in_range
 returns-then-s-gt15 c = let s = c.args.s in simp (lt-leb s.stream 15 (omega arith), both_false)
 
-pub returns-then-s-gt31 : goal.returns-then-s-gt31
-unfolding in_range
-returns-then-s-gt31 c = let s = c.args.s in simp (lt-leb s.application 31 (omega arith), both_false)
-
 pub returns : goal.returns
 unfolding in_range
 returns c =
@@ -30,5 +26,4 @@ returns c =
       le-leb s.magazine 8 (omega arith),
       le-leb s.page 255 (omega arith),
       le-leb s.stream 15 (omega arith),
-      le-leb s.application 31 (omega arith),
     )

@@ -8,5 +8,5 @@ use Rattle.parity.proofs.letter.Goals as goal
 pub returns-then-odd : goal.returns-then-odd
 returns-then-odd c = sym (letter_by _ (search rules) ∙ (rw (← c.odd.ensures, c.if-odd.true) (add-zero _)))
 
-pub returns : goal.returns
-returns c = sym (letter_by _ (search rules) ∙ (rw (← c.odd.ensures, c.if-odd.false)))
+pub returns-else-odd : goal.returns-else-odd
+returns-else-odd c = sym (letter_by _ (search rules) ∙ (rw (← c.odd.ensures, c.if-odd.false)))

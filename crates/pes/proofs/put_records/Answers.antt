@@ -1,65 +1,49 @@
 -- The answers that `pes::put_records` wants beside its invariants. Assumes nothing.
-use borrow.Author.Rules.{rules}
+use mathlib.Core.Path.{◌∙◌, ap}
 use mathlib.Core.Bool.{true, false}
-use Prim.Native.Nat.{◌-◌}
 use native.Mathlib.Omega.{arith}
+use Rattle.std.specs.declared.result.Result.TheVariants.{Ok}
 use Rattle.units.proofs.Meets.{Whole, met_by, whole_moves, text-next, text_unit}
 use Rattle.pes.specs.Reading.{places, records_of}
 use Rattle.pes.proofs.Walk.{record_length_lem, lawful-met}
 use Rattle.pes.proofs.Filling.{filled-start, filled-end, filled-stuffing, filled-room, filled-text}
 use Rattle.pes.proofs.put_records.Goals as goal
 
-pub loop-next-init : goal.loop-next-init
+pub loop-unit-init : goal.loop-unit-init
 unfolding records_of places
-loop-next-init c = filled-start _ _ _ c.requires.0 c.requires.1
-
-pub shape_of-out-in-End : goal.shape_of-out-in-End
-shape_of-out-in-End c = c.loop-next.invariant.long
+loop-unit-init c = filled-start _ _ _ c.requires.0 c.requires.1
 
 pub returns-in-End : goal.returns-in-End
 unfolding records_of places
 returns-in-End c =
-    let l = c.loop-next in
-    filled-end _ _ _ _ _ _ l.invariant (met_by _ _ c.unit_at.ensures c.in-End.is)
+    filled-end _ _ _ _ _ _ c.loop-unit.invariant (met_by _ _ c.unit_at.ensures (c.in-Ok.is ∙ ap Ok c.in-End.is))
 
 pub put_record-requires : goal.put_record-requires
 put_record-requires c =
-    let text-c : (Whole c.args.pes.now c.loop-next.at c.in-Text.next false) = (met_by _ _ c.unit_at.ensures c.in-Text.is) in
-    let t = text-c in
+    let t : Whole c.args.pes.now c.loop-unit.at c.in-Text.next false = met_by _ _ c.unit_at.ensures (c.in-Ok.is ∙ ap Ok c.in-Text.is) in
     let u = text_unit _ _ t.kind t.every in
-    let r = filled-room _ _ _ _ _ _ c.loop-next.invariant 44 (record_length_lem _ _) _ t in
+    let r = filled-room _ _ _ _ _ _ c.loop-unit.invariant 44 (record_length_lem _ _) _ t in
     (u.ends, omega arith)
 
-pub overflow_add-to : goal.overflow_add-to
-overflow_add-to c =
-    let text-c : (Whole c.args.pes.now c.loop-next.at c.in-Text.next false) = (met_by _ _ c.unit_at.ensures c.in-Text.is) in
-    omega (arith, filled-room _ _ _ _ _ _ c.loop-next.invariant 44 (record_length_lem _ _) _ text-c, c.loop-next.invariant.long)
+pub loop-unit-smaller-in-Text : goal.loop-unit-smaller-in-Text
+loop-unit-smaller-in-Text c =
+    let t : Whole c.args.pes.now c.loop-unit.at c.in-Text.next false = met_by _ _ c.unit_at.ensures (c.in-Ok.is ∙ ap Ok c.in-Text.is) in
+    omega (arith, t, text-next _ _ _ t)
 
-pub loop-next-smaller-in-Text : goal.loop-next-smaller-in-Text
-loop-next-smaller-in-Text c =
-    let text-c : (Whole c.args.pes.now c.loop-next.at c.in-Text.next false) = (met_by _ _ c.unit_at.ensures c.in-Text.is) in
-    let t = text-c in omega (arith, t, text-next _ _ _ t)
+pub loop-unit-preserved-in-Text : goal.loop-unit-preserved-in-Text
+loop-unit-preserved-in-Text c =
+    let t : Whole c.args.pes.now c.loop-unit.at c.in-Text.next false = met_by _ _ c.unit_at.ensures (c.in-Ok.is ∙ ap Ok c.in-Text.is) in
+    filled-text _ _ _ _ _ _ c.loop-unit.invariant 44 (record_length_lem _ _) _ _ t c.put_record.auto.out c.put_record.ensures
 
-pub loop-next-preserved-in-Text : goal.loop-next-preserved-in-Text
-loop-next-preserved-in-Text c =
-    let text-c : (Whole c.args.pes.now c.loop-next.at c.in-Text.next false) = (met_by _ _ c.unit_at.ensures c.in-Text.is) in
-    let l = c.loop-next in
-    filled-text _ _ _ _ _ _ l.invariant 44 (record_length_lem _ _) _ _ text-c c.put_record.auto.out c.put_record.ensures
+pub loop-unit-smaller : goal.loop-unit-smaller
+loop-unit-smaller c =
+    let t : Whole c.args.pes.now c.loop-unit.at c.in-Stuffing.next true = met_by _ _ c.unit_at.ensures (c.in-Ok.is ∙ ap Ok c.in-Stuffing.is) in
+    omega (arith, t, whole_moves _ _ _ _ t)
 
-pub loop-next-smaller : goal.loop-next-smaller
-loop-next-smaller c =
-    let stuffing-c : (Whole c.args.pes.now c.loop-next.at c.in-Stuffing.next true) = (met_by _ _ c.unit_at.ensures c.in-Stuffing.is) in
-    omega (arith, stuffing-c, whole_moves _ _ _ _ stuffing-c)
+pub loop-unit-preserved : goal.loop-unit-preserved
+loop-unit-preserved c =
+    let t : Whole c.args.pes.now c.loop-unit.at c.in-Stuffing.next true = met_by _ _ c.unit_at.ensures (c.in-Ok.is ∙ ap Ok c.in-Stuffing.is) in
+    filled-stuffing _ _ _ _ _ _ c.loop-unit.invariant _ t
 
-pub loop-next-preserved : goal.loop-next-preserved
-loop-next-preserved c =
-    let stuffing-c : (Whole c.args.pes.now c.loop-next.at c.in-Stuffing.next true) = (met_by _ _ c.unit_at.ensures c.in-Stuffing.is) in
-    filled-stuffing _ _ _ _ _ _ c.loop-next.invariant _ stuffing-c
-
-pub shape_of-out-in-Refused : goal.shape_of-out-in-Refused
-shape_of-out-in-Refused c = c.loop-next.invariant.long
-
-pub returns-in-Refused : goal.returns-in-Refused
-returns-in-Refused c =
-    let l = c.loop-next in
-    absurd (lawful-met _ _ _ (met_by _ _ c.unit_at.ensures c.in-Refused.is) l.invariant.rules)
+pub returns : goal.returns
+returns c = absurd (lawful-met _ _ _ (met_by _ _ c.unit_at.ensures c.in_default.is) c.loop-unit.invariant.rules)

@@ -6,8 +6,8 @@ use Rattle.pes.specs.Reading.{record_at}
 use Rattle.pes.proofs.Filling.{Filled}
 use Rattle.pes.proofs.put_records.Given as goal
 
-abbrev pub invariant-loop-next : goal.invariant-loop-next
-invariant-loop-next l = Filled (record_at l.pes) l.pes l.initial.out l.at l.to l.out
+abbrev pub invariant-loop-unit : goal.invariant-loop-unit
+invariant-loop-unit l = Filled (record_at l.pes) l.pes l.initial.out l.at l.to l.out
 
-abbrev pub decreases-loop-next : goal.decreases-loop-next
-decreases-loop-next l = length l.pes - l.at
+abbrev pub decreases-loop-unit : goal.decreases-loop-unit
+decreases-loop-unit l = length l.pes - l.at

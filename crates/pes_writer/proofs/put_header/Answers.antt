@@ -1,48 +1,20 @@
 -- `pes_writer::put_header` meets its contract: its stores are the header's bytes in order. Assumes nothing.
-use mathlib.Core.Path.{◌≡◌, ◌∙◌, ap}
-use mathlib.Core.List.{List}
+use borrow.Author.Rules.{rules}
+use mathlib.Core.Path.{◌∙◌, refl, ap}
+use mathlib.Core.List.{List, ◌++◌}
 use Prim.Native.Nat.{ℕ}
 use native.Mathlib.Omega.{arith}
-use lib.ListN.{length, set, length-set}
+use lib.ListN.{set, drop, replicate, length-append, length-drop}
+use lib.Seq.{sets}
 use Rattle.pes_writer.specs.Writing.{header_of}
+use Rattle.pes_writer.proofs.Fills.{filled, front-stored}
 use Rattle.pes_writer.proofs.put_header.Goals as goal
-
-pub bounds-out-1 : goal.bounds-out-1
-bounds-out-1 c = simp length-set (omega arith)
-
-pub bounds-out-2 : goal.bounds-out-2
-bounds-out-2 c = simp length-set (omega arith)
-
-pub bounds-out-3 : goal.bounds-out-3
-bounds-out-3 c = simp length-set (omega arith)
-
-pub bounds-out-4 : goal.bounds-out-4
-bounds-out-4 c = simp length-set (omega arith)
-
-pub bounds-out-5 : goal.bounds-out-5
-bounds-out-5 c = simp length-set (omega arith)
-
-pub bounds-out-6 : goal.bounds-out-6
-bounds-out-6 c = simp length-set (omega arith)
-
-pub bounds-out-7 : goal.bounds-out-7
-bounds-out-7 c = simp length-set (omega arith)
-
-pub bounds-out-8 : goal.bounds-out-8
-bounds-out-8 c = simp length-set (omega arith)
-
-pub fill-requires : goal.fill-requires
-fill-requires c = simp length-set (omega arith)
-
-pub bounds-out-45 : goal.bounds-out-45
-bounds-out-45 c =
-    let f = c.fill in
-    let k : length f.new.out ≡ length c.args.out.now = f.auto.out ∙ simp length-set in
-    omega arith
-
-pub shape_of-out : goal.shape_of-out
-shape_of-out c = simp length-set (c.fill.auto.out ∙ simp length-set)
 
 pub returns : goal.returns
 unfolding header_of
-returns c = ap (λ (l : List ℕ). set l 45 c.args.d) c.fill.ensures
+returns c =
+    let out = c.args.out.now in
+    let front = c.copy_from_slice.ensures.after in
+    ap (λ (l : List ℕ). set l 45 c.args.d)
+    (filled (c.copy_from_slice.new.self ++ drop 9 out) 9 36 (rw (length-append, length-drop, front) (omega arith)) refl (c.fill.ensures.after (search rules))
+    ∙ ap (λ (l : List ℕ). sets l 9 (replicate 36 0xFF)) (front-stored out 9 front refl (omega arith)))

@@ -1,22 +1,16 @@
 -- `pes_writer::put_stuffing_unit` meets its contract: its two stores and the bytes of FF are the unit's bytes in order. Assumes nothing.
+use borrow.Author.Rules.{rules}
 use mathlib.Core.Path.{◌∙◌}
+use Prim.Native.Nat.{◌+◌}
 use native.Mathlib.Numerals.{add-one, add-two}
 use native.Mathlib.Omega.{arith}
 use lib.ListN.{length-set}
 use Rattle.pes_writer.specs.Writing.{stuffing_unit}
+use Rattle.pes_writer.proofs.Fills.{filled}
 use Rattle.pes_writer.proofs.put_stuffing_unit.Goals as goal
-
-pub bounds-out-to-2 : goal.bounds-out-to-2
-bounds-out-to-2 c = simp length-set (omega arith)
-
-pub fill-requires : goal.fill-requires
-fill-requires c = simp length-set (omega arith)
-
-pub shape_of-out : goal.shape_of-out
-shape_of-out c = c.fill.auto.out ∙ simp length-set
 
 pub returns : goal.returns
 unfolding stuffing_unit
 returns c =
-    let a = c.args in
-    c.fill.ensures ∙ rw (add-one a.to, add-two a.to)
+    let to = c.args.to in
+    filled _ (to + 2) 44 (simp length-set (omega arith)) (omega arith) (c.fill.ensures.after (search rules)) ∙ rw (add-one to, add-two to)

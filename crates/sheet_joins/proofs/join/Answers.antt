@@ -3,7 +3,8 @@ use mathlib.Core.Path.{◌∙◌, sym, ap}
 use mathlib.Core.List.{List}
 use Prim.Native.Nat.{ℕ}
 use native.Mathlib.Omega.{arith}
-use Rattle.answer.specs.declared.Answer.TheVariants.{Done}
+use Rattle.answer.proofs.Handing.{handed}
+use Rattle.std.specs.declared.result.Result.TheVariants.{Ok}
 use Rattle.answer.proofs.Lent.{lent-value, lent-refused, lent-short, lent-done}
 use Rattle.day_sheet.specs.Entries.{sheet_text}
 use Rattle.sheet_joins.specs.Calls.{join_rules, join_result}
@@ -15,9 +16,9 @@ returns-then-out-n c =
     let f : List ℕ = c.args.first.now in
     let g : List ℕ = c.args.second.now in
     let j = c.judge_join.ensures in
-    let v = lent-value (join_rules c.args.form f g) (sheet_text c.args.form (join_result c.args.form f g)) c.args.out.now _ j c.in-Done.is in
+    let v = lent-value (join_rules c.args.form f g) (sheet_text c.args.form (join_result c.args.form f g)) c.args.out.now _ j c.in_ok-n.was in
     let p =
-    lent-short (join_rules c.args.form f g) (sheet_text c.args.form (join_result c.args.form f g)) c.args.out.now _ j c.in-Done.is (omega (arith, v, c.if-out-n.true)) in
+    lent-short (join_rules c.args.form f g) (sheet_text c.args.form (join_result c.args.form f g)) c.args.out.now _ j c.in_ok-n.was (omega (arith, v, c.if-out-n.true)) in
     record {
       answer = c.refuse.ensures ∙ p.0;
       output = p.1;
@@ -28,27 +29,27 @@ put_joined-requires c =
     let f : List ℕ = c.args.first.now in
     let g : List ℕ = c.args.second.now in
     let j = c.judge_join.ensures in
-    judged-halves c.args.form f g _ _ (sym j ∙ c.in-Done.is)
+    judged-halves c.args.form f g _ _ (sym j ∙ c.in_ok-n.was)
 
-pub returns-in-Refused : goal.returns-in-Refused
-returns-in-Refused c =
+pub returns-in_err-n : goal.returns-in_err-n
+returns-in_err-n c =
     let f : List ℕ = c.args.first.now in
     let g : List ℕ = c.args.second.now in
     let j = c.judge_join.ensures in
-    let it = lent-refused (join_rules c.args.form f g) (sheet_text c.args.form (join_result c.args.form f g)) c.args.out.now _ j c.in-Refused.is in
-    record { answer = it.0; output = it.1 }
+    let it = lent-refused (join_rules c.args.form f g) (sheet_text c.args.form (join_result c.args.form f g)) c.args.out.now _ j c.in_err-n.was in
+    record { answer = handed c.from_residual.ensures ∙ it.0; output = it.1 }
 
-pub returns-else-out-n : goal.returns-else-out-n
-returns-else-out-n c =
+pub returns : goal.returns
+returns c =
     let if1 = c.if-out-n in
     let put-joined = c.put_joined in
     let f : List ℕ = c.args.first.now in
     let g : List ℕ = c.args.second.now in
     let j = c.judge_join.ensures in
-    let v = lent-value (join_rules c.args.form f g) (sheet_text c.args.form (join_result c.args.form f g)) c.args.out.now _ j c.in-Done.is in
+    let v = lent-value (join_rules c.args.form f g) (sheet_text c.args.form (join_result c.args.form f g)) c.args.out.now _ j c.in_ok-n.was in
     let p =
-    lent-done (join_rules c.args.form f g) (sheet_text c.args.form (join_result c.args.form f g)) c.args.out.now _ j c.in-Done.is (omega (arith, v, if1.false)) in
+    lent-done (join_rules c.args.form f g) (sheet_text c.args.form (join_result c.args.form f g)) c.args.out.now _ j c.in_ok-n.was (omega (arith, v, if1.false)) in
     record {
-      answer = ap Done v ∙ p.0;
+      answer = ap Ok v ∙ p.0;
       output = put-joined.ensures.0 ∙ p.1;
     }

@@ -5,14 +5,20 @@ use Rattle.sheet_joins.proofs.lines_stay.Goals as goal
 
 pub returns-then-not-is_before : goal.returns-then-not-is_before
 unfolding lines_stay
-returns-then-not-is_before c = rw (sym c.is_before.ensures ∙ c.if-not-is_before.true)
+returns-then-not-is_before c =
+    let a = c.is_before.ensures in
+    let b = c.is_before-then-is_before.ensures in
+    rw (sym a ∙ c.if-is_before.true, sym b ∙ c.if-not-is_before.true, c.if-not-is_before.true)
 
-pub returns-then-not-is_before-2 : goal.returns-then-not-is_before-2
+pub returns-else-not-is_before : goal.returns-else-not-is_before
 unfolding lines_stay
-returns-then-not-is_before-2 c =
-    rw (sym c.is_before.ensures ∙ c.if-not-is_before.false, sym c.is_before-2.ensures ∙ c.if-not-is_before-2.true)
+returns-else-not-is_before c =
+    let a = c.is_before.ensures in
+    let b = c.is_before-then-is_before.ensures in
+    rw (sym a ∙ c.if-is_before.true, sym b ∙ c.if-not-is_before.false)
 
-pub returns : goal.returns
+pub returns-else-is_before : goal.returns-else-is_before
 unfolding lines_stay
-returns c =
-    rw (sym c.is_before.ensures ∙ c.if-not-is_before.false, sym c.is_before-2.ensures ∙ c.if-not-is_before-2.false)
+returns-else-is_before c =
+    let a = c.is_before.ensures in
+    rw (sym a ∙ c.if-is_before.false, c.if-is_before.false)

@@ -1,49 +1,31 @@
 -- `sheet_joins::next_turn` meets its contract: a law for each way. Assumes nothing.
-use mathlib.Core.Path.{◌∙◌, ap}
-use native.Mathlib.Omega.{arith}
-use borrow.Author.Tests.{not-true, not-false}
 use lib.ListN.{drop}
-use Rattle.sheet_entry.specs.declared.Found.{Found}
-use Rattle.sheet_joins.specs.Turns.{turn}
-use Rattle.sheet_joins.proofs.Turning.{by_first, by-second, by_less, by-more, by-same, turn-found}
+use Rattle.std.specs.declared.cmp.Ordering.TheVariants.{Less, Equal, Greater}
+use Rattle.std.proofs.lemmas.Cmp.{ranked}
+use Rattle.sheet_joins.proofs.Turning.{next-alone, next-less, next-more, next-same, next-other}
 use Rattle.sheet_joins.proofs.next_turn.Goals as goal
 
-pub returns-then-not-a : goal.returns-then-not-a
-returns-then-not-a c =
-    let x = drop c.args.i c.args.first.now in
-    let y = drop c.args.j c.args.second.now in
-    let f = c.entry_at-a in
-    let g = c.entry_at-b in
-    by-second f.result g.result (not-true _ c.if-not-a.true) ∙ turn-found c.args.form x y f.ensures g.ensures
+pub returns-in-Less : goal.returns-in-Less
+returns-in-Less c =
+    let e = c.in-Ok-Ok in
+    next-less c.args.form (drop c.args.i c.args.first.now) (drop c.args.j c.args.second.now) e.ensures e.ensures' (ranked _ _ Less c.in-Less.ensures)
 
-pub returns-then-not-b : goal.returns-then-not-b
-returns-then-not-b c =
-    let x = drop c.args.i c.args.first.now in
-    let y = drop c.args.j c.args.second.now in
-    let f = c.entry_at-a in
-    let g = c.entry_at-b in
-    by_first f.result g.result (not-false _ c.if-not-a.false) (not-true _ c.if-not-b.true) ∙ turn-found c.args.form x y f.ensures g.ensures
+pub returns-in-Greater : goal.returns-in-Greater
+returns-in-Greater c =
+    let e = c.in-Ok-Ok in
+    next-more c.args.form (drop c.args.i c.args.first.now) (drop c.args.j c.args.second.now) e.ensures e.ensures' (ranked _ _ Greater c.in-Greater.ensures)
 
-pub returns-then-a-b : goal.returns-then-a-b
-returns-then-a-b c =
-    let x = drop c.args.i c.args.first.now in
-    let y = drop c.args.j c.args.second.now in
-    let f = c.entry_at-a in
-    let g = c.entry_at-b in
-    ap (turn f.result) c.nothing.ensures ∙ by_less f.result g.result (not-false _ c.if-not-a.false) (not-false _ c.if-not-b.false) (omega (arith, c.if-a-b.true)) ∙ turn-found c.args.form x y f.ensures g.ensures
+pub returns-in-Equal : goal.returns-in-Equal
+returns-in-Equal c =
+    let e = c.in-Ok-Ok in
+    next-same c.args.form (drop c.args.i c.args.first.now) (drop c.args.j c.args.second.now) e.ensures e.ensures' (ranked _ _ Equal c.in-Equal.ensures)
 
-pub returns-then-b-a : goal.returns-then-b-a
-returns-then-b-a c =
-    let x = drop c.args.i c.args.first.now in
-    let y = drop c.args.j c.args.second.now in
-    let f = c.entry_at-a in
-    let g = c.entry_at-b in
-    ap (λ (h : Found). turn h g.result) c.nothing-then-b-a.ensures ∙ by-more f.result g.result (not-false _ c.if-not-a.false) (not-false _ c.if-not-b.false) (omega (arith, c.if-b-a.true)) ∙ turn-found c.args.form x y f.ensures g.ensures
+pub returns-in-Ok-Err : goal.returns-in-Ok-Err
+returns-in-Ok-Err c =
+    let e = c.in-Ok-Err in
+    next-alone c.args.form (drop c.args.i c.args.first.now) (drop c.args.j c.args.second.now) e.ensures e.ensures'
 
-pub returns : goal.returns
-returns c =
-    let x = drop c.args.i c.args.first.now in
-    let y = drop c.args.j c.args.second.now in
-    let f = c.entry_at-a in
-    let g = c.entry_at-b in
-    by-same f.result g.result (not-false _ c.if-not-a.false) (not-false _ c.if-not-b.false) (omega (arith, c.if-a-b.false, c.if-b-a.false)) ∙ turn-found c.args.form x y f.ensures g.ensures
+pub returns-in-Err-default : goal.returns-in-Err-default
+returns-in-Err-default c =
+    let e = c.in-Err-default in
+    next-other c.args.form (drop c.args.i c.args.first.now) (drop c.args.j c.args.second.now) e.ensures c.entry_at-2.ensures

@@ -1,91 +1,55 @@
 -- The answers that `sheet_joins::put_joined` wants beside its invariants. Assumes nothing.
-use borrow.Author.Rules.{rules}
 use mathlib.Core.Path.{◌∙◌, refl, ap}
 use mathlib.Core.List.{List}
-use Prim.Native.Nat.{ℕ, ◌-◌}
+use Prim.Native.Nat.{ℕ}
 use native.Mathlib.Omega.{arith}
 use lib.ListN.{length, drop}
 use lib.Seq.{length-sets}
 use Rattle.sheet_joins.specs.Internal.{turn_text}
-use Rattle.sheet_joins.proofs.Turning.{along-start, along-turn, along-on, along-end, along-fits}
+use Rattle.sheet_joins.proofs.Turning.{along-start, along-on, along-end, along-fits}
 use Rattle.sheet_joins.proofs.put_joined.Goals as goal
 
-pub overflow_add-whole : goal.overflow_add-whole
-overflow_add-whole c = let p = c.requires in omega (arith, p.0.within.short, p.1.within.short)
-
-pub loop-i-init : goal.loop-i-init
-loop-i-init c =
+pub loop-t-init : goal.loop-t-init
+loop-t-init c =
     (along-start c.args.form c.args.first.now c.args.second.now c.args.out.now c.requires.0 c.requires.1, refl)
-
-pub overflow_add-i : goal.overflow_add-i
-overflow_add-i c =
-    let f = c.loop-i.invariant.0.in_first.within in
-    let g = c.loop-i.invariant.0.in_second.within in
-    omega arith
 
 pub put_turn-q-requires : goal.put_turn-q-requires
 put_turn-q-requires c =
-    let l = c.loop-i in
-    let first : List ℕ = c.args.first.now in
-    let second : List ℕ = c.args.second.now in
-    let u = along-turn c.args.form first second c.args.out.now l.out l.i l.j l.n l.q l.invariant.0 (search rules) c.next_turn-t.ensures in
-    along-fits c.args.form first second c.args.out.now l.out l.i l.j l.n l.q l.invariant.0 u
+    let f = along-fits c.args.form c.loop-t.invariant.0 c.in-Some.ensures in
+    (f.0, f.1)
 
-pub overflow_add-i-in-loop-i : goal.overflow_add-i-in-loop-i
-overflow_add-i-in-loop-i c =
-    let loop-test = c.loop-i-test in
-    let next-turn = c.next_turn-t in
-    let l = c.loop-i in
-    let first : List ℕ = c.args.first.now in
-    let second : List ℕ = c.args.second.now in
-    let u = along-turn c.args.form first second c.args.out.now l.out l.i l.j l.n l.q l.invariant.0 loop-test.true next-turn.ensures in
-    let f = along-fits c.args.form first second c.args.out.now l.out l.i l.j l.n l.q l.invariant.0 u in
-    omega (arith, c.requires.0.within.short)
+pub overflow_add-i : goal.overflow_add-i
+overflow_add-i c =
+    let f = along-fits c.args.form c.loop-t.invariant.0 c.in-Some.ensures in
+    omega (arith, f.2, c.passed-a.ensures.0, c.requires.0.within.short)
 
 pub overflow_add-j : goal.overflow_add-j
 overflow_add-j c =
-    let loop-test = c.loop-i-test in
-    let next-turn = c.next_turn-t in
-    let l = c.loop-i in
-    let first : List ℕ = c.args.first.now in
-    let second : List ℕ = c.args.second.now in
-    let u = along-turn c.args.form first second c.args.out.now l.out l.i l.j l.n l.q l.invariant.0 loop-test.true next-turn.ensures in
-    let f = along-fits c.args.form first second c.args.out.now l.out l.i l.j l.n l.q l.invariant.0 u in
-    omega (arith, c.requires.1.within.short)
+    let f = along-fits c.args.form c.loop-t.invariant.0 c.in-Some.ensures in
+    omega (arith, f.3, c.passed-a.ensures.1, c.requires.1.within.short)
 
 pub overflow_add-n : goal.overflow_add-n
 overflow_add-n c =
-    let l = c.loop-i in
+    let l = c.loop-t in
     let f = l.invariant.0.in_first.within in
     let g = l.invariant.0.in_second.within in
     omega (arith, l.invariant.0.count_small)
 
-pub loop-i-smaller : goal.loop-i-smaller
-loop-i-smaller c =
-    let loop-test = c.loop-i-test in
-    let next-turn = c.next_turn-t in
-    let l = c.loop-i in
-    let first : List ℕ = c.args.first.now in
-    let second : List ℕ = c.args.second.now in
-    let u = along-turn c.args.form first second c.args.out.now l.out l.i l.j l.n l.q l.invariant.0 loop-test.true next-turn.ensures in
-    let f = along-fits c.args.form first second c.args.out.now l.out l.i l.j l.n l.q l.invariant.0 u in
-    omega (arith, u.goes_on)
+pub loop-t-smaller : goal.loop-t-smaller
+loop-t-smaller c =
+    let f = along-fits c.args.form c.loop-t.invariant.0 c.in-Some.ensures in
+    omega (arith, f.2, f.3, f.4, c.passed-a.ensures.0, c.passed-a.ensures.1)
 
-pub loop-i-preserved : goal.loop-i-preserved
-loop-i-preserved c =
-    let loop-test = c.loop-i-test in
-    let next-turn = c.next_turn-t in
-    let put-turn = c.put_turn-q in
-    let l = c.loop-i in
+pub loop-t-preserved : goal.loop-t-preserved
+loop-t-preserved c =
+    let l = c.loop-t in
+    let e = c.put_turn-q.ensures in
     let first : List ℕ = c.args.first.now in
-    let second : List ℕ = c.args.second.now in
-    let u = along-turn c.args.form first second c.args.out.now l.out l.i l.j l.n l.q l.invariant.0 loop-test.true next-turn.ensures in
-    let e = put-turn.ensures in (
-      along-on c.args.form first second c.args.out.now l.out l.i l.j l.n l.q l.invariant.0 u e.0 e.1,
-      ap length e.0 ∙ length-sets l.out l.q (turn_text next-turn.result (drop l.i first) (drop l.j second)) ∙ l.invariant.1,
+    let second : List ℕ = c.args.second.now in (
+      rw (c.passed-a.ensures.0, c.passed-a.ensures.1) (along-on c.args.form l.invariant.0 c.in-Some.ensures e.0 e.1),
+      ap length e.0 ∙ length-sets l.out l.q (turn_text c.in-Some.t (drop l.i first) (drop l.j second)) ∙ l.invariant.1,
     )
 
 pub returns : goal.returns
 returns c =
-    let l = c.loop-i in
-    along-end c.args.form c.args.first.now c.args.second.now c.args.out.now l.out l.i l.j l.n l.q l.invariant.0 (search rules)
+    along-end c.args.form c.loop-t.invariant.0 c.in_default.ensures

@@ -7,8 +7,8 @@ use Rattle.sheet_moves.specs.Moving.{unmended}
 use Rattle.day_sheet.specs.Internal.{Halfway}
 use Rattle.sheet_moves.proofs.none_mended.Given as goal
 
-abbrev pub invariant-loop-at : goal.invariant-loop-at
-invariant-loop-at l = Halfway l.form l.sheet l.at × (unmended (entries_of l.form (drop l.at l.sheet)) ≡ unmended (entries_of l.form l.sheet))
+abbrev pub invariant-loop-e : goal.invariant-loop-e
+invariant-loop-e l = Halfway l.form l.sheet l.at × (unmended (entries_of l.form (drop l.at l.sheet)) ≡ unmended (entries_of l.form l.sheet))
 
-abbrev pub decreases-loop-at : goal.decreases-loop-at
-decreases-loop-at l = length l.sheet - l.at
+abbrev pub decreases-loop-e : goal.decreases-loop-e
+decreases-loop-e l = length l.sheet - l.at

@@ -1,7 +1,5 @@
 -- The answers that `sheet_moves::put_carried` wants beside its invariants. Assumes nothing.
-use borrow.Author.Rules.{rules}
 use mathlib.Core.Path.{◌∙◌, refl, ap}
-use Prim.Native.Nat.{◌-◌}
 use native.Mathlib.Omega.{arith}
 use lib.ListN.{length, drop}
 use lib.Seq.{length-sets}
@@ -11,31 +9,31 @@ use Rattle.sheet_moves.specs.Internal.{front_text}
 use Rattle.sheet_moves.proofs.Carried.{ahead, none_ahead, stood-here, plainly-on, text-on, no_text}
 use Rattle.sheet_moves.proofs.put_carried.Goals as goal
 
-pub loop-at-init : goal.loop-at-init
-loop-at-init c = (c.requires, left-start c.args.out.now 0 _, omega arith, refl)
+pub loop-e-init : goal.loop-e-init
+loop-e-init c = (c.requires, left-start c.args.out.now 0 _, omega arith, refl)
 
 pub put_entry-q-requires : goal.put_entry-q-requires
 put_entry-q-requires c =
-    let l = c.loop-at in
-    let a = ahead c.args.from c.args.sheet.now l.at l.invariant.0.halfway c.loop-at-test.true c.entry_at-e.ensures in
+    let l = c.loop-e in
+    let a = ahead c.args.from c.args.sheet.now l.at l.invariant.0.halfway c.in-Ok.ensures in
     (stood-here a l.invariant.0, omega (arith, a.inside, c.requires.halfway.within.short, l.invariant.2))
 
 pub overflow_add-at : goal.overflow_add-at
 overflow_add-at c =
-    let l = c.loop-at in
-    let a = ahead c.args.from c.args.sheet.now l.at l.invariant.0.halfway c.loop-at-test.true c.entry_at-e.ensures in
+    let l = c.loop-e in
+    let a = ahead c.args.from c.args.sheet.now l.at l.invariant.0.halfway c.in-Ok.ensures in
     omega (arith, a.inside, c.requires.halfway.within.short)
 
-pub loop-at-smaller : goal.loop-at-smaller
-loop-at-smaller c =
-    let l = c.loop-at in
-    let a = ahead c.args.from c.args.sheet.now l.at l.invariant.0.halfway c.loop-at-test.true c.entry_at-e.ensures in
+pub loop-e-smaller : goal.loop-e-smaller
+loop-e-smaller c =
+    let l = c.loop-e in
+    let a = ahead c.args.from c.args.sheet.now l.at l.invariant.0.halfway c.in-Ok.ensures in
     omega (arith, a.some, a.inside)
 
-pub loop-at-preserved : goal.loop-at-preserved
-loop-at-preserved c =
-    let l = c.loop-at in
-    let a = ahead c.args.from c.args.sheet.now l.at l.invariant.0.halfway c.loop-at-test.true c.entry_at-e.ensures in
+pub loop-e-preserved : goal.loop-e-preserved
+loop-e-preserved c =
+    let l = c.loop-e in
+    let a = ahead c.args.from c.args.sheet.now l.at l.invariant.0.halfway c.in-Ok.ensures in
     let p = c.put_entry-q.ensures in (
       plainly-on a l.invariant.0,
       left-on (text-on a c.args.to) p.0 l.invariant.1,
@@ -45,5 +43,5 @@ loop-at-preserved c =
 
 pub returns : goal.returns
 returns c =
-    let l = c.loop-at in
-    left_end (no_text c.args.to _ (none_ahead c.args.from c.args.sheet.now l.at l.invariant.0.halfway (search rules))) l.invariant.1
+    let l = c.loop-e in
+    left_end (no_text c.args.to _ (none_ahead c.args.from c.args.sheet.now l.at l.invariant.0.halfway c.in_default.ensures)) l.invariant.1

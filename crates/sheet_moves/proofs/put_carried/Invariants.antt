@@ -9,10 +9,10 @@ use Rattle.day_sheet.specs.Calls.{entries_of}
 use Rattle.sheet_moves.specs.Internal.{Plainly}
 use Rattle.sheet_moves.proofs.put_carried.Given as goal
 
-abbrev pub invariant-loop-at : goal.invariant-loop-at
-invariant-loop-at l =
+abbrev pub invariant-loop-e : goal.invariant-loop-e
+invariant-loop-e l =
     Plainly l.from l.sheet l.at × Left l.out l.q (sheet_text l.to (entries_of l.from (drop l.at l.sheet))) l.initial.out 0 (sheet_text l.to (entries_of l.from l.sheet)) × (l.q ≤ 10 * l.at)
     × (length l.out ≡ length l.initial.out)
 
-abbrev pub decreases-loop-at : goal.decreases-loop-at
-decreases-loop-at l = length l.sheet - l.at
+abbrev pub decreases-loop-e : goal.decreases-loop-e
+decreases-loop-e l = length l.sheet - l.at

@@ -24,8 +24,8 @@ returns c =
     let w =
     looked-lacking a.setting a.sight a.n a.piece.now c.front.ensures c.begin-sight.ensures
     c.front-2.ensures k.value c.if-sight.false c.front-3.ensures
-    (c.fit_from.ensures ∙ ap (fit_from c.begin-sight.result.plain) c.find.ensures) c.turn_all.ensures c.front-4.ensures
-    (c.fit_from-2.ensures ∙ ap (fit_from c.begin-sight.result.turned) c.find-2.ensures) in
+    (c.fit_from-sight.ensures ∙ ap (fit_from c.begin-sight.result.plain) c.find.ensures) c.turn_all.ensures c.front-4.ensures
+    (c.fit_from-sight-2.ensures ∙ ap (fit_from c.begin-sight.result.turned) c.find-2.ensures) in
     record {
       value = w.0;
       piece_after = w.1;

@@ -1,7 +1,6 @@
 -- `state::is_clear` meets its contract: the bytes or-ed so far and those still to come are zero where all are. Assumes nothing.
 use mathlib.Core.Path.{◌≡◌}
-use Prim.Native.Nat.{◌-◌}
-use lib.ListN.{length, drop}
+use lib.ListN.{drop}
 use lib.Dec.{eqb}
 use Rattle.laws.specs.Pick.{both}
 use Rattle.state.specs.State.{zeros}
@@ -9,6 +8,3 @@ use Rattle.state.proofs.is_clear.Given as goal
 
 abbrev pub invariant-loop-i : goal.invariant-loop-i
 invariant-loop-i l = both (eqb l.mix 0) (zeros (drop l.i l.store)) ≡ zeros (drop l.from l.store)
-
-abbrev pub decreases-loop-i : goal.decreases-loop-i
-decreases-loop-i l = length l.store - l.i

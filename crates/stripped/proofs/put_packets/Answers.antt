@@ -1,9 +1,8 @@
 -- The answers that `stripped::put_packets` wants beside its invariants. Assumes nothing.
-use borrow.Author.Rules.{rules}
-use mathlib.Core.Path.{◌∙◌}
+use mathlib.Core.Path.{◌∙◌, ap}
 use mathlib.Core.Bool.{true, false}
-use Prim.Native.Nat.{◌-◌}
 use native.Mathlib.Omega.{arith}
+use Rattle.std.specs.declared.result.Result.TheVariants.{Ok}
 use Rattle.units.proofs.Meets.{Whole, met_by, whole_moves, text-next, text_unit}
 use Rattle.pes.specs.Reading.{places}
 use Rattle.pes.proofs.Walk.{lawful-met}
@@ -12,61 +11,48 @@ use Rattle.stripped.specs.Stripped.{packets_of}
 use Rattle.stripped.proofs.Stripping.{packet_length_lem, packet-stored}
 use Rattle.stripped.proofs.put_packets.Goals as goal
 
-pub loop-next-init : goal.loop-next-init
+pub loop-unit-init : goal.loop-unit-init
 unfolding packets_of places
-loop-next-init c = filled-start _ _ _ c.requires.0 c.requires.1
-
-pub shape_of-packets-in-End : goal.shape_of-packets-in-End
-shape_of-packets-in-End c = c.loop-next.invariant.long
+loop-unit-init c = filled-start _ _ _ c.requires.0 c.requires.1
 
 pub returns-in-End : goal.returns-in-End
 unfolding packets_of places
-returns-in-End c =
-    let l = c.loop-next in
-    filled-end _ _ _ _ _ _ l.invariant (met_by _ _ c.unit_at.ensures c.in-End.is)
+returns-in-End c = filled-end _ _ _ _ _ _ c.loop-unit.invariant (met_by _ _ c.unit_at.ensures (c.in-Ok.is ∙ ap Ok c.in-End.is))
 
 pub overflow_add-at : goal.overflow_add-at
 overflow_add-at c =
-    let text-c : (Whole c.args.pes.now c.loop-next.at c.in-Text.next false) = (met_by _ _ c.unit_at.ensures c.in-Text.is) in
-    let t = text-c in
-    let u = text_unit _ _ t.kind t.every in
-    omega (arith, u.ends)
+    let t : Whole c.args.pes.now c.loop-unit.at c.in-Text.next false = met_by _ _ c.unit_at.ensures (c.in-Ok.is ∙ ap Ok c.in-Text.is) in
+    omega (arith, (text_unit _ _ t.kind t.every).ends)
 
 pub overflow_add-to : goal.overflow_add-to
 overflow_add-to c =
-    let text-c : (Whole c.args.pes.now c.loop-next.at c.in-Text.next false) = (met_by _ _ c.unit_at.ensures c.in-Text.is) in
-    let l = c.loop-next in
-    omega (arith, filled-room _ _ _ _ _ _ l.invariant 42 (packet_length_lem _ _) _ text-c, l.invariant.long)
+    let t : Whole c.args.pes.now c.loop-unit.at c.in-Text.next false = met_by _ _ c.unit_at.ensures (c.in-Ok.is ∙ ap Ok c.in-Text.is) in
+    let l = c.loop-unit in
+    omega (arith, filled-room _ _ _ _ _ _ l.invariant 42 (packet_length_lem _ _) _ t, l.invariant.long)
 
-pub loop-next-smaller-in-Text : goal.loop-next-smaller-in-Text
-loop-next-smaller-in-Text c =
-    let text-c : (Whole c.args.pes.now c.loop-next.at c.in-Text.next false) = (met_by _ _ c.unit_at.ensures c.in-Text.is) in
-    let t = text-c in omega (arith, t, text-next _ _ _ t)
+pub loop-unit-smaller-in-Text : goal.loop-unit-smaller-in-Text
+loop-unit-smaller-in-Text c =
+    let t : Whole c.args.pes.now c.loop-unit.at c.in-Text.next false = met_by _ _ c.unit_at.ensures (c.in-Ok.is ∙ ap Ok c.in-Text.is) in
+    omega (arith, t, text-next _ _ _ t)
 
-pub loop-next-preserved-in-Text : goal.loop-next-preserved-in-Text
-loop-next-preserved-in-Text c =
-    let text-c : (Whole c.args.pes.now c.loop-next.at c.in-Text.next false) = (met_by _ _ c.unit_at.ensures c.in-Text.is) in
-    let l = c.loop-next in
-    let t = text-c in
+pub loop-unit-preserved-in-Text : goal.loop-unit-preserved-in-Text
+loop-unit-preserved-in-Text c =
+    let t : Whole c.args.pes.now c.loop-unit.at c.in-Text.next false = met_by _ _ c.unit_at.ensures (c.in-Ok.is ∙ ap Ok c.in-Text.is) in
+    let l = c.loop-unit in
     let u = text_unit _ _ t.kind t.every in
     let r = filled-room _ _ _ _ _ _ l.invariant 42 (packet_length_lem _ _) _ t in
     filled-text _ _ _ _ _ _ l.invariant 42 (packet_length_lem _ _) _ _ t c.turn_run.auto.out
     (c.turn_run.ensures ∙ packet-stored _ _ _ _ u.ends (omega arith))
 
-pub loop-next-smaller : goal.loop-next-smaller
-loop-next-smaller c =
-    let stuffing-c : (Whole c.args.pes.now c.loop-next.at c.in-Stuffing.next true) = (met_by _ _ c.unit_at.ensures c.in-Stuffing.is) in
-    omega (arith, stuffing-c, whole_moves _ _ _ _ stuffing-c)
+pub loop-unit-smaller : goal.loop-unit-smaller
+loop-unit-smaller c =
+    let t : Whole c.args.pes.now c.loop-unit.at c.in-Stuffing.next true = met_by _ _ c.unit_at.ensures (c.in-Ok.is ∙ ap Ok c.in-Stuffing.is) in
+    omega (arith, t, whole_moves _ _ _ _ t)
 
-pub loop-next-preserved : goal.loop-next-preserved
-loop-next-preserved c =
-    let stuffing-c : (Whole c.args.pes.now c.loop-next.at c.in-Stuffing.next true) = (met_by _ _ c.unit_at.ensures c.in-Stuffing.is) in
-    filled-stuffing _ _ _ _ _ _ c.loop-next.invariant _ stuffing-c
+pub loop-unit-preserved : goal.loop-unit-preserved
+loop-unit-preserved c =
+    let t : Whole c.args.pes.now c.loop-unit.at c.in-Stuffing.next true = met_by _ _ c.unit_at.ensures (c.in-Ok.is ∙ ap Ok c.in-Stuffing.is) in
+    filled-stuffing _ _ _ _ _ _ c.loop-unit.invariant _ t
 
-pub shape_of-packets-in-Refused : goal.shape_of-packets-in-Refused
-shape_of-packets-in-Refused c = c.loop-next.invariant.long
-
-pub returns-in-Refused : goal.returns-in-Refused
-returns-in-Refused c =
-    let l = c.loop-next in
-    absurd (lawful-met _ _ _ (met_by _ _ c.unit_at.ensures c.in-Refused.is) l.invariant.rules)
+pub returns : goal.returns
+returns c = absurd (lawful-met _ _ _ (met_by _ _ c.unit_at.ensures c.in_default.is) c.loop-unit.invariant.rules)

@@ -6,8 +6,8 @@ use Rattle.pes.proofs.Filling.{Filled}
 use Rattle.stripped.specs.Stripped.{packet_at}
 use Rattle.stripped.proofs.put_packets.Given as goal
 
-abbrev pub invariant-loop-next : goal.invariant-loop-next
-invariant-loop-next l = Filled (packet_at l.pes) l.pes l.initial.packets l.at l.to l.packets
+abbrev pub invariant-loop-unit : goal.invariant-loop-unit
+invariant-loop-unit l = Filled (packet_at l.pes) l.pes l.initial.packets l.at l.to l.packets
 
-abbrev pub decreases-loop-next : goal.decreases-loop-next
-decreases-loop-next l = length l.pes - l.at
+abbrev pub decreases-loop-unit : goal.decreases-loop-unit
+decreases-loop-unit l = length l.pes - l.at

@@ -10,39 +10,26 @@ use Rattle.stripped.proofs.strip.Goals as goal
 
 pub returns-then-packets-lt-PACKET : goal.returns-then-packets-lt-PACKET
 returns-then-packets-lt-PACKET c =
-    let refuses-c : (Refuses c.args.pes.now c.args.packets.now c.in-Refused.r) = (reading-refuses _ _ _ (sym c.judge.ensures ∙ c.in-Refused.is)) in
-    let a = c.args in
-    let r = refuses-c in
-    let g = short a.pes.now a.packets.now (rw r.blank c.if-packets-lt-PACKET.true) in
-    record {
-      answer = g;
-      packets = after _ _ _ g;
-      within = search rules;
-    }
+    let r : Refuses c.args.pes.now c.args.packets.now c.in-Err.r = reading-refuses _ _ _ (sym c.judge.ensures ∙ c.in-Err.is) in
+    let g = short c.args.pes.now c.args.packets.now c.from.ensures (rw r.blank c.if-packets-lt-PACKET.true) in
+    record { answer = g; packets = after _ _ _ g; within = search rules }
 
 pub returns-then-packets-need : goal.returns-then-packets-need
 returns-then-packets-need c =
-    let takes-c : (Takes c.args.pes.now c.args.packets.now c.in-Done.records) = (reading-takes _ _ _ (sym c.judge.ensures ∙ c.in-Done.is)) in
-    let a = c.args in
-    let t = takes-c in
-    let g = short a.pes.now a.packets.now (rw t.whole (omega (arith, t.need, c.if-packets-need.true))) in
-    record {
-      answer = g;
-      packets = after _ _ _ g;
-      within = search rules;
-    }
+    let t : Takes c.args.pes.now c.args.packets.now c.in-Ok.records = reading-takes _ _ _ (sym c.judge.ensures ∙ c.in-Ok.is) in
+    let g =
+    short c.args.pes.now c.args.packets.now c.from-then-packets-need.ensures (rw t.whole (omega (arith, t.need, c.if-packets-need.true))) in
+    record { answer = g; packets = after _ _ _ g; within = search rules }
 
 pub put_packets-requires : goal.put_packets-requires
 put_packets-requires c =
-    let takes-c : (Takes c.args.pes.now c.args.packets.now c.in-Done.records) = (reading-takes _ _ _ (sym c.judge.ensures ∙ c.in-Done.is)) in
-    let t = takes-c in
+    let t : Takes c.args.pes.now c.args.packets.now c.in-Ok.records = reading-takes _ _ _ (sym c.judge.ensures ∙ c.in-Ok.is) in
     (t.rules, omega (arith, t.need, c.if-packets-need.false))
 
 pub returns-else-packets-lt-PACKET : goal.returns-else-packets-lt-PACKET
 returns-else-packets-lt-PACKET c =
-    let refuses-c : (Refuses c.args.pes.now c.args.packets.now c.in-Refused.r) = (reading-refuses _ _ _ (sym c.judge.ensures ∙ c.in-Refused.is)) in
     let a = c.args in
-    let r = refuses-c in
+    let r : Refuses a.pes.now a.packets.now c.in-Err.r = reading-refuses _ _ _ (sym c.judge.ensures ∙ c.in-Err.is) in
     let g = goes a.pes.now a.packets.now _ (rw r.blank c.if-packets-lt-PACKET.false) r.is_lost in record {
       answer = g;
       packets = c.blank.ensures ∙ blank-fits a.packets.now c.if-packets-lt-PACKET.false
@@ -52,9 +39,8 @@ returns-else-packets-lt-PACKET c =
 
 pub returns-else-packets-need : goal.returns-else-packets-need
 returns-else-packets-need c =
-    let takes-c : (Takes c.args.pes.now c.args.packets.now c.in-Done.records) = (reading-takes _ _ _ (sym c.judge.ensures ∙ c.in-Done.is)) in
     let a = c.args in
-    let t = takes-c in
+    let t : Takes a.pes.now a.packets.now c.in-Ok.records = reading-takes _ _ _ (sym c.judge.ensures ∙ c.in-Ok.is) in
     let g =
     ap Packets t.need
     ∙ goes a.pes.now a.packets.now _ (rw t.whole (omega (arith, t.need, c.if-packets-need.false))) t.is_whole in record {

@@ -7,5 +7,5 @@ use Rattle.symbols.proofs.moved.Goals as goal
 pub returns-then-pen-cells_of : goal.returns-then-pen-cells_of
 returns-then-pen-cells_of c = let a = c.args in let h : a.pen.sent + 1 < (a.size + 7) / 3 * 3 = search rules in rw (lt-ltb _ _ h)
 
-pub returns : goal.returns
-returns c = let a = c.args in let h : (a.size + 7) / 3 * 3 ≤ a.pen.sent + 1 = search rules in rw (le-ltb _ _ h)
+pub returns-else-pen-cells_of : goal.returns-else-pen-cells_of
+returns-else-pen-cells_of c = let a = c.args in let h : (a.size + 7) / 3 * 3 ≤ a.pen.sent + 1 = search rules in rw (le-ltb _ _ h)

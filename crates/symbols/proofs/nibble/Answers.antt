@@ -1,21 +1,21 @@
 -- `symbols::nibble` meets its contract: a nibble of a number is that of its sixteenth, one place lower. Assumes nothing.
-use borrow.Author.Rules.{rules}
 use mathlib.Core.Path.{◌≡◌}
+use native.Mathlib.Omega.{arith}
 use Rattle.symbols.specs.Internal.{nibble_of}
 use Rattle.symbols.proofs.nibble.Goals as goal
 
-pub returns-then-i-eq0 : goal.returns-then-i-eq0
+pub returns-in-0 : goal.returns-in-0
 unfolding nibble_of
-returns-then-i-eq0 c = rw c.if-i-eq0.true
+returns-in-0 c = rw c.in-0.is
 
-pub returns-then-i-eq1 : goal.returns-then-i-eq1
+pub returns-in-1 : goal.returns-in-1
 unfolding nibble_of
-returns-then-i-eq1 c = rw c.if-i-eq1.true
+returns-in-1 c = rw c.in-1.is
 
-pub returns-then-i-eq2 : goal.returns-then-i-eq2
+pub returns-in-2 : goal.returns-in-2
 unfolding nibble_of
-returns-then-i-eq2 c = rw c.if-i-eq2.true
+returns-in-2 c = rw c.in-2.is
 
-pub returns : goal.returns
+pub returns-in_default : goal.returns-in_default
 unfolding nibble_of
-returns c = let e : c.args.i ≡ 3 = search rules in rw e
+returns-in_default c = let e : c.args.i ≡ 3 = omega arith in rw e

@@ -14,9 +14,7 @@ use Rattle.table.proofs.Judging.{front-10, front-12, front-12', front-13, front-
 use Rattle.blocks.proofs.Summing.{sound_le}
 use Rattle.forms.specs.Tables.{known}
 use Rattle.table.proofs.judge_front.Goals as goal
-
-pub slice_bounds-sound-end : goal.slice_bounds-sound-end
-slice_bounds-sound-end c = sym (length-take-le 8 c.args.body.now c.requires.0)
+use Rattle.table.proofs.judge_front.Goals.{then-not-known-via-then-not-known, then-not-known-via-else-not-known+then-opening-ne0}
 
 pub overflow_add-good : goal.overflow_add-good
 overflow_add-good c =
@@ -35,17 +33,15 @@ returns-then-not-known c =
     let p = c.requires.1 in
     let e : c.sound-good.result ≡ sound (take 8 (map nib s)) = c.sound-good.ensures ∙ ap sound (map-take nib 8 s) in
     let k = c.known.ensures ∙ ap (λ (o : Opening). known o.kind) p in
-    c.refuse-then-not-known.ensures ∙ sym (front-12 _ (map nib s) _ _ (sym e ∙ c.if-good-ne8.false) (sym k ∙ c.if-not-known.true))
-
-pub returns-then-opening-ne0 : goal.returns-then-opening-ne0
-returns-then-opening-ne0 c =
-    let s : List ℕ = c.args.body.now in
-    let p = c.requires.1 in
-    let e : c.sound-good.result ≡ sound (take 8 (map nib s)) = c.sound-good.ensures ∙ ap sound (map-take nib 8 s) in
-    let k = c.known.ensures ∙ ap (λ (o : Opening). known o.kind) p in
     let eight = sym e ∙ c.if-good-ne8.false in
-    let kind = sym k ∙ c.if-not-known.false in
-    c.refuse-then-opening-ne0.ensures ∙ sym (front-12' _ (map nib s) _ _ eight kind (λ q. omega (arith, ap (λ (o : Opening). o.access) p, q)))
+    c.refuse-then-not-known.ensures
+    ∙ elim c.then-not-known.branch [
+      | then-not-known-via-then-not-known w ↦ sym (front-12 _ (map nib s) _ _ eight (sym k ∙ w.if-not-known.true))
+      | then-not-known-via-else-not-known+then-opening-ne0 w ↦
+          sym
+          (front-12' _ (map nib s) _ _ eight (sym k ∙ w.if-not-known.false)
+          (λ q. omega (arith, ap (λ (o : Opening). o.access) p, q, w.if-opening-ne0.true)))
+    ]
 
 pub returns-then-size-ne0 : goal.returns-then-size-ne0
 returns-then-size-ne0 c =

@@ -8,13 +8,7 @@ use lib.ListN.{length-map}
 use Rattle.octet.specs.Decoding.{nib}
 use Rattle.fields.specs.declared.Opening.{Opening}
 use Rattle.table.proofs.Judging.{whole-10, whole-11, whole-done}
-use Rattle.blocks.proofs.Summing.{sound_le}
 use Rattle.table.proofs.judge_whole.Goals as goal
-
-pub overflow_add-sound : goal.overflow_add-sound
-overflow_add-sound c =
-    let s : List ℕ = c.args.body.now in
-    omega (arith, c.sound.ensures, sound_le (map nib s), length-map s nib, c.well_formed)
 
 pub returns-then-sum-gt255 : goal.returns-then-sum-gt255
 returns-then-sum-gt255 c =

@@ -4,7 +4,8 @@ use borrow.Author.Rules.{rules}
 use mathlib.Core.Path.{◌∙◌, ap}
 use mathlib.Core.List.{map}
 use native.Mathlib.Omega.{arith}
-use Rattle.answer.specs.declared.Answer.TheVariants.{Done}
+use Rattle.std.specs.declared.result.Result.TheVariants.{Ok}
+use Rattle.answer.proofs.Handing.{handed}
 use Rattle.answer.proofs.Lent.{lent-refused, lent-short, lent-done, lent-value}
 use Rattle.octet.specs.Decoding.{nib}
 use Rattle.fields.specs.Compound.{compound}
@@ -28,7 +29,7 @@ returns-then-out-need c =
     let n = compound a.body.now in
     let rules = body_rules a.head (map nib a.body.now) in
     let j = c.judge_body.ensures in
-    let d = c.in-Done.is in
+    let d = c.in_ok-need.was in
     let e = lent-value rules (form (table_of n)) a.out.now _ j d in
     let p = lent-short rules (form (table_of n)) a.out.now _ j d (omega (arith, e)) in
     record {
@@ -36,24 +37,24 @@ returns-then-out-need c =
       output = p.1;
     }
 
-pub returns-in-Refused : goal.returns-in-Refused
-returns-in-Refused c =
+pub returns-in_err-need : goal.returns-in_err-need
+returns-in_err-need c =
     let a = c.args in
     let n = compound a.body.now in
     let rules = body_rules a.head (map nib a.body.now) in
     let j = c.judge_body.ensures in
-    let it = lent-refused rules (form (table_of n)) a.out.now _ j c.in-Refused.is in
-    record { answer = it.0; output = it.1 }
+    let it = lent-refused rules (form (table_of n)) a.out.now _ j c.in_err-need.was in
+    record { answer = handed c.from_residual.ensures ∙ it.0; output = it.1 }
 
-pub returns-else-out-need : goal.returns-else-out-need
-returns-else-out-need c =
+pub returns : goal.returns
+returns c =
     let a = c.args in
     let n = compound a.body.now in
     let rules = body_rules a.head (map nib a.body.now) in
     let j = c.judge_body.ensures in
-    let d = c.in-Done.is in
+    let d = c.in_ok-need.was in
     let e = lent-value rules (form (table_of n)) a.out.now _ j d in
     let p = lent-done rules (form (table_of n)) a.out.now _ j d (omega (arith, e)) in record {
-      answer = ap Done e ∙ p.0;
+      answer = ap Ok e ∙ p.0;
       output = c.write_form.ensures ∙ p.1;
     }

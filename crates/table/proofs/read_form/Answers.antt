@@ -6,7 +6,8 @@ use Prim.Native.Nat.{ℕ, ◌+◌, ◌/◌, ◌≤◌}
 use native.Mathlib.Omega.{arith}
 use lib.ListN.{length, length-drop}
 use Rattle.laws.proofs.Lists.{part-rest}
-use Rattle.answer.specs.declared.Answer.{Answer}
+use Rattle.answer.proofs.Handing.{handed}
+use Rattle.answer.specs.Answer.{Answer}
 use Rattle.answer.specs.Writing.{answered, after, left}
 use Rattle.octet.specs.Decoding.{nib}
 use Rattle.fields.specs.Fields.{whole}
@@ -26,7 +27,7 @@ slice_bounds-read_body-count c =
     let taken-c : (let r = c.args.rec.now in
     (length r ≡ 4 + head_of r / 32) × (8 ≤ head_of r / 32)) = (let a = c.args in
     let rules = framing a.application a.rec.now in
-    let k = framed a.application a.rec.now (head-every rules _ c.judge.ensures c.in-Head.is) in
+    let k = framed a.application a.rec.now (head-every rules _ c.judge.ensures c.in_ok-head.was) in
     (k.long, k.eight)) in
     omega (arith, taken-c)
 
@@ -35,31 +36,31 @@ read_body-requires c =
     let taken-c : (let r = c.args.rec.now in
     (length r ≡ 4 + head_of r / 32) × (8 ≤ head_of r / 32)) = (let a = c.args in
     let rules = framing a.application a.rec.now in
-    let k = framed a.application a.rec.now (head-every rules _ c.judge.ensures c.in-Head.is) in
+    let k = framed a.application a.rec.now (head-every rules _ c.judge.ensures c.in_ok-head.was) in
     (k.long, k.eight)) in
     rw (part-rest 4 c.args.rec.now, length-drop) (omega (arith, taken-c))
 
-pub returns-in-Refused : goal.returns-in-Refused
-returns-in-Refused c =
+pub returns-in_err-head : goal.returns-in_err-head
+returns-in_err-head c =
     let a = c.args in
     let r = a.rec.now in
     let out : List ℕ = a.out.now in
     let same = same-answered a.application r (form (table_read r)) out in
     let p =
     frame_refused (framing a.application r) (head_of r) c.judge.ensures (body_rules (head_of r) (nibbles_of r))
-    (form (table_read r)) out c.in-Refused.is in
+    (form (table_read r)) out c.in_err-head.was in
     record {
-      answer = p.0 ∙ same;
+      answer = handed c.from_residual.ensures ∙ p.0 ∙ same;
       output = p.1 ∙ ap (λ (x : Answer). after x (form (table_read r)) out) same;
     }
 
-pub returns-in-Head : goal.returns-in-Head
+pub returns : goal.returns
 unfolding nibbles_of
-returns-in-Head c =
+returns c =
     let a = c.args in
     let r = a.rec.now in
     let j = c.judge.ensures in
-    let d = c.in-Head.is in
+    let d = c.in_ok-head.was in
     let h = head-value (framing a.application r) _ j d in
     let out : List ℕ = a.out.now in
     let bytes : List ℕ → List ℕ = λ l. form (table_of (whole 4 (map nib l))) in
@@ -79,6 +80,6 @@ slice_bounds-read_body-start c =
     let taken-c : (let r = c.args.rec.now in
     (length r ≡ 4 + head_of r / 32) × (8 ≤ head_of r / 32)) = (let a = c.args in
     let rules = framing a.application a.rec.now in
-    let k = framed a.application a.rec.now (head-every rules _ c.judge.ensures c.in-Head.is) in
+    let k = framed a.application a.rec.now (head-every rules _ c.judge.ensures c.in_ok-head.was) in
     (k.long, k.eight)) in
     omega (arith, taken-c)

@@ -1,9 +1,7 @@
--- `texts::same` meets its contract: its test of the lengths, and then the bytes. Assumes nothing.
-use borrow.Author.Tests.{eq-eqb, ne_eqb}
+-- `texts::same` meets its contract: the library's test is the definition. Assumes nothing.
+use Rattle.std.proofs.Common.{◌∙◌}
+use Rattle.texts.proofs.Walking.{same_is}
 use Rattle.texts.proofs.same.Goals as goal
 
-pub returns-then-text-other : goal.returns-then-text-other
-returns-then-text-other c = simp (ne_eqb _ _ c.if-text-other.true)
-
 pub returns : goal.returns
-returns c = simp (eq-eqb _ _ c.if-text-other.false) c.begins.ensures
+returns c = c.eq.ensures ∙ same_is c.args.text.now c.args.other.now

@@ -1,11 +1,6 @@
--- `try_sheet::main` is safe and ends. The measure is the number of turns that are left; the lent output keeps its length.
--- Assumes nothing.
-use mathlib.Core.Path.{◌≡◌}
-use lib.ListN.{length}
+-- `try_sheet::main` is safe: the lent output keeps its length. Assumes nothing.
+use Rattle.std.proofs.Common.{◌≡◌, length}
 use Rattle.try_sheet.proofs.main.Given as goal
 
-abbrev pub invariant-loop-turns : goal.invariant-loop-turns
-invariant-loop-turns l = length l.out ≡ 65536
-
-abbrev pub decreases-loop-turns : goal.decreases-loop-turns
-decreases-loop-turns l = l.turns
+abbrev pub invariant-loop : goal.invariant-loop
+invariant-loop l = length l.out ≡ 65536

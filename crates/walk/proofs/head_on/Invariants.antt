@@ -8,8 +8,6 @@ use Rattle.walk.proofs.head_on.Given as goal
 
 abbrev pub invariant-loop-g : goal.invariant-loop-g
 invariant-loop-g l =
-    (l.from ≤ length l.s → l.i ≤ length l.s) × (l.i + (4 - l.g) ≡ l.from + (4 - l.got)) × (l.v < 2 ^ 16)
-    × (l.p + (4 - l.g) ≤ l.part + (4 - l.got)) × (heads (4 - l.g) l.v l.p (drop l.i l.s) ≡ heads (4 - l.got) l.bits l.part (drop l.from l.s))
-
-abbrev pub decreases-loop-g : goal.decreases-loop-g
-decreases-loop-g l = 4 - l.g
+    (l.from ≤ length l.s → l.i ≤ length l.s) × (l.i + (4 - l.g) ≡ l.from + (4 - l.got)) × (l.bits < 2 ^ 16)
+    × (l.part + (4 - l.g) ≤ l.fn.part + (4 - l.got))
+    × (heads (4 - l.g) l.bits l.part (drop l.i l.s) ≡ heads (4 - l.got) l.fn.bits l.fn.part (drop l.from l.s))

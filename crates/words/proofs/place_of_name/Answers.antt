@@ -5,5 +5,5 @@ use Rattle.words.proofs.place_of_name.Goals as goal
 pub returns-then-looks_like_name : goal.returns-then-looks_like_name
 returns-then-looks_like_name c = simp (sym c.looks_like_name.ensures ∙ c.if-looks_like_name.true) c.letter.ensures
 
-pub returns : goal.returns
-returns c = simp (sym c.looks_like_name.ensures ∙ c.if-looks_like_name.false)
+pub returns-else-looks_like_name : goal.returns-else-looks_like_name
+returns-else-looks_like_name c = simp (sym c.looks_like_name.ensures ∙ c.if-looks_like_name.false)

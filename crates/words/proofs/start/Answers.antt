@@ -7,6 +7,6 @@ pub returns-then-byte_at-eq32 : goal.returns-then-byte_at-eq32
 unfolding start_said
 returns-then-byte_at-eq32 c = simp (← c.byte_at.ensures, eq-eqb _ _ c.if-byte_at-eq32.true)
 
-pub returns : goal.returns
+pub returns-else-byte_at-eq32 : goal.returns-else-byte_at-eq32
 unfolding start_said
-returns c = simp (← c.byte_at.ensures, ne_eqb _ _ c.if-byte_at-eq32.false)
+returns-else-byte_at-eq32 c = simp (← c.byte_at.ensures, ne_eqb _ _ c.if-byte_at-eq32.false)

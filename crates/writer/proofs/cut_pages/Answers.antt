@@ -17,14 +17,14 @@ pub returns-then-not-takes : goal.returns-then-not-takes
 returns-then-not-takes c =
     let a = c.args in
     let it = cut-out-of-range a.s a.index a.k a.records.now a.out.now (sym c.takes.ensures ∙ c.if-not-takes.true) in
-    record { answer = it.0; bytes = it.1 }
+    record { answer = c.refuse.ensures ∙ it.0; bytes = it.1 }
 
 pub pages_for-requires : goal.pages_for-requires
 pages_for-requires c =
     let in_range_lem-c : (takes_of c.args.s c.args.index c.args.k ≡ true) = (sym c.takes.ensures ∙ c.if-not-takes.false) in
     let counted-c : ((whole c.args.records.now ≡ true)
-    × (c.in-Cells.cells ≡ length (stream_of (blocks c.args.records.now)) / cell)) = (measured_cells c.args.records.now _
-    (sym c.measure.ensures ∙ c.in-Cells.is)) in
+    × (c.in-Some.cells ≡ length (stream_of (blocks c.args.records.now)) / cell)) = (measured_cells c.args.records.now _
+    (sym c.measure.ensures ∙ c.in-Some.is)) in
     let a = c.args in
     let t : Taken a.index a.k = taken a.s a.index a.k in_range_lem-c in
     (omega arith, omega (arith, counted-c.1, cells_bound a.records.now))
@@ -36,20 +36,20 @@ write_all-requires c =
     let t : Taken a.index a.k = taken a.s a.index a.k in_range_lem-c in
     (omega arith, omega arith)
 
-pub returns-in-Broken : goal.returns-in-Broken
-returns-in-Broken c =
+pub returns-in-None : goal.returns-in-None
+returns-in-None c =
     let in_range_lem-c : (takes_of c.args.s c.args.index c.args.k ≡ true) = (sym c.takes.ensures ∙ c.if-not-takes.false) in
     let a = c.args in
     let it = cut-broken a.s a.index a.k a.records.now a.out.now in_range_lem-c
-    (measured-broken a.records.now (sym c.measure.ensures ∙ c.in-Broken.is)) in
-    record { answer = it.0; bytes = it.1 }
+    (measured-broken a.records.now (sym c.measure.ensures ∙ c.in-None.is)) in
+    record { answer = c.refuse-in-None.ensures ∙ it.0; bytes = it.1 }
 
-pub returns-in-Cells : goal.returns-in-Cells
-returns-in-Cells c =
+pub returns-in-Some : goal.returns-in-Some
+returns-in-Some c =
     let in_range_lem-c : (takes_of c.args.s c.args.index c.args.k ≡ true) = (sym c.takes.ensures ∙ c.if-not-takes.false) in
     let counted-c : ((whole c.args.records.now ≡ true)
-    × (c.in-Cells.cells ≡ length (stream_of (blocks c.args.records.now)) / cell)) = (measured_cells c.args.records.now _
-    (sym c.measure.ensures ∙ c.in-Cells.is)) in
+    × (c.in-Some.cells ≡ length (stream_of (blocks c.args.records.now)) / cell)) = (measured_cells c.args.records.now _
+    (sym c.measure.ensures ∙ c.in-Some.is)) in
     let w = c.write_all in
     let a = c.args in
     let n = counted-c in

@@ -1,6 +1,5 @@
 -- The answers that `writer::measure` wants beside its invariants. Assumes nothing.
 use mathlib.Core.Path.{◌∙◌, sym}
-use Prim.Native.Nat.{◌-◌}
 use native.Mathlib.Omega.{arith}
 use borrow.Author.Rules.{rules}
 use Rattle.blocks.proofs.Walking.{Standing, standing, ended, broken}

@@ -1,5 +1,6 @@
 -- `writer::write_all` meets its contract: so many pages fit where their number is at most the room divided by a page's length. Assumes nothing.
 use borrow.Author.Rules.{rules}
+use mathlib.Core.Path.{◌∙◌}
 use native.Mathlib.Omega.{arith}
 use lib.ListN.{length}
 use Rattle.blocks.specs.Block.{blocks}
@@ -14,7 +15,7 @@ returns-then-out-size c =
     let a = c.args in
     let it = short-of-room (pages_bytes a.s a.index a.k a.count a.records.now) a.out.now a.count (page_length a.k)
     (pages-length a.s a.k a.count a.index (stream_of (blocks a.records.now))) (omega arith) c.if-out-size.true in
-    record { value = it.0; out_after = it.1 }
+    record { value = c.refuse.ensures ∙ it.0; out_after = it.1 }
 
 pub write_pages-requires : goal.write_pages-requires
 write_pages-requires c =

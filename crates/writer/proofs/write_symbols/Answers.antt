@@ -1,6 +1,5 @@
 -- The answers that `writer::write_symbols` wants beside its invariants. Assumes nothing.
 use borrow.Author.Rules.{rules}
-use Prim.Native.Nat.{◌-◌}
 use Rattle.symbols.proofs.Sending.{sends}
 use Rattle.writer.proofs.Filling.{stored-none, stored_more, stored-all}
 use Rattle.writer.proofs.write_symbols.Goals as goal

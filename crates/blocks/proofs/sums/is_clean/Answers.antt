@@ -2,20 +2,20 @@
 use borrow.Author.Rules.{rules}
 use mathlib.Core.Path.{◌∙◌, refl, sym}
 use mathlib.Core.List.{List}
-use Prim.Native.Nat.{ℕ, ◌-◌}
+use Prim.Native.Nat.{ℕ}
 use Rattle.blocks.proofs.Mending.{checked_on, checked_end}
 use Rattle.blocks.proofs.sums.is_clean.Goals as goal
 
-pub loop-i-init : goal.loop-i-init
-loop-i-init c = refl
+pub loop-b-init : goal.loop-b-init
+loop-b-init c = refl
 
-pub loop-i-preserved : goal.loop-i-preserved
-loop-i-preserved c =
-    let l = c.loop-i in
+pub loop-b-preserved : goal.loop-b-preserved
+loop-b-preserved c =
+    let l = c.loop-b in
     let s : List ℕ = c.args.s.now in
-    checked_on s l.i l.mix c.checks-mix.result (search rules) c.checks-mix.ensures ∙ l.invariant
+    checked_on s l.b-index l.mix c.checks-mix.result (search rules) c.checks-mix.ensures ∙ l.invariant
 
 pub returns : goal.returns
 returns c =
-    let l = c.loop-i in
-    sym (checked_end c.args.s.now l.i l.mix (search rules)) ∙ l.invariant
+    let l = c.loop-b in
+    sym (checked_end c.args.s.now l.b-index l.mix (search rules)) ∙ l.invariant

@@ -3,5 +3,5 @@ use mathlib.Core.Path.{◌∙◌, sym, ap}
 use Rattle.broadcast.specs.Internal.{is_accepted}
 use Rattle.broadcast.proofs.seeing.is_accepted.Goals as goal
 
-pub returns-in-Refused : goal.returns-in-Refused
-returns-in-Refused c = c.is_room.ensures ∙ sym (ap is_accepted c.in-Refused.is)
+pub returns-in-Err : goal.returns-in-Err
+returns-in-Err c = c.is_room.ensures ∙ sym (ap is_accepted c.in-Err.is)

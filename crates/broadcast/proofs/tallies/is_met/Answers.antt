@@ -9,7 +9,7 @@ use Rattle.broadcast.proofs.Judged.{fits_at, fits-over, fits-within, fits-step, 
 use Rattle.broadcast.proofs.tallies.is_met.Goals as goal
 
 pub loop-network-init : goal.loop-network-init
-loop-network-init c = (search rules, refl)
+loop-network-init c = refl
 
 pub returns-then-limit-tallied_at : goal.returns-then-limit-tallied_at
 unfolding each_within counts_by
@@ -18,7 +18,7 @@ returns-then-limit-tallied_at c =
     let s = c.args in
     let tallied = c.tallied_at.ensures ∙ ap (λ (p : ℕ). get_or s.tally.now p 0) c.network_at.ensures in
     let over = fits-over s.tally.now s.kind s.channel l.network tallied c.limit.ensures c.if-limit-tallied_at.true in
-    fits-stop (fits_at s.tally.now s.kind s.channel) l.network (search rules) over ∙ l.invariant.1
+    fits-stop (fits_at s.tally.now s.kind s.channel) l.network (search rules) over ∙ l.invariant
 
 pub loop-network-preserved : goal.loop-network-preserved
 loop-network-preserved c =
@@ -26,11 +26,11 @@ loop-network-preserved c =
     let s = c.args in
     let tallied = c.tallied_at.ensures ∙ ap (λ (p : ℕ). get_or s.tally.now p 0) c.network_at.ensures in
     let within = fits-within s.tally.now s.kind s.channel l.network tallied c.limit.ensures c.if-limit-tallied_at.false in
-    (search rules, fits-step (fits_at s.tally.now s.kind s.channel) l.network (search rules) within ∙ l.invariant.1)
+    fits-step (fits_at s.tally.now s.kind s.channel) l.network (search rules) within ∙ l.invariant
 
 pub returns : goal.returns
 unfolding each_within counts_by
 returns c =
     let l = c.loop-network in
     let s = c.args in
-    fits-end (fits_at s.tally.now s.kind s.channel) l.network (search rules) ∙ l.invariant.1
+    fits-end (fits_at s.tally.now s.kind s.channel) l.network (search rules) ∙ l.invariant

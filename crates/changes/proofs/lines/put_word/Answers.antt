@@ -10,7 +10,7 @@ returns-then-key-eq1 c =
     let p = c.put.ensures in
     (put_as {xs = codes "TI,"} (word-ti _ c.if-key-eq1.true) (put-at (search rules) p.0), p.1)
 
-pub returns : goal.returns
-returns c =
-    let p = c.put-2.ensures in
+pub returns-else-key-eq1 : goal.returns-else-key-eq1
+returns-else-key-eq1 c =
+    let p = c.put-else-key-eq1.ensures in
     (put_as {xs = codes "LI,"} (word-li _ c.if-key-eq1.false) (put-at (search rules) p.0), p.1)

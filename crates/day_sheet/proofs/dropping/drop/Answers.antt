@@ -2,6 +2,7 @@
 use borrow.Author.Rules.{rules}
 use mathlib.Core.Path.{◌∙◌, ap}
 use Prim.Native.Nat.{ℕ}
+use Rattle.answer.proofs.Handing.{handed}
 use Rattle.answer.specs.Writing.{answered, left}
 use Rattle.day_sheet.specs.Entries.{sheet_text}
 use Rattle.day_sheet.specs.Calls.{limited, entries_of}
@@ -13,19 +14,19 @@ use Rattle.day_sheet.proofs.dropping.drop.Goals as goal
 pub drop_key-requires : goal.drop_key-requires
 drop_key-requires c =
     let counts = c.count.ensures in
-    let done = c.in-Done.is in
+    let done = c.in_ok-held.was in
     let form = c.args.form in
     let sheet = c.args.sheet.now in
     (counted-halfway form sheet counts done, counted-short form sheet counts done, counted-as form sheet counts done)
 
-pub returns-in-Refused : goal.returns-in-Refused
-returns-in-Refused c =
-    let it = drop-bad c.args.form c.args.network c.args.kind c.args.block (search rules) c.args.sheet.now c.args.out.now c.count.ensures c.in-Refused.is in
-    record { answer = it.0; output = it.1 }
+pub returns-in_err-held : goal.returns-in_err-held
+returns-in_err-held c =
+    let it = drop-bad c.args.form c.args.network c.args.kind c.args.block (search rules) c.args.sheet.now c.args.out.now c.count.ensures c.in_err-held.was in
+    record { answer = handed c.from_residual.ensures ∙ it.0; output = it.1 }
 
-pub returns-in-Done : goal.returns-in-Done
-returns-in-Done c =
-    let p = drop-goes-on c.args.form c.args.network c.args.kind c.args.block (search rules) c.args.sheet.now c.args.out.now c.count.ensures c.in-Done.is in
+pub returns : goal.returns
+returns c =
+    let p = drop-goes-on c.args.form c.args.network c.args.kind c.args.block (search rules) c.args.sheet.now c.args.out.now c.count.ensures c.in_ok-held.was in
     let es = entries_of c.args.form c.args.sheet.now in
     let key = c.key_asked-key.ensures in
     let e = c.drop_key.ensures in record {

@@ -7,8 +7,8 @@ use Rattle.day_sheet.specs.Calls.{entries_of}
 use Rattle.day_sheet.specs.Internal.{Halfway, spot_of, spot_from}
 use Rattle.day_sheet.proofs.dropping.find.Given as goal
 
-abbrev pub invariant-loop-form : goal.invariant-loop-form
-invariant-loop-form l = Halfway l.form l.sheet l.at × (spot_from l.form l.key l.at (entries_of l.form (drop l.at l.sheet)) ≡ spot_of l.form l.key (entries_of l.form l.sheet))
+abbrev pub invariant-loop-e : goal.invariant-loop-e
+invariant-loop-e l = Halfway l.form l.sheet l.at × (spot_from l.form l.key l.at (entries_of l.form (drop l.at l.sheet)) ≡ spot_of l.form l.key (entries_of l.form l.sheet))
 
-abbrev pub decreases-loop-form : goal.decreases-loop-form
-decreases-loop-form l = length l.sheet - l.at
+abbrev pub decreases-loop-e : goal.decreases-loop-e
+decreases-loop-e l = length l.sheet - l.at

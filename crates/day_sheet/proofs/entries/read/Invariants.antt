@@ -7,8 +7,8 @@ use Rattle.day_sheet.specs.Reading.{sheet_from, sheet_of}
 use Rattle.day_sheet.proofs.Walking.{sheet_after}
 use Rattle.day_sheet.proofs.entries.read.Given as goal
 
-abbrev pub invariant-loop-form : goal.invariant-loop-form
-invariant-loop-form l = (l.at ≤ length l.sheet) × (l.count ≤ l.at) × (sheet_after l.count l.at (sheet_from l.form l.least (drop l.at l.sheet)) ≡ sheet_read (sheet_of l.form l.sheet))
+abbrev pub invariant-loop-e : goal.invariant-loop-e
+invariant-loop-e l = (l.at ≤ length l.sheet) × (l.count ≤ l.at) × (sheet_after l.count l.at (sheet_from l.form l.least (drop l.at l.sheet)) ≡ sheet_read (sheet_of l.form l.sheet))
 
-abbrev pub decreases-loop-form : goal.decreases-loop-form
-decreases-loop-form l = length l.sheet - l.at
+abbrev pub decreases-loop-e : goal.decreases-loop-e
+decreases-loop-e l = length l.sheet - l.at

@@ -10,6 +10,6 @@ pub returns-then-kind-eq-TI : goal.returns-then-kind-eq-TI
 unfolding per
 returns-then-kind-eq-TI c = (rw (eq-eqb _ _ c.if-kind-eq-TI.true) refl, search rules)
 
-pub returns : goal.returns
+pub returns-else-kind-eq-TI : goal.returns-else-kind-eq-TI
 unfolding per
-returns c = (rw (ne_eqb _ _ c.if-kind-eq-TI.false) (sym (one-mul _)), search rules)
+returns-else-kind-eq-TI c = (rw (ne_eqb _ _ c.if-kind-eq-TI.false) (sym (one-mul _)), search rules)

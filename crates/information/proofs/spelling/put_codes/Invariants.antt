@@ -1,17 +1,13 @@
--- `information::spelling::put_codes` meets its contract: what is left to be stored makes what was to be stored. The measure is the codes left.
--- Assumes nothing.
+-- `information::spelling::put_codes` meets its contract: what is left to be stored makes what was to be stored. Assumes nothing.
 use mathlib.Core.Path.{◌≡◌}
-use Prim.Native.Nat.{◌+◌, ◌≤◌}
-use lib.ListN.{length, drop}
+use Prim.Native.Nat.{◌+◌, ◌-◌}
+use lib.ListN.{drop}
 use lib.Seq.{sets}
 use Rattle.codecs.specs.Rows.{codes_in}
 use Rattle.information.specs.Internal.{spoken}
 use Rattle.information.proofs.spelling.put_codes.Given as goal
 
-abbrev pub invariant-loop-left : goal.invariant-loop-left
-invariant-loop-left l =
-    (length l.out ≡ length l.initial.out) × (l.i + l.left ≤ l.from + l.count) × (l.q + l.left ≤ l.to + l.count)
-    × (sets l.out l.q (codes_in l.left (drop l.i (spoken l.strings))) ≡ sets l.initial.out l.to (codes_in l.count (drop l.from (spoken l.strings))))
-
-abbrev pub decreases-loop-left : goal.decreases-loop-left
-decreases-loop-left l = l.left
+abbrev pub invariant-loop-i : goal.invariant-loop-i
+invariant-loop-i l =
+    let cs = spoken l.strings in
+    sets l.out (l.to + l.i) (codes_in (l.count - l.i) (drop (l.from + l.i) cs)) ≡ sets l.initial.out l.to (codes_in l.count (drop l.from cs))

@@ -11,7 +11,7 @@ use Rattle.information.proofs.Walking.{row_on, row-end}
 use Rattle.information.proofs.spelling.put_row.Goals as goal
 
 pub loop-i-init : goal.loop-i-init
-loop-i-init c = (refl, search rules, search rules, search rules, refl)
+loop-i-init c = (search rules, search rules, refl)
 
 pub loop-i-preserved : goal.loop-i-preserved
 loop-i-preserved c =
@@ -23,16 +23,14 @@ loop-i-preserved c =
     let wide : min w.result 24 ≡ w.result = omega (arith, w.ensures.1) in
     let value : f.result ≡ field l.p w.result (compound a.control.now) =
     f.ensures.0 ∙ ap (λ (x : ℕ). field l.p x (compound a.control.now)) wide in (
-      p.auto.out ∙ l.invariant.0,
-      search rules,
-      omega (arith, l.invariant.2, w.ensures.1),
-      omega (arith, l.invariant.3, w.ensures.1),
+      omega (arith, l.invariant.0, w.ensures.1),
+      omega (arith, l.invariant.1, w.ensures.1),
       row_on a.widths.now (compound a.control.now) l.i l.p l.q w.result l.out _ _ (search rules) w.ensures.0
-          (p.ensures ∙ ap (λ (x : ℕ). sets l.out l.q (parts 8 (bytes_of w.result) x)) value) l.invariant.4,
+          (p.ensures ∙ ap (λ (x : ℕ). sets l.out l.q (parts 8 (bytes_of w.result) x)) value) l.invariant.2,
     )
 
 pub returns : goal.returns
 returns c =
     let a = c.args in
     let l = c.loop-i in
-    row-end a.widths.now (compound a.control.now / 2 ^ l.p) l.i l.q l.out _ (search rules) l.invariant.4
+    row-end a.widths.now (compound a.control.now / 2 ^ l.p) l.i l.q l.out _ (search rules) l.invariant.2

@@ -1,8 +1,8 @@
--- `information::spelling::put_value` meets its contract: so many of three bytes, copied. Assumes nothing.
-use borrow.Author.Rules.{rules}
+-- `information::spelling::put_value` meets its contract: the lowest bytes are the first that std gives. Assumes nothing.
 use mathlib.Core.Path.{◌∙◌, ap}
 use mathlib.Core.List.{List}
 use Prim.Native.Nat.{ℕ}
+use lib.ListN.{take}
 use lib.Seq.{sets}
 use Rattle.information.proofs.Walking.{value_bytes}
 use Rattle.information.proofs.spelling.put_value.Goals as goal
@@ -11,4 +11,4 @@ pub returns : goal.returns
 returns c =
     let a = c.args in
     c.copy.ensures
-    ∙ ap (λ (l : List ℕ). sets a.out.now a.to l) (value_bytes a.v a.k (search rules))
+    ∙ ap (λ (l : List ℕ). sets a.out.now a.to l) (ap (take a.k) c.to_le_bytes.ensures ∙ value_bytes a.v a.k c.requires)

@@ -18,8 +18,6 @@ loop-j-init c =
     let f : List ℕ = c.args.form.now in
     let all : c.args.count - 0 ≡ c.args.count = omega arith in (
       c.requires.2,
-      refl,
-      search rules,
       search rules,
       ap (λ (k : ℕ). moved c.args.from (laid_from k 0 c.args.first f)) all,
       ap (λ (k : ℕ). inked c.args.from (laid_from k 0 c.args.first f) c.args.out.now) all,
@@ -41,22 +39,17 @@ loop-j-preserved c =
     let all : List Field = laid_from left l.j l.codes f in
     let e = laid-split f left l.j l.codes k.result codes (omega arith) name refl in (
       on_fine l.p fs rest all e d.ensures.0,
-      d.auto.out ∙ l.invariant.1,
-      search rules,
-      omega (arith, l.invariant.3, k.ensures.1),
-      ap (λ (x : ℕ). moved d.result (laid_from x (l.j + 1) codes f)) next ∙ on-moved l.p fs rest all e d.ensures.0 ∙ l.invariant.4,
+      omega (arith, l.invariant.1, k.ensures.1),
+      ap (λ (x : ℕ). moved d.result (laid_from x (l.j + 1) codes f)) next ∙ on-moved l.p fs rest all e d.ensures.0 ∙ l.invariant.2,
       ap (λ (x : ℕ). inked d.result (laid_from x (l.j + 1) codes f) d.new.out) next
-          ∙ on-inked l.p fs rest all e d.ensures.0 l.out (omega (arith, l.invariant.1, c.well_formed)) d.ensures.1
-          ∙ l.invariant.5,
+          ∙ on-inked l.p fs rest all e d.ensures.0 l.out (omega (arith, l.auto.out, c.well_formed)) d.ensures.1
+          ∙ l.invariant.3,
     )
 
 pub returns : goal.returns
 returns c =
     let l = c.loop-j in
     let e = laid_none c.args.form.now (c.args.count - l.j) l.j l.codes (search rules) in (
-      sym (none_left l.p l.invariant.0) ∙ sym (ap (moved l.p) e) ∙ l.invariant.4,
-      sym (none-inked l.p l.invariant.0 l.out) ∙ sym (ap (λ (x : List Field). inked l.p x l.out) e) ∙ l.invariant.5,
+      sym (none_left l.p l.invariant.0) ∙ sym (ap (moved l.p) e) ∙ l.invariant.2,
+      sym (none-inked l.p l.invariant.0 l.out) ∙ sym (ap (λ (x : List Field). inked l.p x l.out) e) ∙ l.invariant.3,
     )
-
-pub shape_of-out : goal.shape_of-out
-shape_of-out c = c.loop-j.invariant.1

@@ -14,7 +14,7 @@ use Rattle.information_writer.proofs.Along.{row-split, row-end}
 use Rattle.information_writer.proofs.laying.lay_row.Goals as goal
 
 pub loop-i-init : goal.loop-i-init
-loop-i-init c = (c.requires.2, refl, search rules, search rules, refl, refl)
+loop-i-init c = (c.requires.2, search rules, refl, refl)
 
 pub loop-i-preserved : goal.loop-i-preserved
 loop-i-preserved c =
@@ -32,20 +32,15 @@ loop-i-preserved c =
     let m = d.ensures.0 ∙ ap (λ (x : ℕ). moved l.p ((x, v.result) ∷ [])) wide in
     let k = d.ensures.1 ∙ ap (λ (x : ℕ). inked l.p ((x, v.result) ∷ []) l.out) wide in (
       on_fine l.p fs rest all e m,
-      d.auto.out ∙ l.invariant.1,
-      search rules,
-      omega (arith, l.invariant.3, w.ensures.1),
-      on-moved l.p fs rest all e m ∙ l.invariant.4,
-      on-inked l.p fs rest all e m l.out (omega (arith, l.invariant.1, c.well_formed)) k ∙ l.invariant.5,
+      omega (arith, l.invariant.1, w.ensures.1),
+      on-moved l.p fs rest all e m ∙ l.invariant.2,
+      on-inked l.p fs rest all e m l.out (omega (arith, l.auto.out, c.well_formed)) k ∙ l.invariant.3,
     )
 
 pub returns : goal.returns
 returns c =
     let l = c.loop-i in
     let e = row-end c.args.widths.now c.args.form.now l.i l.q (search rules) in (
-      sym (none_left l.p l.invariant.0) ∙ sym (ap (moved l.p) e) ∙ l.invariant.4,
-      sym (none-inked l.p l.invariant.0 l.out) ∙ sym (ap (λ (x : List Field). inked l.p x l.out) e) ∙ l.invariant.5,
+      sym (none_left l.p l.invariant.0) ∙ sym (ap (moved l.p) e) ∙ l.invariant.2,
+      sym (none-inked l.p l.invariant.0 l.out) ∙ sym (ap (λ (x : List Field). inked l.p x l.out) e) ∙ l.invariant.3,
     )
-
-pub shape_of-out : goal.shape_of-out
-shape_of-out c = c.loop-i.invariant.1

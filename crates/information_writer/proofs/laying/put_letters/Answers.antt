@@ -1,25 +1,26 @@
 -- The answers that `information_writer::laying::put_letters` wants beside its invariants. Assumes nothing.
-use borrow.Author.Rules.{rules}
-use mathlib.Core.Path.{◌∙◌, refl}
+use mathlib.Core.Path.{◌≡◌, refl}
+use Prim.Native.Nat.{◌+◌, ◌-◌}
+use native.Mathlib.Omega.{arith}
 use Rattle.information_writer.proofs.Penned.{letters-on, letters-end}
 use Rattle.information_writer.proofs.laying.put_letters.Goals as goal
 
-pub loop-left-init : goal.loop-left-init
-loop-left-init c = (refl, search rules, search rules, refl)
+pub loop-i-init : goal.loop-i-init
+loop-i-init c =
+    let n : c.args.count - 0 ≡ c.args.count = omega arith in
+    let q : c.args.to + 0 ≡ c.args.to = omega arith in
+    let p : c.args.from + 0 ≡ c.args.from = omega arith in
+    rw (n, q, p) refl
 
-pub loop-left-preserved : goal.loop-left-preserved
-loop-left-preserved c =
+pub loop-i-preserved : goal.loop-i-preserved
+loop-i-preserved c =
     let a = c.args in
-    let l = c.loop-left in
-    let v = c.byte_at in
-    let t = c.letter in
-    let p = c.put in (
-      p.auto.out ∙ l.invariant.0,
-      search rules,
-      search rules,
-      letters-on a.form.now l.left l.i l.q v.result t.result l.out _ _ (search rules) v.ensures.0
-          t.ensures p.ensures l.invariant.3,
-    )
+    let l = c.loop-i in
+    let n : a.count - (l.i + 1) ≡ a.count - l.i - 1 = omega arith in
+    let q : a.to + (l.i + 1) ≡ a.to + l.i + 1 = omega arith in
+    let p : a.from + (l.i + 1) ≡ a.from + l.i + 1 = omega arith in
+    rw (n, q, p)
+    (letters-on a.form.now (a.count - l.i) (a.from + l.i) (a.to + l.i) _ _ _ _ _ (omega arith) c.byte_at-code.ensures.0 c.letter.ensures c.put.ensures l.invariant)
 
 pub returns : goal.returns
-returns c = let l = c.loop-left in letters-end _ l.left l.q l.out _ (search rules) l.invariant.3
+returns c = letters-end _ _ _ _ _ (omega arith) c.loop-i.invariant

@@ -15,7 +15,7 @@ pub loop-j-init : goal.loop-j-init
 loop-j-init c =
     let a = c.args in
     let all : a.count - 0 ≡ a.count = omega arith in
-    (refl, search rules, search rules, ap (λ (k : ℕ). sets a.out.now (a.to + a.first) (map letter (spoken_from k 0 a.first a.form.now))) all)
+    (search rules, ap (λ (k : ℕ). sets a.out.now (a.to + a.first) (map letter (spoken_from k 0 a.first a.form.now))) all)
 
 pub loop-j-preserved : goal.loop-j-preserved
 loop-j-preserved c =
@@ -29,10 +29,8 @@ loop-j-preserved c =
     let at = placed l.j l.codes in
     let name = sym (network-codes f at k.result k.ensures.0 k.ensures.1) in
     let all = names-on f left l.j l.codes k.result (l.codes + k.result) (omega arith) name refl a.to _ l.out _ _
-    (network-name f at k.result k.ensures.0 k.ensures.1) p.ensures l.invariant.3 in (
-      p.auto.out ∙ l.invariant.0,
-      search rules,
-      omega (arith, l.invariant.2, k.ensures.1),
+    (network-name f at k.result k.ensures.0 k.ensures.1) p.ensures l.invariant.1 in (
+      omega (arith, l.invariant.0, k.ensures.1),
       ap (λ (x : ℕ). sets p.new.out (a.to + (l.codes + k.result)) (map letter (spoken_from x (l.j + 1) (l.codes + k.result) f))) next ∙ all,
     )
 
@@ -41,4 +39,4 @@ returns c =
     let a = c.args in
     let l = c.loop-j in
     let none = spoken-none a.form.now (a.count - l.j) l.j l.codes (search rules) in
-    sym (ap (λ (cs : List ℕ). sets l.out (a.to + l.codes) (map letter cs)) none) ∙ l.invariant.3
+    sym (ap (λ (cs : List ℕ). sets l.out (a.to + l.codes) (map letter cs)) none) ∙ l.invariant.1

@@ -8,6 +8,6 @@ pub returns-then-byte_at-eq10 : goal.returns-then-byte_at-eq10
 unfolding language_in
 returns-then-byte_at-eq10 c = rw (eq-eqb _ _ (sym c.byte_at.ensures.0 ∙ c.if-byte_at-eq10.true)) c.word_at.ensures.0
 
-pub returns : goal.returns
+pub returns-else-byte_at-eq10 : goal.returns-else-byte_at-eq10
 unfolding language_in
-returns c = rw (ne_eqb _ _ (λ e. c.if-byte_at-eq10.false (c.byte_at.ensures.0 ∙ e))) c.hex_word.ensures
+returns-else-byte_at-eq10 c = rw (ne_eqb _ _ (λ e. c.if-byte_at-eq10.false (c.byte_at.ensures.0 ∙ e))) c.hex_word.ensures

@@ -6,29 +6,17 @@ use Prim.Native.Nat.{ℕ, ◌-◌}
 use native.Mathlib.Omega.{arith}
 use lib.ListN.{drop, length-drop}
 use lib.Seq.{length-take-le}
-use Rattle.blocks.proofs.Walking.{Standing, standing, ended, broken}
-use Rattle.menu_listing.proofs.Records.{passed_over, found_first, none-ended, none-broken, none-held}
+use Rattle.blocks.proofs.Walking.{Standing, standing}
+use Rattle.menu_listing.proofs.Records.{passed_over, found_first, none-left, none-held}
 use Rattle.menu_listing.proofs.finding.find_menu.Goals as goal
 
 pub loop-next-init : goal.loop-next-init
 loop-next-init c = (search rules, c.requires, refl)
 
-pub shape_of-form-in-End : goal.shape_of-form-in-End
-shape_of-form-in-End c = c.loop-next.invariant.1 ∙ sym c.requires
-
-pub returns-in-End : goal.returns-in-End
-returns-in-End c =
+pub returns : goal.returns
+returns c =
     let s = c.args in
-    let e = none-ended s.application s.number _ _ (ended _ _ (sym c.record_at.ensures ∙ c.in-End.is)) in
-    none-held _ (sym e ∙ c.loop-next.invariant.2)
-
-pub shape_of-form-in-Broken : goal.shape_of-form-in-Broken
-shape_of-form-in-Broken c = c.loop-next.invariant.1 ∙ sym c.requires
-
-pub returns-in-Broken : goal.returns-in-Broken
-returns-in-Broken c =
-    let s = c.args in
-    let e = none-broken s.application s.number (drop c.loop-next.at s.records.now) (broken _ _ (sym c.record_at.ensures ∙ c.in-Broken.is)).1 in
+    let e = none-left s.application s.number s.records.now c.loop-next.at c.record_at.result c.record_at.ensures c.in_default.not-Record in
     none-held _ (sym e ∙ c.loop-next.invariant.2)
 
 pub slice_bounds-judge-count : goal.slice_bounds-judge-count

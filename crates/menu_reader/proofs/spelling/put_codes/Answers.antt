@@ -1,23 +1,20 @@
 -- The answers that `menu_reader::spelling::put_codes` wants beside its invariants. Assumes nothing.
-use borrow.Author.Rules.{rules}
-use mathlib.Core.Path.{◌∙◌, refl}
+use mathlib.Core.Path.{◌≡◌, refl}
+use Prim.Native.Nat.{◌+◌, ◌-◌}
+use native.Mathlib.Omega.{arith}
 use Rattle.menu_reader.proofs.Rows.{codes-on, codes-end}
 use Rattle.menu_reader.proofs.spelling.put_codes.Goals as goal
 
-pub loop-left-init : goal.loop-left-init
-loop-left-init c = (refl, search rules, search rules, refl)
+pub loop-i-init : goal.loop-i-init
+loop-i-init c =
+    let n : c.args.count - 0 ≡ c.args.count = omega arith in
+    let q : c.args.to + 0 ≡ c.args.to = omega arith in
+    let p : c.args.from + 0 ≡ c.args.from = omega arith in
+    rw (n, q, p) refl
 
-pub loop-left-preserved : goal.loop-left-preserved
-loop-left-preserved c =
-    let a = c.args in
-    let l = c.loop-left in
-    let b = c.byte_at in
-    let p = c.put in (
-      p.auto.out ∙ l.invariant.0,
-      search rules,
-      search rules,
-      codes-on a.strings.now l.left l.i l.q b.result l.out p.new.out _ (search rules) b.ensures.0 p.ensures l.invariant.3,
-    )
+pub loop-i-preserved : goal.loop-i-preserved
+loop-i-preserved c =
+    codes-on c.args.strings.now c.args.count c.loop-i.i c.args.from c.args.to _ _ _ _ c.loop-i-test.true c.byte_at.ensures.0 c.put.ensures c.loop-i.invariant
 
 pub returns : goal.returns
-returns c = let l = c.loop-left in codes-end _ l.left l.q l.out _ (search rules) l.invariant.3
+returns c = codes-end _ _ _ _ _ (omega arith) c.loop-i.invariant

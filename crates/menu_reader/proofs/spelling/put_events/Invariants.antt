@@ -1,7 +1,5 @@
--- `menu_reader::spelling::put_events` meets its contract: what is left from here makes what was to be done. The measure is the events left.
--- Assumes nothing.
-use mathlib.Core.Path.{◌≡◌}
-use Prim.Native.Nat.{◌+◌, ◌*◌, ◌≤◌}
+-- `menu_reader::spelling::put_events` meets its contract: what is left from here makes what was to be done. Assumes nothing.
+use Prim.Native.Nat.{◌+◌, ◌-◌, ◌*◌, ◌≤◌}
 use lib.ListN.{length}
 use Rattle.menu_forms.specs.Rows.{each}
 use Rattle.menu_forms.specs.Menus.{event_fields, codes_of}
@@ -11,13 +9,11 @@ use Rattle.menu_reader.specs.Internal.{events_from}
 use Rattle.menu_reader.proofs.Going.{Ahead}
 use Rattle.menu_reader.proofs.spelling.put_events.Given as goal
 
-abbrev pub invariant-loop-left : goal.invariant-loop-left
-invariant-loop-left l =
-    (length l.out ≡ length l.initial.out) × (l.p.at + 2710 * l.left ≤ l.initial.p.at + 2710 * l.count) × (l.p.from + 255 * l.left ≤ l.initial.p.from + 255 * l.count)
-    × (l.p.to + 1611 * l.left ≤ l.initial.p.to + 1611 * l.count)
-    × Ahead l.p (length (in_nibbles (each event_fields (events_from l.left l.control l.strings l.p)))) (length (each codes_of (events_from l.left l.control l.strings l.p)))
-    (each event_form (events_from l.left l.control l.strings l.p)) l.out l.initial.p (length (in_nibbles (each event_fields (events_from l.count l.control l.strings l.initial.p))))
-    (length (each codes_of (events_from l.count l.control l.strings l.initial.p))) (each event_form (events_from l.count l.control l.strings l.initial.p)) l.initial.out
-
-abbrev pub decreases-loop-left : goal.decreases-loop-left
-decreases-loop-left l = l.left
+abbrev pub invariant-loop : goal.invariant-loop
+invariant-loop l =
+    let s = l.initial.p in
+    let here = events_from (l.count - l.counter) l.control l.strings l.p in
+    let all = events_from l.count l.control l.strings s in
+    (l.p.at ≤ s.at + 2710 * l.counter) × (l.p.from ≤ s.from + 255 * l.counter) × (l.p.to ≤ s.to + 1611 * l.counter)
+    × Ahead l.p (length (in_nibbles (each event_fields here))) (length (each codes_of here)) (each event_form here) l.out s
+    (length (in_nibbles (each event_fields all))) (length (each codes_of all)) (each event_form all) l.initial.out

@@ -1,22 +1,19 @@
 -- The answers that `menu_reader::spelling::put_info` wants beside its invariants. Assumes nothing.
-use borrow.Author.Rules.{rules}
-use mathlib.Core.Path.{◌∙◌, refl}
+use mathlib.Core.Path.{◌≡◌, refl}
+use Prim.Native.Nat.{◌+◌, ◌-◌}
+use native.Mathlib.Omega.{arith}
 use Rattle.menu_reader.proofs.Rows.{info_on, info_end}
 use Rattle.menu_reader.proofs.spelling.put_info.Goals as goal
 
-pub loop-left-init : goal.loop-left-init
-loop-left-init c = (refl, search rules, search rules, refl)
+pub loop-i-init : goal.loop-i-init
+loop-i-init c =
+    let k : c.args.k - 0 ≡ c.args.k = omega arith in
+    let q : c.args.to + 0 ≡ c.args.to = omega arith in
+    rw (k, q) refl
 
-pub loop-left-preserved : goal.loop-left-preserved
-loop-left-preserved c =
-    let l = c.loop-left in
-    let b = c.info_at in
-    let p = c.put in (
-      p.auto.out ∙ l.invariant.0,
-      search rules,
-      search rules,
-      info_on _ _ l.left l.q b.result l.out p.new.out _ (search rules) (search rules) b.ensures p.ensures l.invariant.3,
-    )
+pub loop-i-preserved : goal.loop-i-preserved
+loop-i-preserved c =
+    info_on _ _ _ _ _ _ _ _ c.loop-i-test.true c.info_at.ensures c.put.ensures c.loop-i.invariant
 
 pub returns : goal.returns
-returns c = let l = c.loop-left in info_end l.left l.q _ l.out _ (search rules) l.invariant.3
+returns c = info_end _ _ _ _ _ (omega arith) c.loop-i.invariant

@@ -1,4 +1,5 @@
 -- `menu_writer::measuring::measure` meets its contract: the descriptors, the header, the events. Assumes nothing.
+use borrow.Author.Rules.{rules}
 use mathlib.Core.Path.{refl}
 use native.Mathlib.Omega.{arith}
 use Rattle.menu_writer.proofs.Wholes.{whole-told}
@@ -12,9 +13,8 @@ returns c =
     let p = c.pass-d in
     let x = c.measure_text-h in
     let y = c.measure_events-e in (
-      whole-told a.form.now d.result n.result p.result.end x.result.end d.ensures.0 n.ensures.0 p.ensures.0 x.ensures.0.ends _ _ _
-          _ _ _ _ x.result y.result p.ensures.1 x.ensures.0 y.ensures.0 c.opening_fine.ensures c.both.ensures c.both-2.ensures
-          c.both-3.ensures refl refl,
+      whole-told a.form.now d.result n.result p.result.end x.result.end d.ensures.0 n.ensures.0 p.ensures.0 x.ensures.0.ends _ _
+          _ _ x.result y.result p.ensures.1 x.ensures.0 y.ensures.0 (search rules) refl refl,
       omega (arith, d.ensures.1, n.ensures.1, x.ensures.2, y.ensures.2),
       omega (arith, n.ensures.1, x.ensures.3, y.ensures.3),
     )

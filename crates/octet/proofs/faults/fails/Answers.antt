@@ -1,22 +1,16 @@
 -- The answers that `octet::faults::fails` wants beside its invariants. Assumes nothing.
 use borrow.Author.Rules.{rules}
 use mathlib.Core.Path.{◌≡◌, ◌∙◌, refl, sym, ap}
-use Prim.Native.Nat.{ℕ, ◌+◌, ◌-◌, ◌*◌, ◌/◌, ◌%◌, ◌≤◌, ◌<◌}
+use Prim.Native.Nat.{ℕ, ◌+◌, ◌*◌, ◌/◌, ◌%◌, ◌≤◌, ◌<◌}
 use native.Mathlib.Omega.{arith}
 use lib.ListN.{drop, length}
 use Rattle.octet.specs.Parity.{product, fails}
-use Rattle.octet.proofs.Rows.{row, row-length, bit-product, product-step, product-end}
+use Rattle.octet.proofs.Rows.{row, row-length, product-step, product-end}
 use Rattle.octet.proofs.faults.fails.Goals as goal
 
 pub loop-i-init : goal.loop-i-init
 unfolding fails
-loop-i-init c = (search rules, search rules, refl)
-
-pub overflow_mul-sum : goal.overflow_mul-sum
-overflow_mul-sum c = omega (arith, bit-product _ c.loop-i.rest c.check.ensures.upper_bound)
-
-pub overflow_add-sum : goal.overflow_add-sum
-overflow_add-sum c = omega (arith, bit-product _ c.loop-i.rest c.check.ensures.upper_bound)
+loop-i-init c = (search rules, refl)
 
 pub loop-i-preserved : goal.loop-i-preserved
 loop-i-preserved c =
@@ -25,7 +19,7 @@ loop-i-preserved c =
     let w : length (row k) ≡ 8 = row-length k c.requires in
     let i : l.i < length (row k) = omega arith in
     let next : ℕ → ℕ = λ x. ((l.sum + x * (l.rest % 2)) % 2 + product (drop (l.i + 1) (row k)) (l.rest / 2)) % 2 in
-    (search rules, omega arith, ap next c.check.ensures.value ∙ product-step (row k) l.i l.sum l.rest i ∙ l.invariant.2)
+    (omega arith, ap next c.check.ensures.value ∙ product-step (row k) l.i l.sum l.rest i ∙ l.invariant.1)
 
 pub returns : goal.returns
 returns c =
@@ -34,6 +28,6 @@ returns c =
     let w : length (row k) ≡ 8 = row-length k c.requires in
     let i : length (row k) ≤ l.i = omega arith in
     record {
-      value = sym (product-end (row k) l.i l.sum l.rest i l.invariant.1) ∙ l.invariant.2;
-      upper_bound = l.invariant.1;
+      value = sym (product-end (row k) l.i l.sum l.rest i l.invariant.0) ∙ l.invariant.1;
+      upper_bound = l.invariant.0;
     }

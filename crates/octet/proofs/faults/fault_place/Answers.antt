@@ -2,7 +2,7 @@
 use borrow.Author.Rules.{rules}
 use borrow.Author.Tests.{eq-eqb, ne_eqb}
 use mathlib.Core.Path.{◌≡◌, ◌∙◌, sym}
-use Prim.Native.Nat.{ℕ, ◌+◌, ◌*◌, ◌-◌}
+use Prim.Native.Nat.{ℕ, ◌+◌, ◌*◌}
 use native.Mathlib.Omega.{arith}
 use Rattle.octet.specs.Bits.{number}
 use Rattle.octet.specs.Parity.{checks, fails, failing, place_from, fault_place}
@@ -24,24 +24,6 @@ some_fails : (b s : ℕ) → s ≡ failing b → (s ≡ 0 → ⊥) → place_fro
 unfolding fault_place
 some_fails b s e z = rw (ne_eqb (failing b) 0 (λ q. z (e ∙ q)), e)
 
-pub overflow_mul-failing : goal.overflow_mul-failing
-overflow_mul-failing c = omega arith
-
-pub overflow_add-failing : goal.overflow_add-failing
-overflow_add-failing c = omega arith
-
-pub overflow_mul-failing-2 : goal.overflow_mul-failing-2
-overflow_mul-failing-2 c = omega arith
-
-pub overflow_add-failing-2 : goal.overflow_add-failing-2
-overflow_add-failing-2 c = omega arith
-
-pub overflow_mul-failing-3 : goal.overflow_mul-failing-3
-overflow_mul-failing-3 c = omega arith
-
-pub overflow_add-failing-3 : goal.overflow_add-failing-3
-overflow_add-failing-3 c = omega arith
-
 pub returns-then-failing-eq0 : goal.returns-then-failing-eq0
 returns-then-failing-eq0 c =
     none-fails _ _
@@ -49,30 +31,22 @@ returns-then-failing-eq0 c =
     c.if-failing-eq0.true
 
 pub loop-i-init : goal.loop-i-init
-loop-i-init c = (
-  search rules,
-  some_fails _ _
-      (gathered _ _ _ _ _ c.fails.ensures.value c.fails-2.ensures.value c.fails-3.ensures.value c.fails-4.ensures.value)
-      c.if-failing-eq0.false,
-)
+loop-i-init c =
+    some_fails _ _
+    (gathered _ _ _ _ _ c.fails.ensures.value c.fails-2.ensures.value c.fails-3.ensures.value c.fails-4.ensures.value)
+    c.if-failing-eq0.false
 
 pub returns-then-column-failing : goal.returns-then-column-failing
 returns-then-column-failing c =
     let l = c.loop-i in
-    sym (place_found l.i _ (search rules) (sym c.column.ensures ∙ c.if-column-failing.true)) ∙ l.invariant.1
-
-pub overflow_add-i : goal.overflow_add-i
-overflow_add-i c = omega arith
-
-pub loop-i-smaller : goal.loop-i-smaller
-loop-i-smaller c = omega arith
+    sym (place_found l.i _ (search rules) (sym c.column.ensures ∙ c.if-column-failing.true)) ∙ l.invariant
 
 pub loop-i-preserved : goal.loop-i-preserved
 loop-i-preserved c =
     let l = c.loop-i in
-    (search rules, sym (place-step l.i _ (search rules) (λ e. c.if-column-failing.false (c.column.ensures ∙ e))) ∙ l.invariant.1)
+    sym (place-step l.i _ (search rules) (λ e. c.if-column-failing.false (c.column.ensures ∙ e))) ∙ l.invariant
 
 pub returns : goal.returns
 returns c =
     let l = c.loop-i in
-    sym (place_none l.i _ (search rules)) ∙ l.invariant.1
+    sym (place_none l.i _ (search rules)) ∙ l.invariant

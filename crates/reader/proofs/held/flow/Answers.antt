@@ -1,6 +1,6 @@
 -- The answers that `reader::held::flow` wants beside its invariants. Assumes nothing.
 use mathlib.Core.Path.{◌≡◌, ◌∙◌, refl, ap}
-use Prim.Native.Nat.{◌+◌, ◌-◌, ◌≤◌}
+use Prim.Native.Nat.{◌+◌, ◌≤◌}
 use native.Mathlib.Omega.{arith}
 use lib.ListN.{length, drop, length-drop}
 use lib.Seq.{drop-drop}
@@ -11,13 +11,13 @@ use Rattle.walk.proofs.Keeping.{found-bits, found_part}
 use Rattle.walk.proofs.Adding.{place, from_place, flow-nothing, flow-broken, flow-cut, flow-held, flow-on}
 use Rattle.reader.proofs.held.flow.Goals as goal
 
-pub loop-g-init : goal.loop-g-init
-loop-g-init c = (omega arith, omega arith, c.requires.s_in_bounds.1, refl, c.requires.store_value, λ r store new w. w)
+pub loop-got-init : goal.loop-got-init
+loop-got-init c = (omega arith, omega arith, c.requires.s_in_bounds.1, refl, c.requires.store_value, λ r store new w. w)
 
 pub returns-in-Nothing : goal.returns-in-Nothing
 returns-in-Nothing c =
     let a = c.args in
-    let l = c.loop-g in
+    let l = c.loop-got in
     rw c.so_far.ensures
     (from_place a.got
     (l.invariant.5 _ _ _
@@ -28,7 +28,7 @@ returns-in-Nothing c =
 pub returns-in-Broken : goal.returns-in-Broken
 returns-in-Broken c =
     let a = c.args in
-    let l = c.loop-g in
+    let l = c.loop-got in
     rw c.so_far-in-Broken.ensures
     (from_place a.got
     (l.invariant.5 _ _ _
@@ -39,7 +39,7 @@ returns-in-Broken c =
 pub overflow_cast-left : goal.overflow_cast-left
 overflow_cast-left c =
     let s = c.args.s.now in
-    let l = c.loop-g in
+    let l = c.loop-got in
     let x = c.find.ensures.s_value ∙ ap (ahead_in s) c.in-Cut.is in
     let b = found-bits (drop l.at s) x in
     omega (arith, b.counted, b.got)
@@ -47,7 +47,7 @@ overflow_cast-left c =
 pub returns-in-Cut : goal.returns-in-Cut
 returns-in-Cut c =
     let a = c.args in
-    let l = c.loop-g in
+    let l = c.loop-got in
     let x = c.find.ensures.s_value ∙ ap (ahead_in a.s.now) c.in-Cut.is in
     rw c.so_far-in-Cut.ensures
     (from_place a.got
@@ -59,24 +59,24 @@ returns-in-Cut c =
 pub overflow_cast-mended : goal.overflow_cast-mended
 overflow_cast-mended c =
     let is_whole-c : ((let s = c.args.s.now in
-    found (drop c.loop-g.at s) ≡ whole c.in-Whole.head c.in-Whole.part (drop c.in-Whole.next s))) = (c.find.ensures.s_value ∙ ap (ahead_in c.args.s.now) c.in-Whole.is) in
-    let l = c.loop-g in
+    found (drop c.loop-got.at s) ≡ whole c.in-Whole.head c.in-Whole.part (drop c.in-Whole.next s))) = (c.find.ensures.s_value ∙ ap (ahead_in c.args.s.now) c.in-Whole.is) in
+    let l = c.loop-got in
     let p = found_part (drop l.at c.args.s.now) is_whole-c in
     omega (arith, p)
 
 pub overflow_sub-there : goal.overflow_sub-there
 overflow_sub-there c =
     let past-header-c : ((c.in-Whole.next ≤ length c.args.s.now)
-    × (c.loop-g.at + 5 ≤ c.in-Whole.next)) = (let f = c.find in
-    (next-within f.result c.in-Whole.is f.ensures.result_in_bounds, next-from f.result (c.loop-g.at + 5) c.in-Whole.is f.ensures.from_bound)) in
+    × (c.loop-got.at + 5 ≤ c.in-Whole.next)) = (let f = c.find in
+    (next-within f.result c.in-Whole.is f.ensures.result_in_bounds, next-from f.result (c.loop-got.at + 5) c.in-Whole.is f.ensures.from_bound)) in
     past-header-c.0
 
 pub returns-then-there-size : goal.returns-then-there-size
 returns-then-there-size c =
     let is_whole-c : ((let s = c.args.s.now in
-    found (drop c.loop-g.at s) ≡ whole c.in-Whole.head c.in-Whole.part (drop c.in-Whole.next s))) = (c.find.ensures.s_value ∙ ap (ahead_in c.args.s.now) c.in-Whole.is) in
+    found (drop c.loop-got.at s) ≡ whole c.in-Whole.head c.in-Whole.part (drop c.in-Whole.next s))) = (c.find.ensures.s_value ∙ ap (ahead_in c.args.s.now) c.in-Whole.is) in
     let a = c.args in
-    let l = c.loop-g in
+    let l = c.loop-got in
     let n = c.in-Whole.next in
     rw c.so_far-then-there-size.ensures
     (from_place a.got
@@ -90,48 +90,48 @@ returns-then-there-size c =
 pub emit-requires : goal.emit-requires
 emit-requires c =
     let past-header-c : ((c.in-Whole.next ≤ length c.args.s.now)
-    × (c.loop-g.at + 5 ≤ c.in-Whole.next)) = (let f = c.find in
-    (next-within f.result c.in-Whole.is f.ensures.result_in_bounds, next-from f.result (c.loop-g.at + 5) c.in-Whole.is f.ensures.from_bound)) in
+    × (c.loop-got.at + 5 ≤ c.in-Whole.next)) = (let f = c.find in
+    (next-within f.result c.in-Whole.is f.ensures.result_in_bounds, next-from f.result (c.loop-got.at + 5) c.in-Whole.is f.ensures.from_bound)) in
     let n = past-header-c in (omega (arith, n), omega (arith, n))
 
 pub overflow_add-q : goal.overflow_add-q
 overflow_add-q c =
     let past-header-c : ((c.in-Whole.next ≤ length c.args.s.now)
-    × (c.loop-g.at + 5 ≤ c.in-Whole.next)) = (let f = c.find in
-    (next-within f.result c.in-Whole.is f.ensures.result_in_bounds, next-from f.result (c.loop-g.at + 5) c.in-Whole.is f.ensures.from_bound)) in
+    × (c.loop-got.at + 5 ≤ c.in-Whole.next)) = (let f = c.find in
+    (next-within f.result c.in-Whole.is f.ensures.result_in_bounds, next-from f.result (c.loop-got.at + 5) c.in-Whole.is f.ensures.from_bound)) in
     omega (arith, past-header-c)
 
 pub overflow_add-q-in-Whole : goal.overflow_add-q-in-Whole
 overflow_add-q-in-Whole c =
     let past-header-c : ((c.in-Whole.next ≤ length c.args.s.now)
-    × (c.loop-g.at + 5 ≤ c.in-Whole.next)) = (let f = c.find in
-    (next-within f.result c.in-Whole.is f.ensures.result_in_bounds, next-from f.result (c.loop-g.at + 5) c.in-Whole.is f.ensures.from_bound)) in
+    × (c.loop-got.at + 5 ≤ c.in-Whole.next)) = (let f = c.find in
+    (next-within f.result c.in-Whole.is f.ensures.result_in_bounds, next-from f.result (c.loop-got.at + 5) c.in-Whole.is f.ensures.from_bound)) in
     omega (arith, past-header-c)
 
 pub overflow_add-at : goal.overflow_add-at
 overflow_add-at c =
     let past-header-c : ((c.in-Whole.next ≤ length c.args.s.now)
-    × (c.loop-g.at + 5 ≤ c.in-Whole.next)) = (let f = c.find in
-    (next-within f.result c.in-Whole.is f.ensures.result_in_bounds, next-from f.result (c.loop-g.at + 5) c.in-Whole.is f.ensures.from_bound)) in
+    × (c.loop-got.at + 5 ≤ c.in-Whole.next)) = (let f = c.find in
+    (next-within f.result c.in-Whole.is f.ensures.result_in_bounds, next-from f.result (c.loop-got.at + 5) c.in-Whole.is f.ensures.from_bound)) in
     omega (arith, past-header-c)
 
-pub loop-g-smaller : goal.loop-g-smaller
-loop-g-smaller c =
+pub loop-got-smaller : goal.loop-got-smaller
+loop-got-smaller c =
     let past-header-c : ((c.in-Whole.next ≤ length c.args.s.now)
-    × (c.loop-g.at + 5 ≤ c.in-Whole.next)) = (let f = c.find in
-    (next-within f.result c.in-Whole.is f.ensures.result_in_bounds, next-from f.result (c.loop-g.at + 5) c.in-Whole.is f.ensures.from_bound)) in
+    × (c.loop-got.at + 5 ≤ c.in-Whole.next)) = (let f = c.find in
+    (next-within f.result c.in-Whole.is f.ensures.result_in_bounds, next-from f.result (c.loop-got.at + 5) c.in-Whole.is f.ensures.from_bound)) in
     omega (arith, past-header-c)
 
-pub loop-g-preserved : goal.loop-g-preserved
-loop-g-preserved c =
+pub loop-got-preserved : goal.loop-got-preserved
+loop-got-preserved c =
     let is_whole-c : ((let s = c.args.s.now in
-    found (drop c.loop-g.at s) ≡ whole c.in-Whole.head c.in-Whole.part (drop c.in-Whole.next s))) = (c.find.ensures.s_value ∙ ap (ahead_in c.args.s.now) c.in-Whole.is) in
+    found (drop c.loop-got.at s) ≡ whole c.in-Whole.head c.in-Whole.part (drop c.in-Whole.next s))) = (c.find.ensures.s_value ∙ ap (ahead_in c.args.s.now) c.in-Whole.is) in
     let past-header-c : ((c.in-Whole.next ≤ length c.args.s.now)
-    × (c.loop-g.at + 5 ≤ c.in-Whole.next)) = (let f = c.find in
-    (next-within f.result c.in-Whole.is f.ensures.result_in_bounds, next-from f.result (c.loop-g.at + 5) c.in-Whole.is f.ensures.from_bound)) in
+    × (c.loop-got.at + 5 ≤ c.in-Whole.next)) = (let f = c.find in
+    (next-within f.result c.in-Whole.is f.ensures.result_in_bounds, next-from f.result (c.loop-got.at + 5) c.in-Whole.is f.ensures.from_bound)) in
     let n = past-header-c in
     let a = c.args in
-    let l = c.loop-g in (
+    let l = c.loop-got in (
       omega (arith, n),
       omega (arith, n),
       omega (arith, n),

@@ -2,6 +2,7 @@
 use mathlib.Core.Path.{◌∙◌}
 use native.Mathlib.Omega.{arith}
 use Rattle.walk.proofs.Keeping.{body-fits, body-size, body-store, body-clear}
+use Rattle.reader.proofs.Holding.{byte_picked}
 use Rattle.reader.proofs.held.hand_out.Goals as goal
 
 pub emit-requires : goal.emit-requires
@@ -14,5 +15,5 @@ returns c =
     let k = c.requires.kept in
     record {
       store_after = c.clear.ensures ∙ body-clear k;
-      out_after = rw c.second_byte.ensures at c.emit.ensures;
+      out_after = rw (c.from.ensures, byte_picked c.args.joined) at c.emit.ensures;
     }

@@ -1,4 +1,5 @@
 -- `reader::held::take_in` meets its contract: a header is read on, and then the block takes its bytes. Assumes nothing.
+use mathlib.Core.Logic.{inl, inr}
 use Prim.Native.Nat.{◌≤◌}
 use native.Mathlib.Omega.{arith}
 use Rattle.walk.proofs.Staying.{continues_off}
@@ -44,11 +45,8 @@ returns-in-Idle c =
 
 pub returns-in-Nothing : goal.returns-in-Nothing
 returns-in-Nothing c =
-    head-lost c.args.s.now c.head_on.result c.requires c.in-Head.is c.head_on.ensures.s_value (λ p. rw c.in-Nothing.is)
-
-pub returns-in-Broken : goal.returns-in-Broken
-returns-in-Broken c =
-    head-lost c.args.s.now c.head_on.result c.requires c.in-Head.is c.head_on.ensures.s_value (λ p. rw c.in-Broken.is)
+    let lost = head-lost c.args.s.now c.head_on.result c.requires c.in-Head.is c.head_on.ensures.s_value in
+    elim c.in-Nothing.is [ inl e ↦ lost (λ p. rw e) | inr e ↦ lost (λ p. rw e) ]
 
 pub returns-in-Cut : goal.returns-in-Cut
 returns-in-Cut c =

@@ -1,7 +1,7 @@
 -- The answers that `reader::many::go_along` wants beside its invariants. Assumes nothing.
 use mathlib.Core.Path.{◌∙◌, refl, sym}
 use mathlib.Core.Bool.{false, true≢false}
-use Prim.Native.Nat.{◌+◌, ◌-◌, ◌≤◌}
+use Prim.Native.Nat.{◌+◌, ◌≤◌}
 use native.Mathlib.Omega.{arith}
 use lib.ListN.{length}
 use Rattle.pages.proofs.Judged.{as-packet, as-over, as-numbered}

@@ -1,7 +1,7 @@
 -- The answers that `reader::many::go_past` wants beside its invariants. Assumes nothing.
 use mathlib.Core.Path.{◌∙◌, refl, sym}
-use mathlib.Core.Bool.{true, false, true≢false}
-use Prim.Native.Nat.{◌+◌, ◌-◌, ◌≤◌}
+use mathlib.Core.Bool.{true≢false}
+use Prim.Native.Nat.{◌+◌, ◌≤◌}
 use native.Mathlib.Omega.{arith}
 use lib.ListN.{length, get_or, drop}
 use Rattle.octet.specs.Decoding.{nib}

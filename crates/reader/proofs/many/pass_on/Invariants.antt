@@ -1,11 +1,12 @@
 -- `reader::many::pass_on` meets its contract: each packet that it passes by is another magazine's. Assumes nothing.
-use Prim.Native.Nat.{◌-◌}
-use lib.ListN.{length}
+use mathlib.Core.Path.{◌≡◌}
+use lib.ListN.{drop}
+use Rattle.std.specs.Slice.Iter.{chunks_exact_rest, chunks_exact_size}
 use Rattle.reader.specs.Internal.{Passed}
 use Rattle.reader.proofs.many.pass_on.Given as goal
 
-abbrev pub invariant-loop-at : goal.invariant-loop-at
-invariant-loop-at l = Passed l.setting l.packets l.from l.at
-
-abbrev pub decreases-loop-at : goal.decreases-loop-at
-decreases-loop-at l = length l.packets - l.at
+abbrev pub invariant-loop-packet : goal.invariant-loop-packet
+invariant-loop-packet l =
+    (goal.iterator-loop-packet).can_next l.packet-iterator × (goal.iterator-loop-packet).is_finite l.packet-iterator
+    × (chunks_exact_size l.packet-iterator ≡ 42) × (chunks_exact_rest l.packet-iterator ≡ drop l.at l.packets)
+    × Passed l.setting l.packets l.from l.at

@@ -1,6 +1,5 @@
 -- The answers that `reader::two::put_tagged` wants beside its invariants. Assumes nothing.
 use mathlib.Core.Path.{◌∙◌, refl}
-use Prim.Native.Nat.{◌-◌}
 use native.Mathlib.Omega.{arith}
 use lib.ListN.{length-set}
 use Rattle.reader.proofs.Tagging.{left-all, left-none, left_one}

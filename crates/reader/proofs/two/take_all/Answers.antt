@@ -4,7 +4,6 @@ use mathlib.Core.Path.{◌≡◌, ◌∙◌, refl, sym}
 use Prim.Native.Nat.{◌+◌, ◌-◌, ◌≤◌}
 use native.Mathlib.Omega.{arith}
 use lib.ListN.{length}
-use Rattle.walk.specs.Reading.{room}
 use Rattle.walk.proofs.Keeping.{holds_kept}
 use Rattle.reader.specs.Calls.{begun}
 use Rattle.reader.specs.Two.{does_for_two}
@@ -93,7 +92,7 @@ turn-a-requires c =
     let t = c.if-at-packets.true in
     let at = k.result.at in
     let h : at + 42 ≤ length a.packets.now = omega (arith, x.even, t) in
-    let r : k.result.pair.written + 2176 ≤ long = omega (arith, x.room f t, l.invariant.3) in record {
+    let r : k.result.going.written + 2176 ≤ long = omega (arith, x.room f t, l.invariant.3) in record {
       kept = holds_kept _ q.1.first.holds;
       kept_2 = holds_kept _ q.1.second.holds;
       packet_len = packet_length_lem a.packets.now at h;
@@ -113,7 +112,7 @@ loop-at-preserved-then-at-packets c =
     let t = c.if-at-packets.true in
     let at = k.result.at in
     let h : at + 42 ≤ length a.packets.now = omega (arith, x.even, t) in
-    let r : k.result.pair.written + 2176 ≤ long = omega (arith, x.room f t, l.invariant.3) in
+    let r : k.result.going.written + 2176 ≤ long = omega (arith, x.room f t, l.invariant.3) in
     let p = packet_at a.packets.now at in
     let y = c.turn-a.ensures _ in
     let g = still_room_two a.setting p (packet_length_lem a.packets.now at h) (holds_kept _ q.1.first.holds) (holds_kept _ q.1.second.holds) y x.few in (

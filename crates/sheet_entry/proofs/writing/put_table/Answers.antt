@@ -9,17 +9,17 @@ pub overflow_add-result : goal.overflow_add-result
 overflow_add-result c =
     let f : List ℕ = c.args.table.now in
     let d = c.list_descriptors in
-    let n = table-long f c.args.out.now c.args.at c.requires.0 c.requires.1 c.requires.2 d.ensures.answer c.in-Done.is in
+    let n = table-long f c.args.out.now c.args.at c.requires.0 c.requires.1 c.requires.2 d.ensures.answer c.in-Ok.is in
     omega (arith, n, lines_most_lem f c.requires.0, c.requires.2)
 
-pub returns-in-Done : goal.returns-in-Done
-returns-in-Done c =
+pub returns-in-Ok : goal.returns-in-Ok
+returns-in-Ok c =
     let f : List ℕ = c.args.table.now in
     let d = c.list_descriptors in
-    table-put f c.args.out.now c.args.at c.requires.0 c.requires.1 c.requires.2 d.ensures.answer c.in-Done.is d.ensures.output
+    table-put f c.args.out.now c.args.at c.requires.0 c.requires.1 c.requires.2 d.ensures.answer c.in-Ok.is d.ensures.output
 
-pub returns-in-Refused : goal.returns-in-Refused
-returns-in-Refused c =
+pub returns-in-Err : goal.returns-in-Err
+returns-in-Err c =
     let f : List ℕ = c.args.table.now in
     let d = c.list_descriptors in
-    absurd (table_taken f c.args.out.now c.args.at c.requires.0 c.requires.1 c.requires.2 d.ensures.answer c.in-Refused.is)
+    absurd (table_taken f c.args.out.now c.args.at c.requires.0 c.requires.1 c.requires.2 d.ensures.answer c.in-Err.is)

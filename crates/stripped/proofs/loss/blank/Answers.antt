@@ -1,20 +1,11 @@
--- The answers that `stripped::loss::blank` wants beside its invariants. Assumes nothing.
+-- `stripped::loss::blank` meets its contract. Assumes nothing.
 use borrow.Author.Rules.{rules}
-use mathlib.Core.Path.{◌∙◌, sym}
-use Prim.Native.Nat.{◌-◌}
-use lib.ListN.{length-set}
-use Rattle.stripped.proofs.Blanking.{blank_step, blank-end, blank-fits, blank-no_room}
+use mathlib.Core.Path.{sym}
+use Rattle.stripped.proofs.Blanking.{front-filled, blank-no_room}
 use Rattle.stripped.proofs.loss.blank.Goals as goal
 
-pub returns-then-packets-lt-PACKET : goal.returns-then-packets-lt-PACKET
-returns-then-packets-lt-PACKET c = sym (blank-no_room _ (search rules))
+pub returns-then-packets-ge-PACKET : goal.returns-then-packets-ge-PACKET
+returns-then-packets-ge-PACKET c = front-filled c.args.packets.now c.if-packets-ge-PACKET.true (c.fill.ensures.after (search rules))
 
-pub loop-i-preserved : goal.loop-i-preserved
-loop-i-preserved c =
-    let l = c.loop-i in
-    (search rules, simp length-set l.invariant.1, blank_step 42 l.i 0x16 l.packets (search rules) ∙ l.invariant.2)
-
-pub returns : goal.returns
-returns c =
-    let l = c.loop-i in
-    sym (blank-end 42 l.i 0x16 l.packets (search rules)) ∙ l.invariant.2 ∙ sym (blank-fits _ (search rules))
+pub returns-else-packets-ge-PACKET : goal.returns-else-packets-ge-PACKET
+returns-else-packets-ge-PACKET c = sym (blank-no_room c.args.packets.now c.if-packets-ge-PACKET.false)

@@ -1,12 +1,9 @@
--- `symbols::cells::first` meets its contract: each `return` is by the tests that led there. Assumes nothing.
+-- `symbols::cells::first` meets its contract: each branch is by the test that led there. Assumes nothing.
 use native.Mathlib.Omega.{arith}
 use Rattle.symbols.proofs.cells.first.Goals as goal
 
-pub returns-then-not-starts : goal.returns-then-not-starts
-returns-then-not-starts c = rw c.if-not-starts.true
+pub returns-then-starts : goal.returns-then-starts
+returns-then-starts c = rw c.if-starts.true (omega arith)
 
-pub returns-then-i-before : goal.returns-then-i-before
-returns-then-i-before c = rw c.if-not-starts.false (omega arith)
-
-pub returns : goal.returns
-returns c = rw c.if-not-starts.false (omega arith)
+pub returns-else-starts : goal.returns-else-starts
+returns-else-starts c = rw c.if-starts.false

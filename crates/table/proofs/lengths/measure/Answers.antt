@@ -7,33 +7,21 @@ use Rattle.forms.proofs.Measures.{words_counted}
 use Rattle.table.proofs.Loops.{walk-on, walk_end}
 use Rattle.table.proofs.lengths.measure.Goals as goal
 
-pub loop-left-init : goal.loop-left-init
-loop-left-init c = (search rules, refl)
-
-pub overflow_mul-at : goal.overflow_mul-at
-overflow_mul-at c = omega (arith, c.words_of-words.ensures.1, c.field_of.ensures.1)
-
-pub overflow_add-at-in-loop-left : goal.overflow_add-at-in-loop-left
-overflow_add-at-in-loop-left c = omega (arith, c.words_of-words.ensures.1, c.field_of.ensures.1)
-
-pub overflow_add-at-in-loop-left-2 : goal.overflow_add-at-in-loop-left-2
-overflow_add-at-in-loop-left-2 c = omega (arith, c.words_of-words.ensures.1, c.field_of.ensures.1, c.loop-left.invariant.0)
-
-pub loop-left-preserved : goal.loop-left-preserved
-loop-left-preserved c =
-    let l = c.loop-left in
+pub loop-preserved : goal.loop-preserved
+loop-preserved c =
+    let l = c.loop in
     let a = c.args in
     let n = compound a.body.now in (
       omega (arith, c.words_of-words.ensures.1, c.field_of.ensures.1),
-      walk-on a.kind l.left n l.at c.field_of.result c.words_of-words.result _ (search rules)
+      walk-on a.kind _ _ n l.at c.field_of.result c.words_of-words.result _ (search rules)
           c.field_of.ensures.0
           (words_counted _ _ _ _ c.words_of-words.ensures.0 (omega (arith, c.field_of.ensures.1)) refl) l.invariant.1,
     )
 
 pub returns : goal.returns
 returns c =
-    let l = c.loop-left in
+    let l = c.loop in
     let a = c.args in (
-      walk_end a.kind l.left (compound a.body.now) l.at _ (search rules) l.invariant.1,
+      walk_end a.kind _ (compound a.body.now) l.at _ (search rules) l.invariant.1,
       search rules,
     )

@@ -5,8 +5,5 @@ use lib.ListN.{length, drop}
 use Rattle.text_lines.proofs.Putting.{Left}
 use Rattle.text_lines.proofs.puts.put_cut.Given as goal
 
-abbrev pub invariant-loop-i : goal.invariant-loop-i
-invariant-loop-i l = (l.i ≤ length l.text) × (length l.out ≡ length l.initial.out) × (l.p + (length l.text - l.i) ≤ l.q + length l.text) × Left l.out l.p (drop l.i l.text) l.initial.out l.q l.text
-
-abbrev pub decreases-loop-i : goal.decreases-loop-i
-decreases-loop-i l = length l.text - l.i
+abbrev pub invariant-loop-b : goal.invariant-loop-b
+invariant-loop-b l = (l.b-index ≤ length l.text) × (length l.out ≡ length l.initial.out) × (l.p + (length l.text - l.b-index) ≤ l.q + length l.text) × Left l.out l.p (drop l.b-index l.text) l.initial.out l.q l.text

@@ -1,16 +1,23 @@
--- `told::names::glyph` meets its contract: its tests in order. Assumes nothing.
-use borrow.Author.Tests.{lt-ltb, le-ltb, eq-eqb, ne_eqb}
+-- `told::names::glyph` meets its contract: a byte is a control character, or not. Assumes nothing.
+use Rattle.std.proofs.Common.{◌≡◌, ◌≤◌, ◌≢◌, inl, inr, arith}
+use Rattle.std.proofs.lemmas.Bool.{lt-ltb, le-ltb, ne_eqb}
 use Rattle.told.specs.Names.{printed}
 use Rattle.told.proofs.names.glyph.Goals as goal
 
-pub returns-then-b-lt32 : goal.returns-then-b-lt32
+pub returns-then-is_ascii_control : goal.returns-then-is_ascii_control
 unfolding printed
-returns-then-b-lt32 c = simp (lt-ltb _ _ c.if-b-lt32.true)
+returns-then-is_ascii_control c =
+    let b = c.args.b in
+    elim c.if-is_ascii_control.ensures.cases [
+      | inl h ↦ simp (lt-ltb b 0x20 (omega (arith, h)))
+      | inr h ↦ let e : b ≡ 0x7F = omega (arith, h) in simp e
+    ]
 
-pub returns-then-b-eq127 : goal.returns-then-b-eq127
+pub returns-else-is_ascii_control : goal.returns-else-is_ascii_control
 unfolding printed
-returns-then-b-eq127 c = simp (le-ltb _ _ c.if-b-lt32.false, eq-eqb _ _ c.if-b-eq127.true)
-
-pub returns : goal.returns
-unfolding printed
-returns c = simp (le-ltb _ _ c.if-b-lt32.false, ne_eqb _ _ c.if-b-eq127.false)
+returns-else-is_ascii_control c =
+    let b = c.args.b in
+    let h = c.if-is_ascii_control.ensures.cases in
+    let least : 0x20 ≤ b = omega (arith, h) in
+    let other : b ≢ 0x7F = omega (arith, h) in
+    simp (le-ltb b 0x20 least, ne_eqb b 0x7F other)

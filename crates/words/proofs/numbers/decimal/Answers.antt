@@ -1,7 +1,6 @@
 -- The answers that `words::numbers::decimal` wants beside its invariants. Assumes nothing.
 use borrow.Author.Tests.{eq-eqb, ne_eqb}
 use mathlib.Core.Path.{◌∙◌, sym}
-use Prim.Native.Nat.{◌-◌}
 use native.Mathlib.Omega.{arith}
 use Rattle.words.specs.Numbers.{decimal_of}
 use Rattle.words.proofs.Reading.{digit-taken, digit-bad, too_large, digits_end}
@@ -12,18 +11,18 @@ pub returns-then-word-eq0 : goal.returns-then-word-eq0
 unfolding decimal_of
 returns-then-word-eq0 c = simp (eq-eqb _ _ c.if-word-eq0.true)
 
-pub loop-i-init : goal.loop-i-init
+pub loop-b-init : goal.loop-b-init
 unfolding decimal_of
-loop-i-init c = (search rules, search rules, simp (ne_eqb _ _ c.if-word-eq0.false))
+loop-b-init c = (search rules, search rules, simp (ne_eqb _ _ c.if-word-eq0.false))
 
 pub returns-then-d-ge10 : goal.returns-then-d-ge10
-returns-then-d-ge10 c = sym (digit-bad _ c.loop-i.i c.loop-i.number (omega arith) c.digit-d.ensures (omega arith)) ∙ c.loop-i.invariant.2
+returns-then-d-ge10 c = sym (digit-bad _ c.loop-b.b-index c.loop-b.number (omega arith) c.digit-d.ensures (omega arith)) ∙ c.loop-b.invariant.2
 
 pub returns-then-more-gt-MOST : goal.returns-then-more-gt-MOST
-returns-then-more-gt-MOST c = sym (too_large _ c.loop-i.i c.loop-i.number (omega arith) c.digit-d.ensures (omega arith) c.if-more-gt-MOST.true) ∙ c.loop-i.invariant.2
+returns-then-more-gt-MOST c = sym (too_large _ c.loop-b.b-index c.loop-b.number (omega arith) c.digit-d.ensures (omega arith) c.if-more-gt-MOST.true) ∙ c.loop-b.invariant.2
 
-pub loop-i-preserved : goal.loop-i-preserved
-loop-i-preserved c = (search rules, search rules, digit-taken _ c.loop-i.i c.loop-i.number (omega arith) c.digit-d.ensures (omega arith) c.if-more-gt-MOST.false ∙ c.loop-i.invariant.2)
+pub loop-b-preserved : goal.loop-b-preserved
+loop-b-preserved c = (search rules, search rules, digit-taken _ c.loop-b.b-index c.loop-b.number (omega arith) c.digit-d.ensures (omega arith) c.if-more-gt-MOST.false ∙ c.loop-b.invariant.2)
 
 pub returns : goal.returns
-returns c = sym (digits_end _ c.loop-i.i c.loop-i.number (omega arith)) ∙ c.loop-i.invariant.2
+returns c = sym (digits_end _ c.loop-b.b-index c.loop-b.number (omega arith)) ∙ c.loop-b.invariant.2

@@ -1,6 +1,5 @@
 -- The answers that `words::options::option_of` wants beside its invariants. Assumes nothing.
 use mathlib.Core.Path.{◌∙◌, sym}
-use Prim.Native.Nat.{◌-◌}
 use native.Mathlib.Omega.{arith}
 use Rattle.words.proofs.Finding.{option-here, option-further, no_option}
 use borrow.Author.Rules.{rules}
@@ -13,4 +12,7 @@ pub loop-k-preserved : goal.loop-k-preserved
 loop-k-preserved c = (search rules, option-further _ _ c.loop-k.k c.entry.ensures (omega arith) c.if-entry-letter.false ∙ c.loop-k.invariant.1)
 
 pub returns : goal.returns
-returns c = sym (no_option _ _ c.loop-k.k (omega arith)) ∙ c.loop-k.invariant.1
+returns c =
+    let l = c.loop-k in
+    let none = no_option c.args.options.now c.args.letter l.k (omega arith) in
+    omega (arith, none, l.invariant.1)

@@ -6,6 +6,3 @@ use Rattle.words.proofs.options.option_of.Given as goal
 
 abbrev pub invariant-loop-k : goal.invariant-loop-k
 invariant-loop-k l = (l.k ≤ 8) × (option_from (8 - l.k) l.k l.options l.letter ≡ option_of l.options l.letter)
-
-abbrev pub decreases-loop-k : goal.decreases-loop-k
-decreases-loop-k l = 8 - l.k

@@ -7,6 +7,6 @@ pub returns-then-b-eq-ONCE_OR_MORE : goal.returns-then-b-eq-ONCE_OR_MORE
 unfolding is_mark
 returns-then-b-eq-ONCE_OR_MORE c = simp (eq-eqb _ _ c.if-b-eq-ONCE_OR_MORE.true)
 
-pub returns : goal.returns
+pub returns-else-b-eq-ONCE_OR_MORE : goal.returns-else-b-eq-ONCE_OR_MORE
 unfolding is_mark
-returns c = simp (ne_eqb _ _ c.if-b-eq-ONCE_OR_MORE.false)
+returns-else-b-eq-ONCE_OR_MORE c = simp (ne_eqb _ _ c.if-b-eq-ONCE_OR_MORE.false)

@@ -1,10 +1,9 @@
 -- The answers that `writer::zero::write_images` wants beside its invariants. Assumes nothing.
 use mathlib.Core.Path.{◌∙◌, refl}
-use Prim.Native.Nat.{◌+◌, ◌-◌}
+use Prim.Native.Nat.{◌+◌}
 use native.Mathlib.Nat.{add-zero}
 use borrow.Author.Rules.{rules}
 use lib.ListN.{length-set}
-use Rattle.octet.specs.Image.{image}
 use Rattle.writer.proofs.PacketZero.{images_more, images_all}
 use Rattle.writer.proofs.zero.write_images.Goals as goal
 

@@ -1,8 +1,0 @@
--- `sheet::change_all` is safe and ends: the number of turns that are left falls. Assumes nothing.
-use Rattle.sheet.proofs.change_all.Given as goal
-
-abbrev pub invariant-loop-left : goal.invariant-loop-left
-invariant-loop-left g l = Unit {0}
-
-abbrev pub decreases-loop-left : goal.decreases-loop-left
-decreases-loop-left g l = l.left

@@ -1,8 +1,0 @@
--- `sheet::standing::seek` is safe and ends: the number of turns that are left falls. Assumes nothing.
-use Rattle.sheet.proofs.standing.seek.Given as goal
-
-abbrev pub invariant-loop-left : goal.invariant-loop-left
-invariant-loop-left l = Unit {0}
-
-abbrev pub decreases-loop-left : goal.decreases-loop-left
-decreases-loop-left l = l.left
