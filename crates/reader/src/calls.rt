@@ -7,7 +7,7 @@ ghost use Rattle.answer.specs.Values.{refusal};
 ghost use Rattle.packet.specs.Packet.{packet_length};
 ghost use Rattle.reader.specs.Internal.{Reading, told as internal_told, laid, all_heard, all_reader, all_out, one_heard, one_reader, one_out};
 
-use crate::{Fed, Heard, HeardAll, Took, TookAll};
+use crate::{Heard, HeardAll, Took, TookAll};
 use answer::Reason;
 use packet::PACKET;
 
@@ -43,50 +43,41 @@ pub(crate) trait Reads {
 // One packet: a list of one.
 pub(crate) fn feed<R: Reads>(
     setting: R::Setting,
-    reader: R,
+    reader: &mut R,
     packet: &[u8],
     out: &mut [u8],
-) -> Fed<Took, R>
-    ensures heard { result.heard ≡ one_heard R.reading R.ROOM setting reader packet.now out.old }
-    ensures reader { result.reader ≡ one_reader R.reading R.ROOM setting reader packet.now out.old }
-    ensures out_after { out.new ≡ one_out R.reading R.ROOM setting reader packet.now out.old }
+) -> Heard
+    ensures heard { result ≡ one_heard R.reading R.ROOM setting reader.old packet.now out.old }
+    ensures reader { reader.new ≡ one_reader R.reading R.ROOM setting reader.old packet.now out.old }
+    ensures out_after { out.new ≡ one_out R.reading R.ROOM setting reader.old packet.now out.old }
 {
     if packet.len() != PACKET {
-        return refused(Reason::Range, reader);
+        return Reason::Range.refuse(0);
     }
-    let Fed { heard, reader } = feed_all(setting, reader, packet, out);
-    Fed {
-        heard: told(heard),
-        reader,
-    }
+    told(feed_all(setting, reader, packet, out))
 }
 
-// A list of packets. The state is tested once, and it is copied in and out once a call, not once a packet.
+// A list of packets. The state is tested once a call, not once a packet.
 pub(crate) fn feed_all<R: Reads>(
     setting: R::Setting,
-    reader: R,
+    reader: &mut R,
     packets: &[u8],
     out: &mut [u8],
-) -> Fed<TookAll, R>
-    ensures heard { result.heard ≡ all_heard R.reading R.ROOM setting reader packets.now out.old }
-    ensures reader { result.reader ≡ all_reader R.reading R.ROOM setting reader packets.now out.old }
-    ensures out_after { out.new ≡ all_out R.reading R.ROOM setting reader packets.now out.old }
+) -> HeardAll
+    ensures heard { result ≡ all_heard R.reading R.ROOM setting reader.old packets.now out.old }
+    ensures reader { reader.new ≡ all_reader R.reading R.ROOM setting reader.old packets.now out.old }
+    ensures out_after { out.new ≡ all_out R.reading R.ROOM setting reader.old packets.now out.old }
 {
     if packets.len() % PACKET != 0 {
-        return refused(Reason::Range, reader);
+        return Reason::Range.refuse(0);
     }
     if !reader.is_ready(setting) {
-        return refused(Reason::Range, reader);
+        return Reason::Range.refuse(0);
     }
     if out.len() < R::ROOM {
-        return refused(Reason::NoRoom, reader);
+        return Reason::NoRoom.refuse(0);
     }
-    let mut reader = reader;
-    let took = reader.take(setting, packets, out);
-    Fed {
-        heard: Ok(took),
-        reader,
-    }
+    Ok(reader.take(setting, packets, out))
 }
 
 // What one packet gave, from what a list of one gave.
@@ -98,14 +89,4 @@ fn told(heard: HeardAll) -> Heard
         written: t.written,
         dropped: t.dropped,
     })
-}
-
-// A refusal for this reason: the reader is the one handed in.
-fn refused<T, R>(reason: Reason, reader: R) -> Fed<T, R>
-    ensures { result ≡ record { heard = Err (refusal (number reason) 0); reader = reader } }
-{
-    Fed {
-        heard: reason.refuse(0),
-        reader,
-    }
 }

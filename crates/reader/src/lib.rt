@@ -46,5 +46,7 @@ pub fn feed(setting: Setting, reader: Reader, packet: &[u8], out: &mut [u8]) -> 
     ensures reader_value { result.reader ≡ feed_reader setting reader packet.now out.old }
     ensures out_after { out.new ≡ feed_out setting reader packet.now out.old }
 {
-    calls::feed(setting, reader, packet, out)
+    let mut reader = reader;
+    let heard = calls::feed(setting, &mut reader, packet, out);
+    Fed { heard, reader }
 }

@@ -80,7 +80,9 @@ pub fn feed_all(
     ensures reader_value { result.reader ≡ feed_all_reader setting reader packets.now out.old }
     ensures out_after { out.new ≡ feed_all_out setting reader packets.now out.old }
 {
-    calls::feed_all(setting, reader, packets, out)
+    let mut reader = reader;
+    let heard = calls::feed_all(setting, &mut reader, packets, out);
+    Fed { heard, reader }
 }
 
 impl Reads for Reader {

@@ -64,7 +64,9 @@ pub fn feed(setting: Streams, readers: Readers, packet: &[u8], out: &mut [u8]) -
     ensures readers_value { result.reader ≡ feed_readers_of_two setting readers packet.now out.old }
     ensures out_after { out.new ≡ feed_out_of_two setting readers packet.now out.old }
 {
-    calls::feed(setting, readers, packet, out)
+    let mut reader = readers;
+    let heard = calls::feed(setting, &mut reader, packet, out);
+    Fed { heard, reader }
 }
 
 // A list of packets of 42 bytes, taken one after the other, while at least 2,176 bytes of the output are left. Refused with
@@ -80,7 +82,9 @@ pub fn feed_all(
     ensures readers_value { result.reader ≡ feed_all_readers_of_two setting readers packets.now out.old }
     ensures out_after { out.new ≡ feed_all_out_of_two setting readers packets.now out.old }
 {
-    calls::feed_all(setting, readers, packets, out)
+    let mut reader = readers;
+    let heard = calls::feed_all(setting, &mut reader, packets, out);
+    Fed { heard, reader }
 }
 
 impl Reads for Readers {
