@@ -4,8 +4,8 @@ use mathlib.Core.List.{List, [], ◌∷◌, ◌++◌}
 use Prim.Native.Nat.{ℕ, zero, suc, ◌+◌, ◌-◌, ◌≤◌, ◌<◌, min}
 use native.Mathlib.Nat.{not-suc-le-zero}
 use native.Mathlib.Omega.{arith}
-use lib.ListN.{length, take, drop, set, replicate, length-take, length-drop, length-set, length-replicate}
-use lib.Seq.{sets, set_out, take-nil, take-take, take-length}
+use lib.ListN.{length, get_or, take, drop, set, replicate, length-take, length-drop, length-set, length-replicate}
+use lib.Seq.{sets, set_out, drop-cons, take-nil, take-take, take-length}
 use borrow.Rule.Slice.PartMut.{put_mid}
 use Rattle.std.proofs.lemmas.Slice.{put_mid-paste}
 use Rattle.std.proofs.lemmas.List.Edits.{sets-eq}
@@ -29,20 +29,28 @@ stored d ys o k fits e =
 
 -- ---- bytes of l from a place on
 
-module _ (d l : List ℕ) (o from n : ℕ) {there m : ℕ} (e : there ≡ min n (length l - from)) (f : m ≡ min there (length d - o)) where
-  part : sets d o (take m (drop from l)) ≡ sets d o (take n (drop from l))
-  part =
-      rw (← take-take m n (drop from l) (omega arith)) (sets_within d o m (take n (drop from l)) (rw (length-take, length-drop) (omega arith)))
+pub copy-begins :
+    (d l : List ℕ) (o from n : ℕ) {k m : ℕ} → k ≡ min n (length l - from) → m ≡ min k (length d - o)
+    → sets d (o + 0) (take (m - 0) (drop (from + 0) l)) ≡ sets d o (take n (drop from l))
+copy-begins d l o from n {k} {m} e f =
+    let p : o + 0 ≡ o = omega arith in
+    let q : m - 0 ≡ m = omega arith in
+    let r : from + 0 ≡ from = omega arith in
+    rw (p, q, r, ← take-take m n (drop from l) (omega arith))
+    (sets_within d o m (take n (drop from l)) (rw (length-take, length-drop) (omega arith)))
 
-  pub copied : {k : ℕ} {ys : List ℕ} → ys ≡ take (from + m - from) (drop from l) → k ≡ o + m - o → 0 < m → put_mid o k d ys ≡ sets d o (take n (drop from l))
-  copied {k} {ys} g h some =
-      let q : from + m - from ≡ m = omega arith in
-      let ys-is : ys ≡ take m (drop from l) = rw q at g in
-      let long : length ys ≡ m = ap length ys-is ∙ rw (length-take, length-drop) (omega arith) in
-      stored d ys o k (omega arith) (omega arith) ∙ ap (sets d o) ys-is ∙ part
+pub copy-on :
+    (d l : List ℕ) (o from n i : ℕ) → i < n → from + i < length l
+    → sets (set d (o + i) (get_or l (from + i) 0)) (o + (i + 1)) (take (n - (i + 1)) (drop (from + (i + 1)) l))
+    ≡ sets d (o + i) (take (n - i) (drop (from + i) l))
+copy-on d l o from n i h k =
+    let p : n - i ≡ suc (n - (i + 1)) = omega arith in
+    let q : o + (i + 1) ≡ suc (o + i) = omega arith in
+    let r : from + (i + 1) ≡ suc (from + i) = omega arith in
+    rw (p, q, r, drop-cons l (from + i) 0)
 
-  pub copied_none : m ≤ 0 → d ≡ sets d o (take n (drop from l))
-  copied_none none = let z : m ≡ 0 = omega arith in rw z at part
+pub copy-ends : (d l : List ℕ) (o n i : ℕ) → n ≤ i → sets d o (take (n - i) l) ≡ d
+copy-ends d l o n i h = let p : n - i ≡ 0 = omega arith in rw p
 
 -- ---- one byte from the front on
 

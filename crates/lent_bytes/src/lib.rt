@@ -27,8 +27,9 @@ pub fn copy(src: &[u8], from: usize, n: usize, dst: &mut [u8], to: usize)
 {
     let there = within(n, src.len(), from);
     let m = within(there, dst.len(), to);
-    if 0 < m {
-        dst[to..to + m].copy_from_slice(&src[from..from + m]);
+    // Kept: the library's copy would have a C program bring `memmove` to the archive that holds the reader (`bench`).
+    for i in 0..m {
+        dst[to + i] = src[from + i];
     }
 }
 
